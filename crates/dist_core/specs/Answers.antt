@@ -1,0 +1,57 @@
+-- What the calls of a node answer.
+use Rattle.std.specs.Prelude.{◌≡◌, ◌≢◌, Option, Some, None, Result, Ok, Err, IsOk}
+use Rattle.std.specs.Borrow.{Bor}
+use Rattle.dist_core.specs.declared.phase.Still.{Still}
+use Rattle.dist_core.specs.declared.phase.Still.TheVariants as still
+use Rattle.dist_core.specs.declared.ends.End.{End}
+use Rattle.dist_core.specs.declared.ends.End.TheVariants as ends
+use Rattle.dist_core.specs.declared.event.Event.{Event}
+use Rattle.dist_core.specs.declared.event.Event.TheVariants as event
+use Rattle.dist_core.specs.declared.reply.Reply.{Reply}
+use Rattle.dist_core.specs.declared.effect.Effect.{Effect}
+use Rattle.dist_core.specs.declared.step_error.StepError.{StepError}
+use Rattle.dist_core.specs.declared.step_error.StepError.TheVariants as error
+use Rattle.dist_core.specs.Node.{NodeState}
+use Rattle.dist_core.specs.Step.{at_end}
+
+-- a refusal is the definition's; want of memory comes only where the definition refuses nothing
+abbrev pub Refuses : {X : Type 0} → StepError → Result X StepError → Type 0
+Refuses error.NoMemory s = IsOk s
+Refuses e s = s ≡ Err e
+
+-- a call of step gave what the definition gives; a refusal changed nothing
+abbrev pub IsStep : Result Reply StepError → Result (Reply × NodeState) StepError → NodeState → NodeState → Type 0
+IsStep (Ok r) s old new = s ≡ Ok (r, new)
+IsStep (Err e) s old new = Refuses e s × (new ≡ old)
+
+-- how an end stands
+abbrev pub still_of : Option End → Still
+still_of None = still.NoSuchEnd
+still_of (Some (ends.Closed w)) = still.Gone w
+still_of (Some (ends.Up r)) = still.Up
+still_of (Some e) = still.Pending
+
+-- what is found at an open end, or the refusal where there is none
+abbrev pub Finds : Result (Bor End) StepError → Option End → Type 0
+Finds (Ok e) o = (o ≡ Some e.now) × ((f : End → Result Effect StepError) → at_end o f ≡ f e.now)
+Finds (Err r) o = (r ≢ error.NoMemory) × ((f : End → Result Effect StepError) → at_end o f ≡ Err r)
+
+-- a call gave the effect that the definition gives, or refused
+abbrev pub Gives : Result Effect StepError → Result Effect StepError → Type 0
+Gives (Ok f) s = s ≡ Ok f
+Gives (Err e) s = Refuses e s
+
+-- an event that tells a loss
+abbrev pub IsLoss : Event → Type 0
+IsLoss (event.Lost id w) = Unit {0}
+IsLoss e = ⊥
+
+-- the reply of a step, without the node after it
+abbrev pub reply_of : Result (Reply × NodeState) StepError → Result Reply StepError
+reply_of (Ok x) = Ok x.0
+reply_of (Err e) = Err e
+
+-- a call gave the reply that the definition gives, or refused
+abbrev pub Answers : Result Reply StepError → Result (Reply × NodeState) StepError → Type 0
+Answers (Ok r) s = reply_of s ≡ Ok r
+Answers (Err e) s = Refuses e s

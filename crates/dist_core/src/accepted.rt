@@ -1,0 +1,241 @@
+//! What each message does to an accepted end.
+ghost use Rattle.std.specs.Prelude.{◌≡◌, IfOk, true, false, Ok, Err, Some, None, slice_get};
+ghost use Rattle.dist_core.specs.Effects.{superseded_in, superseded, supersedes, held_back};
+ghost use Rattle.dist_core.specs.Accepted.{in_await_true, in_await_complement, in_await_reply, name_taken, IsDropped};
+
+use crate::checks::{own_digest, required_of};
+use crate::effect::{
+    Effect, attempt_in, closes, comes_up, goes_on, record_of, replaced, reply_phase, shuts,
+    shuts_other,
+};
+use crate::ends::{Attempt, End};
+use crate::phase::{Opening, Phase};
+use crate::reply::{Note, Reply};
+use crate::saying::{ack_frame, challenge_frame, greeting, status_frame};
+use crate::setup::Setup;
+use crate::why::Why;
+use dist_messages::{Message, Status};
+use dist_names::{ByteString, Flags};
+use dist_peers::{EndId, Entry, Verdict};
+use std::alloc::{AllocError, Global};
+
+// What stands for an end that a crossing name supersedes.
+fn superseded(alloc: Global, end: &End) -> Result<End, AllocError>
+    ensures { IfOk result (λ e. e ≡ superseded (Some end.now)) }
+{
+    let End::Attempt(attempt) = end else {
+        return Ok(End::Closed(Why::Crossed));
+    };
+    match attempt.phase {
+        Phase::Dialing => Ok(End::Attempt(attempt_in(alloc, attempt, Phase::DoomedDialing)?)),
+        Phase::AwaitStatus => Ok(End::Attempt(attempt_in(alloc, attempt, Phase::Doomed)?)),
+        _ => Ok(End::Closed(Why::Crossed)),
+    }
+}
+
+// The attempt of a name supersedes another end.
+fn supersedes(
+    alloc: Global,
+    id: EndId,
+    say: ByteString,
+    attempt: Attempt,
+    x: EndId,
+    crossed: End,
+) -> Result<Effect, AllocError>
+    ensures { IfOk result (λ f. f ≡ supersedes id say attempt x crossed) }
+{
+    let peer = attempt.peer.try_clone(alloc)?;
+    let this = End::Attempt(attempt);
+    match crossed {
+        End::Closed(why) => Ok(shuts_other(
+            id,
+            say,
+            this,
+            x,
+            why,
+            Note::NameTaken { peer, dooms: None },
+        )),
+        doomed => Ok(Effect {
+            reply: Reply {
+                end_: id,
+                say,
+                closed: None,
+                up: None,
+                note: Note::NameTaken {
+                    peer,
+                    dooms: Some(x),
+                },
+            },
+            this,
+            other: Some((x, doomed)),
+        }),
+    }
+}
+
+// The attempt waits for `true` before the challenge is said.
+fn held_back(attempt: Attempt) -> Attempt
+    ensures { result ≡ held_back attempt }
+{
+    let Attempt {
+        peer,
+        opening,
+        phase: _,
+        challenge: _,
+        flags,
+        creation,
+    } = attempt;
+    Attempt {
+        peer,
+        opening,
+        phase: Phase::AwaitTrue,
+        challenge: 0,
+        flags,
+        creation,
+    }
+}
+
+// The effect of a verdict.
+pub fn name_taken(
+    alloc: Global,
+    setup: &Setup,
+    ends: &[End],
+    id: EndId,
+    attempt: Attempt,
+    verdict: Verdict,
+) -> Result<Effect, AllocError>
+    requires { IsDropped ends.now verdict }
+    ensures { IfOk result (λ f. f ≡ name_taken setup.now ends.now id attempt verdict) }
+{
+    let fresh = attempt.challenge;
+    let note = Note::NameTaken {
+        peer: attempt.peer.try_clone(alloc)?,
+        dooms: None,
+    };
+    match verdict {
+        Verdict::Ok => {
+            let say = greeting(alloc, setup, Status::Ok, fresh)?;
+            Ok(goes_on(id, say, End::Attempt(attempt), note))
+        }
+        Verdict::OkSimultaneous { drops } => {
+            let say = greeting(alloc, setup, Status::OkSimultaneous, fresh)?;
+            let crossed = superseded(alloc, &ends[drops.0 as usize])?;
+            supersedes(alloc, id, say, attempt, drops, crossed)
+        }
+        Verdict::Nok => {
+            let say = status_frame(alloc, Status::Nok)?;
+            Ok(shuts(id, say, Why::Crossed, note))
+        }
+        Verdict::Alive => {
+            let say = status_frame(alloc, Status::Alive)?;
+            Ok(goes_on(id, say, End::Attempt(held_back(attempt)), note))
+        }
+        Verdict::Replaces {
+            drops,
+            alive: false,
+        } => {
+            let say = greeting(alloc, setup, Status::Ok, fresh)?;
+            Ok(shuts_other(id, say, End::Attempt(attempt), drops, Why::Replaced, note))
+        }
+        Verdict::Replaces { drops, alive: true } => {
+            let say = status_frame(alloc, Status::Alive)?;
+            Ok(shuts_other(
+                id,
+                say,
+                End::Attempt(held_back(attempt)),
+                drops,
+                Why::Replaced,
+                note,
+            ))
+        }
+    }
+}
+
+// The end awaits the answer to `alive`.
+pub fn in_await_true(
+    alloc: Global,
+    setup: &Setup,
+    id: EndId,
+    fresh: u32,
+    attempt: &Attempt,
+    message: &Message,
+) -> Result<Effect, AllocError>
+    ensures { IfOk result (λ f. f ≡ in_await_true setup.now id fresh attempt.now message.now) }
+{
+    match message {
+        Message::Status(Status::True) => {
+            let say = challenge_frame(alloc, setup, fresh)?;
+            let attempt = Attempt {
+                peer: attempt.peer.try_clone(alloc)?,
+                opening: attempt.opening,
+                phase: reply_phase(attempt.opening),
+                challenge: fresh,
+                flags: attempt.flags,
+                creation: attempt.creation,
+            };
+            Ok(goes_on(id, say, End::Attempt(attempt), Note::Nothing))
+        }
+        Message::Status(Status::False) => Ok(closes(alloc, id, Why::StatusRefused)),
+        _ => Ok(closes(alloc, id, Why::Unexpected)),
+    }
+}
+
+// The end awaits the complement.
+pub fn in_await_complement(
+    alloc: Global,
+    setup: &Setup,
+    id: EndId,
+    attempt: &Attempt,
+    message: &Message,
+) -> Result<Effect, AllocError>
+    ensures { IfOk result (λ f. f ≡ in_await_complement setup.now id attempt.now message.now) }
+{
+    let Message::Complement { high, creation } = message else {
+        return Ok(closes(alloc, id, Why::Unexpected));
+    };
+    let flags = Flags::of_halves(*high, attempt.flags.low());
+    if !flags.has(required_of(setup, Opening::New)) {
+        return Ok(closes(alloc, id, Why::WrongFlags));
+    }
+    let attempt = Attempt {
+        peer: attempt.peer.try_clone(alloc)?,
+        opening: attempt.opening,
+        phase: Phase::AwaitReply,
+        challenge: attempt.challenge,
+        flags,
+        creation: *creation,
+    };
+    Ok(goes_on(
+        id,
+        ByteString::new(alloc),
+        End::Attempt(attempt),
+        Note::Nothing,
+    ))
+}
+
+// The end awaits the reply.
+pub fn in_await_reply(
+    alloc: Global,
+    setup: &Setup,
+    entry: Option<Entry>,
+    id: EndId,
+    attempt: &Attempt,
+    message: &Message,
+) -> Result<Effect, AllocError>
+    ensures { IfOk result (λ f. f ≡ in_await_reply setup.now entry id attempt.now message.now) }
+{
+    let Message::Reply {
+        challenge,
+        digest: came,
+    } = message
+    else {
+        return Ok(closes(alloc, id, Why::Unexpected));
+    };
+    let own = own_digest(setup, &attempt.peer, attempt.challenge);
+    if *came != own {
+        return Ok(closes(alloc, id, Why::WrongDigest));
+    }
+    let say = ack_frame(alloc, setup, &attempt.peer, *challenge)?;
+    let kept = record_of(alloc, setup, attempt, came)?;
+    let copy = record_of(alloc, setup, attempt, came)?;
+    Ok(comes_up(id, say, kept, copy, replaced(entry)))
+}

@@ -1,0 +1,35 @@
+//! What a node answers.
+
+use crate::ends::UpRecord;
+use crate::why::Why;
+use dist_names::{ByteString, NodeName};
+use dist_peers::EndId;
+
+/// What else a step did.
+#[derive(Debug, Drop)]
+pub enum Note {
+    /// Nothing that is noted.
+    Nothing,
+    /// A name passed all checks, also where `nok` was said to it, and the end that it made doomed.
+    NameTaken {
+        peer: NodeName,
+        dooms: Option<EndId>,
+    },
+    /// A reply to a challenge was said.
+    ReplySaid,
+}
+
+/// What a step answers.
+#[derive(Debug, Drop)]
+pub struct Reply {
+    /// The event's end, or the one that was given out.
+    pub end_: EndId,
+    /// What is to be written on that end's connection: whole frames, or one packet of no bytes.
+    pub say: ByteString,
+    /// The end that the step closed, at most one, and why.
+    pub closed: Option<(EndId, Why)>,
+    /// The record of the event's end, where the step brought it up.
+    pub up: Option<UpRecord>,
+    /// What else it did.
+    pub note: Note,
+}

@@ -1,0 +1,106 @@
+ghost use Rattle.std.specs.Prelude.{◌≡◌, ◌≤◌, None, IsTrue, not, length};
+ghost use Rattle.dist_drive.specs.Stream.{heard_count, took_count, unused};
+ghost use Rattle.dist_drive.specs.Socket.{is_quiet};
+
+use crate::marks::{is_end, is_failed_read, is_failed_write};
+use crate::stream::{Heard, Stream, Took};
+use std::io::{ErrorKind, Read, Write};
+use std::net::TcpStream;
+
+/// A connection of the system. Which bytes come and go is not told.
+#[derive(Drop)]
+pub struct SocketStream {
+    socket: TcpStream,
+    calls: u64,
+    ended: bool,
+    read_failed: bool,
+    write_failed: bool,
+}
+
+impl SocketStream {
+    /// The stream over this socket, without marks.
+    pub fn new(socket: TcpStream) -> SocketStream
+        ensures { ⟦<SocketStream as Stream>⟧.meaning result ≡ unused None None }
+    {
+        SocketStream {
+            socket,
+            calls: 0,
+            ended: false,
+            read_failed: false,
+            write_failed: false,
+        }
+    }
+}
+
+// The socket is fine, and had nothing to give or no room so far.
+fn is_quiet(kind: ErrorKind) -> bool
+    ensures { result ≡ is_quiet kind }
+{
+    matches!(
+        kind,
+        ErrorKind::WouldBlock | ErrorKind::TimedOut | ErrorKind::Interrupted
+    )
+}
+
+// What a read gave that failed in this way.
+fn unheard(kind: ErrorKind) -> Heard
+    ensures quiet { IsTrue (is_quiet kind) → result ≡ Heard.Quiet }
+    ensures failed { IsTrue (not (is_quiet kind)) → result ≡ Heard.Failed }
+    ensures none { heard_count result ≡ 0 }
+{
+    if is_quiet(kind) {
+        Heard::Quiet
+    } else {
+        Heard::Failed
+    }
+}
+
+// What a write took that failed in this way.
+fn untaken(kind: ErrorKind) -> Took
+    ensures quiet { IsTrue (is_quiet kind) → result ≡ Took.Quiet }
+    ensures failed { IsTrue (not (is_quiet kind)) → result ≡ Took.Failed }
+    ensures none { took_count result ≡ 0 }
+{
+    if is_quiet(kind) {
+        Took::Quiet
+    } else {
+        Took::Failed
+    }
+}
+
+fn read_from(socket: &mut TcpStream, room: &mut [u8]) -> Heard
+    ensures { heard_count result ≤ length room.new }
+{
+    match socket.read(room) {
+        Ok(count) => Heard::Bytes(count),
+        Err(error) => unheard(error.kind()),
+    }
+}
+
+fn write_to(socket: &mut TcpStream, bytes: &[u8]) -> Took
+    ensures { took_count result ≤ length bytes.now }
+{
+    match socket.write(bytes) {
+        Ok(count) => Took::Bytes(count),
+        Err(error) => untaken(error.kind()),
+    }
+}
+
+impl Stream for SocketStream {
+    ghost meaning = { λ s. record { unread = None; written = None; calls = s.calls; ended = s.ended; read_failed = s.read_failed; write_failed = s.write_failed } };
+
+    fn read(&mut self, room: &mut [u8]) -> Heard {
+        self.calls = self.calls.saturating_add(1);
+        let heard = read_from(&mut self.socket, room);
+        self.ended = is_end(heard) || self.ended;
+        self.read_failed = is_failed_read(heard) || self.read_failed;
+        heard
+    }
+
+    fn write(&mut self, bytes: &[u8]) -> Took {
+        self.calls = self.calls.saturating_add(1);
+        let took = write_to(&mut self.socket, bytes);
+        self.write_failed = is_failed_write(took) || self.write_failed;
+        took
+    }
+}

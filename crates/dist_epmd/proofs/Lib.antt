@@ -1,0 +1,7 @@
+pub mod FieldLaws
+pub mod Histories
+pub mod Legal
+pub mod Messages
+pub mod Named
+pub mod OpenFields
+pub mod Refusals

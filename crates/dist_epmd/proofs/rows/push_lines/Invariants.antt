@@ -1,0 +1,8 @@
+-- The lines written and those of the rows that are left are all lines.
+use Rattle.std.proofs.Common.{◌≡◌, ◌++◌, flat_map}
+use Rattle.std.specs.BTreeMap.{values}
+use Rattle.dist_epmd.specs.Book.{line_of}
+use Rattle.dist_epmd.proofs.rows.push_lines.Given as goal
+
+abbrev pub invariant-loop-row : goal.invariant-loop-row
+invariant-loop-row l = l.bytes.items ++ flat_map line_of l.row-iterator ≡ l.fn.bytes.items ++ flat_map line_of (values l.rows)

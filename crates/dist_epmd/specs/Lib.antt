@@ -1,0 +1,7 @@
+pub mod Answering
+pub mod Book
+pub mod History
+pub mod Layout
+pub mod Named
+pub mod Reading
+pub mod Refusing

@@ -1,0 +1,28 @@
+//! The messages of Erlang's port mapper (ERTS User's Guide, EPMD Protocol), read and written, and the registry of nodes
+//! behind its answers.
+//!
+//! It opens no socket, and it knows neither frames nor time: a request comes as a frame's body, and a connection is a number.
+#![tactic(auto)]
+
+mod encoding;
+mod epmd_error;
+mod fields;
+mod laws;
+mod message;
+mod reading;
+mod registry;
+mod row;
+mod rows;
+
+pub use encoding::{encode_answer, encode_request};
+pub use epmd_error::EpmdError;
+pub use laws::{
+    any_calls, one_answer, one_request, written_answer_is_read, written_request_is_read,
+};
+pub use message::{AliveReq, Answer, Asked, NodeInfo, PortInfo, Request};
+pub use reading::{decode_answer, decode_request};
+pub use registry::Registry;
+pub use row::Row;
+
+#[cfg(test)]
+mod tests;

@@ -1,0 +1,111 @@
+//! The messages of the port mapper.
+
+ghost use Rattle.std.specs.Prelude.{◌≡◌, IfOk};
+
+use dist_names::ByteString;
+use std::alloc::{AllocError, Global};
+
+/// What a node tells of itself when it registers, and what a lookup of it answers.
+///
+/// The fields are spelled one behind the other, numbers in big-endian order (ERTS User's Guide, EPMD Protocol):
+///
+/// | Field | Bytes | Meaning |
+/// |---|---|---|
+/// | `port` | 2 | at which the node accepts connections of other nodes |
+/// | `node_type` | 1 | 0x4d for a normal node, 0x48 for a hidden one |
+/// | `protocol` | 1 | 0 for TCP over IPv4 |
+/// | `highest` | 2 | the highest version of the handshake that the node knows |
+/// | `lowest` | 2 | the lowest one |
+/// | | 2 | the number of bytes of the name |
+/// | `name` | | the part of the node's name before the `@` |
+/// | | 2 | the number of bytes of `extra` |
+/// | `extra` | | whatever the node adds |
+///
+/// Reading takes any value of each field. A `name` or `extra` of more than 65,535 bytes has no spelling.
+#[derive(Debug, Drop)]
+pub struct NodeInfo {
+    pub port: u16,
+    pub node_type: u8,
+    pub protocol: u8,
+    pub highest: u16,
+    pub lowest: u16,
+    pub name: ByteString,
+    pub extra: ByteString,
+}
+
+impl NodeInfo {
+    /// An equal one. The only refusal is want of memory.
+    pub fn try_clone(&self, alloc: Global) -> Result<NodeInfo, AllocError>
+        ensures { IfOk result (λ copy. copy ≡ self.now) }
+    {
+        Ok(NodeInfo {
+            port: self.port,
+            node_type: self.node_type,
+            protocol: self.protocol,
+            highest: self.highest,
+            lowest: self.lowest,
+            name: self.name.try_clone(alloc)?,
+            extra: self.extra.try_clone(alloc)?,
+        })
+    }
+}
+
+/// What a registration says of the node.
+pub type AliveReq = NodeInfo;
+
+/// What a lookup answers of the node.
+pub type PortInfo = NodeInfo;
+
+/// What a node or a tool asks of the port mapper (ERTS User's Guide, EPMD Protocol).
+///
+/// | Request | First byte | What follows |
+/// |---|---|---|
+/// | `Alive`, ALIVE2_REQ | 0x78 | the fields of [`NodeInfo`] |
+/// | `PortPlease`, PORT_PLEASE2_REQ | 0x7a | a name, to the end |
+/// | `Names`, NAMES_REQ | 0x6e | nothing |
+///
+/// This is the body of a frame: the 2 bytes of the frame's length stand before it and are no part of it, and so it has at
+/// most 65,535 bytes.
+#[derive(Debug, Drop)]
+pub enum Request {
+    /// Asks to be registered as long as the connection lasts.
+    Alive(NodeInfo),
+    /// Asks for the node of this name, the part before the `@`. It may be any bytes; one that is no name has no node.
+    PortPlease(ByteString),
+    /// Asks for all names.
+    Names,
+}
+
+/// What the port mapper answers (ERTS User's Guide, EPMD Protocol). No length stands before it.
+///
+/// | Answer | Asked | Bytes |
+/// |---|---|---|
+/// | `AliveX`, ALIVE2_X_RESP | `Alive` | 0x76, result 1 byte, creation 4 bytes |
+/// | `Alive`, ALIVE2_RESP | `Alive` | 0x79, result 1 byte, creation 2 bytes |
+/// | `Port(Ok)`, PORT2_RESP | `Port` | 0x77, 0, the fields of [`NodeInfo`] |
+/// | `Port(Err)`, PORT2_RESP | `Port` | 0x77, result 1 byte, not 0 |
+/// | `Names`, NAMES_RESP | `Names` | port 4 bytes, text to the end |
+///
+/// A result of 0 is success. The guide's field `Result` is `result_code` here.
+#[derive(Debug, Drop)]
+pub enum Answer {
+    /// The answer to a registration by a node that knows version 6 of the handshake.
+    AliveX { result_code: u8, creation: u32 },
+    /// The answer to a registration by a node that knows no version above 5.
+    Alive { result_code: u8, creation: u16 },
+    /// The node that was asked for, or the result that says why there is none.
+    Port(Result<NodeInfo, u8>),
+    /// The port mapper's own port, and the text of all names as it came.
+    Names { port: u32, text: ByteString },
+}
+
+/// Which request an answer is awaited for. The answer's first byte does not tell: an answer to `Names` has none.
+#[derive(Clone, Copy, Debug, PartialEq, Eq)]
+pub enum Asked {
+    /// A registration.
+    Alive,
+    /// A lookup of one name.
+    Port,
+    /// All names.
+    Names,
+}

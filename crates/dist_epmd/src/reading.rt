@@ -1,0 +1,169 @@
+//! Reading messages.
+
+ghost use Rattle.std.specs.Prelude.{◌≡◌, IfOk, IfErr};
+ghost use Rattle.dist_epmd.specs.declared.message.Answer.{Answer};
+ghost use Rattle.dist_epmd.specs.declared.message.Request.{Request};
+ghost use Rattle.dist_epmd.specs.Layout.{SpellsRequest, SpellsAnswer, RequestFits, AnswerFits};
+ghost use Rattle.dist_epmd.specs.Answering.{Answers};
+ghost use Rattle.dist_epmd.specs.Refusing.{RefusesRequest, RefusesAnswer};
+ghost use Rattle.dist_epmd.specs.Reading.{whole_info, alive_x, alive, looked_up, read_request, read_answer};
+
+use crate::epmd_error::EpmdError;
+use crate::fields::{sized_at, u8_at, u16_at, u32_at};
+use crate::message::{Answer, Asked, NodeInfo, Request};
+use dist_names::ByteString;
+use std::alloc::Global;
+
+#[tactic(auto, unfolding(crate::specs::Reading::whole_info))]
+fn whole_info(alloc: Global, bytes: &[u8]) -> Result<NodeInfo, EpmdError>
+    ensures { Answers (λ i. i) result (whole_info bytes.now) }
+{
+    let (port, rest) = u16_at(bytes).ok_or(EpmdError::Short)?;
+    let (node_type, rest) = u8_at(rest).ok_or(EpmdError::Short)?;
+    let (protocol, rest) = u8_at(rest).ok_or(EpmdError::Short)?;
+    let (highest, rest) = u16_at(rest).ok_or(EpmdError::Short)?;
+    let (lowest, rest) = u16_at(rest).ok_or(EpmdError::Short)?;
+    let (name, rest) = sized_at(rest).ok_or(EpmdError::Short)?;
+    let (extra, rest) = sized_at(rest).ok_or(EpmdError::Short)?;
+    if !rest.is_empty() {
+        return Err(EpmdError::Trailing);
+    }
+    let name = ByteString::from_slice(alloc, name)?;
+    let extra = ByteString::from_slice(alloc, extra)?;
+    Ok(NodeInfo {
+        port,
+        node_type,
+        protocol,
+        highest,
+        lowest,
+        name,
+        extra,
+    })
+}
+
+#[tactic(auto, unfolding(crate::specs::Reading::read_request))]
+fn read_request(alloc: Global, body: &[u8]) -> Result<Request, EpmdError>
+    ensures { Answers (λ r. r) result (read_request body.now) }
+{
+    let [tag, rest @ ..] = body else {
+        return Err(EpmdError::Short);
+    };
+    match *tag {
+        0x78 => Ok(Request::Alive(whole_info(alloc, rest)?)),
+        0x7a => Ok(Request::PortPlease(ByteString::from_slice(alloc, rest)?)),
+        0x6e => {
+            if !rest.is_empty() {
+                return Err(EpmdError::Trailing);
+            }
+            Ok(Request::Names)
+        }
+        _ => Err(EpmdError::Malformed),
+    }
+}
+
+#[tactic(auto, unfolding(crate::specs::Reading::alive_x))]
+fn alive_x(bytes: &[u8]) -> Result<Answer, EpmdError>
+    ensures { Answers (λ a. a) result (alive_x bytes.now) }
+{
+    let (result_code, rest) = u8_at(bytes).ok_or(EpmdError::Short)?;
+    let (creation, rest) = u32_at(rest).ok_or(EpmdError::Short)?;
+    if !rest.is_empty() {
+        return Err(EpmdError::Trailing);
+    }
+    Ok(Answer::AliveX {
+        result_code,
+        creation,
+    })
+}
+
+#[tactic(auto, unfolding(crate::specs::Reading::alive))]
+fn alive(bytes: &[u8]) -> Result<Answer, EpmdError>
+    ensures { Answers (λ a. a) result (alive bytes.now) }
+{
+    let (result_code, rest) = u8_at(bytes).ok_or(EpmdError::Short)?;
+    let (creation, rest) = u16_at(rest).ok_or(EpmdError::Short)?;
+    if !rest.is_empty() {
+        return Err(EpmdError::Trailing);
+    }
+    Ok(Answer::Alive {
+        result_code,
+        creation,
+    })
+}
+
+#[tactic(auto, unfolding(crate::specs::Reading::looked_up))]
+fn looked_up(alloc: Global, bytes: &[u8]) -> Result<Answer, EpmdError>
+    ensures { Answers (λ a. a) result (looked_up bytes.now) }
+{
+    let [code, rest @ ..] = bytes else {
+        return Err(EpmdError::Short);
+    };
+    if *code == 0 {
+        return Ok(Answer::Port(Ok(whole_info(alloc, rest)?)));
+    }
+    if !rest.is_empty() {
+        return Err(EpmdError::Trailing);
+    }
+    Ok(Answer::Port(Err(*code)))
+}
+
+#[tactic(auto, unfolding(crate::specs::Reading::read_answer))]
+fn read_answer(alloc: Global, asked: Asked, bytes: &[u8]) -> Result<Answer, EpmdError>
+    ensures { Answers (λ a. a) result (read_answer asked bytes.now) }
+{
+    if asked == Asked::Names {
+        let (port, text) = u32_at(bytes).ok_or(EpmdError::Short)?;
+        let text = ByteString::from_slice(alloc, text)?;
+        return Ok(Answer::Names { port, text });
+    }
+    let [tag, rest @ ..] = bytes else {
+        return Err(EpmdError::Short);
+    };
+    match (asked, *tag) {
+        (Asked::Alive, 0x76) => alive_x(rest),
+        (Asked::Alive, 0x79) => alive(rest),
+        (Asked::Port, 0x77) => looked_up(alloc, rest),
+        _ => Err(EpmdError::Malformed),
+    }
+}
+
+/// The request that a body spells (see [`Request`]).
+///
+/// Refusals, the first that holds: Malformed where the first byte is none of 0x78, 0x7a and 0x6e; Short where there is no
+/// byte, or the body ends inside a field; Trailing where bytes stand after the last field; NoMemory.
+pub fn decode_request(alloc: Global, body: &[u8]) -> Result<Request, EpmdError>
+    // What is read is spelled so.
+    ensures found { IfOk result (λ m. SpellsRequest m body.now) }
+
+    // What is spelled so is read, unless memory runs out.
+    ensures only { (m : Request) → RequestFits m → SpellsRequest m body.now → Answers (λ x. x) result (Ok m) }
+
+    // What is refused is so for this reason.
+    ensures refused { IfErr result (λ error. RefusesRequest body.now error) }
+
+    // Which refusal it is.
+    ensures exact { Answers (λ r. r) result (read_request body.now) }
+{
+    read_request(alloc, body)
+}
+
+/// The answer to this question that bytes spell (see [`Answer`]). The bytes are the whole answer, as read to its end.
+///
+/// Refusals, the first that holds: Malformed where the first byte is none of those of an answer to this question (0x76 and
+/// 0x79, 0x77, or any byte for names); Short where there is no byte, or the bytes end inside a field; Trailing where bytes
+/// stand after the last field; NoMemory.
+pub fn decode_answer(alloc: Global, asked: Asked, bytes: &[u8]) -> Result<Answer, EpmdError>
+    // What is read is spelled so.
+    ensures found { IfOk result (λ m. SpellsAnswer asked m bytes.now) }
+
+    // What is spelled so is read, unless memory runs out.
+    ensures only { (m : Answer) → AnswerFits m → SpellsAnswer asked m bytes.now → Answers (λ x. x) result (Ok m) }
+
+    // What is refused is so for this reason.
+    ensures refused { IfErr result (λ error. RefusesAnswer asked bytes.now error) }
+
+    // Which refusal it is.
+    ensures exact { Answers (λ a. a) result (read_answer asked bytes.now) }
+{
+    read_answer(alloc, asked, bytes)
+}

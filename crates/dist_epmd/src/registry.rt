@@ -1,0 +1,175 @@
+//! The registry behind the port mapper's answers.
+
+ghost use Rattle.std.specs.Prelude.{◌≡◌, ◌∷◌, ◌++◌, IfOk, OnOk, OnErr, IsTrue, flat_map, option_copied};
+ghost use Rattle.dist_epmd.specs.Book.{Book, opening, is_accepted, after_request, after_closed, answer_to, found, line_of, names_text, IsLegal};
+
+use crate::message::{AliveReq, Answer, PortInfo};
+use crate::row::Row;
+use crate::rows::{
+    drop_conn, has_conn, has_fewer, has_name, is_short_name, push_lines, put, row_named,
+};
+use dist_names::ByteString;
+use std::alloc::{AllocError, Global};
+use std::collections::BTreeMap;
+use std::marker::Model;
+
+// The most registrations at a time.
+const MOST: usize = 1024;
+
+// The least that a node's highest version of the handshake may be.
+const LEAST_VERSION: u16 = 6;
+
+/// The nodes that are registered with a port mapper, each as long as its connection lasts.
+///
+/// It has at most 1,024 of them (our own limit), in byte order of their names, and no two of one name or of one
+/// connection. It keeps them in a map from the name, so that a lookup is quick. The caller gives each connection a number that it uses for no other, and calls `closed` once the connection
+/// is over. Nothing here waits, reads or writes.
+#[derive(Debug, Drop)]
+pub struct Registry {
+    port: u16,
+    next: u64,
+    rows: BTreeMap<Vec<u8>, Row>,
+}
+
+impl Model for Registry {
+    ghost use Rattle.std.specs.BTreeMap.{values};
+    ghost use Rattle.dist_epmd.specs.Book.{Book, IsLegal};
+    ghost use Rattle.dist_epmd.specs.Named.{StandAtNames};
+
+    ghost Value = { Book };
+
+    ghost view = { λ r. record { port = r.port; next = r.next; rows = values r.rows } };
+
+    ghost invariant = { λ r. IsLegal (record { port = r.port; next = r.next; rows = values r.rows }) × StandAtNames r.rows.entries };
+}
+
+impl Registry {
+    /// A registry without nodes, of the port mapper at this port. It takes no memory.
+    ///
+    /// The first node that is accepted gets the creation `first`, each later one the next number, and 4,294,967,295 is the
+    /// last (our own choice: no creation is given twice).
+    pub fn new(alloc: Global, port: u16, first: u32) -> Registry
+        ensures { result ≡ opening port first }
+    {
+        Registry {
+            port,
+            next: first as u64,
+            rows: BTreeMap::new(alloc),
+        }
+    }
+
+    // Whether this registration is accepted on this connection.
+    fn accepts(&self, conn: u64, request: &AliveReq) -> bool
+        ensures { result ≡ is_accepted conn request.now self.now }
+    {
+        is_short_name(request.name.as_slice())
+            && !has_name(&self.rows, request.name.as_slice())
+            && !has_conn(&self.rows, conn)
+            && has_fewer(&self.rows, MOST)
+            && self.next <= u32::MAX as u64
+            && request.highest >= LEAST_VERSION
+    }
+
+    /// Registers a node as long as the connection lasts, and answers it.
+    ///
+    /// It is refused, with result 1 and creation 0, where one of these holds (our own choice; all are answered alike):
+    /// - the name has no byte, more than 255, or one that is not from 0x21 to 0x7E or is the `@`,
+    /// - the name is registered,
+    /// - the connection has a registration,
+    /// - 1,024 nodes are registered,
+    /// - the creations are used up,
+    /// - the highest version is below 6.
+    ///
+    /// A highest version below 6 is answered with `Alive`, any other with `AliveX`. A refusal changes nothing and takes no
+    /// creation. An `Err` is want of memory, and changes nothing.
+    pub fn alive(
+        &mut self,
+        alloc: Global,
+        conn: u64,
+        request: &AliveReq,
+    ) -> Result<Answer, AllocError>
+        ensures answer { IfOk result (λ answer. answer ≡ answer_to conn request.now self.old) }
+        ensures after { OnOk result (self.new ≡ after_request conn request.now self.old) }
+
+        // Memory lacks only where the registration is accepted.
+        ensures lacks { OnErr result (IsTrue (is_accepted conn request.now self.old)) }
+        ensures err { OnErr result (self.new ≡ self.old) }
+    {
+        if request.highest < LEAST_VERSION {
+            return Ok(Answer::Alive {
+                result_code: 1,
+                creation: 0,
+            });
+        }
+        if !self.accepts(conn, request) {
+            return Ok(Answer::AliveX {
+                result_code: 1,
+                creation: 0,
+            });
+        }
+        let info = request.try_clone(alloc)?;
+        let creation = self.next as u32;
+        let name = Vec::from_slice(alloc, info.name.as_slice())?;
+        put(
+            &mut self.rows,
+            name,
+            Row {
+                conn,
+                info,
+                creation,
+            },
+        )?;
+        self.next += 1;
+        Ok(Answer::AliveX {
+            result_code: 0,
+            creation,
+        })
+    }
+
+    /// What the node of this name told of itself, as it came. It takes no memory.
+    pub fn port_please(&self, name: &[u8]) -> Option<&PortInfo>
+        ensures found { option_copied result ≡ found name.now self.now }
+
+        // No two registrations share a name, a connection or a creation, and the next creation is above all of them.
+        ensures legal { IsLegal self.now }
+    {
+        let row = row_named(&self.rows, name)?;
+        Some(&row.info)
+    }
+
+    /// The port that the port mapper itself listens at.
+    pub fn port(&self) -> u16
+        ensures { result ≡ self.now.port }
+    {
+        self.port
+    }
+
+    /// The text of an answer to a question for all names, without the port before it.
+    ///
+    /// It is a line `name N at port P` and a line feed for each node, P in decimal without leading zeros, in byte order of
+    /// the names (ERTS User's Guide, EPMD Protocol; the order is our own choice).
+    pub fn lines(&self, alloc: Global) -> Result<ByteString, AllocError>
+        ensures { IfOk result (λ text. text ≡ flat_map line_of self.now.rows) }
+    {
+        let mut bytes = Vec::new(alloc);
+        push_lines(&mut bytes, &self.rows)?;
+        Ok(ByteString::from_vec(bytes))
+    }
+
+    /// The whole answer to a question for all names: the port mapper's port in 4 bytes, and then the lines.
+    pub fn names(&self, alloc: Global) -> Result<Vec<u8>, AllocError>
+        ensures { IfOk result (λ bytes. bytes.items ≡ names_text self.now) }
+    {
+        let mut bytes = Vec::new(alloc);
+        bytes.extend_from_slice(&(self.port as u32).to_be_bytes())?;
+        push_lines(&mut bytes, &self.rows)?;
+        Ok(bytes)
+    }
+
+    /// Drops the registration of a connection that is closed, where it has one. It takes no memory.
+    pub fn closed(&mut self, conn: u64)
+        ensures { self.new ≡ after_closed conn self.old }
+    {
+        drop_conn(&mut self.rows, conn);
+    }
+}

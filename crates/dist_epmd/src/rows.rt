@@ -1,0 +1,103 @@
+//! The rows of a registry: a map from a name to the row of that name.
+
+ghost use Rattle.std.specs.Prelude.{◌≡◌, ◌++◌, false, not, length, filter, find, flat_map, nat_lt, option_copied, OnOk, OnErr};
+ghost use Rattle.std.specs.BTreeMap.{values};
+ghost use Rattle.std.specs.List.{list_all, list_any};
+ghost use Rattle.dist_epmd.specs.Book.{is_short_byte, is_short_name, is_named, is_of, with_row, line_of};
+ghost use Rattle.dist_epmd.specs.Named.{StandAtNames};
+
+use crate::row::Row;
+use itoa::Buffer;
+use std::alloc::AllocError;
+use std::collections::BTreeMap;
+
+fn are_short_bytes(name: &[u8]) -> bool
+    ensures { result ≡ list_all is_short_byte name.now }
+{
+    name.iter()
+        .all(|byte| 0x21 <= *byte && *byte <= 0x7E && *byte != b'@')
+}
+
+pub fn is_short_name(name: &[u8]) -> bool
+    ensures { result ≡ is_short_name name.now }
+{
+    !name.is_empty() && name.len() <= 255 && are_short_bytes(name)
+}
+
+// Whether there are fewer than this many rows.
+pub fn has_fewer(rows: &BTreeMap<Vec<u8>, Row>, most: usize) -> bool
+    ensures { result ≡ nat_lt (length (values rows.now)) most }
+{
+    rows.len() < most
+}
+
+pub fn row_named<'r>(rows: &'r BTreeMap<Vec<u8>, Row>, name: &[u8]) -> Option<&'r Row>
+    // A registry keeps its rows so.
+    requires { StandAtNames rows.now.entries }
+    ensures { option_copied result ≡ find (is_named name.now) (values rows.now) }
+{
+    rows.get(name)
+}
+
+pub fn has_name(rows: &BTreeMap<Vec<u8>, Row>, name: &[u8]) -> bool
+    // A registry keeps its rows so.
+    requires { StandAtNames rows.now.entries }
+    ensures { result ≡ list_any (is_named name.now) (values rows.now) }
+{
+    rows.contains_key(name)
+}
+
+pub fn has_conn(rows: &BTreeMap<Vec<u8>, Row>, conn: u64) -> bool
+    ensures { result ≡ list_any (is_of conn) (values rows.now) }
+{
+    rows.values().any(|row| row.conn == conn)
+}
+
+// Puts a row at its name.
+pub fn put(rows: &mut BTreeMap<Vec<u8>, Row>, name: Vec<u8>, row: Row) -> Result<(), AllocError>
+    // A registry keeps its rows so.
+    requires names { StandAtNames rows.old.entries }
+
+    // The caller copies the name from the row.
+    requires own { name.items ≡ row.info.name }
+
+    // The caller asks `has_name` first.
+    requires fresh { list_any (is_named row.info.name) (values rows.old) ≡ false }
+    ensures ok { OnOk result (values rows.new ≡ with_row row (values rows.old)) }
+    ensures err { OnErr result (values rows.new ≡ values rows.old) }
+    ensures names { StandAtNames rows.new.entries }
+{
+    rows.insert(name, row)?;
+    Ok(())
+}
+
+// Drops the row of this connection.
+pub fn drop_conn(rows: &mut BTreeMap<Vec<u8>, Row>, conn: u64)
+    // A registry keeps its rows so.
+    requires { StandAtNames rows.old.entries }
+    ensures rows { values rows.new ≡ filter (λ row. not (is_of conn row)) (values rows.old) }
+    ensures names { StandAtNames rows.new.entries }
+{
+    rows.retain(|_name, row| row.conn != conn);
+}
+
+fn push_line(bytes: &mut Vec<u8>, row: &Row) -> Result<(), AllocError>
+    ensures { OnOk result (bytes.new.items ≡ bytes.old.items ++ line_of row.now) }
+{
+    let mut buffer = Buffer::new();
+    bytes.extend_from_slice(b"name ")?;
+    bytes.extend_from_slice(row.info.name.as_slice())?;
+    bytes.extend_from_slice(b" at port ")?;
+    bytes.extend_from_slice(buffer.format(row.info.port).as_bytes())?;
+    bytes.push(b'\n')?;
+    Ok(())
+}
+
+pub fn push_lines(bytes: &mut Vec<u8>, rows: &BTreeMap<Vec<u8>, Row>) -> Result<(), AllocError>
+    ensures { OnOk result (bytes.new.items ≡ bytes.old.items ++ flat_map line_of (values rows.now)) }
+{
+    for row in rows.values() {
+        push_line(bytes, row)?;
+    }
+    Ok(())
+}

@@ -1,0 +1,4 @@
+pub mod Stream
+pub mod Reader
+pub mod History
+pub mod Refusal

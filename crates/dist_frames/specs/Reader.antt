@@ -1,0 +1,51 @@
+-- What a reader of a stream has to give: bodies of short frames and, once it is linked, counts of packets. It speaks
+-- of the stream, so that it says nothing of how the bytes are kept.
+use Rattle.std.specs.Prelude.{ℕ, ◌+◌, ◌-◌, ◌^◌, List, [], ◌++◌, Option, None, min}
+use Rattle.std.specs.Int.{w16}
+use Rattle.dist_frames.specs.Stream.{first_body, after_first, bodies, packets, partial}
+
+-- the reader before and after it was linked
+pub data Reader : Type 0 where
+  -- the bytes fed that were not moved out
+  Short : List ℕ → Reader
+  -- how many packets ended and were not told, and what came of the next
+  Linked : ℕ → List ℕ → Reader
+
+-- a count as the reader keeps it: at most the greatest number of 64 bits (our own choice)
+abbrev pub saturated : ℕ → ℕ
+saturated count = min count (2 ^ 64 - 1)
+
+-- the reader when more bytes have come
+abbrev pub fed : Reader → List ℕ → Reader
+fed (Short pending) piece = Short (pending ++ piece)
+fed (Linked ended rest) piece = Linked (saturated (ended + packets (rest ++ piece))) (partial (rest ++ piece))
+
+-- the body that is moved out next
+abbrev pub next_body : Reader → Option (List ℕ)
+next_body (Short pending) = first_body w16 pending
+next_body (Linked ended rest) = None
+
+-- the bodies still to come of what was fed
+abbrev pub to_come : Reader → List (List ℕ)
+to_come (Short pending) = bodies pending
+to_come (Linked ended rest) = []
+
+-- the reader when that body was moved out; with none it is as it was
+abbrev pub without_next : Reader → Reader
+without_next (Short pending) = Short (after_first w16 pending)
+without_next (Linked ended rest) = Linked ended rest
+
+-- the reader when all bytes not yet moved out are those of packets; a linked one stays as it is
+abbrev pub linked : Reader → Reader
+linked (Short pending) = fed (Linked 0 []) pending
+linked (Linked ended rest) = Linked ended rest
+
+-- how many packets ended and were not told
+abbrev pub untold : Reader → ℕ
+untold (Short pending) = 0
+untold (Linked ended rest) = ended
+
+-- the reader when they are told
+abbrev pub told : Reader → Reader
+told (Short pending) = Short pending
+told (Linked ended rest) = Linked 0 rest

@@ -1,0 +1,5 @@
+pub mod FieldLaws
+pub mod Readers
+pub mod Bodies
+pub mod Messages
+pub mod Refusals

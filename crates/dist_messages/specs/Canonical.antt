@@ -1,0 +1,41 @@
+-- The one spelling that is written: version 5 in the old forms, and no bytes after a name.
+use Rattle.std.specs.Prelude.{ℕ, List, ◌∷◌, ◌++◌, length, Result, Ok, Err, nat_lt, if◌then◌else◌}
+use Rattle.std.specs.Int.{w16, w32, w64, to_be_bytes}
+use Rattle.dist_messages.specs.declared.message.Side.{Side}
+use Rattle.dist_messages.specs.declared.message.Side.TheVariants.{Dialler, Acceptor}
+use Rattle.dist_messages.specs.declared.message.Message.{Message}
+use Rattle.dist_messages.specs.declared.message.Message.TheVariants as message
+use Rattle.dist_messages.specs.declared.message_error.MessageError.{MessageError}
+use Rattle.dist_messages.specs.declared.message_error.MessageError.TheVariants as errors
+use Rattle.dist_messages.specs.Spelling.{text_of, is_said_by}
+
+-- the version that is written
+abbrev pub written_version : ℕ
+written_version = 5
+
+-- the canonical spelling of a message
+abbrev pub canonical : Message → List ℕ
+canonical (message.OldName flags name) = 0x6e ∷ to_be_bytes w16 written_version ++ to_be_bytes w32 flags ++ name
+canonical (message.NewName flags creation name) = 0x4e ∷ to_be_bytes w64 flags.0 ++ to_be_bytes w32 creation.0 ++ to_be_bytes w16 (length name) ++ name
+canonical (message.Status s) = 0x73 ∷ text_of s
+canonical (message.OldChallenge flags challenge name) = 0x6e ∷ to_be_bytes w16 written_version ++ to_be_bytes w32 flags ++ to_be_bytes w32 challenge ++ name
+canonical (message.NewChallenge flags challenge creation name) = 0x4e ∷ to_be_bytes w64 flags.0 ++ to_be_bytes w32 challenge ++ to_be_bytes w32 creation.0 ++ to_be_bytes w16 (length name) ++ name
+canonical (message.Complement high creation) = 0x63 ∷ to_be_bytes w32 high ++ to_be_bytes w32 creation.0
+canonical (message.Reply challenge digest) = 0x72 ∷ to_be_bytes w32 challenge ++ digest
+canonical (message.Ack digest) = 0x61 ∷ digest
+
+-- a message whose name fits, and a name of more than 255 bytes does not
+abbrev pub bounded : List ℕ → Message → Result (List ℕ) MessageError
+bounded name m = if nat_lt 255 (length name) then Err errors.BadName else Ok (canonical m)
+
+-- what this side writes for a message, or the first reason why it writes none
+abbrev pub written : Side → Message → Result (List ℕ) MessageError
+written Dialler (message.OldName flags name) = bounded name (message.OldName flags name)
+written Dialler (message.NewName flags creation name) = bounded name (message.NewName flags creation name)
+written Dialler (message.Complement high creation) = Ok (canonical (message.Complement high creation))
+written Dialler (message.Reply challenge digest) = Ok (canonical (message.Reply challenge digest))
+written Acceptor (message.OldChallenge flags challenge name) = bounded name (message.OldChallenge flags challenge name)
+written Acceptor (message.NewChallenge flags challenge creation name) = bounded name (message.NewChallenge flags challenge creation name)
+written Acceptor (message.Ack digest) = Ok (canonical (message.Ack digest))
+written side (message.Status s) = if is_said_by s side then Ok (canonical (message.Status s)) else Err errors.UnknownStatus
+written _ _ = Err errors.UnknownTag

@@ -1,0 +1,67 @@
+-- Why a body of a side is no message, in the words of the layouts.
+use Rattle.std.specs.Prelude.{◌≡◌, ℕ, ◌<◌, List, [], ◌∷◌, ◌++◌, get_or, IsTrue}
+use Rattle.dist_messages.specs.declared.message.Side.{Side}
+use Rattle.dist_messages.specs.declared.message.Status.{Status}
+use Rattle.dist_messages.specs.declared.message.Message.{Message}
+use Rattle.dist_messages.specs.declared.message_error.MessageError.{MessageError}
+use Rattle.dist_messages.specs.declared.message_error.MessageError.TheVariants as errors
+use Rattle.dist_messages.specs.Spelling.{Spells, Fits, text_of, is_said_by}
+
+-- each number is a byte
+abbrev pub IsBytes : List ℕ → Type 0
+IsBytes bytes = (i : ℕ) → get_or bytes i 0 < 256
+
+-- the body spells a message of this side
+pub record IsMessage (side : Side) (body : List ℕ) : Type 0 where
+  pub message : Message
+  pub fits : Fits message
+  pub spelled : Spells side message body
+
+-- the first byte of a status, the one message that has a text and no fields
+abbrev pub status_tag : ℕ
+status_tag = 0x73
+
+-- No message of this side begins as the body does.
+pub record HasUnknownTag (side : Side) (body : List ℕ) : Type 0 where
+  pub tag : ℕ
+  pub rest : List ℕ
+  pub parts : body ≡ tag ∷ rest
+  pub no_row : (others : List ℕ) → IsMessage side (tag ∷ others) → ⊥
+
+-- The body ends inside a field: it is no message, and some more bytes make it one.
+pub record IsShort (side : Side) (body : List ℕ) : Type 0 where
+  pub tag : ℕ
+  pub rest : List ℕ
+  pub parts : body ≡ tag ∷ rest
+  pub no_status : tag ≡ status_tag → ⊥
+  pub no_message : IsMessage side body → ⊥
+  pub more : List ℕ
+  pub more_bytes : IsBytes more
+  pub whole : IsMessage side (body ++ more)
+
+-- Bytes stand after the last field: the body is no message, and a front of it is one.
+pub record IsLong (side : Side) (body : List ℕ) : Type 0 where
+  pub tag : ℕ
+  pub rest : List ℕ
+  pub next : ℕ
+  pub more : List ℕ
+  pub parts : body ≡ (tag ∷ rest) ++ (next ∷ more)
+  pub no_status : tag ≡ status_tag → ⊥
+  pub no_message : IsMessage side body → ⊥
+  pub front : IsMessage side (tag ∷ rest)
+
+-- The body is the tag of a status and a text that no status of this side has.
+pub record HasUnknownStatus (side : Side) (body : List ℕ) : Type 0 where
+  pub text : List ℕ
+  pub parts : body ≡ status_tag ∷ text
+  pub no_status : (s : Status) → IsTrue (is_said_by s side) → text ≡ text_of s → ⊥
+
+-- Why a body is refused. Memory is wanted for a message alone, and a name that is read is of any length.
+unfoldable pub IsCause : Side → List ℕ → MessageError → Type 0
+IsCause side body errors.Empty = body ≡ []
+IsCause side body errors.UnknownTag = HasUnknownTag side body
+IsCause side body errors.Short = IsShort side body
+IsCause side body errors.Long = IsLong side body
+IsCause side body errors.BadName = ⊥
+IsCause side body errors.UnknownStatus = HasUnknownStatus side body
+IsCause side body errors.NoMemory = IsMessage side body

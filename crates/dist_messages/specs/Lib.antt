@@ -1,0 +1,5 @@
+pub mod Answer
+pub mod Spelling
+pub mod Canonical
+pub mod Reading
+pub mod Causes

@@ -1,0 +1,44 @@
+//! Laws of the spellings alone: each is a function that does nothing, and whose contract is the law. That no frame is a
+//! proper front of another is a law of `dist_frames`.
+
+ghost use Rattle.std.specs.Prelude.{◌≡◌, ◌↔◌, ℕ, List, [], Ok, Err};
+ghost use Rattle.dist_messages.specs.declared.message.Side.{Side};
+ghost use Rattle.dist_messages.specs.declared.message.Message.{Message};
+ghost use Rattle.dist_messages.specs.declared.message_error.MessageError.TheVariants as errors;
+ghost use Rattle.dist_messages.specs.Spelling.{Spells, Fits};
+ghost use Rattle.dist_messages.specs.Canonical.{written};
+ghost use Rattle.dist_messages.specs.Causes.{IsBytes, HasUnknownTag, IsShort, IsLong, HasUnknownStatus};
+ghost use Rattle.dist_messages.specs.Reading.{read};
+
+/// A spelling has one message.
+pub fn one_message()
+    ensures { (side : Side) (m n : Message) (body : List ℕ) → Fits m → Fits n →
+        Spells side m body → Spells side n body → m ≡ n }
+{}
+
+/// What is written is a spelling of the message, and is read as this message.
+pub fn written_is_read()
+    ensures spelled { (side : Side) (m : Message) (body : List ℕ) → written side m ≡ Ok body → Spells side m body }
+    ensures read { (side : Side) (m : Message) (body : List ℕ) → Fits m →
+        written side m ≡ Ok body → read side body ≡ Ok m }
+{}
+
+/// Each refusal of a body is met exactly where its cause stands, in the words of the layouts.
+pub fn causes_of_refusals()
+    // there is no byte
+    ensures empty { (side : Side) (body : List ℕ) → IsBytes body → (read side body ≡ Err errors.Empty) ↔ (body ≡ []) }
+
+    // no message of the side begins with the first byte
+    ensures unknown_tag { (side : Side) (body : List ℕ) → IsBytes body →
+        (read side body ≡ Err errors.UnknownTag) ↔ HasUnknownTag side body }
+
+    // it is no message, and some more bytes make it one
+    ensures short { (side : Side) (body : List ℕ) → IsBytes body → (read side body ≡ Err errors.Short) ↔ IsShort side body }
+
+    // it is no message, and a front of it is one
+    ensures long { (side : Side) (body : List ℕ) → IsBytes body → (read side body ≡ Err errors.Long) ↔ IsLong side body }
+
+    // it has the tag of a status, and the text of no status of the side
+    ensures unknown_status { (side : Side) (body : List ℕ) → IsBytes body →
+        (read side body ≡ Err errors.UnknownStatus) ↔ HasUnknownStatus side body }
+{}

@@ -1,0 +1,23 @@
+//! The messages of the distribution handshake, as values and as the bodies of frames: `decode` and `encode`.
+//!
+//! It reads and writes bodies alone: no length before them, no name's form, no state of a connection, no input or output.
+#![tactic(auto)]
+
+mod fields;
+mod laws;
+mod message;
+mod message_error;
+mod reading;
+mod reading_named;
+mod status;
+mod writing;
+mod writing_named;
+
+pub use laws::{causes_of_refusals, one_message, written_is_read};
+pub use message::{Message, Side, Status};
+pub use message_error::MessageError;
+pub use reading::decode;
+pub use writing::encode;
+
+#[cfg(test)]
+mod tests;

@@ -1,0 +1,105 @@
+//! Reading a body: first the tag, then the layout that this side has for it.
+
+ghost use Rattle.std.specs.Prelude.{Ok, IfOk, IfErr};
+ghost use Rattle.dist_messages.specs.Spelling.{Spells, Fits};
+ghost use Rattle.dist_messages.specs.Causes.{IsCause};
+ghost use Rattle.dist_messages.specs.declared.message.Message.{Message};
+ghost use Rattle.dist_messages.specs.Answer.{Answers};
+ghost use Rattle.dist_messages.specs.Reading.{complement, reply, ack, status_of, read};
+
+use crate::fields::{digest_at, u32_at};
+use crate::message::{Message, Side};
+use crate::message_error::MessageError;
+use crate::reading_named::{read_new_challenge, read_new_name, read_old_challenge, read_old_name};
+use crate::status::{acceptors_status, diallers_status};
+use dist_names::Creation;
+use std::alloc::Global;
+
+#[tactic(auto, unfolding(crate::specs::Reading::complement))]
+fn read_complement(bytes: &[u8]) -> Result<Message, MessageError>
+    ensures { Answers (λ m. m) result (complement bytes.now) }
+{
+    let (high, rest) = u32_at(bytes).ok_or(MessageError::Short)?;
+    let (creation, behind) = u32_at(rest).ok_or(MessageError::Short)?;
+    if !behind.is_empty() {
+        return Err(MessageError::Long);
+    }
+    Ok(Message::Complement {
+        high,
+        creation: Creation(creation),
+    })
+}
+
+#[tactic(auto, unfolding(crate::specs::Reading::reply))]
+fn read_reply(bytes: &[u8]) -> Result<Message, MessageError>
+    ensures { Answers (λ m. m) result (reply bytes.now) }
+{
+    let (challenge, rest) = u32_at(bytes).ok_or(MessageError::Short)?;
+    let (digest, behind) = digest_at(rest).ok_or(MessageError::Short)?;
+    if !behind.is_empty() {
+        return Err(MessageError::Long);
+    }
+    Ok(Message::Reply { challenge, digest })
+}
+
+#[tactic(auto, unfolding(crate::specs::Reading::ack))]
+fn read_ack(bytes: &[u8]) -> Result<Message, MessageError>
+    ensures { Answers (λ m. m) result (ack bytes.now) }
+{
+    let (digest, behind) = digest_at(bytes).ok_or(MessageError::Short)?;
+    if !behind.is_empty() {
+        return Err(MessageError::Long);
+    }
+    Ok(Message::Ack { digest })
+}
+
+#[tactic(auto, unfolding(crate::specs::Reading::status_of))]
+fn read_status(side: Side, text: &[u8]) -> Result<Message, MessageError>
+    ensures { Answers (λ m. m) result (status_of side text.now) }
+{
+    let status = match side {
+        Side::Dialler => diallers_status(text),
+        Side::Acceptor => acceptors_status(text),
+    };
+    Ok(Message::Status(status.ok_or(MessageError::UnknownStatus)?))
+}
+
+#[tactic(auto, unfolding(crate::specs::Reading::read))]
+fn read_message(alloc: Global, side: Side, body: &[u8]) -> Result<Message, MessageError>
+    ensures { Answers (λ m. m) result (read side body.now) }
+{
+    let [tag, rest @ ..] = body else {
+        return Err(MessageError::Empty);
+    };
+    match (side, *tag) {
+        (_, b's') => read_status(side, rest),
+        (Side::Dialler, b'n') => read_old_name(alloc, rest),
+        (Side::Dialler, b'N') => read_new_name(alloc, rest),
+        (Side::Dialler, b'c') => read_complement(rest),
+        (Side::Dialler, b'r') => read_reply(rest),
+        (Side::Acceptor, b'n') => read_old_challenge(alloc, rest),
+        (Side::Acceptor, b'N') => read_new_challenge(alloc, rest),
+        (Side::Acceptor, b'a') => read_ack(rest),
+        _ => Err(MessageError::UnknownTag),
+    }
+}
+
+/// The message that a body of this side spells. Memory is asked for a name alone, and not more than the body has bytes.
+///
+/// Refusals, in this order: `Empty`, `UnknownTag` (also for a tag of the other side), `Short`, `Long`, `UnknownStatus` (also for
+/// a status of the other side), `NoMemory`.
+pub fn decode(alloc: Global, side: Side, body: &[u8]) -> Result<Message, MessageError>
+    // What is read is spelled so.
+    ensures found { IfOk result (λ m. Spells side m body.now) }
+
+    // What is spelled so is read, unless memory runs out.
+    ensures only { (m : Message) → Fits m → Spells side m body.now → Answers (λ x. x) result (Ok m) }
+
+    // What is refused has the cause that is told.
+    ensures cause { IfErr result (λ e. IsCause side body.now e) }
+
+    // Which of them it is, computed from left to right.
+    ensures exact { Answers (λ m. m) result (read side body.now) }
+{
+    read_message(alloc, side, body)
+}

@@ -1,0 +1,70 @@
+//! Reading the messages that have a name. Each takes the bytes after the tag, and asks for memory last, so that want of it is
+//! told only where no other refusal holds.
+
+ghost use Rattle.dist_messages.specs.Answer.{Answers};
+ghost use Rattle.dist_messages.specs.Reading.{old_name, new_name, old_challenge, new_challenge};
+
+use crate::fields::{bytes_of_len, u16_at, u32_at, u64_at};
+use crate::message::Message;
+use crate::message_error::MessageError;
+use dist_names::{ByteString, Creation, Flags};
+use std::alloc::Global;
+
+#[tactic(auto, unfolding(crate::specs::Reading::old_name))]
+pub fn read_old_name(alloc: Global, bytes: &[u8]) -> Result<Message, MessageError>
+    ensures { Answers (λ m. m) result (old_name bytes.now) }
+{
+    let (_version, rest) = u16_at(bytes).ok_or(MessageError::Short)?;
+    let (flags, name) = u32_at(rest).ok_or(MessageError::Short)?;
+    let name = ByteString::from_slice(alloc, name)?;
+    Ok(Message::OldName { flags, name })
+}
+
+#[tactic(auto, unfolding(crate::specs::Reading::new_name))]
+pub fn read_new_name(alloc: Global, bytes: &[u8]) -> Result<Message, MessageError>
+    ensures { Answers (λ m. m) result (new_name bytes.now) }
+{
+    let (flags, rest) = u64_at(bytes).ok_or(MessageError::Short)?;
+    let (creation, rest) = u32_at(rest).ok_or(MessageError::Short)?;
+    let (len, rest) = u16_at(rest).ok_or(MessageError::Short)?;
+    let (name, _ignored) = bytes_of_len(len as usize, rest).ok_or(MessageError::Short)?;
+    let name = ByteString::from_slice(alloc, name)?;
+    Ok(Message::NewName {
+        flags: Flags(flags),
+        creation: Creation(creation),
+        name,
+    })
+}
+
+#[tactic(auto, unfolding(crate::specs::Reading::old_challenge))]
+pub fn read_old_challenge(alloc: Global, bytes: &[u8]) -> Result<Message, MessageError>
+    ensures { Answers (λ m. m) result (old_challenge bytes.now) }
+{
+    let (_version, rest) = u16_at(bytes).ok_or(MessageError::Short)?;
+    let (flags, rest) = u32_at(rest).ok_or(MessageError::Short)?;
+    let (challenge, name) = u32_at(rest).ok_or(MessageError::Short)?;
+    let name = ByteString::from_slice(alloc, name)?;
+    Ok(Message::OldChallenge {
+        flags,
+        challenge,
+        name,
+    })
+}
+
+#[tactic(auto, unfolding(crate::specs::Reading::new_challenge))]
+pub fn read_new_challenge(alloc: Global, bytes: &[u8]) -> Result<Message, MessageError>
+    ensures { Answers (λ m. m) result (new_challenge bytes.now) }
+{
+    let (flags, rest) = u64_at(bytes).ok_or(MessageError::Short)?;
+    let (challenge, rest) = u32_at(rest).ok_or(MessageError::Short)?;
+    let (creation, rest) = u32_at(rest).ok_or(MessageError::Short)?;
+    let (length, rest) = u16_at(rest).ok_or(MessageError::Short)?;
+    let (name, _ignored) = bytes_of_len(length as usize, rest).ok_or(MessageError::Short)?;
+    let name = ByteString::from_slice(alloc, name)?;
+    Ok(Message::NewChallenge {
+        flags: Flags(flags),
+        challenge,
+        creation: Creation(creation),
+        name,
+    })
+}

@@ -1,0 +1,4 @@
+pub mod NodeName
+pub mod Order
+pub mod Answer
+pub mod Flags

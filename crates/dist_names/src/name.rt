@@ -1,0 +1,148 @@
+ghost use Rattle.std.specs.Prelude.{◌≡◌, IfOk, OnOk};
+ghost use Rattle.std.specs.List.{list_all, position, position_or_len};
+ghost use Rattle.dist_names.specs.NodeName.{short_of, host_of, is_name_byte, is_separator, has_two_parts, named, IsNodeName};
+ghost use Rattle.dist_names.specs.Order.{same_name};
+ghost use Rattle.dist_names.specs.Answer.{Answers};
+
+use crate::name_error::NameError;
+use std::alloc::{AllocError, Global};
+use std::marker::Model;
+
+/// The name of a node, as `a@127.0.0.1`: 3 to 255 bytes, each from 0x21 to 0x7E, one `@` among them, and neither part
+/// empty. Contracts see it as its bytes, and whoever holds one need not test it again.
+#[derive(Debug, Drop)]
+pub struct NodeName {
+    text: Vec<u8>,
+}
+
+impl Model for NodeName {
+    ghost use Rattle.std.specs.Prelude.{ℕ, List};
+    ghost use Rattle.dist_names.specs.NodeName.{IsNodeName};
+
+    ghost Value = { List ℕ };
+
+    ghost view = { λ n. n.text.items };
+
+    ghost invariant = { λ n. IsNodeName n.text.items };
+}
+
+const LEAST: usize = 3;
+
+const MOST: usize = 255;
+
+fn are_name_bytes(bytes: &[u8]) -> bool
+    ensures { result ≡ list_all is_name_byte bytes.now }
+{
+    bytes.iter().all(|byte| 0x21 <= *byte && *byte <= 0x7E)
+}
+
+fn separator(bytes: &[u8]) -> Option<usize>
+    ensures { result ≡ position is_separator bytes.now }
+{
+    bytes.iter().position(|byte| *byte == b'@')
+}
+
+// Where the first separator stands, or the length where none does.
+#[tactic(auto, using(crate::proofs::Places::place_or_length))]
+fn separator_place(bytes: &[u8]) -> usize
+    ensures { result ≡ position_or_len is_separator bytes.now }
+{
+    separator(bytes).unwrap_or(bytes.len())
+}
+
+fn short_part(bytes: &[u8]) -> &[u8]
+    ensures { result.now ≡ short_of bytes.now }
+{
+    &bytes[..separator_place(bytes)]
+}
+
+fn host_part(bytes: &[u8]) -> &[u8]
+    ensures { result.now ≡ host_of bytes.now }
+{
+    let place = separator_place(bytes);
+    if place < bytes.len() {
+        &bytes[place + 1..]
+    } else {
+        &[]
+    }
+}
+
+fn is_two_parts(bytes: &[u8]) -> bool
+    ensures { result ≡ has_two_parts bytes.now }
+{
+    bytes.iter().filter(|byte| **byte == b'@').count() == 1
+        && !short_part(bytes).is_empty()
+        && !host_part(bytes).is_empty()
+}
+
+impl NodeName {
+    /// The name that these bytes are, or the first reason why they are none.
+    pub fn new(alloc: Global, bytes: &[u8]) -> Result<NodeName, NameError>
+        ensures exact { Answers result (named bytes.now) }
+
+        // The bytes of a name are taken, unless memory runs out, and no others are.
+        ensures accepts { IsNodeName bytes.now → Answers result (Ok bytes.now) }
+        ensures good { OnOk result (IsNodeName bytes.now) }
+    {
+        if bytes.len() < LEAST {
+            return Err(NameError::TooShort);
+        }
+        if bytes.len() > MOST {
+            return Err(NameError::TooLong);
+        }
+        if !are_name_bytes(bytes) {
+            return Err(NameError::BadByte);
+        }
+        if !is_two_parts(bytes) {
+            return Err(NameError::BadAt);
+        }
+        Ok(NodeName {
+            text: Vec::from_slice(alloc, bytes)?,
+        })
+    }
+
+    /// The whole name.
+    pub fn bytes(&self) -> &[u8]
+        ensures same { result.now ≡ self.now }
+        ensures good { IsNodeName self.now }
+    {
+        &self.text
+    }
+
+    /// The part before the `@`, by which the port mapper knows the node.
+    pub fn short(&self) -> &[u8]
+        ensures { result.now ≡ short_of self.now }
+    {
+        short_part(&self.text)
+    }
+
+    /// The part after the `@`, where the node runs.
+    pub fn host(&self) -> &[u8]
+        ensures { result.now ≡ host_of self.now }
+    {
+        host_part(&self.text)
+    }
+
+    /// An equal name.
+    pub fn try_clone(&self, alloc: Global) -> Result<NodeName, AllocError>
+        ensures { IfOk result (λ copy. copy ≡ self.now) }
+    {
+        Ok(NodeName {
+            text: Vec::from_slice(alloc, &self.text)?,
+        })
+    }
+
+    /// Whether this is the name with these bytes.
+    pub fn has_bytes(&self, bytes: &[u8]) -> bool
+        ensures { result ≡ same_name self.now bytes.now }
+    {
+        self.text.as_slice().cmp(bytes).is_eq()
+    }
+
+    /// Whether the two names are one.
+    pub fn is_same(&self, other: &NodeName) -> bool
+        ensures { result ≡ same_name self.now other.now }
+    {
+        self.has_bytes(other.bytes())
+    }
+}

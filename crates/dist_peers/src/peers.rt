@@ -1,0 +1,197 @@
+ghost use Rattle.std.specs.Prelude.{◌≡◌, IfOk, OnOk, OnErr, true, false, IsSome, slice_get};
+ghost use Rattle.std.specs.Option.{option_map};
+ghost use Rattle.std.specs.FinMap as map;
+ghost use Rattle.dist_names.specs.Order.{same_name};
+ghost use Rattle.dist_peers.specs.Table.{entry_of, is_waiting, replaced_by, left_by, with_entry, OthersStay};
+ghost use Rattle.dist_peers.specs.Verdicts.{is_full, is_greater, dialled, named, verdict_on, Does};
+
+use crate::entry::{EndId, Entry, PeersError, Verdict};
+use crate::sorted::{drop_row, entry_in, put_row, row_at, set_row};
+use crate::verdict::{left_over, replaced, ruling_of, waits_for};
+use dist_names::NodeName;
+use std::alloc::{AllocError, Global};
+use std::marker::Model;
+
+/// The most entries, our own limit.
+const MOST: usize = 1024;
+
+/// The entries of the peers that aren't idle, at most 1,024.
+///
+/// Contracts see a finite map from names to entries, and `at` shows it in the order of the names.
+#[derive(Debug, Drop)]
+pub struct Peers {
+    rows: Vec<(NodeName, Entry)>,
+}
+
+impl Model for Peers {
+    ghost use Rattle.std.specs.Prelude.{◌≡◌, ◌≤◌, true, length};
+    ghost use Rattle.std.specs.FinMap as map;
+    ghost use Rattle.std.specs.Coded.{coded_list, coded_ℕ};
+    ghost use Rattle.dist_names.specs.Order.{name_cmp};
+    ghost use Rattle.dist_peers.specs.declared.entry.Entry.{Entry};
+    ghost use Rattle.dist_peers.specs.contracts.entry.Entry as entry;
+    ghost use Rattle.dist_peers.specs.Rows.{IsInOrder};
+
+    ghost Value = { map.FinMap name_cmp Entry };
+
+    ghost coded = { map.code (coded_list coded_ℕ) (entry.the_row).coded };
+
+    ghost view = { λ p. map.from_sorted p.rows.items };
+
+    ghost invariant = { λ p. IsInOrder p.rows.items };
+}
+
+impl Peers {
+    /// A table in which every peer is idle. It takes no memory.
+    pub fn new(alloc: Global) -> Peers
+        ensures { result ≡ map.empty }
+    {
+        Peers {
+            rows: Vec::new(alloc),
+        }
+    }
+
+    /// How many peers have an entry.
+    pub fn len(&self) -> usize
+        ensures count { result ≡ map.len self.now }
+    {
+        self.rows.len()
+    }
+
+    /// The entry of a peer. `None` where it is idle.
+    pub fn entry(&self, peer: &NodeName) -> Option<Entry>
+        ensures { result ≡ entry_of self.now peer.now }
+    {
+        entry_in(&self.rows, peer)
+    }
+
+    /// The entry at this place, from 0, in the order of the peers' names, and the peer. `None` from `len` on.
+    pub fn at(&self, i: usize) -> Option<(&NodeName, Entry)>
+        ensures { option_map (λ r. (r.0.now, r.1)) result ≡ slice_get (map.entries self.now) i }
+    {
+        row_at(&self.rows, i)
+    }
+
+    /// Whether a further entry would be needed for this peer, and 1,024 are there.
+    pub fn is_full_for(&self, peer: &NodeName) -> bool
+        ensures { result ≡ is_full self.now (entry_of self.now peer.now) }
+    {
+        match self.entry(peer) {
+            Some(_) => false,
+            None => self.len() >= MOST,
+        }
+    }
+
+    /// Whether the peer's entry waits for this end to come up: it names it as dialled or as accepted.
+    pub fn is_waiting(&self, peer: &NodeName, id: EndId) -> bool
+        ensures { result ≡ is_waiting id (entry_of self.now peer.now) }
+    {
+        waits_for(self.entry(peer), id)
+    }
+
+    /// What is to be said of a peer's name that comes on this end, where there is room for an entry.
+    pub fn verdict(&self, me: &NodeName, peer: &NodeName, id: EndId) -> Verdict
+        ensures { result ≡ verdict_on self.now me.now peer.now id }
+    {
+        ruling_of(me.cmp(peer).is_gt(), id, self.entry(peer)).verdict
+    }
+
+    /// A dial to this peer begins on this end: the idle peer's entry becomes `Out`.
+    ///
+    /// Refused as `Busy` where the peer is not idle, then `Full`, then `NoMemory`; the table then stays as it was.
+    #[tactic(auto, using(crate::proofs::Others::others_same, crate::proofs::Others::others_insert))]
+    pub fn dial(&mut self, peer: &NodeName, id: EndId) -> Result<(), PeersError>
+        ensures entry { Does result (dialled self.old peer.now id (entry_of self.old peer.now)) self.old self.new }
+        ensures others { OthersStay peer.now self.old self.new }
+        ensures unchanged { OnErr result (self.new ≡ self.old) }
+    {
+        if let Some(entry) = self.entry(peer) {
+            return Err(PeersError::Busy(entry));
+        }
+        if self.len() >= MOST {
+            return Err(PeersError::Full);
+        }
+        match self.put(peer, Entry::Out(id)) {
+            Ok(()) => Ok(()),
+            Err(_) => Err(PeersError::NoMemory),
+        }
+    }
+
+    /// A peer's name came on this end and passed the checks on names: the table of verdicts is applied.
+    ///
+    /// Refused as `Full`, then `NoMemory`; the table then stays as it was.
+    #[tactic(auto, using(crate::proofs::Others::others_same, crate::proofs::Others::others_insert))]
+    pub fn name_came(
+        &mut self,
+        me: &NodeName,
+        peer: &NodeName,
+        id: EndId,
+    ) -> Result<Verdict, PeersError>
+        // The own name is refused before; `NodeName::is_same` is the test.
+        requires { same_name me.now peer.now ≡ false }
+        ensures verdict { IfOk result (λ v. v ≡ verdict_on self.old me.now peer.now id) }
+        ensures entry { Does result (named self.old peer.now (is_greater me.now peer.now) id) self.old self.new }
+        ensures others { OthersStay peer.now self.old self.new }
+        ensures unchanged { OnErr result (self.new ≡ self.old) }
+    {
+        if self.is_full_for(peer) {
+            return Err(PeersError::Full);
+        }
+        let ruling = ruling_of(me.cmp(peer).is_gt(), id, self.entry(peer));
+        match self.put(peer, ruling.entry) {
+            Ok(()) => Ok(ruling.verdict),
+            Err(_) => Err(PeersError::NoMemory),
+        }
+    }
+
+    /// This end came up with the peer. Answers the end that was up before, which is closed. It takes no memory.
+    #[tactic(auto, using(crate::proofs::Others::others_insert))]
+    pub fn came_up(&mut self, peer: &NodeName, id: EndId) -> Option<EndId>
+        // Only an end that was dialled, or whose name was taken, comes up; `is_waiting` is the test.
+        requires { is_waiting id (entry_of self.old peer.now) ≡ true }
+        ensures replaced { result ≡ replaced_by (entry_of self.old peer.now) }
+        ensures entry { self.new ≡ map.insert self.old peer.now (Entry.Up id) }
+        ensures others { OthersStay peer.now self.old self.new }
+    {
+        let entry = self.entry(peer);
+        self.set(peer, Entry::Up(id));
+        replaced(entry)
+    }
+
+    /// This end is lost, or was closed by its own message. Changes nothing where the peer's entry does not name it.
+    /// It takes no memory.
+    #[tactic(auto, using(crate::proofs::Others::others_insert, crate::proofs::Others::others_removed))]
+    pub fn lost(&mut self, peer: &NodeName, id: EndId)
+        ensures entry { self.new ≡ with_entry self.old peer.now (left_by id (entry_of self.old peer.now)) }
+        ensures others { OthersStay peer.now self.old self.new }
+    {
+        match left_over(self.entry(peer), id) {
+            Some(entry) => self.set(peer, entry),
+            None => self.remove(peer),
+        }
+    }
+
+    // Gives a peer an entry; a further peer only where there is room.
+    fn put(&mut self, peer: &NodeName, entry: Entry) -> Result<(), AllocError>
+        requires { is_full self.old (entry_of self.old peer.now) ≡ false }
+        ensures ok { OnOk result (self.new ≡ map.insert self.old peer.now entry) }
+        ensures err { OnErr result (self.new ≡ self.old) }
+    {
+        put_row(&mut self.rows, peer, entry)
+    }
+
+    // Gives a peer that has an entry another.
+    fn set(&mut self, peer: &NodeName, entry: Entry)
+        requires { IsSome (entry_of self.old peer.now) }
+        ensures { self.new ≡ map.insert self.old peer.now entry }
+    {
+        set_row(&mut self.rows, peer, entry);
+    }
+
+    // A peer becomes idle.
+    fn remove(&mut self, peer: &NodeName)
+        ensures { self.new ≡ map.remove self.old peer.now }
+    {
+        drop_row(&mut self.rows, peer);
+    }
+}

@@ -1,0 +1,17 @@
+//! The secret that two nodes share, its cookie: which bytes of a text it is, and the digest that shows that one has it.
+//!
+//! It opens no file, draws no challenge and compares no digests, and it has no function that prints a cookie.
+#![tactic(auto)]
+
+mod cookie;
+mod cookie_error;
+mod digesting;
+mod reading;
+
+pub use cookie::Cookie;
+pub use cookie_error::CookieError;
+pub use digesting::digest;
+pub use reading::read_cookie;
+
+#[cfg(test)]
+mod tests;

@@ -1,0 +1,75 @@
+ghost use Rattle.std.specs.Prelude.{◌≡◌, ℕ, ◌<◌, ◌≤◌, List, length, take, is_none, false, IfSome, IfNone, MatchOption};
+ghost use Rattle.std.specs.Io.KnownBytes.{Consumes, Keeps, IsAtEnd};
+ghost use Rattle.dist_secret.specs.Hearing.{Hears, AnswersUnlessFailed};
+
+use crate::cookie::Cookie;
+use crate::cookie_error::CookieError;
+use std::alloc::Global;
+use std::io::Read;
+
+// One more than a text may have, so that a longer one is known without reading it to its end.
+const MOST_READ: usize = 4097;
+
+// One read. None is made after one that failed.
+fn read_once<R: Read>(reader: &mut R, has_failed: &mut bool, room: &mut [u8]) -> Option<usize>
+    requires { has_failed.old ≡ false }
+    ensures len { length room.new ≡ length room.old }
+    ensures marks { has_failed.new ≡ is_none result }
+    ensures fits { IfSome result (λ n. n ≤ length room.new) }
+    ensures kept { IfNone result (Keeps (R.remaining reader.old) (R.remaining reader.new)) }
+    ensures taken { IfSome result (λ n. Consumes (R.remaining reader.old) (R.remaining reader.new) (take n room.new)) }
+    ensures end { IfSome result (λ n. n ≡ 0 → 0 < length room.new → IsAtEnd (R.remaining reader.new)) }
+{
+    match reader.read(room) {
+        Ok(n) => Some(n),
+        Err(_error) => {
+            *has_failed = true;
+            None
+        }
+    }
+}
+
+// Fills the room from the front until it is full or nothing more comes, and says how far. `None` where a read failed.
+fn fill<R: Read>(reader: &mut R, room: &mut [u8]) -> Option<usize>
+    ensures len { length room.new ≡ length room.old }
+    ensures filled { IfSome result (λ n. n ≤ length room.new) }
+    ensures taken { MatchOption result
+        ((bytes : List ℕ) × Consumes (R.remaining reader.old) (R.remaining reader.new) bytes × (length bytes < length room.new))
+        (λ n. Consumes (R.remaining reader.old) (R.remaining reader.new) (take n room.new)) }
+    ensures end { IfSome result (λ n. n < length room.new → IsAtEnd (R.remaining reader.new)) }
+{
+    let mut has_failed = false;
+    let mut at = 0;
+    while at < room.len() {
+        match read_once(reader, &mut has_failed, &mut room[at..]) {
+            Some(0) => return Some(at),
+            Some(n) => at += n,
+            None => return None,
+        }
+    }
+    Some(at)
+}
+
+fn hear<R: Read>(alloc: Global, reader: &mut R) -> Result<Cookie, CookieError>
+    ensures { Hears (R.remaining reader.old) (R.remaining reader.new) result }
+{
+    let mut room = [0u8; MOST_READ];
+    let Some(len) = fill(reader, &mut room) else {
+        return Err(CookieError::ReadFailed);
+    };
+    Cookie::from_bytes(alloc, &room[..len])
+}
+
+/// The cookie of what a reader gives, to its end, in pieces of whatever size.
+///
+/// At most 4,097 bytes are read, and no read is made after one that failed, one that gave no bytes, or the one that
+/// filled the 4,097. Refusals, the first that holds: ReadFailed, and then those of [`Cookie::from_bytes`].
+pub fn read_cookie<R: Read>(alloc: Global, reader: &mut R) -> Result<Cookie, CookieError>
+    // Unless a read failed, the answer is that for all that the reader had to give.
+    ensures exact { IfSome (R.remaining reader.old) (λ text. AnswersUnlessFailed result text) }
+
+    // What was taken from the reader, and what was answered to that.
+    ensures hears { Hears (R.remaining reader.old) (R.remaining reader.new) result }
+{
+    hear(alloc, reader)
+}

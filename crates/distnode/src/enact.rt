@@ -1,0 +1,84 @@
+//! The command `enact`: a script from the input, what comes of it on the output.
+
+ghost use Rattle.std.specs.Prelude.{◌≡◌, ◌+◌, ◌≤◌, length, IfOk};
+
+use crate::fault::Fault;
+use crate::scene::Scene;
+use crate::script::{Script, script_of};
+use std::alloc::Global;
+use std::io::{BufWriter, Read, Write};
+
+/// The most bytes of a script, our own choice.
+const MOST_BYTES: usize = 1048576;
+
+const PIECE: usize = 4096;
+
+// One read of the next piece, whose bytes are put behind the text. Answers how many there were.
+fn read_piece<R: Read>(input: &mut R, text: &mut Vec<u8>) -> Result<usize, Fault>
+    ensures { IfOk result (λ count. length text.new.items ≡ length text.old.items + count) }
+{
+    let mut room = [0u8; PIECE];
+    match input.read(&mut room) {
+        Ok(count) => {
+            text.extend_from_slice(&room[..count])
+                .map_err(|_| Fault::NoMemory)?;
+            Ok(count)
+        }
+        Err(_) => Err(Fault::ReadFailed),
+    }
+}
+
+// The whole input. Reading ends with the read that shows that it is too long.
+fn read_text<R: Read>(alloc: Global, input: &mut R) -> Result<Vec<u8>, Fault>
+    ensures { IfOk result (λ text. length text.items ≤ MOST_BYTES) }
+{
+    let mut text = Vec::new(alloc);
+    'pieces: for _ in 0..=MOST_BYTES {
+        if read_piece(input, &mut text)? == 0 {
+            return Ok(text);
+        }
+        if text.len() > MOST_BYTES {
+            return Err(Fault::ScriptTooLong);
+        }
+    }
+    Err(Fault::ScriptTooLong)
+}
+
+fn play<W: Write>(alloc: Global, script: Script, out: &mut W) -> Result<(), Fault> {
+    let Script { node, lines } = script;
+    let mut scene = Scene::new(alloc, node);
+    for line in lines.iter() {
+        scene.tell(alloc, line, out)?;
+    }
+    scene.print_table(out)
+}
+
+fn perform<R: Read, W: Write>(alloc: Global, input: &mut R, out: &mut W) -> Result<(), Fault> {
+    let text = read_text(alloc, input)?;
+    let script = script_of(alloc, &text)?;
+    let mut out = BufWriter::new(alloc, out).map_err(|_| Fault::NoMemory)?;
+    let played = play(alloc, script, &mut out);
+    let flushed = out.flush();
+    played?;
+    flushed.map_err(|_| Fault::WriteFailed)
+}
+
+/// Reads a script, checks it whole, and prints for each of its lines what the node answers, and the table at the end.
+/// Answers the exit status: 0, 2 for a script that is no script, 1 for another fault. A fault is told on `err`.
+///
+/// The first fault is told of: a read that failed, a script above 1,048,576 bytes, its first bad line, no node. Until
+/// then nothing is written. A write that fails or want of memory ends the run, and what was written until then is the
+/// beginning of the whole output.
+pub fn enact<R: Read, W: Write, E: Write>(
+    alloc: Global,
+    input: &mut R,
+    out: &mut W,
+    err: &mut E,
+) -> u8
+    ensures { result ≤ 2 }
+{
+    match perform(alloc, input, out) {
+        Ok(()) => 0,
+        Err(fault) => fault.tell(err),
+    }
+}

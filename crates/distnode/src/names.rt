@@ -1,0 +1,38 @@
+//! The command `names`: what a port mapper answers about the nodes that it knows.
+
+ghost use Rattle.std.specs.Prelude.{◌≡◌, ◌≤◌, IfErr};
+ghost use Rattle.distnode.specs.Fault.{status_of};
+
+use crate::fault::Fault;
+use dist_drive::{Stream, ask_names};
+use std::alloc::Global;
+use std::io::Write;
+
+/// The most reads and writes, quiet ones among them. With turns of 10 milliseconds a port mapper has 5 seconds to answer,
+/// our own choice.
+const MOST_TURNS: usize = 500;
+
+fn perform<S: Stream, W: Write>(alloc: Global, stream: &mut S, out: &mut W) -> Result<(), Fault>
+    ensures { IfErr result (λ fault. status_of fault ≡ 1) }
+{
+    let (_port, text) = ask_names(alloc, stream, MOST_TURNS).map_err(Fault::NoAnswer)?;
+    out.write_all(text.as_slice())
+        .map_err(|_| Fault::WriteFailed)?;
+    out.flush().map_err(|_| Fault::WriteFailed)
+}
+
+/// Asks a port mapper for the nodes that it knows, and prints the text of its answer as it came. Answers the exit
+/// status, 0, or 1 for a fault, which is told on `err`: that of the question, or a write that failed.
+pub fn names<S: Stream, W: Write, E: Write>(
+    alloc: Global,
+    stream: &mut S,
+    out: &mut W,
+    err: &mut E,
+) -> u8
+    ensures { result ≤ 1 }
+{
+    match perform(alloc, stream, out) {
+        Ok(()) => 0,
+        Err(fault) => fault.tell(err),
+    }
+}
