@@ -1,16 +1,13 @@
 -- One question, put together from what was said and what was heard.
-use Rattle.std.proofs.Common.{◌≡◌, ℕ, ◌+◌, ◌-◌, ◌≤◌, ◌⊎◌, Bool, true, false, ◌||◌, List, [], ◌++◌, length, take, drop, Option, None, Some, Result, Ok, Err, refl, sym, ap, subst, ◌∙◌, arith, inl, inr, take_all, le_refl}
+use Rattle.std.proofs.Common.{◌≡◌, ℕ, ◌≤◌, ◌||◌, List, [], ◌++◌, length, take, drop, Result, Ok, Err, refl, sym, ap, subst, ◌∙◌, inl, inr, take_all, le_refl}
 use Rattle.std.proofs.lemmas.List.{append-nil, take-append-drop}
 use Rattle.std.specs.Prelude.{IsOk, IsErrAnd}
-use Rattle.std.specs.Int.{w16}
-use Rattle.std.specs.Io.KnownBytes.{prepend_known, append_known, IsAtEnd}
-use Rattle.dist_frames.specs.Stream.{framed}
 use Rattle.dist_epmd.specs.declared.epmd_error.EpmdError.{EpmdError}
 use Rattle.dist_drive.specs.declared.lookup_error.LookupError.{LookupError}
 use Rattle.dist_drive.specs.declared.lookup_error.LookupError.TheVariants as error
 use Rattle.dist_drive.specs.Stream.{StreamState}
-use Rattle.dist_drive.specs.Turns.{is_read_failed, is_write_failed, HasCause, Spends, Says, Hears, SaysFront, HearsAll, IsWriteRefusal, IsReadRefusal, IsEndRefusal}
-use Rattle.dist_drive.specs.Asking.{Talks, Decides, Settles, IsVerdict, IsFrameOf, Asks, AsksWritten}
+use Rattle.dist_drive.specs.Turns.{is_read_failed, is_write_failed, HasCause, Spends, Says, Hears, SaysFront, HearsAll, IsWriteRefusal, IsEndRefusal}
+use Rattle.dist_drive.specs.Asking.{Talks, Decides, IsVerdict, IsFrameOf, Asks, AsksWritten}
 use Rattle.dist_drive.proofs.Talks.{fine, prepend_known-none, append_known-none, Spends-none, Spends-trans, Says-fine}
 
 -- what an exit by `?` answers

@@ -3,13 +3,12 @@ use Rattle.std.proofs.Common.{◌≡◌, ℕ, suc, ◌+◌, ◌-◌, ◌<◌, �
 use Rattle.std.proofs.lemmas.List.{take_at, length-take, length-take-le}
 use Rattle.std.specs.Prelude.{IsOk}
 use Rattle.dist_names.specs.declared.creation.Creation.{Creation}
-use Rattle.dist_frames.specs.Stream.{framed}
 use Rattle.dist_epmd.specs.declared.epmd_error.EpmdError.{EpmdError}
 use Rattle.dist_drive.specs.declared.lookup_error.LookupError.{LookupError}
 use Rattle.dist_drive.specs.declared.lookup_error.LookupError.TheVariants as error
 use Rattle.dist_drive.specs.Stream.{StreamState}
-use Rattle.dist_drive.specs.Turns.{HasCause, Spends, Says, Hears, SaysFront, HearsFront, IsWriteRefusal, IsReadRefusal}
-use Rattle.dist_drive.specs.Asking.{Talks, Settles, IsVerdict, IsTold, IsFrameOf, HearsAnswer, Registers, RegistersWritten, DecidesWhole, answer_len, rest_len, created}
+use Rattle.dist_drive.specs.Turns.{HasCause, Hears, SaysFront, HearsFront, IsWriteRefusal, IsReadRefusal}
+use Rattle.dist_drive.specs.Asking.{Settles, IsVerdict, IsTold, IsFrameOf, HearsAnswer, Registers, RegistersWritten, DecidesWhole, answer_len, rest_len, created}
 use Rattle.dist_drive.proofs.Talks.{fine, Hears-trans, Hears-fine, Spends-none, Spends-fine}
 use Rattle.dist_drive.proofs.Asks.{Says-err, Hears-err, Spends-verdict, all_said, nothing_said, said_in_part, said_and_heard}
 use borrow.Rule.Slice.PartMut.{put_mid, post_of}

@@ -1,6 +1,6 @@
 -- One request served, put together from what was heard and what was said.
-use Rattle.std.proofs.Common.{◌≡◌, ℕ, ◌+◌, ◌-◌, ◌^◌, ◌<◌, ◌≤◌, ◌⊎◌, List, [], ◌∷◌, ◌++◌, length, get_or, take, drop, Option, Result, Ok, Err, refl, sym, ap, subst, ◌∙◌, arith, inl, inr, length-drop, take_all, le_refl}
-use Rattle.std.proofs.lemmas.List.{append-nil, take-append-drop, length-take-le}
+use Rattle.std.proofs.Common.{◌≡◌, ℕ, ◌^◌, ◌<◌, List, [], ◌∷◌, ◌++◌, length, get_or, take, drop, Result, Ok, Err, refl, sym, ap, subst, ◌∙◌, arith, inl, inr, length-drop}
+use Rattle.std.proofs.lemmas.List.{append-nil, take-append-drop}
 use Rattle.std.proofs.lemmas.Nat.{be_bytes_2}
 use Rattle.std.specs.Prelude.{◌≢◌, IsOk, IsErr}
 use Rattle.std.specs.Int.{w16, to_be_bytes, from_be_bytes}
@@ -18,9 +18,9 @@ use Rattle.dist_drive.specs.declared.lookup_error.LookupError.TheVariants as err
 use Rattle.dist_drive.specs.declared.serve.Served.{Served}
 use Rattle.dist_drive.specs.Refusals.{whole_refusal}
 use Rattle.dist_drive.specs.Stream.{StreamState}
-use Rattle.dist_drive.specs.Turns.{Spends, Says, Hears, SaysFront, HearsFront, IsReadRefusal}
-use Rattle.dist_drive.specs.Serving.{Frames, FramesNone, Came, IsBodyRefusal, HearsLen, HearsBody, HearsRequest, IsCut, SaysText, SaysWritten, SaysAnswer, SaysReply, served_as, AfterCut, Replies, CameNone, Unasked, Asked, Serves}
-use Rattle.dist_drive.proofs.Talks.{fine, append_known-none, prepend_known-none, Spends-fine, Spends-trans, Says-none, Hears-trans, Hears-fine, Hears-lacks}
+use Rattle.dist_drive.specs.Turns.{Spends, Says, SaysFront, HearsFront, IsReadRefusal}
+use Rattle.dist_drive.specs.Serving.{Came, IsBodyRefusal, HearsLen, HearsBody, HearsRequest, IsCut, SaysText, SaysWritten, SaysAnswer, SaysReply, served_as, AfterCut, Serves}
+use Rattle.dist_drive.proofs.Talks.{append_known-none, Spends-fine, Spends-trans, Says-none, Hears-trans, Hears-fine, Hears-lacks}
 use Rattle.dist_drive.proofs.Asks.{Says-err, Hears-err, Spends-err, Spends-verdict}
 use Rattle.dist_drive.proofs.Registering.{all_heard}
 

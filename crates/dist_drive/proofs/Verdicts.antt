@@ -1,5 +1,5 @@
 -- What the bytes that came mean to the one who asked.
-use Rattle.std.proofs.Common.{◌≡◌, ℕ, ◌+◌, ◌<◌, ◌≤◌, Bool, true, false, cond, ltb, List, [], ◌++◌, length, Result, Ok, Err, refl, sym, ap, subst, ◌∙◌}
+use Rattle.std.proofs.Common.{◌≡◌, ℕ, Bool, true, false, cond, ltb, List, length, Result, Ok, Err, refl, ap, subst}
 use Rattle.std.specs.Prelude.{IsOk}
 use Rattle.std.specs.Io.KnownBytes.{IsAtEnd}
 use Rattle.dist_epmd.specs.declared.epmd_error.EpmdError.{EpmdError}
@@ -9,10 +9,10 @@ use Rattle.dist_epmd.specs.Layout.{request_text, written_request}
 use Rattle.dist_drive.specs.declared.lookup_error.LookupError.{LookupError}
 use Rattle.dist_drive.specs.declared.lookup_error.LookupError.TheVariants as error
 use Rattle.dist_drive.specs.Stream.{StreamState}
-use Rattle.dist_drive.specs.Turns.{HasCause, Spends}
+use Rattle.dist_drive.specs.Turns.{HasCause}
 use Rattle.dist_drive.specs.Asking.{Talks, Decides, Settles, IsVerdict, Asks, AsksWritten}
-use Rattle.dist_drive.proofs.Talks.{fine, Spends-fine}
-use Rattle.dist_drive.proofs.Asks.{good, Spends-err, Spends-verdict, unasked}
+use Rattle.dist_drive.proofs.Talks.{Spends-fine}
+use Rattle.dist_drive.proofs.Asks.{good, Spends-err, Spends-verdict}
 
 -- ---- requests that fit a frame
 

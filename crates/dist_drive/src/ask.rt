@@ -70,9 +70,15 @@ fn names_of(alloc: Global, bytes: &[u8]) -> Result<(u32, ByteString), LookupErro
     }
 }
 
-/// Asks the port mapper for the node of this short name, in at most `limit` reads and writes.
+/// Asks the port mapper for the node of this short name (the part before the `@`), in at most `limit` reads and writes.
 ///
-/// The answer is what stands to the end of the stream.
+/// The answer is all that comes to the end of the stream, in pieces of at most 4,096 bytes, so it takes at most 4,096
+/// times `limit` bytes of memory. The name in it isn't compared with the one that was asked for. A name of more than
+/// 65,534 bytes fits no frame: it is Malformed, and nothing is written. NotThere comes where the port mapper answers a
+/// result above 0, Malformed where the bytes spell no answer, Ended where they end inside one. The other refusals come
+/// as the stream and memory have it; Refused doesn't come.
+///
+/// Source: ERTS User's Guide, Distribution Protocol, EPMD Protocol. The limit is our own choice.
 pub fn lookup<S: Stream>(
     alloc: Global,
     stream: &mut S,
@@ -91,7 +97,10 @@ pub fn lookup<S: Stream>(
 
 /// Asks the port mapper for all nodes, in at most `limit` reads and writes: its own port, and the text of their lines.
 ///
-/// The answer is what stands to the end of the stream.
+/// The answer is all that comes to the end of the stream, in pieces of at most 4,096 bytes. Fewer than 4 bytes are
+/// Ended; behind them the text is taken as it is.
+///
+/// Source: ERTS User's Guide, Distribution Protocol, EPMD Protocol. The limit is our own choice.
 pub fn ask_names<S: Stream>(
     alloc: Global,
     stream: &mut S,

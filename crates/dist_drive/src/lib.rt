@@ -1,7 +1,8 @@
 //! Carries the messages of the port mapper over a stream: the questions of a client, and the serving of one request.
 //!
-//! A stream is a trait, so every call runs over a socket and over memory alike. No clock and no sleep: what a call may
-//! wait is a number of turns, and a turn is one read or write.
+//! A stream is a trait, so every call runs over a socket and over memory alike. No clock, no sleep and no threads: how
+//! long a call may go on is a number of turns, and a turn is one read or write, a quiet one among them. Nothing here
+//! opens, accepts or closes a connection, and nothing knows of nodes.
 #![tactic(auto)]
 
 mod ask;

@@ -5,9 +5,9 @@ ghost use Rattle.dist_drive.specs.Mapping.{port_answer, names_answer};
 use dist_epmd::{Answer, Registry, Request};
 use std::alloc::{AllocError, Global};
 
-/// Who answers the requests of the port mapper's clients.
+/// Who answers the requests of the port mapper's clients: the registry, or one behind a lock.
 ///
-/// Its meaning is which answers it allows, and what it is after them.
+/// Its meaning is which answers it allows and what it is after them, and what a closed connection leaves of it.
 pub trait Mapper {
     ghost use Rattle.std.specs.Prelude.{◌≡◌, ℕ, IfOk, OnErr};
     ghost use Rattle.dist_epmd.specs.declared.message.Request.{Request};

@@ -109,7 +109,12 @@ fn exchange<S: Stream>(
 
 /// Registers a node with the port mapper, in at most `limit` reads and writes, and answers its creation.
 ///
-/// The registration lasts as long as the connection. No byte behind the answer is read.
+/// The registration lasts as long as the connection, so the stream is used on and no byte behind the answer is read: 6
+/// bytes with a creation of 32 bits, 4 with one of 16, which is taken as it is, and an unknown first byte alone, which
+/// is Malformed. A request above 65,535 bytes is Malformed too, and nothing is written. Refused bears a result above 0.
+/// Ended comes where the stream ends inside the answer; NotThere doesn't come.
+///
+/// Source: ERTS User's Guide, Distribution Protocol, EPMD Protocol. The limit is our own choice.
 pub fn register<S: Stream>(
     alloc: Global,
     stream: &mut S,

@@ -121,10 +121,17 @@ fn reply<S: Stream, M: Mapper>(
     }
 }
 
-/// Serves one request that comes on this connection, in at most `limit` reads and writes.
+/// Serves one request that comes on this connection, in at most `limit` reads and writes. `conn` is the connection's
+/// number, by which the mapper knows it again.
 ///
-/// Where the answer to a registration isn't written whole, for whatever cause, the connection counts as closed: the
-/// mapper is told so before this call ends.
+/// A frame that spells no request is Malformed, also where it ends inside a field, and nothing is written. Before the
+/// mapper has answered, a refusal leaves it as it was. The answer goes out in one write where the stream takes it whole,
+/// since real nodes want it in one piece. Where the answer to a registration isn't written whole, for whatever cause,
+/// the connection counts as closed, and the mapper is told so before this call ends: no client lost the answer to a
+/// registration that is kept. NotThere and Refused don't come.
+///
+/// Source: ERTS User's Guide, Distribution Protocol, EPMD Protocol. The rule on cut answers and the limit are our own
+/// choice.
 pub fn serve_registry<S: Stream, M: Mapper>(
     alloc: Global,
     stream: &mut S,

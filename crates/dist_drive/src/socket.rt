@@ -8,6 +8,9 @@ use std::io::{ErrorKind, Read, Write};
 use std::net::TcpStream;
 
 /// A connection of the system. Which bytes come and go is not told.
+///
+/// A call that would wait is quiet, and so is one that a signal broke off; the caller sets how long a call waits, by
+/// the socket's timeouts. Any other error is a failure.
 #[derive(Drop)]
 pub struct SocketStream {
     socket: TcpStream,

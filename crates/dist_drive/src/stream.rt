@@ -20,10 +20,10 @@ pub enum Took {
     Failed,
 }
 
-/// Bytes that come and go: a connection, as far as a caller sees it.
+/// Bytes that come and go: a connection, as far as a caller sees it. Neither call waits without end.
 ///
 /// Its meaning is the bytes that are unread and those that were written, each where the stream tells them, a count of
-/// calls, and three marks that stay once they are set.
+/// calls, and three marks that stay once they are set: it ended, a read failed, a write failed.
 pub trait Stream {
     ghost use Rattle.std.specs.Prelude.{◌<◌, length};
     ghost use Rattle.dist_drive.specs.Stream.{StreamState, Reads, Writes};

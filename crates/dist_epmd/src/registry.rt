@@ -110,15 +110,12 @@ impl Registry {
         let info = request.try_clone(alloc)?;
         let creation = self.next as u32;
         let name = Vec::from_slice(alloc, info.name.as_slice())?;
-        put(
-            &mut self.rows,
-            name,
-            Row {
-                conn,
-                info,
-                creation,
-            },
-        )?;
+        let row = Row {
+            conn,
+            info,
+            creation,
+        };
+        put(&mut self.rows, name, row)?;
         self.next += 1;
         Ok(Answer::AliveX {
             result_code: 0,

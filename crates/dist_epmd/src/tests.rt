@@ -1,5 +1,4 @@
 use super::*;
-use dist_names::ByteString;
 use std::test::*;
 
 mod messages;

@@ -1,6 +1,7 @@
 use super::*;
 use crate::Asked::{Alive, Names, Port};
 use crate::EpmdError::{Malformed, Short, Trailing};
+use dist_names::ByteString;
 
 // A body, how many of its bytes are a request by themselves, and whether more bytes may follow.
 const REQUESTS: [(&[u8], usize, bool); 6] = [
@@ -116,7 +117,7 @@ fn an_answer_is_written_as_it_was_read_and_short_at_each_cut(rt: HostRuntime) ->
 }
 
 #[test]
-fn bytes_that_are_no_message_are_refused(rt: HostRuntime) -> Result<(), Fail> {
+fn bytes_that_are_no_request_are_refused(rt: HostRuntime) -> Result<(), Fail> {
     for (body, error) in [
         (b"q".as_slice(), Malformed),
         (b"\x00", Malformed),
@@ -148,6 +149,11 @@ fn bytes_that_are_no_message_are_refused(rt: HostRuntime) -> Result<(), Fail> {
     }
     let feed = vec![in rt.alloc(); 0x6e; 65535]?;
     assert_eq!(rt; seen(&request_again(&rt, feed.as_slice())), Err(Trailing));
+    Ok(())
+}
+
+#[test]
+fn bytes_that_are_no_answer_are_refused(rt: HostRuntime) {
     for (asked, bytes, error) in [
         (Alive, b"\x77\x01".as_slice(), Malformed),
         (Alive, b"\x78", Malformed),
@@ -158,7 +164,6 @@ fn bytes_that_are_no_message_are_refused(rt: HostRuntime) -> Result<(), Fail> {
         let again = answer_again(&rt, asked, bytes);
         assert_eq!(rt; seen(&again), Err(error), "{bytes:?}");
     }
-    Ok(())
 }
 
 #[test]

@@ -1,4 +1,5 @@
 use super::*;
+use dist_names::ByteString;
 
 const REGISTERS_A: &[u8] = b"\x78\x23\x29\x4d\x00\x00\x06\x00\x05\x00\x01a\x00\x00";
 

@@ -1,5 +1,4 @@
 use Rattle.std.proofs.Common.{rules, ℕ, List, sym, subst}
-use Rattle.dist_epmd.specs.Layout.{written_request}
 use Rattle.dist_drive.specs.Asking.{AsksFor}
 use Rattle.dist_drive.proofs.Asks.{good, told, no_frame, asks_written, asks_in_part, asks_unheard, asks_whole}
 use Rattle.dist_drive.proofs.ask.exchange.Goals as goal

@@ -1,4 +1,4 @@
-use Rattle.std.proofs.Common.{rules, arith, ◌≡◌, ℕ, List, false, length, ltb, suc, Ok, Err, sym, subst}
+use Rattle.std.proofs.Common.{arith, ◌≡◌, ℕ, List, false, length, ltb, suc, Ok, Err, sym, subst}
 use Rattle.std.proofs.lemmas.Bool.{le-ltb}
 use Rattle.dist_epmd.specs.declared.message.Request.TheVariants as request
 use Rattle.dist_epmd.specs.Layout.{written_request}

@@ -1,8 +1,8 @@
-use Rattle.std.proofs.Common.{◌≡◌, ◌++◌, length, drop, ◌∙◌, sym, subst, rules, arith, refl}
+use Rattle.std.proofs.Common.{◌≡◌, length, drop, ◌∙◌, sym, subst, arith}
 use Rattle.std.proofs.lemmas.List.{take_at}
 use Rattle.dist_drive.specs.Serving.{HearsBody}
 use Rattle.dist_drive.proofs.Asks.{told}
-use Rattle.dist_drive.proofs.Serves.{body_none, body_lacks, body_cut, body_whole}
+use Rattle.dist_drive.proofs.Serves.{body_none, body_cut, body_whole}
 use Rattle.dist_drive.proofs.serve.read_body.Goals as goal
 
 pub returns-in_err-len : goal.returns-in_err-len

@@ -1,7 +1,7 @@
 use Rattle.std.proofs.Common.{sym, subst}
 use Rattle.dist_drive.specs.Serving.{HearsRequest}
 use Rattle.dist_drive.proofs.Asks.{told}
-use Rattle.dist_drive.proofs.Serves.{request_none, request_came, request_wrong}
+use Rattle.dist_drive.proofs.Serves.{request_none, request_came}
 use Rattle.dist_drive.proofs.serve.read_request.Goals as goal
 
 pub returns-in_err-body : goal.returns-in_err-body

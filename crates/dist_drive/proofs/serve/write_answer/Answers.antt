@@ -1,5 +1,3 @@
-use Rattle.std.proofs.Common.{ap, sym, subst, Err}
-use Rattle.dist_drive.specs.Serving.{SaysAnswer}
 use Rattle.dist_drive.proofs.Serves.{answer_said, answer_unsaid, says_as}
 use Rattle.dist_drive.proofs.serve.write_answer.Goals as goal
 

@@ -1,4 +1,4 @@
-use Rattle.std.proofs.Common.{rules, arith, subst}
+use Rattle.std.proofs.Common.{rules, subst}
 use Rattle.dist_drive.specs.Turns.{Says}
 use Rattle.dist_drive.proofs.Rooms.{take_more}
 use Rattle.dist_drive.proofs.Talks.{Says-trans, Says-fine}
