@@ -1,4 +1,6 @@
-"""Writes three scripts of at most 1 MiB for `distnode enact` into the folder that is given."""
+"""Writes scripts of at most 1 MiB for `distnode enact` into the folder that is given: of one node, and of worlds.
+
+Each script of a world comes in three sizes, so that the growth of the time shows."""
 
 import hashlib
 import os
@@ -25,12 +27,12 @@ def reply(challenge: int) -> str:
     return frame(b"r" + struct.pack(">I", 7) + digest)
 
 
-def fill(path: str, pieces) -> None:
-    size = len(NODE)
+def fill(path: str, pieces, head: str = NODE, limit: int = LIMIT) -> None:
+    size = len(head)
     with open(path, "w") as script:
-        script.write(NODE)
+        script.write(head)
         for piece in pieces:
-            if size + len(piece) > LIMIT:
+            if size + len(piece) > limit:
                 break
             size += len(piece)
             script.write(piece)
@@ -74,8 +76,90 @@ def open_ends():
             yield f"tick {end}\n"
 
 
+def world_node(name: str) -> str:
+    return f"node {name} {COOKIE} 101000104 0\n"
+
+
+PAIR = world_node("a@h") + world_node("b@h")
+NAME = 2 + 15 + 3
+CHALLENGED = (2 + 3) + (2 + 19 + 3)
+REPLY = 2 + 21
+ACKNOWLEDGEMENT = 2 + 17
+
+
+def deliveries(node: int, end: int, count: int, piece: int):
+    """So many bytes in pieces."""
+    for _ in range(-(-count // piece)):
+        yield f"deliver {node} {end} {piece}\n"
+
+
+def handshake(a: int, b: int, here: int, there: int, conn: int, peer: str, alive: bool = False, piece: int = 999):
+    """Node `a` dials node `b`, whose accepted end is `there`, until both are up."""
+    yield f"dial {a} {peer} new\nreach {a} {here} {b}\nopened {a} {here}\naccept {conn}\n"
+    yield from deliveries(b, there, NAME, piece)
+    yield f"take {b} {there} 11\n"
+    if alive:
+        yield from deliveries(a, here, 2 + 6, piece)
+        yield f"take {a} {here} 0\n"
+        yield from deliveries(b, there, 2 + 5, piece)
+        yield f"take {b} {there} 11\n"
+        yield from deliveries(a, here, 2 + 19 + 3, piece)
+    else:
+        yield from deliveries(a, here, CHALLENGED, piece)
+        yield f"take {a} {here} 0\n"
+    yield f"take {a} {here} 12\n"
+    yield from deliveries(b, there, REPLY, piece)
+    yield f"take {b} {there} 0\n"
+    yield from deliveries(a, here, ACKNOWLEDGEMENT, piece)
+    yield f"take {a} {here} 0\n"
+
+
+def many_pairs(limit: int):
+    """As many pairs of nodes as fit, each of which connects; the nodes' lines come first."""
+    pairs = limit // 302
+    head = "".join(world_node(f"a{i}@h") + world_node(f"b{i}@h") for i in range(pairs))
+
+    def pieces():
+        for i in range(pairs):
+            a, b = 2 * i, 2 * i + 1
+            yield f"begin {a} 5\nbegin {b} 6\n" + "".join(handshake(a, b, 0, 0, i, f"b{i}@h"))
+
+    return head, pieces()
+
+
+def world_byte_by_byte(limit: int):
+    """Two nodes that connect byte by byte, and lose the connection, again and again."""
+
+    def pieces():
+        yield "begin 0 5\nbegin 1 6\n"
+        end = 0
+        while True:
+            yield "".join(handshake(0, 1, end, end, end, "b@h", piece=1)) + f"lose 0 {end} Ended\nlose 1 {end} Ended\n"
+            end += 1
+
+    return PAIR, pieces()
+
+
+def restarts(limit: int):
+    """A node that connects, ends, and begins again, while its peer still counts it as up."""
+
+    def pieces():
+        yield "begin 0 5\nbegin 1 6\n" + "".join(handshake(0, 1, 0, 0, 0, "b@h"))
+        time = 1
+        while True:
+            yield f"halt 0\nbegin 0 {time + 5}\n" + "".join(handshake(0, 1, 0, time, time, "b@h", alive=True))
+            time += 1
+
+    return PAIR, pieces()
+
+
 if __name__ == "__main__":
     folder = sys.argv[1]
     fill(os.path.join(folder, "many_handshakes.script"), many_handshakes())
     fill(os.path.join(folder, "byte_by_byte.script"), byte_by_byte())
     fill(os.path.join(folder, "open_ends.script"), open_ends())
+    for world in (many_pairs, world_byte_by_byte, restarts):
+        for part in (4, 2, 1):
+            head, pieces = world(LIMIT // part)
+            path = os.path.join(folder, f"{world.__name__}_{LIMIT // part // 1024}_KiB.script")
+            fill(path, pieces, head, LIMIT // part)

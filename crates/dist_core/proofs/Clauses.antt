@@ -1,25 +1,25 @@
 -- What follows from the definition of the step for a call that gives what it gives.
 use Rattle.std.proofs.Common.{◌≡◌, ◌≢◌, ℕ, true, Option, Some, None, Result, Ok, Err, IfOk, IsOk, refl, sym, ap, ◌∙◌, subst, slice_get}
 use Rattle.dist_peers.specs.declared.entry.EndId.{EndId}
-use Rattle.dist_core.specs.declared.why.Why.{Why}
-use Rattle.dist_core.specs.declared.ends.End.{End}
-use Rattle.dist_core.specs.declared.ends.End.TheVariants as ends
+use Rattle.dist_ends.specs.declared.why.Why.{Why}
+use Rattle.dist_ends.specs.declared.known.End.{End}
+use Rattle.dist_ends.specs.declared.known.End.TheVariants as ends
 use Rattle.dist_core.specs.declared.event.Event.{Event}
 use Rattle.dist_core.specs.declared.event.Event.TheVariants as event
 use Rattle.dist_core.specs.declared.reply.Reply.{Reply}
 use Rattle.dist_core.specs.declared.effect.Effect.{Effect}
 use Rattle.dist_core.specs.declared.step_error.StepError.{StepError}
 use Rattle.dist_core.specs.declared.step_error.StepError.TheVariants as error
-use Rattle.dist_core.specs.Ends.{AreLegal, is_open}
+use Rattle.dist_ends.specs.Ends.{AreLegal, is_open}
 use Rattle.dist_core.specs.Node.{NodeState}
 use Rattle.dist_core.specs.Effects.{closes}
 use Rattle.dist_core.specs.Step.{effect_of, at_end, opened, framed_from, sender_to, ticked, step, stepped}
-use Rattle.dist_core.specs.Answers.{IsStep, Answers, Refuses, reply_of, IsLoss}
+use Rattle.dist_core.specs.Answers.{IsStep, GivesReply, Refuses, reply_of, IsLoss}
 use Rattle.dist_core.specs.Laws.{end_of, loss_reply, ClosesOnReply}
 use Rattle.dist_core.proofs.Closings.{closes_on_reply}
 
 -- a call of step answers
-pub told : (r : Result Reply StepError) (s : Result (Reply × NodeState) StepError) (old new : NodeState) → IsStep r s old new → Answers r s
+pub told : (r : Result Reply StepError) (s : Result (Reply × NodeState) StepError) (old new : NodeState) → IsStep r s old new → GivesReply r s
 told (Ok r) s old new h = ap reply_of h
 told (Err e) s old new h = h.0
 
@@ -32,11 +32,11 @@ refused error.WrongPhase e s h is = let same : ◌≡◌ {A = Result (Reply × N
 refused error.Spent e s h is = let same : ◌≡◌ {A = Result (Reply × NodeState) StepError} (Err error.Spent) (Err e) = sym h ∙ is in cc
 refused error.NoMemory e s h is = let P : Result (Reply × NodeState) StepError → Type 0 = λ q. IsOk q in let bad : P (Err e) = subst P is h in absurd cc
 
-refusal : (r : Result Reply StepError) (s : Result (Reply × NodeState) StepError) (e : StepError) → Answers r s → s ≡ Err e → r ≡ Err e
+refusal : (r : Result Reply StepError) (s : Result (Reply × NodeState) StepError) (e : StepError) → GivesReply r s → s ≡ Err e → r ≡ Err e
 refusal (Ok r) s e h is = let same : Err e ≡ Ok r = sym (ap reply_of is) ∙ h in absurd cc
 refusal (Err x) s e h is = refused x e s h is
 
-accepted : (r : Result Reply StepError) (s : Result (Reply × NodeState) StepError) → Answers r s → IsOk s → r ≢ Err error.NoMemory → IsOk r
+accepted : (r : Result Reply StepError) (s : Result (Reply × NodeState) StepError) → GivesReply r s → IsOk s → r ≢ Err error.NoMemory → IsOk r
 accepted (Ok r) s h ok apart = refl
 accepted (Err x) s h ok apart = by x h apart
   where
@@ -73,10 +73,10 @@ module _ (n : NodeState) where
       let same : id ≡ x = cc in
       ap (λ (y : EndId). at_end (slice_get n.ends y.0) (ticked n id)) same ∙ ap (λ q. at_end q (ticked n id)) at ∙ h (ticked n id)
 
-  pub unknown : (v : Event) (fresh : ℕ) (r : Result Reply StepError) → Answers r (step n v fresh) → (x : EndId) → end_of v ≡ Some x → slice_get n.ends x.0 ≡ None → r ≡ Err error.NoSuchEnd
+  pub unknown : (v : Event) (fresh : ℕ) (r : Result Reply StepError) → GivesReply r (step n v fresh) → (x : EndId) → end_of v ≡ Some x → slice_get n.ends x.0 ≡ None → r ≡ Err error.NoSuchEnd
   unknown v fresh r h x is at = refusal r (step n v fresh) error.NoSuchEnd h (ap (stepped n v) (stopped v fresh x None error.NoSuchEnd is at (λ f. refl)))
 
-  pub gone : (v : Event) (fresh : ℕ) (r : Result Reply StepError) → Answers r (step n v fresh) → (x : EndId) (w : Why) → end_of v ≡ Some x → slice_get n.ends x.0 ≡ Some (ends.Closed w) → r ≡ Err (error.Gone w)
+  pub gone : (v : Event) (fresh : ℕ) (r : Result Reply StepError) → GivesReply r (step n v fresh) → (x : EndId) (w : Why) → end_of v ≡ Some x → slice_get n.ends x.0 ≡ Some (ends.Closed w) → r ≡ Err (error.Gone w)
   gone v fresh r h x w is at = refusal r (step n v fresh) (error.Gone w) h (ap (stepped n v) (stopped v fresh x (Some (ends.Closed w)) (error.Gone w) is at (λ f. refl)))
 
   open-end : (f : End → Result Effect StepError) (e : End) → is_open e ≡ true → at_end (Some e) f ≡ f e
@@ -89,7 +89,7 @@ module _ (n : NodeState) where
   unfolding effect_of
   loss-effect x w fresh e at h = ap (λ o. at_end o (λ e. Ok (closes x w))) at ∙ open-end (λ e. Ok (closes x w)) e h
 
-  pub lost : (v : Event) (fresh : ℕ) (r : Result Reply StepError) → Answers r (step n v fresh) → r ≢ Err error.NoMemory → (x : EndId) (w : Why) (e : End) → v ≡ event.Lost x w → slice_get n.ends x.0 ≡ Some e → is_open e ≡ true → IsOk r
+  pub lost : (v : Event) (fresh : ℕ) (r : Result Reply StepError) → GivesReply r (step n v fresh) → r ≢ Err error.NoMemory → (x : EndId) (w : Why) (e : End) → v ≡ event.Lost x w → slice_get n.ends x.0 ≡ Some e → is_open e ≡ true → IsOk r
   lost v fresh r h apart x w e is at o =
       let P : Event → Type 0 = λ v. IsOk (step n v fresh) in
       let Q : Result Effect StepError → Type 0 = λ q. IsOk (stepped n (event.Lost x w) q) in
@@ -110,14 +110,14 @@ module _ (n : NodeState) where
   from-effect v (Ok f) P r h is = (f, h, let same : Ok f.reply ≡ Ok r = is in cc)
   from-effect v (Err e) P r h is = let same : Err e ≡ Ok r = is in absurd cc
 
-  pub silent : (v : Event) (fresh : ℕ) (r : Result Reply StepError) → Answers r (step n v fresh) → (x : EndId) (w : Why) → v ≡ event.Lost x w → IfOk r (λ (r : Reply). r ≡ loss_reply x w)
+  pub silent : (v : Event) (fresh : ℕ) (r : Result Reply StepError) → GivesReply r (step n v fresh) → (x : EndId) (w : Why) → v ≡ event.Lost x w → IfOk r (λ (r : Reply). r ≡ loss_reply x w)
   silent v fresh (Err e) h x w is = tt
   silent v fresh (Ok r) h x w is =
       let P : Event → Type 0 = λ v. reply_of (step n v fresh) ≡ Ok r in
       let g = from-effect (event.Lost x w) (effect_of n (event.Lost x w) fresh) (λ (f : Effect). f ≡ closes x w) r (loss-is x w fresh) (subst P is h) in
       sym g.2 ∙ ap (λ (f : Effect). f.reply) g.1
 
-  pub replaced : AreLegal n.ends → (v : Event) (fresh : ℕ) (r : Result Reply StepError) → Answers r (step n v fresh) → IfOk r (λ (r : Reply). ClosesOnReply n v r)
+  pub replaced : AreLegal n.ends → (v : Event) (fresh : ℕ) (r : Result Reply StepError) → GivesReply r (step n v fresh) → IfOk r (λ (r : Reply). ClosesOnReply n v r)
   replaced legal v fresh (Err e) h = tt
   replaced legal v fresh (Ok r) h = by (effect_of n v fresh) refl h
     where

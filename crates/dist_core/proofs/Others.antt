@@ -9,17 +9,17 @@ use Rattle.dist_peers.specs.Table.{replaced_by}
 use Rattle.dist_peers.specs.declared.entry.EndId.{EndId}
 use Rattle.dist_peers.specs.declared.entry.Entry.{Entry}
 use Rattle.dist_peers.specs.declared.entry.Entry.TheVariants as entry
-use Rattle.dist_core.specs.declared.phase.Kind.{Kind}
-use Rattle.dist_core.specs.declared.phase.Kind.TheVariants.{Out, In, Up}
-use Rattle.dist_core.specs.declared.phase.Phase.{Phase}
-use Rattle.dist_core.specs.declared.phase.Phase.TheVariants as phase
-use Rattle.dist_core.specs.declared.why.Why.TheVariants as why
-use Rattle.dist_core.specs.declared.ends.Attempt.{Attempt}
-use Rattle.dist_core.specs.declared.ends.End.{End}
-use Rattle.dist_core.specs.declared.ends.End.TheVariants as ends
+use Rattle.dist_ends.specs.declared.phase.Kind.{Kind}
+use Rattle.dist_ends.specs.declared.phase.Kind.TheVariants.{Out, In, Up}
+use Rattle.dist_ends.specs.declared.phase.Phase.{Phase}
+use Rattle.dist_ends.specs.declared.phase.Phase.TheVariants as phase
+use Rattle.dist_ends.specs.declared.why.Why.TheVariants as why
+use Rattle.dist_ends.specs.declared.known.Attempt.{Attempt}
+use Rattle.dist_ends.specs.declared.known.End.{End}
+use Rattle.dist_ends.specs.declared.known.End.TheVariants as ends
 use Rattle.dist_core.specs.declared.event.Event.{Event}
 use Rattle.dist_core.specs.declared.effect.Effect.{Effect}
-use Rattle.dist_core.specs.Ends.{AreLegal, is_claim, is_held, is_open, kind_in, names, entry_in}
+use Rattle.dist_ends.specs.Ends.{AreLegal, is_claim, is_held, is_open, kind_in, names, entry_in}
 use Rattle.dist_core.specs.Node.{NodeState}
 use Rattle.dist_core.specs.Accepted.{named_attempt}
 use Rattle.dist_core.specs.Effects.{superseded}
@@ -28,7 +28,7 @@ use Rattle.dist_core.specs.Rows.{Row, Heard, Taken, Dials, Comes_in, Begins, Cea
 use Rattle.dist_core.specs.Step.{effect_of}
 use Rattle.dist_core.proofs.Closings.{heard-end}
 use Rattle.dist_core.proofs.Counts.{of_ok}
-use Rattle.dist_core.proofs.Dropped.{same}
+use Rattle.dist_ends.proofs.Fitting.{same}
 use Rattle.dist_core.proofs.Replies.{other-of}
 use Rattle.dist_core.proofs.Rows.{row_of}
 
@@ -56,6 +56,9 @@ module _ (n : NodeState) (legal : AreLegal n.ends) (x : EndId) (s : End) where
         kept = g.0;
         there = g.1;
         opened = g.2;
+        peer = p;
+        kind = k;
+        held = sym (ap (is_held p k) g.1) ∙ held;
         apart = λ at. absurd (false≢true (sym own ∙ ap (λ (y : EndId). is_held p k (slice_get n.ends y.0)) (sym at) ∙ held));
       }
 

@@ -1,10 +1,7 @@
 -- What the calls of a node answer.
-use Rattle.std.specs.Prelude.{◌≡◌, ◌≢◌, Option, Some, None, Result, Ok, Err, IsOk}
+use Rattle.std.specs.Prelude.{◌≡◌, ◌≢◌, Option, Some, Result, Ok, Err, IsOk}
 use Rattle.std.specs.Borrow.{Bor}
-use Rattle.dist_core.specs.declared.phase.Still.{Still}
-use Rattle.dist_core.specs.declared.phase.Still.TheVariants as still
-use Rattle.dist_core.specs.declared.ends.End.{End}
-use Rattle.dist_core.specs.declared.ends.End.TheVariants as ends
+use Rattle.dist_ends.specs.declared.known.End.{End}
 use Rattle.dist_core.specs.declared.event.Event.{Event}
 use Rattle.dist_core.specs.declared.event.Event.TheVariants as event
 use Rattle.dist_core.specs.declared.reply.Reply.{Reply}
@@ -23,13 +20,6 @@ Refuses e s = s ≡ Err e
 abbrev pub IsStep : Result Reply StepError → Result (Reply × NodeState) StepError → NodeState → NodeState → Type 0
 IsStep (Ok r) s old new = s ≡ Ok (r, new)
 IsStep (Err e) s old new = Refuses e s × (new ≡ old)
-
--- how an end stands
-abbrev pub still_of : Option End → Still
-still_of None = still.NoSuchEnd
-still_of (Some (ends.Closed w)) = still.Gone w
-still_of (Some (ends.Up r)) = still.Up
-still_of (Some e) = still.Pending
 
 -- what is found at an open end, or the refusal where there is none
 abbrev pub Finds : Result (Bor End) StepError → Option End → Type 0
@@ -52,6 +42,6 @@ reply_of (Ok x) = Ok x.0
 reply_of (Err e) = Err e
 
 -- a call gave the reply that the definition gives, or refused
-abbrev pub Answers : Result Reply StepError → Result (Reply × NodeState) StepError → Type 0
-Answers (Ok r) s = reply_of s ≡ Ok r
-Answers (Err e) s = Refuses e s
+abbrev pub GivesReply : Result Reply StepError → Result (Reply × NodeState) StepError → Type 0
+GivesReply (Ok r) s = reply_of s ≡ Ok r
+GivesReply (Err e) s = Refuses e s

@@ -1,14 +1,12 @@
-pub mod Ends
 pub mod Node
-pub mod Rules
-pub mod Saying
 pub mod Effects
 pub mod Accepted
 pub mod Dialled
 pub mod Step
 pub mod Answers
 pub mod Rows
-pub mod Shift
-pub mod Kept
+pub mod Fitting
 pub mod Runs
 pub mod Laws
+pub mod Losses
+pub mod Words

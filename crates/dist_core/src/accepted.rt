@@ -1,22 +1,19 @@
 //! What each message does to an accepted end.
 ghost use Rattle.std.specs.Prelude.{◌≡◌, IfOk, true, false, Ok, Err, Some, None, slice_get};
 ghost use Rattle.dist_core.specs.Effects.{superseded_in, superseded, supersedes, held_back};
-ghost use Rattle.dist_core.specs.Accepted.{in_await_true, in_await_complement, in_await_reply, name_taken, IsDropped};
+ghost use Rattle.dist_core.specs.Accepted.{in_await_true, in_await_complement, in_await_reply, name_taken};
 
-use crate::checks::{own_digest, required_of};
 use crate::effect::{
-    Effect, attempt_in, closes, comes_up, goes_on, record_of, replaced, reply_phase, shuts,
-    shuts_other,
+    Effect, attempt_in, closes, comes_up, goes_on, record_of, reply_phase, shuts, shuts_other,
 };
-use crate::ends::{Attempt, End};
-use crate::phase::{Opening, Phase};
 use crate::reply::{Note, Reply};
-use crate::saying::{ack_frame, challenge_frame, greeting, status_frame};
-use crate::setup::Setup;
-use crate::why::Why;
-use dist_messages::{Message, Status};
+use dist_ends::{Attempt, End, Ends, Phase, Why};
+use dist_messages::{Message, Opening, Status};
 use dist_names::{ByteString, Flags};
-use dist_peers::{EndId, Entry, Verdict};
+use dist_peers::{EndId, Entry, Verdict, replaced};
+use dist_setup::{
+    Setup, ack_frame, challenge_frame, greeting, own_digest, required_of, status_frame,
+};
 use std::alloc::{AllocError, Global};
 
 // What stands for an end that a crossing name supersedes.
@@ -30,6 +27,16 @@ fn superseded(alloc: Global, end: &End) -> Result<End, AllocError>
         Phase::Dialing => Ok(End::Attempt(attempt_in(alloc, attempt, Phase::DoomedDialing)?)),
         Phase::AwaitStatus => Ok(End::Attempt(attempt_in(alloc, attempt, Phase::Doomed)?)),
         _ => Ok(End::Closed(Why::Crossed)),
+    }
+}
+
+// The same, of the end of this number.
+fn superseded_at(alloc: Global, ends: &Ends, id: EndId) -> Result<End, AllocError>
+    ensures { IfOk result (λ e. e ≡ superseded (slice_get ends.now id.0)) }
+{
+    match ends.open_end(id) {
+        Ok(end) => superseded(alloc, end),
+        Err(_) => Ok(End::Closed(Why::Crossed)),
     }
 }
 
@@ -76,21 +83,10 @@ fn supersedes(
 fn held_back(attempt: Attempt) -> Attempt
     ensures { result ≡ held_back attempt }
 {
-    let Attempt {
-        peer,
-        opening,
-        phase: _,
-        challenge: _,
-        flags,
-        creation,
-    } = attempt;
     Attempt {
-        peer,
-        opening,
         phase: Phase::AwaitTrue,
         challenge: 0,
-        flags,
-        creation,
+        ..attempt
     }
 }
 
@@ -98,12 +94,11 @@ fn held_back(attempt: Attempt) -> Attempt
 pub fn name_taken(
     alloc: Global,
     setup: &Setup,
-    ends: &[End],
+    ends: &Ends,
     id: EndId,
     attempt: Attempt,
     verdict: Verdict,
 ) -> Result<Effect, AllocError>
-    requires { IsDropped ends.now verdict }
     ensures { IfOk result (λ f. f ≡ name_taken setup.now ends.now id attempt verdict) }
 {
     let fresh = attempt.challenge;
@@ -118,7 +113,7 @@ pub fn name_taken(
         }
         Verdict::OkSimultaneous { drops } => {
             let say = greeting(alloc, setup, Status::OkSimultaneous, fresh)?;
-            let crossed = superseded(alloc, &ends[drops.0 as usize])?;
+            let crossed = superseded_at(alloc, ends, drops)?;
             supersedes(alloc, id, say, attempt, drops, crossed)
         }
         Verdict::Nok => {
@@ -164,13 +159,11 @@ pub fn in_await_true(
     match message {
         Message::Status(Status::True) => {
             let say = challenge_frame(alloc, setup, fresh)?;
+            let copy = attempt.try_clone(alloc)?;
             let attempt = Attempt {
-                peer: attempt.peer.try_clone(alloc)?,
-                opening: attempt.opening,
                 phase: reply_phase(attempt.opening),
                 challenge: fresh,
-                flags: attempt.flags,
-                creation: attempt.creation,
+                ..copy
             };
             Ok(goes_on(id, say, End::Attempt(attempt), Note::Nothing))
         }
@@ -196,13 +189,12 @@ pub fn in_await_complement(
     if !flags.has(required_of(setup, Opening::New)) {
         return Ok(closes(alloc, id, Why::WrongFlags));
     }
+    let copy = attempt.try_clone(alloc)?;
     let attempt = Attempt {
-        peer: attempt.peer.try_clone(alloc)?,
-        opening: attempt.opening,
         phase: Phase::AwaitReply,
-        challenge: attempt.challenge,
         flags,
         creation: *creation,
+        ..copy
     };
     Ok(goes_on(
         id,
@@ -236,6 +228,5 @@ pub fn in_await_reply(
     }
     let say = ack_frame(alloc, setup, &attempt.peer, *challenge)?;
     let kept = record_of(alloc, setup, attempt, came)?;
-    let copy = record_of(alloc, setup, attempt, came)?;
-    Ok(comes_up(id, say, kept, copy, replaced(entry)))
+    comes_up(alloc, id, say, kept, replaced(entry))
 }

@@ -1,33 +1,18 @@
 //! Equal copies.
-ghost use Rattle.std.specs.Prelude.{◌≡◌, ◌≤◌, length, take, IfOk, IsOk, Ok, Err, Some, None};
+ghost use Rattle.std.specs.Prelude.{◌≡◌, [], IfOk, IsOk, Ok, Err, Some, None};
 ghost use Rattle.dist_core.specs.Answers.{IsLoss};
+ghost use Rattle.dist_core.specs.Losses.{IsSilent};
 
-use crate::ends::UpRecord;
 use crate::event::Event;
 use crate::reply::{Note, Reply};
-use crate::setup::{NameList, Setup};
-use dist_names::NodeName;
+use dist_ends::UpRecord;
 use std::alloc::{AllocError, Global};
 
-impl UpRecord {
-    /// An equal record.
-    pub fn try_clone(&self, alloc: Global) -> Result<UpRecord, AllocError>
-        ensures { IfOk result (λ copy. copy ≡ self.now) }
-    {
-        Ok(UpRecord {
-            peer: self.peer.try_clone(alloc)?,
-            common: self.common,
-            creation: self.creation,
-            challenge: self.challenge,
-            digest_received: self.digest_received,
-        })
-    }
-}
-
 impl Note {
-    /// An equal note.
+    /// An equal note. That of nothing takes no memory.
     pub fn try_clone(&self, alloc: Global) -> Result<Note, AllocError>
-        ensures { IfOk result (λ copy. copy ≡ self.now) }
+        ensures same { IfOk result (λ copy. copy ≡ self.now) }
+        ensures nothing { self.now ≡ Note.Nothing → IsOk result }
     {
         match self {
             Note::Nothing => Ok(Note::Nothing),
@@ -40,8 +25,9 @@ impl Note {
     }
 }
 
-fn copied_up(up: &Option<UpRecord>, alloc: Global) -> Result<Option<UpRecord>, AllocError>
-    ensures { IfOk result (λ copy. copy ≡ up.now) }
+fn copied_up(alloc: Global, up: &Option<UpRecord>) -> Result<Option<UpRecord>, AllocError>
+    ensures same { IfOk result (λ copy. copy ≡ up.now) }
+    ensures none { up.now ≡ None → IsOk result }
 {
     match up {
         None => Ok(None),
@@ -50,15 +36,16 @@ fn copied_up(up: &Option<UpRecord>, alloc: Global) -> Result<Option<UpRecord>, A
 }
 
 impl Reply {
-    /// An equal reply.
+    /// An equal reply. That of a silent one, as to a loss, takes no memory.
     pub fn try_clone(&self, alloc: Global) -> Result<Reply, AllocError>
-        ensures { IfOk result (λ copy. copy ≡ self.now) }
+        ensures same { IfOk result (λ copy. copy ≡ self.now) }
+        ensures silent { IsSilent self.now → IsOk result }
     {
         Ok(Reply {
             end_: self.end_,
             say: self.say.try_clone(alloc)?,
             closed: self.closed,
-            up: copied_up(&self.up, alloc)?,
+            up: copied_up(alloc, &self.up)?,
             note: self.note.try_clone(alloc)?,
         })
     }
@@ -90,49 +77,5 @@ impl Event {
             }),
             Event::Tick { end_ } => Ok(Event::Tick { end_: *end_ }),
         }
-    }
-}
-
-fn copied_names(names: &[NodeName], alloc: Global) -> Result<Vec<NodeName>, AllocError>
-    ensures { IfOk result (λ copy. copy.items ≡ names.now) }
-{
-    let mut copy = Vec::new(alloc);
-    for i in 0..names.len() {
-        copy.push(names[i].try_clone(alloc)?)?;
-    }
-    Ok(copy)
-}
-
-impl NameList {
-    /// An equal list.
-    pub fn try_clone(&self, alloc: Global) -> Result<NameList, AllocError>
-        ensures { IfOk result (λ copy. copy ≡ self.now) }
-    {
-        Ok(NameList::from_vec(copied_names(self.names(), alloc)?))
-    }
-}
-
-fn copied_allow(allow: &Option<NameList>, alloc: Global) -> Result<Option<NameList>, AllocError>
-    ensures { IfOk result (λ copy. copy ≡ allow.now) }
-{
-    match allow {
-        None => Ok(None),
-        Some(names) => Ok(Some(names.try_clone(alloc)?)),
-    }
-}
-
-impl Setup {
-    /// An equal setup.
-    pub fn try_clone(&self, alloc: Global) -> Result<Setup, AllocError>
-        ensures { IfOk result (λ copy. copy ≡ self.now) }
-    {
-        Ok(Setup {
-            name: self.name.try_clone(alloc)?,
-            cookie: self.cookie.try_clone(alloc)?,
-            flags: self.flags,
-            required: self.required,
-            creation: self.creation,
-            allow: copied_allow(&self.allow, alloc)?,
-        })
     }
 }

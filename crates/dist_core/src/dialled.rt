@@ -2,17 +2,13 @@
 ghost use Rattle.std.specs.Prelude.{◌≡◌, IfOk, Ok, Err, Some, None};
 ghost use Rattle.dist_core.specs.Dialled.{in_await_status, in_doomed, in_await_challenge, in_await_ack};
 
-use crate::checks::{own_digest, required_of};
-use crate::effect::{Effect, closes, comes_up, goes_on, moves, record_of, replaced, shuts};
-use crate::ends::{Attempt, End};
-use crate::phase::{Opening, Phase};
+use crate::effect::{Effect, closes, comes_up, goes_on, moves, record_of, shuts};
 use crate::reply::Note;
-use crate::saying::{reply_frame, status_frame};
-use crate::setup::Setup;
-use crate::why::Why;
-use dist_messages::{Message, Status};
+use dist_ends::{Attempt, End, Phase, Why};
+use dist_messages::{Message, Opening, Status};
 use dist_names::ByteString;
-use dist_peers::{EndId, Entry};
+use dist_peers::{EndId, Entry, replaced};
+use dist_setup::{Setup, own_digest, reply_frame, required_of, status_frame};
 use std::alloc::{AllocError, Global};
 
 pub fn in_await_status(
@@ -91,13 +87,13 @@ pub fn in_await_challenge(
         fresh,
         *challenge,
     )?;
+    let copy = attempt.try_clone(alloc)?;
     let attempt = Attempt {
-        peer: attempt.peer.try_clone(alloc)?,
-        opening: attempt.opening,
         phase: Phase::AwaitAck,
         challenge: fresh,
         flags: *flags,
         creation: *creation,
+        ..copy
     };
     Ok(goes_on(id, say, End::Attempt(attempt), Note::ReplySaid))
 }
@@ -121,6 +117,5 @@ pub fn in_await_ack(
         return Ok(closes(alloc, id, Why::WrongDigest));
     }
     let kept = record_of(alloc, setup, attempt, came)?;
-    let copy = record_of(alloc, setup, attempt, came)?;
-    Ok(comes_up(id, ByteString::new(alloc), kept, copy, replaced(entry)))
+    comes_up(alloc, id, ByteString::new(alloc), kept, replaced(entry))
 }

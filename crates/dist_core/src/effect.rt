@@ -1,24 +1,23 @@
 //! What a step does, before it is done.
 ghost use Rattle.std.specs.Prelude.{◌≡◌, IfOk, Ok, Err, Some, None};
-ghost use Rattle.dist_peers.specs.Table.{replaced_by};
-ghost use Rattle.dist_core.specs.Rules.{reply_phase};
-ghost use Rattle.dist_core.specs.Effects.{goes_on, shuts, shuts_other, comes_up, closes, moves, record_of};
+ghost use Rattle.dist_core.specs.Effects.{reply_phase, goes_on, shuts, shuts_other, comes_up, closes, moves, record_of};
 
-use crate::checks::announced_by;
-use crate::ends::{Attempt, End, UpRecord};
-use crate::phase::{Opening, Phase};
 use crate::reply::{Note, Reply};
-use crate::setup::Setup;
-use crate::why::Why;
+use dist_ends::{Attempt, End, Phase, UpRecord, Why};
+use dist_messages::Opening;
 use dist_names::ByteString;
-use dist_peers::{EndId, Entry};
+use dist_peers::EndId;
+use dist_setup::{Setup, announced_by};
 use std::alloc::{AllocError, Global};
 
-/// What a step does: its reply, what the event's end is afterwards, and another end that changes.
+/// What a step does. A word of the contracts: no public call takes or gives it.
 #[derive(Debug, Drop)]
 pub struct Effect {
+    /// What is answered.
     pub reply: Reply,
+    /// What the event's end is afterwards.
     pub this: End,
+    /// Another end that changes, and what it is afterwards.
     pub other: Option<(EndId, End)>,
 }
 
@@ -91,15 +90,15 @@ pub fn shuts_other(id: EndId, say: ByteString, this: End, x: EndId, why: Why, no
 }
 
 pub fn comes_up(
+    alloc: Global,
     id: EndId,
     say: ByteString,
     came: UpRecord,
-    copy: UpRecord,
     replaced: Option<EndId>,
-) -> Effect
-    requires { copy ≡ came }
-    ensures { result ≡ comes_up id say came replaced }
+) -> Result<Effect, AllocError>
+    ensures { IfOk result (λ f. f ≡ comes_up id say came replaced) }
 {
+    let copy = came.try_clone(alloc)?;
     let (closed, other) = match replaced {
         None => (None, None),
         Some(x) => (
@@ -107,7 +106,7 @@ pub fn comes_up(
             Some((x, End::Closed(Why::Replaced))),
         ),
     };
-    Effect {
+    Ok(Effect {
         reply: Reply {
             end_: id,
             say,
@@ -117,7 +116,7 @@ pub fn comes_up(
         },
         this: End::Up(came),
         other,
-    }
+    })
 }
 
 // ---- attempts
@@ -126,14 +125,8 @@ pub fn comes_up(
 pub fn attempt_in(alloc: Global, attempt: &Attempt, phase: Phase) -> Result<Attempt, AllocError>
     ensures { IfOk result (λ a. a ≡ record attempt.now { phase = phase }) }
 {
-    Ok(Attempt {
-        peer: attempt.peer.try_clone(alloc)?,
-        opening: attempt.opening,
-        phase,
-        challenge: attempt.challenge,
-        flags: attempt.flags,
-        creation: attempt.creation,
-    })
+    let copy = attempt.try_clone(alloc)?;
+    Ok(Attempt { phase, ..copy })
 }
 
 pub fn moves(
@@ -174,14 +167,4 @@ pub fn record_of(
         challenge: attempt.challenge,
         digest_received: *digest_received,
     })
-}
-
-// The end that is replaced by one that comes up.
-pub fn replaced(entry: Option<Entry>) -> Option<EndId>
-    ensures { result ≡ replaced_by entry }
-{
-    match entry {
-        Some(Entry::Challenged { up, by_: _ }) => Some(up),
-        _ => None,
-    }
 }

@@ -1,11 +1,16 @@
 //! What a node is told.
+ghost use Rattle.std.specs.Prelude.{◌≡◌, ◌↔◌, IsTrue};
+ghost use Rattle.dist_core.specs.Answers.{IsLoss};
+ghost use Rattle.dist_core.specs.Laws.{end_of};
+ghost use Rattle.dist_core.specs.Losses.{is_loss, loss_of};
 
-use crate::phase::Opening;
-use crate::why::Why;
+use dist_ends::Why;
+use dist_messages::Opening;
 use dist_names::{ByteString, NodeName};
 use dist_peers::EndId;
 
-/// What a node is told. A `link` is a number by which whoever carries a connection knows it; the node keeps none.
+/// What a node is told. A `link` is a number by which whoever carries a connection knows it; the node keeps none. Our own
+/// choice: an Erlang node has a process for each connection, and messages between them, in place of events.
 #[derive(Debug, Drop)]
 pub enum Event {
     /// The node is to connect to this peer. A new end is given out.
@@ -20,4 +25,37 @@ pub enum Event {
     Lost { end_: EndId, why: Why },
     /// A tick is due on this end.
     Tick { end_: EndId },
+}
+
+impl Event {
+    /// Whether it tells a loss.
+    pub fn is_lost(&self) -> bool
+        ensures test { result ≡ is_loss self.now }
+        ensures loss { IsTrue result ↔ IsLoss self.now }
+    {
+        matches!(self, Event::Lost { .. })
+    }
+
+    /// The cause that a loss tells.
+    pub fn lost_why(&self) -> Option<Why>
+        ensures { result ≡ loss_of self.now }
+    {
+        match self {
+            Event::Lost { why, .. } => Some(*why),
+            _ => None,
+        }
+    }
+
+    /// The end that it names.
+    pub fn end_named(&self) -> Option<EndId>
+        ensures { result ≡ end_of self.now }
+    {
+        match self {
+            Event::Dial { .. } | Event::Incoming { .. } => None,
+            Event::Opened { end_, .. }
+            | Event::Frame { end_, .. }
+            | Event::Lost { end_, .. }
+            | Event::Tick { end_ } => Some(*end_),
+        }
+    }
 }

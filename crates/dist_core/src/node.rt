@@ -2,31 +2,28 @@
 ghost use Rattle.std.specs.Prelude.{◌≡◌, ◌≤◌, ◌<◌, ◌+◌, List, [], ◌∷◌, ℕ, length, IfOk, IfErr, ◌≢◌, IsTrue, IsOk, OnOk, OnErr, true, false, Ok, Err, Some, None, slice_get, count_by};
 ghost use Rattle.std.specs.Option.{option_map};
 ghost use Rattle.std.specs.FinMap as map;
-ghost use Rattle.dist_peers.specs.Table.{Table};
 ghost use Rattle.dist_peers.specs.Verdicts.{is_full};
-ghost use Rattle.dist_core.specs.Ends.{AreLegal, up_from, up_ids, Agree, claim_of, is_open, entry_in, table_of};
+ghost use Rattle.dist_ends.specs.Ends.{AreLegal, FindsUp, record_in, up_from, up_pair, up_ids, claim_of, is_open, is_dialing, entry_in, table_of, still_of};
 ghost use Rattle.dist_core.specs.Node.{NodeState, ends_after, is_crowded, is_spent, new_id};
 ghost use Rattle.dist_core.specs.Laws.{ClosesOnReply, end_of, loss_reply};
-ghost use Rattle.dist_core.specs.Shift.{Fits};
-ghost use Rattle.dist_core.specs.Saying.{name_text, tick_text};
+ghost use Rattle.dist_core.specs.Losses.{IsGone, IsSilent};
+ghost use Rattle.dist_core.specs.Fitting.{Fits};
+ghost use Rattle.dist_setup.specs.Saying.{name_text, tick_text};
 ghost use Rattle.dist_core.specs.Effects.{moves, goes_on};
-ghost use Rattle.dist_core.specs.Accepted.{verdict_in, IsDropped, name_taken};
+ghost use Rattle.dist_core.specs.Accepted.{verdict_in, name_taken};
 ghost use Rattle.dist_core.specs.Step.{effect_of, step, opened, ticked, dialled, came_in, cost_of};
-ghost use Rattle.dist_core.specs.Answers.{IsStep, still_of, Gives, IsLoss, Answers};
+ghost use Rattle.dist_core.specs.Answers.{IsStep, Gives, IsLoss, GivesReply};
 
 use crate::accepted::name_taken;
 use crate::effect::{Effect, closes};
-use crate::ends::{Attempt, End, UpRecord};
 use crate::event::Event;
-use crate::finding::{cost, end_at, open_end, record_at, still, up_in, ups_in};
-use crate::phase::Still;
+use crate::finding::{cost, open_end};
 use crate::reply::Reply;
-use crate::setup::Setup;
 use crate::step_error::StepError;
-use crate::table::apply;
-use crate::why::Why;
+use dist_ends::{Attempt, End, Ends, Still, UpRecord, Why};
 use dist_names::{Creation, NodeName};
-use dist_peers::{EndId, Entry, Peers, Verdict};
+use dist_peers::{EndId, Entry, Verdict};
+use dist_setup::Setup;
 use std::alloc::{AllocError, Global};
 use std::marker::Model;
 
@@ -36,44 +33,38 @@ const MOST_STEPS: u32 = 1048576;
 /// The most open ends.
 const MOST_OPEN: usize = 4096;
 
-/// The most entries.
-pub(crate) const MOST_ENTRIES: usize = 1024;
-
 /// A node: what it was set up with, and all its ends.
 #[derive(Drop)]
 pub struct Node {
     setup: Setup,
-    peers: Peers,
-    ends: Vec<End>,
-    /// How many of them are open.
-    opens: usize,
+    ends: Ends,
+    /// How many steps were made that told no loss.
     steps: u32,
 }
 
 impl Model for Node {
-    ghost use Rattle.dist_core.specs.Node.{NodeState};
-    ghost use Rattle.dist_core.specs.Kept.{IsKept};
+    ghost use Rattle.dist_core.specs.Node.{NodeState, IsKept};
 
     ghost Value = { NodeState };
 
-    ghost view = { λ n. record { setup = n.setup; steps = n.steps; ends = n.ends.items } };
+    ghost view = { λ n. record { setup = n.setup; steps = n.steps; ends = n.ends } };
 
-    ghost invariant = { λ n. IsKept n.peers n.ends.items n.opens n.steps };
+    ghost invariant = { λ n. IsKept n.ends n.steps };
 }
 
 impl Node {
+    /// A node without ends. It takes no memory.
     pub fn new(alloc: Global, setup: Setup) -> Node
         ensures { result ≡ record { setup = setup; steps = 0; ends = [] } }
     {
         Node {
             setup,
-            peers: Peers::new(alloc),
-            ends: Vec::new(alloc),
-            opens: 0,
+            ends: Ends::new(alloc),
             steps: 0,
         }
     }
 
+    /// What it was set up with, which never changes.
     pub fn setup(&self) -> &Setup
         ensures { result.now ≡ self.now.setup }
     {
@@ -84,13 +75,22 @@ impl Node {
     pub fn still(&self, id: EndId) -> Still
         ensures { result ≡ still_of (slice_get self.now.ends id.0) }
     {
-        still(end_at(&self.ends, id))
+        self.ends.still(id)
     }
 
-    pub fn open_ends(&self) -> usize
-        ensures { result ≡ count_by is_open self.now.ends }
+    /// Whether the end was dialled and awaits its connection, also where it was superseded meanwhile: it takes `Opened`.
+    pub fn is_dialing(&self, id: EndId) -> bool
+        ensures { result ≡ is_dialing (slice_get self.now.ends id.0) }
     {
-        self.opens
+        self.ends.is_dialing(id)
+    }
+
+    /// How many ends are open, at most 4,096.
+    pub fn open_ends(&self) -> usize
+        ensures count { result ≡ count_by is_open self.now.ends }
+        ensures legal { AreLegal self.now.ends }
+    {
+        self.ends.open_ends()
     }
 
     /// The own name.
@@ -111,42 +111,50 @@ impl Node {
     pub fn entry_of(&self, peer: &NodeName) -> Option<Entry>
         ensures { result ≡ entry_in self.now.ends peer.now }
     {
-        self.peers.entry(peer)
+        self.ends.entry_of(peer)
     }
 
     /// The entry at this place, in the order of the peers' names.
     pub fn entry_at(&self, i: usize) -> Option<(&NodeName, Entry)>
         ensures { option_map (λ r. (r.0.now, r.1)) result ≡ slice_get (map.entries (table_of self.now.ends)) i }
     {
-        self.peers.at(i)
+        self.ends.entry_at(i)
     }
 
     /// How many ends are up.
     pub fn ups(&self) -> usize
         ensures { result ≡ length (up_ids (map.entries (table_of self.now.ends))) }
     {
-        ups_in(&self.peers)
+        self.ends.ups()
     }
 
     /// The up end at this place, in the order of the peers' names.
     pub fn up_at(&self, i: usize) -> Option<(EndId, &UpRecord)>
         ensures { option_map (λ r. (r.0, r.1.now)) result ≡ up_from self.now.ends (slice_get (up_ids (map.entries (table_of self.now.ends))) i) }
     {
-        record_at(&self.ends, self.up_id_at(i)?)
+        self.ends.up_at(i)
     }
 
-    // The number of that end.
-    fn up_id_at(&self, i: usize) -> Option<EndId>
-        ensures { result ≡ slice_get (up_ids (map.entries (table_of self.now.ends))) i }
+    /// The record of an end that is up.
+    pub fn record_of(&self, id: EndId) -> Option<&UpRecord>
+        ensures { option_map (λ r. (id, r.now)) result ≡ record_in id (slice_get self.now.ends id.0) }
     {
-        up_in(&self.peers, i)
+        self.ends.record_of(id)
+    }
+
+    /// The up end whose peer has this name, and its record. There is at most one.
+    pub fn up_of(&self, peer: &NodeName) -> Option<(EndId, &UpRecord)>
+        ensures found { FindsUp self.now.ends peer.now (option_map (λ r. (r.0, r.1.now)) result) }
+        ensures only { (i : ℕ) (kept : UpRecord) → slice_get self.now.ends i ≡ Some (End.Up kept) → kept.peer ≡ peer.now → option_map (λ r. (r.0, r.1.now)) result ≡ up_pair i kept }
+    {
+        self.ends.up_of(peer)
     }
 
     /// How many peers have an entry.
     pub fn entries(&self) -> usize
         ensures { result ≡ map.len (table_of self.now.ends) }
     {
-        self.peers.len()
+        self.ends.entries()
     }
 
     /// Takes an event. A refusal changes nothing, and is the first that holds in the order of [`StepError`].
@@ -163,22 +171,29 @@ impl Node {
         ensures loss { IsLoss event.now → result ≢ Err StepError.NoMemory }
         ensures lost { (x : EndId) (w : Why) (e : End) → event.now ≡ Event.Lost x w → slice_get self.old.ends x.0 ≡ Some e → is_open e ≡ true → IsOk result }
         ensures silent { (x : EndId) (w : Why) → event.now ≡ Event.Lost x w → IfOk result (λ r. r ≡ loss_reply x w) }
+        ensures alone { IsLoss event.now → IfErr result IsGone }
+        ensures quiet { IsLoss event.now → IfOk result IsSilent }
 
         // A frame closes an end that is up only where it is a right reply.
         ensures replaced { IfOk result (λ r. ClosesOnReply self.old event.now r) }
+
+        // The ends that hold a peer are those that make its entry.
+        ensures legal { AreLegal self.old.ends }
     {
         self.stepped(alloc, event, fresh)
     }
 
     /// What `step` would answer, or `NoMemory` where memory is short for the answer itself. It changes nothing.
     pub fn answer(&self, alloc: Global, event: &Event, fresh: u32) -> Result<Reply, StepError>
-        ensures answer { Answers result (step self.now event.now fresh) }
+        ensures answer { GivesReply result (step self.now event.now fresh) }
 
         ensures unknown { (x : EndId) → end_of event.now ≡ Some x → slice_get self.now.ends x.0 ≡ None → result ≡ Err StepError.NoSuchEnd }
         ensures gone { (x : EndId) (w : Why) → end_of event.now ≡ Some x → slice_get self.now.ends x.0 ≡ Some (End.Closed w) → result ≡ Err (StepError.Gone w) }
         ensures loss { IsLoss event.now → result ≢ Err StepError.NoMemory }
         ensures lost { (x : EndId) (w : Why) (e : End) → event.now ≡ Event.Lost x w → slice_get self.now.ends x.0 ≡ Some e → is_open e ≡ true → IsOk result }
         ensures silent { (x : EndId) (w : Why) → event.now ≡ Event.Lost x w → IfOk result (λ r. r ≡ loss_reply x w) }
+        ensures alone { IsLoss event.now → IfErr result IsGone }
+        ensures quiet { IsLoss event.now → IfOk result IsSilent }
     {
         self.answered(alloc, event, fresh)
     }
@@ -189,14 +204,15 @@ impl Node {
         ensures loss { IsLoss event.now → result ≢ Err StepError.NoMemory }
         ensures legal { AreLegal self.old.ends }
     {
-        let _ = &self.setup;
+        // That tells what the ends are before the step, also where it is refused.
+        let _ = self.open_ends();
         let effect = self.effect(alloc, event, fresh)?;
         self.commit(effect, cost(event))
     }
 
     // An answer, with what is shown of it at once.
     fn answered(&self, alloc: Global, event: &Event, fresh: u32) -> Result<Reply, StepError>
-        ensures answer { Answers result (step self.now event.now fresh) }
+        ensures answer { GivesReply result (step self.now event.now fresh) }
         ensures loss { IsLoss event.now → result ≢ Err StepError.NoMemory }
     {
         let effect = self.effect(alloc, event, fresh)?;
@@ -205,21 +221,16 @@ impl Node {
 
     // Makes a step that the definition gives.
     fn commit(&mut self, effect: Effect, cost: u32) -> Result<Reply, StepError>
-        requires fits { (t : Table) → Agree (map.get t) self.old.ends → Fits self.old t effect }
+        requires fits { AreLegal self.old.ends → Fits self.old (table_of self.old.ends) effect }
         requires few { length (ends_after self.old.ends effect) ≤ self.old.steps + cost }
         requires bounded { self.old.steps + cost ≤ 1048576 }
         ensures ok { IfOk result (λ r. (r ≡ effect.reply) × (self.new ≡ record { setup = self.old.setup; steps = self.old.steps + cost; ends = ends_after self.old.ends effect })) }
         ensures err { IfErr result (λ e. (e ≡ StepError.NoMemory) × (self.new ≡ self.old)) }
         ensures loss { claim_of effect.this ≡ None → effect.reply.end_.0 < length self.old.ends → IsOk result }
     {
-        match apply(
-            &mut self.peers,
-            &mut self.ends,
-            &mut self.opens,
-            &self.setup.name,
-            effect,
-        ) {
-            Ok(reply) => {
+        let Effect { reply, this, other } = effect;
+        match self.ends.change(&self.setup.name, reply.end_, this, other) {
+            Ok(()) => {
                 self.steps += cost;
                 Ok(reply)
             }
@@ -275,25 +286,21 @@ impl Node {
     pub(crate) fn new_id(&self) -> EndId
         ensures { result ≡ new_id self.now }
     {
-        EndId(self.ends.len() as u32)
+        self.ends.next_id()
     }
 
     // There is no room for an entry of this peer.
     pub(crate) fn is_full_for(&self, peer: &NodeName) -> bool
         ensures { result ≡ is_full (table_of self.now.ends) (entry_in self.now.ends peer.now) }
     {
-        match self.entry_of(peer) {
-            Some(_) => false,
-            None => self.entries() >= MOST_ENTRIES,
-        }
+        self.ends.is_full_for(peer)
     }
 
     // The verdict on a name.
     fn verdict(&self, peer: &NodeName, id: EndId) -> Verdict
-        ensures verdict { result ≡ verdict_in self.now id peer.now }
-        ensures there { IsDropped self.now.ends result }
+        ensures { result ≡ verdict_in self.now id peer.now }
     {
-        self.peers.verdict(&self.setup.name, peer, id)
+        self.ends.verdict(&self.setup.name, peer, id)
     }
 
     // A name that isn't refused has its verdict.

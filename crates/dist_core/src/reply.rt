@@ -1,7 +1,6 @@
 //! What a node answers.
 
-use crate::ends::UpRecord;
-use crate::why::Why;
+use dist_ends::{UpRecord, Why};
 use dist_names::{ByteString, NodeName};
 use dist_peers::EndId;
 
@@ -10,9 +9,11 @@ use dist_peers::EndId;
 pub enum Note {
     /// Nothing that is noted.
     Nothing,
-    /// A name passed all checks, also where `nok` was said to it, and the end that it made doomed.
+    /// A name passed all checks, also where `nok` was said to it.
     NameTaken {
+        /// The name.
         peer: NodeName,
+        /// The own dialled end that it made doomed, if one.
         dooms: Option<EndId>,
     },
     /// A reply to a challenge was said.

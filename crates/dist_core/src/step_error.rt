@@ -1,20 +1,16 @@
 //! Why a step is refused.
+ghost use Rattle.std.specs.Prelude.{◌≡◌};
+ghost use Rattle.dist_core.specs.Words.{refusal_name};
 
-use crate::why::Why;
+use dist_ends::Why;
 use dist_peers::Entry;
 use thiserror::Error;
 
-/// Why a step is refused. Each leaves the node unchanged. The first that holds is told, in this order: `NoSuchEnd`,
-/// `Gone`, `WrongPhase`, `Busy`, `Spent`, `Full`, `NoMemory`.
+/// Why a step is refused. Each leaves the node unchanged. The variants stand in the order of refusals: the first that
+/// holds is told. Our own choice; the ERTS User's Guide has no such machine.
 #[derive(Clone, Copy, Debug, PartialEq, Eq, Error)]
 pub enum StepError {
-    /// A dial to a peer that is not idle, and its entry.
-    #[error("peer is not idle")]
-    Busy(Entry),
-    /// A dial with 1,024 entries, or a new end with 4,096 open ends.
-    #[error("node is full")]
-    Full,
-    /// The number was never given out.
+    /// The number was never given out. The caller's fault, as the four that follow.
     #[error("no such end")]
     NoSuchEnd,
     /// The end is closed, for this cause.
@@ -24,9 +20,15 @@ pub enum StepError {
     /// once the end is up, `Tick` before it is up.
     #[error("end takes no such event now")]
     WrongPhase,
+    /// A dial to a peer that is not idle, and its entry.
+    #[error("peer is not idle")]
+    Busy(Entry),
     /// 1,048,576 steps were made that told no loss.
     #[error("node has made all its steps")]
     Spent,
+    /// A dial with 1,024 entries, or a new end with 4,096 open ends.
+    #[error("node is full")]
+    Full,
     /// Nothing else refuses the step, and no memory was left for it.
     #[error("out of memory")]
     NoMemory,
@@ -34,14 +36,16 @@ pub enum StepError {
 
 impl StepError {
     /// The variant's name, as a program prints it.
-    pub fn name(self) -> &'static str {
+    pub fn name(self) -> &'static str
+        ensures { result.now ≡ refusal_name self }
+    {
         match self {
-            StepError::Busy(_) => "Busy",
-            StepError::Full => "Full",
             StepError::NoSuchEnd => "NoSuchEnd",
             StepError::Gone(_) => "Gone",
             StepError::WrongPhase => "WrongPhase",
+            StepError::Busy(_) => "Busy",
             StepError::Spent => "Spent",
+            StepError::Full => "Full",
             StepError::NoMemory => "NoMemory",
         }
     }

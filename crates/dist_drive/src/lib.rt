@@ -1,30 +1,24 @@
-//! Carries the messages of the port mapper over a stream: the questions of a client, and the serving of one request.
+//! Drives one end of a connection: carries bytes from a stream to the end's node, frame by frame, and back what the node
+//! says, until the end is closed or a limit is met.
 //!
-//! A stream is a trait, so every call runs over a socket and over memory alike. No clock, no sleep and no threads: how
-//! long a call may go on is a number of turns, and a turn is one read or write, a quiet one among them. Nothing here
-//! opens, accepts or closes a connection, and nothing knows of nodes.
+//! It knows no sockets, no threads and no clock: the stream, the desk at which frames are handed on, and the source of
+//! challenges are traits. How long a call may go on is a number of turns, and a turn is one read or write, a quiet one
+//! among them.
 #![tactic(auto)]
 
-mod ask;
-mod faults;
-mod lookup_error;
-mod mapper;
-mod marks;
-mod refusals;
-mod registration;
-mod serve;
-mod socket;
-mod stream;
-mod turns;
+mod desk;
+mod draws;
+mod driving;
+mod memory;
+mod outcome;
 
-pub use ask::{ask_names, lookup};
-pub use faults::FaultStream;
-pub use lookup_error::LookupError;
-pub use mapper::Mapper;
-pub use registration::register;
-pub use serve::{Served, serve_registry};
-pub use socket::SocketStream;
-pub use stream::{Heard, Stream, Took};
+pub use desk::Desk;
+pub use dist_mapper::{LookupError, Mapper, Served, ask_names, lookup, register, serve_registry};
+pub use dist_streams::{FaultStream, Heard, SocketStream, Stream, Took};
+pub use draws::Draws;
+pub use driving::drive;
+pub use memory::MemoryDesk;
+pub use outcome::Outcome;
 
 #[cfg(test)]
 mod tests;

@@ -296,3 +296,17 @@ answer_refusal a bytes (Err errors.Malformed) fits given = answer_malformed a by
 answer_refusal a bytes (Err errors.Short) fits given = answer_lacks a bytes fits given
 answer_refusal a bytes (Err errors.Trailing) fits given = answer_exceeds a bytes fits given
 answer_refusal a bytes (Err errors.NoMemory) fits given = tt
+
+-- ---- as laws
+
+pub request_is_refused : (error : EpmdError) (body : List ℕ) → IsBytes body → read_request body ≡ Err error → RefusesRequest body error
+request_is_refused errors.Malformed body bytes e = request_refusal body (Err errors.Malformed) bytes e
+request_is_refused errors.Short body bytes e = request_refusal body (Err errors.Short) bytes e
+request_is_refused errors.Trailing body bytes e = request_refusal body (Err errors.Trailing) bytes e
+request_is_refused errors.NoMemory body bytes e = tt
+
+pub answer_is_refused : (a : Asked) (error : EpmdError) (bytes : List ℕ) → IsBytes bytes → read_answer a bytes ≡ Err error → RefusesAnswer a bytes error
+answer_is_refused a errors.Malformed bytes are e = answer_refusal a bytes (Err errors.Malformed) are e
+answer_is_refused a errors.Short bytes are e = answer_refusal a bytes (Err errors.Short) are e
+answer_is_refused a errors.Trailing bytes are e = answer_refusal a bytes (Err errors.Trailing) are e
+answer_is_refused a errors.NoMemory bytes are e = tt

@@ -1,5 +1,7 @@
 -- What a call answers that may lack memory.
 use Rattle.std.specs.Prelude.{◌≡◌, ℕ, List, codes, Result, Ok, Err, IsOk}
+use Rattle.dist_epmd.specs.declared.message.Answer.{Answer}
+use Rattle.dist_epmd.specs.declared.message.Answer.TheVariants as answer
 use Rattle.dist_epmd.specs.declared.epmd_error.EpmdError.{EpmdError}
 use Rattle.dist_epmd.specs.declared.epmd_error.EpmdError.TheVariants.{Malformed, Short, Trailing, NoMemory}
 
@@ -12,6 +14,17 @@ RefusedAs error expected = expected ≡ Err error
 abbrev pub Answers : {X Y : Type 0} → (X → Y) → Result X EpmdError → Result Y EpmdError → Type 0
 Answers view (Ok value) expected = expected ≡ Ok (view value)
 Answers view (Err error) expected = RefusedAs error expected
+
+-- an answer was read that bears a name or a text
+abbrev pub BearsText : Result Answer EpmdError → Type 0
+BearsText (Ok (answer.Port (Ok info))) = Unit {0}
+BearsText (Ok (answer.Names port text)) = Unit {0}
+BearsText other = ⊥
+
+-- Memory lacks only for an answer that bears a name or a text.
+abbrev pub LacksText : {X : Type 0} → Result X EpmdError → Result Answer EpmdError → Type 0
+LacksText (Err NoMemory) expected = BearsText expected
+LacksText result expected = Unit {0}
 
 -- the word that a program prints for a refusal
 abbrev pub error_name : EpmdError → List ℕ

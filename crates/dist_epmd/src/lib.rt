@@ -17,7 +17,8 @@ mod rows;
 pub use encoding::{encode_answer, encode_request};
 pub use epmd_error::EpmdError;
 pub use laws::{
-    any_calls, one_answer, one_request, written_answer_is_read, written_request_is_read,
+    any_calls, one_answer, one_request, read_answer_is_spelled, read_request_is_spelled,
+    written_answer_is_read, written_request_is_read,
 };
 pub use message::{AliveReq, Answer, Asked, NodeInfo, PortInfo, Request};
 pub use reading::{decode_answer, decode_request};

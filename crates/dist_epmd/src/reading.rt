@@ -4,7 +4,7 @@ ghost use Rattle.std.specs.Prelude.{◌≡◌, IfOk, IfErr};
 ghost use Rattle.dist_epmd.specs.declared.message.Answer.{Answer};
 ghost use Rattle.dist_epmd.specs.declared.message.Request.{Request};
 ghost use Rattle.dist_epmd.specs.Layout.{SpellsRequest, SpellsAnswer, RequestFits, AnswerFits};
-ghost use Rattle.dist_epmd.specs.Answering.{Answers};
+ghost use Rattle.dist_epmd.specs.Answering.{Answers, LacksText};
 ghost use Rattle.dist_epmd.specs.Refusing.{RefusesRequest, RefusesAnswer};
 ghost use Rattle.dist_epmd.specs.Reading.{whole_info, alive_x, alive, looked_up, read_request, read_answer};
 
@@ -63,7 +63,8 @@ fn read_request(alloc: Global, body: &[u8]) -> Result<Request, EpmdError>
 
 #[tactic(auto, unfolding(crate::specs::Reading::alive_x))]
 fn alive_x(bytes: &[u8]) -> Result<Answer, EpmdError>
-    ensures { Answers (λ a. a) result (alive_x bytes.now) }
+    ensures exact { Answers (λ a. a) result (alive_x bytes.now) }
+    ensures lacks { LacksText result (alive_x bytes.now) }
 {
     let (result_code, rest) = u8_at(bytes).ok_or(EpmdError::Short)?;
     let (creation, rest) = u32_at(rest).ok_or(EpmdError::Short)?;
@@ -78,7 +79,8 @@ fn alive_x(bytes: &[u8]) -> Result<Answer, EpmdError>
 
 #[tactic(auto, unfolding(crate::specs::Reading::alive))]
 fn alive(bytes: &[u8]) -> Result<Answer, EpmdError>
-    ensures { Answers (λ a. a) result (alive bytes.now) }
+    ensures exact { Answers (λ a. a) result (alive bytes.now) }
+    ensures lacks { LacksText result (alive bytes.now) }
 {
     let (result_code, rest) = u8_at(bytes).ok_or(EpmdError::Short)?;
     let (creation, rest) = u16_at(rest).ok_or(EpmdError::Short)?;
@@ -93,7 +95,8 @@ fn alive(bytes: &[u8]) -> Result<Answer, EpmdError>
 
 #[tactic(auto, unfolding(crate::specs::Reading::looked_up))]
 fn looked_up(alloc: Global, bytes: &[u8]) -> Result<Answer, EpmdError>
-    ensures { Answers (λ a. a) result (looked_up bytes.now) }
+    ensures exact { Answers (λ a. a) result (looked_up bytes.now) }
+    ensures lacks { LacksText result (looked_up bytes.now) }
 {
     let [code, rest @ ..] = bytes else {
         return Err(EpmdError::Short);
@@ -109,7 +112,8 @@ fn looked_up(alloc: Global, bytes: &[u8]) -> Result<Answer, EpmdError>
 
 #[tactic(auto, unfolding(crate::specs::Reading::read_answer))]
 fn read_answer(alloc: Global, asked: Asked, bytes: &[u8]) -> Result<Answer, EpmdError>
-    ensures { Answers (λ a. a) result (read_answer asked bytes.now) }
+    ensures exact { Answers (λ a. a) result (read_answer asked bytes.now) }
+    ensures lacks { LacksText result (read_answer asked bytes.now) }
 {
     if asked == Asked::Names {
         let (port, text) = u32_at(bytes).ok_or(EpmdError::Short)?;
@@ -151,7 +155,7 @@ pub fn decode_request(alloc: Global, body: &[u8]) -> Result<Request, EpmdError>
 ///
 /// Refusals, the first that holds: Malformed where the first byte is none of those of an answer to this question (0x76 and
 /// 0x79, 0x77, or any byte for names); Short where there is no byte, or the bytes end inside a field; Trailing where bytes
-/// stand after the last field; NoMemory.
+/// stand after the last field; NoMemory, which comes only for an answer that bears a name or a text.
 pub fn decode_answer(alloc: Global, asked: Asked, bytes: &[u8]) -> Result<Answer, EpmdError>
     // What is read is spelled so.
     ensures found { IfOk result (λ m. SpellsAnswer asked m bytes.now) }
@@ -164,6 +168,9 @@ pub fn decode_answer(alloc: Global, asked: Asked, bytes: &[u8]) -> Result<Answer
 
     // Which refusal it is.
     ensures exact { Answers (λ a. a) result (read_answer asked bytes.now) }
+
+    // Memory lacks only for an answer that bears a name or a text.
+    ensures lacks { LacksText result (read_answer asked bytes.now) }
 {
     read_answer(alloc, asked, bytes)
 }

@@ -1,9 +1,10 @@
 -- What a reader was asked so far, and what it gave.
-use Rattle.std.specs.Prelude.{◌≡◌, ℕ, ◌+◌, ◌^◌, ◌<◌, List, [], ◌∷◌, ◌++◌, get_or, option_to_list}
-use Rattle.std.specs.List.{flat_map}
+use Rattle.std.specs.Prelude.{◌≡◌, ℕ, ◌-◌, List, [], ◌∷◌, ◌++◌, length, drop, option_to_list}
+use Rattle.std.specs.List.{flat_map, AllByRecursion}
 use Rattle.std.specs.Int.{w16}
-use Rattle.dist_frames.specs.Stream.{framed, bodies, packets}
-use Rattle.dist_frames.specs.Reader.{Reader, Short, Linked, fed, next_body, without_next, linked, untold, told}
+pub use Rattle.dist_names.specs.Bytes.{IsBytes}
+use Rattle.dist_frames.specs.Stream.{framed, Fits, bodies, packets, partial}
+use Rattle.dist_frames.specs.Reader.{Reader, Short, Linked, saturated, fed, next_body, without_next, linked, told}
 
 -- a call that succeeded; Take moves the next body out or drops it
 pub data Call : Type 0 where
@@ -19,28 +20,39 @@ pub record Seen : Type 0 where
   pub stream : List ℕ
   -- the bodies that were moved out
   pub moved : List (List ℕ)
-  -- how many packets were told
-  pub counted : ℕ
+  -- how many packets had ended when they were last told
+  pub before : ℕ
 
 -- a new reader, to which nothing came
 abbrev pub opening : Seen
-opening = record { reader = Short []; stream = []; moved = []; counted = 0 }
+opening = record { reader = Short []; stream = []; moved = []; before = 0 }
+
+-- the bytes that were not moved out
+abbrev pub unmoved : Seen → List ℕ
+unmoved s = drop (length (flat_map (framed w16) s.moved)) s.stream
+
+-- The bytes that came are the frames of the bodies moved out, and then those that are pending.
+pub record Accounts (stream : List ℕ) (moved : List (List ℕ)) (pending : List ℕ) : Type 0 where
+  pub whole : stream ≡ flat_map (framed w16) moved ++ pending
+  pub fit : AllByRecursion (Fits w16) moved
+  pub bytes : IsBytes pending
+
+-- how many packets have ended by now, where they are told
+abbrev pub ended_by_now : Reader → Seen → ℕ
+ended_by_now (Short pending) s = s.before
+ended_by_now (Linked ended rest) s = packets (unmoved s)
 
 -- the same after one more call
 abbrev pub seen : Seen → Call → Seen
 seen s (Feed piece) = record s { reader = fed s.reader piece; stream = s.stream ++ piece }
 seen s Take = record s { reader = without_next s.reader; moved = s.moved ++ option_to_list (next_body s.reader) }
 seen s Link = record s { reader = linked s.reader }
-seen s Skip = record s { reader = told s.reader; counted = s.counted + untold s.reader }
+seen s Skip = record s { reader = told s.reader; before = ended_by_now s.reader s }
 
 -- the same after these calls in turn
 abbrev pub after_all : Seen → List Call → Seen
 after_all s [] = s
 after_all s (call ∷ calls) = after_all (seen s call) calls
-
--- each element is a byte
-abbrev pub IsBytes : List ℕ → Type 0
-IsBytes bytes = (i : ℕ) → get_or bytes i 0 < 256
 
 -- the pieces are bytes
 abbrev pub FeedBytes : List Call → Type 0
@@ -49,7 +61,13 @@ FeedBytes (Feed piece ∷ calls) = IsBytes piece × FeedBytes calls
 FeedBytes (call ∷ calls) = FeedBytes calls
 
 -- THE READER IS RIGHT: until it is linked, the bodies moved out and those still to come are those of the stream; then
--- the packets told and those untold are those of all bytes from the first that was not moved out
+-- those untold are the packets of all bytes from the first that was not moved out that ended since they were last told
 abbrev pub IsRight : Reader → Seen → Type 0
 IsRight (Short pending) s = s.moved ++ bodies pending ≡ bodies s.stream
-IsRight (Linked ended rest) s = (more : List ℕ) × (s.stream ≡ flat_map (framed w16) s.moved ++ more) × (packets more < 2 ^ 64 → s.counted + ended ≡ packets more)
+IsRight (Linked ended rest) s = (more : List ℕ) × (s.stream ≡ flat_map (framed w16) s.moved ++ more) × (ended ≡ saturated (packets more - s.before))
+
+-- NO BYTE IS LOST: those that were fed are the frames of the bodies moved out, and then those that the reader holds or,
+-- once it is linked, the stream of packets of which it keeps the rest
+abbrev pub LosesNothing : Reader → Seen → Type 0
+LosesNothing (Short pending) s = Accounts s.stream s.moved pending
+LosesNothing (Linked ended rest) s = (more : List ℕ) × Accounts s.stream s.moved more × (rest ≡ partial more)

@@ -1,4 +1,5 @@
 pub mod Stream
 pub mod Reader
 pub mod History
-pub mod Refusal
+pub mod Kept
+pub mod Stage

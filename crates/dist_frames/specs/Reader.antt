@@ -8,7 +8,8 @@ use Rattle.dist_frames.specs.Stream.{first_body, after_first, bodies, packets, p
 pub data Reader : Type 0 where
   -- the bytes fed that were not moved out
   Short : List ℕ → Reader
-  -- how many packets ended and were not told, and what came of the next
+  -- How many packets ended and were not told. And what is still owed of the next, as a stream that goes on as it does: the
+  -- bytes of its length that came, or its length as if the bytes that came had not been part of it.
   Linked : ℕ → List ℕ → Reader
 
 -- a count as the reader keeps it: at most the greatest number of 64 bits (our own choice)
@@ -49,3 +50,8 @@ untold (Linked ended rest) = ended
 abbrev pub told : Reader → Reader
 told (Short pending) = Short pending
 told (Linked ended rest) = Linked 0 rest
+
+-- the reader was linked
+abbrev pub IsLinked : Reader → Type 0
+IsLinked (Short pending) = ⊥
+IsLinked (Linked ended rest) = Unit {0}

@@ -2,13 +2,10 @@
 -- Handshake), packets of a linked stream with one of four (Protocol between Connected Nodes).
 use Rattle.std.specs.Prelude.{◌≡◌, ℕ, zero, suc, ◌-◌, ◌*◌, ◌^◌, ◌<◌, Bool, ◌&&◌, List, [], ◌∷◌, ◌++◌, length, take, drop, Option, Some, None, nat_le, if◌then◌else◌}
 use Rattle.std.specs.List.{flat_map, AllByRecursion}
-use Rattle.std.specs.Int.{Width, w16, w32, byte_len, to_be_bytes, from_be_bytes}
+use Rattle.std.specs.Int.{Width, w16, w32, byte_len, from_be_bytes}
+pub use Rattle.dist_names.specs.Bytes.{number}
 
 -- ---- in the words of the subject
-
--- a number in the bytes of a field, the greater ones first: big-endian, as all of the protocol's numbers are
-abbrev pub number : Width → ℕ → List ℕ
-number w value = to_be_bytes w value
 
 -- the frame of a body: its length in a field of this width, then the body; the length does not count itself
 abbrev pub framed : Width → List ℕ → List ℕ
@@ -84,6 +81,6 @@ packets stream = length (split_bodies w32 stream)
 abbrev pub shortened : List ℕ → List ℕ
 shortened rest = if nat_le (length rest) 4 then rest else number w32 (head w32 rest - (length rest - 4))
 
--- the shortest stream that goes on as this one does after its packets
+-- what is still owed of the next packet, as a stream that goes on as this one does after its packets
 abbrev pub partial : List ℕ → List ℕ
 partial stream = shortened (split_rest w32 stream)

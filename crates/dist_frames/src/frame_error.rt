@@ -2,7 +2,6 @@
 
 ghost use Rattle.std.specs.Prelude.{◌≡◌};
 ghost use Rattle.dist_frames.specs.declared.frame_error.FrameError.TheVariants.{NoMemory};
-ghost use Rattle.dist_frames.specs.Refusal.{refusal_name};
 
 use std::alloc::AllocError;
 use thiserror::Error;
@@ -16,18 +15,6 @@ pub enum FrameError {
     /// The body can be framed, and no memory was left for the frame.
     #[error("out of memory")]
     NoMemory,
-}
-
-impl FrameError {
-    /// The refusal's name, as a program prints it.
-    pub fn name(&self) -> &'static str
-        ensures { result.now ≡ refusal_name self.now }
-    {
-        match self {
-            FrameError::TooLong => "TooLong",
-            FrameError::NoMemory => "NoMemory",
-        }
-    }
 }
 
 impl From<AllocError> for FrameError {

@@ -1,30 +1,39 @@
-ghost use Rattle.std.specs.Prelude.{◌≡◌, [], option_map, option_copied, OnOk, OnErr, IfOk, IsSome, MatchOption, drop, ◌∷◌};
-ghost use Rattle.dist_frames.specs.Reader.{fed, next_body, to_come, without_next, linked, untold, told};
+ghost use Rattle.std.specs.Prelude.{◌≡◌, [], option_map, option_copied, OnOk, OnErr, IfOk, IsOk, IsSome, MatchOption, drop, ◌∷◌};
+ghost use Rattle.dist_frames.specs.Reader.{fed, next_body, to_come, without_next, linked, untold, told, IsLinked};
 ghost use Rattle.dist_frames.specs.Reader.Reader.{Short};
 
-use crate::buffer::{drop_first, extend};
-use crate::linked::skip_packets;
-use crate::short::first_short;
+use crate::buffer::Buffer;
+use crate::partial::Partial;
 use std::alloc::{AllocError, Global};
 use std::marker::Model;
 
 /// A reader of a stream that comes in pieces: of short frames, and of packets once it is linked.
 ///
-/// The bodies do not depend on the cuts between the pieces. Contracts see what is still to come, and not the buffer.
+/// The bodies do not depend on the cuts between the pieces. Contracts see what is still to come, and not what is kept: of
+/// short frames the bytes that were not moved out, of packets no bytes.
 #[derive(Debug, Drop)]
 pub struct Frames {
-    bytes: Vec<u8>,
-    is_linked: bool,
+    // Where the bodies that are moved out are copied to.
+    alloc: Global,
+    stage: Stage,
+}
+
+// What comes next, and what is kept for it.
+#[derive(Debug, Drop)]
+enum Stage {
+    // Short frames: the bytes that were not moved out.
+    Short(Buffer),
+    // Packets: how many ended and were not told, and what is owed of the next.
+    Linked { ended: usize, left: Partial },
 }
 
 impl Model for Frames {
-    ghost use Rattle.std.specs.Prelude.{ℕ, List, if◌then◌else◌};
-    ghost use Rattle.dist_frames.specs.Stream.{packets, partial};
-    ghost use Rattle.dist_frames.specs.Reader.{Reader, Short, Linked, saturated};
+    ghost use Rattle.dist_frames.specs.Reader.{Reader};
+    ghost use Rattle.dist_frames.specs.Stage.{reader_of};
 
     ghost Value = { Reader };
 
-    ghost view = { λ f. if f.is_linked then Linked (saturated (packets f.bytes.items)) (partial f.bytes.items) else Short f.bytes.items };
+    ghost view = { λ f. reader_of f.stage };
 }
 
 impl Frames {
@@ -33,8 +42,17 @@ impl Frames {
         ensures { result ≡ Short [] }
     {
         Frames {
-            bytes: Vec::new(alloc),
-            is_linked: false,
+            alloc,
+            stage: Stage::Short(Buffer::new(alloc)),
+        }
+    }
+
+    fn shown(&self) -> Option<&[u8]>
+        ensures { option_copied result ≡ next_body self.now }
+    {
+        match &self.stage {
+            Stage::Short(pending) => pending.front(),
+            Stage::Linked { .. } => None,
         }
     }
 
@@ -45,10 +63,16 @@ impl Frames {
         // It is the first of the bodies still to come.
         ensures first { MatchOption (option_copied result) (to_come self.now ≡ []) (λ body. to_come self.now ≡ body ∷ to_come (without_next self.now)) }
     {
-        if self.is_linked {
-            return None;
+        self.shown()
+    }
+
+    fn drop_shown(&mut self)
+        ensures { self.new ≡ without_next self.old }
+    {
+        match &mut self.stage {
+            Stage::Short(pending) => pending.drop_front(),
+            Stage::Linked { .. } => {}
         }
-        first_short(&self.bytes)
     }
 
     /// Drops the body that `front` shows, which counts as moved out. With none it changes nothing.
@@ -56,19 +80,24 @@ impl Frames {
         ensures after { self.new ≡ without_next self.old }
         ensures rest { to_come self.new ≡ drop 1 (to_come self.old) }
     {
-        if let Some(body) = self.front() {
-            let count = 2 + body.len();
-            drop_first(&mut self.bytes, count);
-        }
+        self.drop_shown();
     }
 
-    /// Takes the next piece of the stream, of any number of bytes. An `Err` changes nothing.
+    /// Takes the next piece of the stream, of any number of bytes. An `Err` changes nothing. A linked reader takes no memory,
+    /// and so cannot fail.
     pub fn feed(&mut self, piece: &[u8]) -> Result<(), AllocError>
         ensures ok { OnOk result (self.new ≡ fed self.old piece.now) }
         ensures err { OnErr result (self.new ≡ self.old) }
+        ensures linked { IsLinked self.old → IsOk result }
     {
-        extend(&mut self.bytes, piece)?;
-        Ok(())
+        match &mut self.stage {
+            Stage::Short(pending) => pending.extend(piece),
+            Stage::Linked { ended, left } => {
+                let more = left.feed(piece);
+                *ended = ended.saturating_add(more);
+                Ok(())
+            }
+        }
     }
 
     /// Moves the next whole body out. `None` where there is no whole one yet, or the reader is linked, and then nothing
@@ -83,7 +112,7 @@ impl Frames {
         let Some(body) = self.front() else {
             return Ok(None);
         };
-        let body = Vec::from_slice(*self.bytes.allocator(), body)?;
+        let body = Vec::from_slice(self.alloc, body)?;
         self.drop_front();
         Ok(Some(body))
     }
@@ -93,18 +122,26 @@ impl Frames {
     pub fn to_linked(&mut self)
         ensures { self.new ≡ linked self.old }
     {
-        self.is_linked = true;
+        if let Stage::Short(pending) = &self.stage {
+            let mut left = Partial::new();
+            let ended = left.feed(pending.as_slice());
+            self.stage = Stage::Linked { ended, left };
+        }
     }
 
-    /// Drops what is held of packets, and answers how many ended since the last call, at most the greatest `usize`.
-    /// Before `to_linked` it answers 0 and drops nothing. It takes no memory.
+    /// Answers how many packets ended since the last call, at most the greatest `usize`, of which nothing is kept. Before
+    /// `to_linked` it answers 0 and drops nothing. It takes no memory.
     pub fn skip_long(&mut self) -> usize
         ensures count { result ≡ untold self.old }
         ensures after { self.new ≡ told self.old }
     {
-        if !self.is_linked {
-            return 0;
+        match &mut self.stage {
+            Stage::Short(_) => 0,
+            Stage::Linked { ended, .. } => {
+                let count = *ended;
+                *ended = 0;
+                count
+            }
         }
-        skip_packets(&mut self.bytes)
     }
 }

@@ -12,13 +12,15 @@ mod buffer;
 mod frame_error;
 mod frames;
 mod laws;
-mod linked;
+mod partial;
 mod short;
 
 pub use frame_error::FrameError;
 pub use frames::Frames;
-pub use laws::{any_pieces, bodies_of_stream, one_frame, packets_of_stream};
-pub use linked::tick;
+pub use laws::{
+    any_pieces, bodies_of_stream, fed_and_moved, frame_in_front, one_frame, packets_of_stream,
+};
+pub use partial::tick;
 pub use short::write_short;
 
 #[cfg(test)]

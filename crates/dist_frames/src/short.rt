@@ -4,6 +4,7 @@
 ghost use Rattle.std.specs.Prelude.{◌≡◌, ◌↔◌, ◌≤◌, ◌^◌, length, option_copied, IfOk, IsErrOf};
 ghost use Rattle.std.specs.Int.{w16};
 ghost use Rattle.dist_frames.specs.Stream.{framed, first_body};
+ghost use Rattle.dist_frames.specs.Kept.{frame_len};
 
 use crate::frame_error::FrameError;
 use std::alloc::Global;
@@ -11,19 +12,27 @@ use std::alloc::Global;
 /// The longest body, by its field of 2 bytes.
 const MOST: usize = 65535;
 
-/// The body of the short frame at the front.
-pub fn first_short(bytes: &[u8]) -> Option<&[u8]>
-    ensures { option_copied result ≡ first_body w16 bytes.now }
+/// How many bytes the frame at the front has with its length, and 2 until that has come.
+pub fn frame_len(pending: &[u8]) -> usize
+    ensures { result ≡ frame_len pending.now }
 {
-    if bytes.len() < 2 {
+    if pending.len() < 2 {
+        return 2;
+    }
+    let (header, _) = pending.split_at(2);
+    2 + u16::from_be_bytes([header[0], header[1]]) as usize
+}
+
+/// The body of the frame at the front, which has so many bytes with its length.
+#[tactic(auto, using(crate::proofs::Marks::least, crate::proofs::Marks::no_body, crate::proofs::Marks::some_body))]
+pub fn awaited_body(pending: &[u8], awaited: usize) -> Option<&[u8]>
+    requires { awaited ≡ frame_len pending.now }
+    ensures { option_copied result ≡ first_body w16 pending.now }
+{
+    if pending.len() < awaited {
         return None;
     }
-    let (header, rest) = bytes.split_at(2);
-    let len = u16::from_be_bytes([header[0], header[1]]) as usize;
-    if rest.len() < len {
-        return None;
-    }
-    Some(&rest[..len])
+    Some(&pending[2..awaited])
 }
 
 /// The frame of a body: its length in 2 bytes, and the body.

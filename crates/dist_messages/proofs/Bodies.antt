@@ -6,7 +6,7 @@ use Rattle.dist_messages.specs.declared.message.Message.TheVariants as message
 use Rattle.dist_messages.specs.declared.message.Side.{Side}
 use Rattle.dist_messages.specs.declared.message.Side.TheVariants.{Dialler, Acceptor}
 use Rattle.dist_messages.specs.Spelling.{Spells, Fits}
-use Rattle.dist_messages.specs.Causes.{IsBytes}
+use Rattle.dist_names.specs.Bytes.{IsBytes}
 use Rattle.std.proofs.lemmas.List.{append-nil}
 use Rattle.dist_messages.specs.Reading.{◌>>=◌, number_at, bytes_at, ended, old_name, new_name, old_challenge, new_challenge, complement, reply, ack}
 use Rattle.dist_messages.proofs.FieldLaws.{bind_ok, ok_is, ended_ok, Takes-then, wide16, wide32, wide64, number_takes, number_again, bytes_take, bytes_again}

@@ -6,21 +6,9 @@ use Rattle.std.proofs.lemmas.List.{take_at, drop_at, take-append-drop, length-ap
 use Rattle.std.proofs.lemmas.Nat.{be_bytes_2, be_bytes_4, be_bytes_8, from_be_bytes-to_be_bytes_2, from_be_bytes-to_be_bytes_4, from_be_bytes-to_be_bytes_8}
 use Rattle.dist_messages.specs.declared.message_error.MessageError.{MessageError}
 use Rattle.dist_messages.specs.declared.message_error.MessageError.TheVariants.{Long}
-use Rattle.dist_messages.specs.Causes.{IsBytes}
+use Rattle.dist_names.specs.Bytes.{IsBytes}
+use Rattle.dist_names.proofs.Bytes.{IsBytes-drop, IsBytes-take}
 use Rattle.dist_messages.specs.Reading.{◌>>=◌, number_at, bytes_at, ended}
-
-IsBytes-drop : (n : ℕ) (bytes : List ℕ) → IsBytes bytes → IsBytes (drop n bytes)
-IsBytes-drop n bytes h i = rw get_or-drop (h (n + i))
-
-IsBytes-take : (n : ℕ) (bytes : List ℕ) → IsBytes bytes → IsBytes (take n bytes)
-IsBytes-take n bytes h i =
-    elim (cases_lt i n) [
-      | inl lt ↦ rw (get_or-take n bytes i 0 lt) (h i)
-      | inr le ↦ rw (get_or_past (take n bytes) i 0 (omega (arith, length-take n bytes))) (omega arith)
-    ]
-
-pub IsBytes-rest : (b : ℕ) (bytes : List ℕ) → IsBytes (b ∷ bytes) → IsBytes bytes
-IsBytes-rest b bytes h i = h (suc i)
 
 -- the value of a field that was whole
 pub bind_ok : {A B : Type 0} (r : Option A) (f : A → Result B MessageError) (y : B) → (r >>= f) ≡ Ok y → (x : A) × (r ≡ Some x) × (f x ≡ Ok y)

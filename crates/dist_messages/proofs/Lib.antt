@@ -3,3 +3,4 @@ pub mod Readers
 pub mod Bodies
 pub mod Messages
 pub mod Refusals
+pub mod Writings

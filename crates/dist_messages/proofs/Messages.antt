@@ -16,9 +16,10 @@ use Rattle.dist_messages.specs.declared.message_error.MessageError.TheVariants a
 use Rattle.dist_messages.specs.Answer.{Answers}
 use Rattle.dist_messages.specs.Spelling.{Spells, Fits, text_of, is_said_by}
 use Rattle.dist_messages.specs.Canonical.{written}
-use Rattle.dist_messages.specs.Causes.{IsBytes}
+use Rattle.dist_names.specs.Bytes.{IsBytes}
+use Rattle.dist_names.proofs.Bytes.{IsBytes-rest}
 use Rattle.dist_messages.specs.Reading.{read, old_name, new_name, old_challenge, new_challenge, complement, reply, ack, status_of, known}
-use Rattle.dist_messages.proofs.FieldLaws.{IsBytes-rest, ok_is}
+use Rattle.dist_messages.proofs.FieldLaws.{ok_is}
 use Rattle.dist_messages.proofs.Bodies.{Reads, old_name_again, new_name_again, old_challenge_again, new_challenge_again, complement_again, reply_again, ack_again, old_name_takes, new_name_takes, old_challenge_takes, new_challenge_takes, complement_takes, reply_takes, ack_takes}
 
 -- ---- what is spelled so is read

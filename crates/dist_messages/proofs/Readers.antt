@@ -7,7 +7,8 @@ use Rattle.dist_messages.specs.declared.message.Message.{Message}
 use Rattle.dist_messages.specs.declared.message.Message.TheVariants as message
 use Rattle.dist_messages.specs.declared.message_error.MessageError.{MessageError}
 use Rattle.dist_messages.specs.declared.message_error.MessageError.TheVariants.{Short, Long}
-use Rattle.dist_messages.specs.Causes.{IsBytes}
+use Rattle.dist_names.specs.Bytes.{IsBytes}
+use Rattle.dist_names.proofs.Bytes.{IsBytes-append, IsBytes-front}
 use Rattle.dist_messages.specs.Reading.{◌>>=◌, number_at, bytes_at, ended, old_name, new_name, old_challenge, new_challenge, complement, reply, ack}
 
 -- ---- bytes
@@ -20,20 +21,6 @@ zeros_are_bytes n i =
     elim (cases_lt i n) [
       | inl lt ↦ rw (get_or-replicate {A = ℕ} n i 0 0 lt) (omega arith)
       | inr le ↦ rw (get_or_past (zeros n) i 0 (omega (arith, length-replicate {A = ℕ} n 0))) (omega arith)
-    ]
-
-pub IsBytes-append : (a b : List ℕ) → IsBytes a → IsBytes b → IsBytes (a ++ b)
-IsBytes-append a b x y i =
-    elim (cases_lt i (length a)) [
-      | inl lt ↦ rw (get_or_append_left a b 0 i lt) (x i)
-      | inr le ↦ rw (get_or-append_right a b (length a) i 0 refl le) (y (i - length a))
-    ]
-
-pub IsBytes-front : (a b : List ℕ) → IsBytes (a ++ b) → IsBytes a
-IsBytes-front a b h i =
-    elim (cases_lt i (length a)) [
-      | inl lt ↦ rw (← get_or_append_left a b 0 i lt) (h i)
-      | inr le ↦ rw (get_or_past a i 0 le) (omega arith)
     ]
 
 -- ---- a reader of fields

@@ -12,9 +12,11 @@ use Rattle.dist_messages.specs.declared.message.Message.TheVariants as message
 use Rattle.dist_messages.specs.declared.message_error.MessageError.{MessageError}
 use Rattle.dist_messages.specs.declared.message_error.MessageError.TheVariants as errors
 use Rattle.dist_messages.specs.Spelling.{text_of, is_said_by}
-use Rattle.dist_messages.specs.Causes.{IsBytes, IsMessage, HasUnknownTag, IsShort, IsLong, HasUnknownStatus, IsCause, status_tag}
+use Rattle.dist_names.specs.Bytes.{IsBytes}
+use Rattle.dist_names.proofs.Bytes.{IsBytes-append, IsBytes-front}
+use Rattle.dist_messages.specs.Causes.{IsMessage, HasUnknownTag, IsShort, IsLong, HasUnknownStatus, IsCause, status_tag}
 use Rattle.dist_messages.specs.Reading.{read, old_name, new_name, old_challenge, new_challenge, complement, reply, ack, status_of, diallers_status, acceptors_status, known}
-use Rattle.dist_messages.proofs.Readers.{Read, IsReader, IsBytes-append, IsBytes-front, old_name_reader, new_name_reader, old_challenge_reader, new_challenge_reader, complement_reader, reply_reader, ack_reader}
+use Rattle.dist_messages.proofs.Readers.{Read, IsReader, old_name_reader, new_name_reader, old_challenge_reader, new_challenge_reader, complement_reader, reply_reader, ack_reader}
 use Rattle.dist_messages.proofs.Messages.{spelled_is_read, read_is_spelled, status_again, status_takes}
 
 -- ---- the layout of a first byte

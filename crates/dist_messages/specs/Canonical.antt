@@ -24,11 +24,11 @@ canonical (message.Complement high creation) = 0x63 ∷ to_be_bytes w32 high ++ 
 canonical (message.Reply challenge digest) = 0x72 ∷ to_be_bytes w32 challenge ++ digest
 canonical (message.Ack digest) = 0x61 ∷ digest
 
--- a message whose name fits, and a name of more than 255 bytes does not
+-- the spelling of a message with this name, which has at most 255 bytes
 abbrev pub bounded : List ℕ → Message → Result (List ℕ) MessageError
 bounded name m = if nat_lt 255 (length name) then Err errors.BadName else Ok (canonical m)
 
--- what this side writes for a message, or the first reason why it writes none
+-- What this side writes for a message, or the first reason why it writes none. Writing.antt has the same in words.
 abbrev pub written : Side → Message → Result (List ℕ) MessageError
 written Dialler (message.OldName flags name) = bounded name (message.OldName flags name)
 written Dialler (message.NewName flags creation name) = bounded name (message.NewName flags creation name)

@@ -3,3 +3,4 @@ pub mod Spelling
 pub mod Canonical
 pub mod Reading
 pub mod Causes
+pub mod Writing

@@ -7,8 +7,10 @@ ghost use Rattle.dist_messages.specs.declared.message.Message.{Message};
 ghost use Rattle.dist_messages.specs.declared.message_error.MessageError.TheVariants as errors;
 ghost use Rattle.dist_messages.specs.Spelling.{Spells, Fits};
 ghost use Rattle.dist_messages.specs.Canonical.{written};
-ghost use Rattle.dist_messages.specs.Causes.{IsBytes, HasUnknownTag, IsShort, IsLong, HasUnknownStatus};
+ghost use Rattle.dist_names.specs.Bytes.{IsBytes};
+ghost use Rattle.dist_messages.specs.Causes.{HasUnknownTag, IsShort, IsLong, HasUnknownStatus};
 ghost use Rattle.dist_messages.specs.Reading.{read};
+ghost use Rattle.dist_messages.specs.Writing.{IsWritten, HasNoRow, HasLongName, IsOtherStatus};
 
 /// A spelling has one message.
 pub fn one_message()
@@ -41,4 +43,20 @@ pub fn causes_of_refusals()
     // it has the tag of a status, and the text of no status of the side
     ensures unknown_status { (side : Side) (body : List ℕ) → IsBytes body →
         (read side body ≡ Err errors.UnknownStatus) ↔ HasUnknownStatus side body }
+{}
+
+/// What is written, and each refusal to write, is met exactly where its cause stands, in the words of the layouts.
+pub fn causes_of_writing()
+    // the spelling with version 5 and no bytes after the name, which has at most 255
+    ensures written { (side : Side) (m : Message) (body : List ℕ) → (written side m ≡ Ok body) ↔ IsWritten side m body }
+
+    // no status, and the side has no row for it
+    ensures unknown_tag { (side : Side) (m : Message) → (written side m ≡ Err errors.UnknownTag) ↔ HasNoRow side m }
+
+    // the side has a row for it, and the name has more than 255 bytes
+    ensures bad_name { (side : Side) (m : Message) → (written side m ≡ Err errors.BadName) ↔ HasLongName side m }
+
+    // a status of the other side
+    ensures unknown_status { (side : Side) (m : Message) →
+        (written side m ≡ Err errors.UnknownStatus) ↔ IsOtherStatus side m }
 {}

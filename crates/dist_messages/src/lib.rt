@@ -7,15 +7,17 @@ mod fields;
 mod laws;
 mod message;
 mod message_error;
+mod opening;
 mod reading;
 mod reading_named;
 mod status;
 mod writing;
 mod writing_named;
 
-pub use laws::{causes_of_refusals, one_message, written_is_read};
+pub use laws::{causes_of_refusals, causes_of_writing, one_message, written_is_read};
 pub use message::{Message, Side, Status};
 pub use message_error::MessageError;
+pub use opening::Opening;
 pub use reading::decode;
 pub use writing::encode;
 

@@ -1,11 +1,11 @@
 //! Reading a body: first the tag, then the layout that this side has for it.
 
-ghost use Rattle.std.specs.Prelude.{Ok, IfOk, IfErr};
+ghost use Rattle.std.specs.Prelude.{Ok, IfOk, IfErr, IsErrOf, IsTrue};
 ghost use Rattle.dist_messages.specs.Spelling.{Spells, Fits};
 ghost use Rattle.dist_messages.specs.Causes.{IsCause};
 ghost use Rattle.dist_messages.specs.declared.message.Message.{Message};
 ghost use Rattle.dist_messages.specs.Answer.{Answers};
-ghost use Rattle.dist_messages.specs.Reading.{complement, reply, ack, status_of, read};
+ghost use Rattle.dist_messages.specs.Reading.{complement, reply, ack, status_of, has_name_tag, read};
 
 use crate::fields::{digest_at, u32_at};
 use crate::message::{Message, Side};
@@ -17,7 +17,8 @@ use std::alloc::Global;
 
 #[tactic(auto, unfolding(crate::specs::Reading::complement))]
 fn read_complement(bytes: &[u8]) -> Result<Message, MessageError>
-    ensures { Answers (λ m. m) result (complement bytes.now) }
+    ensures exact { Answers (λ m. m) result (complement bytes.now) }
+    ensures memory { ¬ (IsErrOf result MessageError.NoMemory) }
 {
     let (high, rest) = u32_at(bytes).ok_or(MessageError::Short)?;
     let (creation, behind) = u32_at(rest).ok_or(MessageError::Short)?;
@@ -32,7 +33,8 @@ fn read_complement(bytes: &[u8]) -> Result<Message, MessageError>
 
 #[tactic(auto, unfolding(crate::specs::Reading::reply))]
 fn read_reply(bytes: &[u8]) -> Result<Message, MessageError>
-    ensures { Answers (λ m. m) result (reply bytes.now) }
+    ensures exact { Answers (λ m. m) result (reply bytes.now) }
+    ensures memory { ¬ (IsErrOf result MessageError.NoMemory) }
 {
     let (challenge, rest) = u32_at(bytes).ok_or(MessageError::Short)?;
     let (digest, behind) = digest_at(rest).ok_or(MessageError::Short)?;
@@ -44,7 +46,8 @@ fn read_reply(bytes: &[u8]) -> Result<Message, MessageError>
 
 #[tactic(auto, unfolding(crate::specs::Reading::ack))]
 fn read_ack(bytes: &[u8]) -> Result<Message, MessageError>
-    ensures { Answers (λ m. m) result (ack bytes.now) }
+    ensures exact { Answers (λ m. m) result (ack bytes.now) }
+    ensures memory { ¬ (IsErrOf result MessageError.NoMemory) }
 {
     let (digest, behind) = digest_at(bytes).ok_or(MessageError::Short)?;
     if !behind.is_empty() {
@@ -55,7 +58,8 @@ fn read_ack(bytes: &[u8]) -> Result<Message, MessageError>
 
 #[tactic(auto, unfolding(crate::specs::Reading::status_of))]
 fn read_status(side: Side, text: &[u8]) -> Result<Message, MessageError>
-    ensures { Answers (λ m. m) result (status_of side text.now) }
+    ensures exact { Answers (λ m. m) result (status_of side text.now) }
+    ensures memory { ¬ (IsErrOf result MessageError.NoMemory) }
 {
     let status = match side {
         Side::Dialler => diallers_status(text),
@@ -66,7 +70,8 @@ fn read_status(side: Side, text: &[u8]) -> Result<Message, MessageError>
 
 #[tactic(auto, unfolding(crate::specs::Reading::read))]
 fn read_message(alloc: Global, side: Side, body: &[u8]) -> Result<Message, MessageError>
-    ensures { Answers (λ m. m) result (read side body.now) }
+    ensures exact { Answers (λ m. m) result (read side body.now) }
+    ensures memory { IsErrOf result MessageError.NoMemory → IsTrue (has_name_tag body.now) }
 {
     let [tag, rest @ ..] = body else {
         return Err(MessageError::Empty);
@@ -87,7 +92,8 @@ fn read_message(alloc: Global, side: Side, body: &[u8]) -> Result<Message, Messa
 /// The message that a body of this side spells. Memory is asked for a name alone, and not more than the body has bytes.
 ///
 /// Refusals, in this order: `Empty`, `UnknownTag` (also for a tag of the other side), `Short`, `Long`, `UnknownStatus` (also for
-/// a status of the other side), `NoMemory`.
+/// a status of the other side), `NoMemory`. Of the causes but the last at most one holds of a body, and each has its refusal
+/// ([`causes_of_refusals`](crate::causes_of_refusals)), so that `found`, `only`, `cause` and `memory` fix the answer.
 pub fn decode(alloc: Global, side: Side, body: &[u8]) -> Result<Message, MessageError>
     // What is read is spelled so.
     ensures found { IfOk result (λ m. Spells side m body.now) }
@@ -97,6 +103,9 @@ pub fn decode(alloc: Global, side: Side, body: &[u8]) -> Result<Message, Message
 
     // What is refused has the cause that is told.
     ensures cause { IfErr result (λ e. IsCause side body.now e) }
+
+    // Memory is wanted for a name alone.
+    ensures memory { IsErrOf result MessageError.NoMemory → IsTrue (has_name_tag body.now) }
 
     // Which of them it is, computed from left to right.
     ensures exact { Answers (λ m. m) result (read side body.now) }

@@ -91,7 +91,8 @@ fn acceptors_body(alloc: Global, message: &Message) -> Result<Vec<u8>, MessageEr
 /// The one body that is written for a message of this side: version 5 in the old forms, no bytes after a name.
 ///
 /// Refusals, in this order: `UnknownTag` (a message of the other side), `BadName` (a name of more than 255 bytes),
-/// `UnknownStatus` (a status of the other side), `NoMemory`.
+/// `UnknownStatus` (a status of the other side), `NoMemory`. What is written, and when each of the first three comes, stands in
+/// the words of the layouts in [`causes_of_writing`](crate::causes_of_writing).
 pub fn encode(alloc: Global, side: Side, message: &Message) -> Result<Vec<u8>, MessageError>
     ensures exact { Answers (λ v. v.items) result (written side message.now) }
 {

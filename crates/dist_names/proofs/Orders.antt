@@ -1,8 +1,9 @@
 -- The order of names, by the bytes in front.
-use Rattle.std.proofs.Common.{◌≡◌, ℕ, ◌<◌, Bool, true, false, cond, List, [], ◌∷◌, ◌++◌, refl, sym, ap, ◌∙◌}
+use Rattle.std.proofs.Common.{◌≡◌, ◌<◌, Bool, true, [], ◌∷◌, ◌++◌, refl, sym, ap, subst, ◌∙◌}
+use Rattle.std.specs.Prelude.{ℕ, ◌↔◌, IsTrue}
 use Rattle.std.specs.declared.cmp.Ordering.{Ordering}
 use Rattle.std.specs.declared.cmp.Ordering.TheVariants.{Less, Equal, Greater}
-use Rattle.std.specs.Ordering.{nat_cmp, ordering_then}
+use Rattle.std.specs.Ordering.{ordering_then}
 use Rattle.std.specs.Cmp.{nat_cmp_is}
 use Rattle.std.specs.Ordering.{is_eq}
 use Rattle.std.proofs.lemmas.Map.Lookups.{exact_bytes}
@@ -40,3 +41,11 @@ equal_itself (b ∷ name) = ap (λ o. ordering_then o (name_cmp name name)) (sym
 
 pub itself_lem : (name : Name) → same_name name name ≡ true
 itself_lem name = ap is_eq (equal_itself name)
+
+-- that two names compare as equal says that they are one
+pub same_each : (ours theirs : Name) → IsTrue (same_name ours theirs) ↔ (ours ≡ theirs)
+same_each ours theirs = (one_lem ours theirs, λ e. subst (λ (name : Name). IsTrue (same_name ours name)) e (itself_lem ours))
+
+-- the same of what a call answered
+pub answered_each : (ours theirs : Name) (answer : Bool) → answer ≡ same_name ours theirs → IsTrue answer ↔ (ours ≡ theirs)
+answered_each ours theirs answer e = subst (λ (b : Bool). IsTrue b ↔ (ours ≡ theirs)) (sym e) (same_each ours theirs)

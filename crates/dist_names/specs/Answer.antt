@@ -1,14 +1,23 @@
 -- What a call answers that may lack memory.
-use Rattle.std.specs.Prelude.{◌≡◌, Result, Ok, Err, IsOk}
+use Rattle.std.specs.Prelude.{◌≡◌, Bool, true, false, Result, Ok, Err, IsOk}
 use Rattle.dist_names.specs.declared.name_error.NameError.{NameError}
 use Rattle.dist_names.specs.declared.name_error.NameError.TheVariants.{NoMemory}
 
--- A refusal is the one expected; want of memory comes only where none is.
-abbrev pub RefusedAs : {Y : Type 0} → NameError → Result Y NameError → Type 0
-RefusedAs NoMemory expected = IsOk expected
-RefusedAs error expected = expected ≡ Err error
+-- A refusal is the one expected. Want of memory comes only where none is.
+abbrev pub RefusedBut : {E Y : Type 0} → Bool → E → Result Y E → Type 0
+RefusedBut true error expected = IsOk expected
+RefusedBut false error expected = expected ≡ Err error
 
--- The answer is the one expected, but for want of memory.
+-- The answer, seen by view, is the one expected, but for want of memory, which the test tells from other errors.
+abbrev pub AnswersBut : {E X Y : Type 0} → (E → Bool) → (X → Y) → Result X E → Result Y E → Type 0
+AnswersBut is_want view (Ok value) expected = expected ≡ Ok (view value)
+AnswersBut is_want view (Err error) expected = RefusedBut (is_want error) error expected
+
+-- memory ran out
+abbrev pub is_want : NameError → Bool
+is_want NoMemory = true
+is_want _ = false
+
+-- the same of a name
 abbrev pub Answers : {Y : Type 0} → Result Y NameError → Result Y NameError → Type 0
-Answers (Ok value) expected = expected ≡ Ok value
-Answers (Err error) expected = RefusedAs error expected
+Answers result expected = AnswersBut is_want (λ value. value) result expected

@@ -1,4 +1,5 @@
 pub mod NodeName
 pub mod Order
 pub mod Answer
+pub mod Bytes
 pub mod Flags

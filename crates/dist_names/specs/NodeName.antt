@@ -27,7 +27,7 @@ host_of name = after_first is_separator name
 abbrev pub has_two_parts : List ℕ → Bool
 has_two_parts name = (count_by is_separator name == 1) && (nat_lt 0 (length (short_of name)) && nat_lt 0 (length (host_of name)))
 
--- what every node name is
+-- what every node name is; that it has 3 bytes follows from the others
 pub record IsNodeName (name : List ℕ) : Type 0 where
   pub least : 3 ≤ length name
   pub most : length name ≤ 255

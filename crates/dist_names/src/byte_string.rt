@@ -1,4 +1,6 @@
-ghost use Rattle.std.specs.Prelude.{◌≡◌, ◌++◌, ◌==◌, [], length, IfOk, OnOk, OnErr};
+ghost use Rattle.std.specs.Prelude.{◌≡◌, ◌↔◌, ◌++◌, ◌==◌, [], length, IfOk, IsOk, IsTrue, OnOk, OnErr};
+ghost use Rattle.std.proofs.Common.{rules};
+ghost use Rattle.std.specs.Cmp.Rules.{comparing};
 ghost use Rattle.std.specs.Cmp.Lexicographic.{pointwise};
 
 use std::alloc::{AllocError, Global};
@@ -84,17 +86,36 @@ impl ByteString {
         Ok(())
     }
 
-    /// An equal row.
+    /// An equal row. That of no bytes takes no memory.
     pub fn try_clone(&self, alloc: Global) -> Result<ByteString, AllocError>
-        ensures { IfOk result (λ copy. copy ≡ self.now) }
+        ensures same { IfOk result (λ copy. copy ≡ self.now) }
+        ensures empty { self.now ≡ [] → IsOk result }
     {
+        if self.bytes.is_empty() {
+            return Ok(ByteString::new(alloc));
+        }
         ByteString::from_slice(alloc, &self.bytes)
     }
 
     /// Whether the two rows have the same bytes.
     pub fn is_same(&self, other: &ByteString) -> bool
-        ensures { result ≡ pointwise ◌==◌ self.now other.now }
+        ensures computed { result ≡ pointwise ◌==◌ self.now other.now }
+        ensures each { IsTrue result ↔ (self.now ≡ other.now) }
     {
         self.as_slice() == other.as_slice()
     }
+}
+
+impl PartialEq for ByteString {
+    ghost eq = { pointwise ◌==◌ };
+
+    ghost laws = { Prim.search (comparing, rules) };
+
+    fn eq(&self, other: &ByteString) -> bool {
+        self.is_same(other)
+    }
+}
+
+impl Eq for ByteString {
+    ghost laws = { Prim.search (comparing, rules) };
 }

@@ -1,8 +1,12 @@
-//! What the order of names is, in the words of the protocol, over the definitions alone.
+//! What names and flags are, in the words of the protocol: laws over the definitions alone.
 
 ghost use Rattle.std.specs.Prelude.{◌≡◌, ◌<◌, ◌++◌, ◌∷◌, ℕ, true};
 ghost use Rattle.std.specs.declared.cmp.Ordering.TheVariants.{Less};
+ghost use Rattle.dist_names.specs.Flags.{handshake_23, name_me};
+ghost use Rattle.dist_names.specs.NodeName.{IsNodeName, short_of, host_of};
 ghost use Rattle.dist_names.specs.Order.{Name, name_cmp, same_name};
+
+use crate::flags::Flags;
 
 /// Two names compare as strings of unsigned bytes.
 pub fn order_of_names()
@@ -15,4 +19,15 @@ pub fn order_of_names()
     // Names that compare as equal are one name, and a name is one with itself.
     ensures one { (ours theirs : Name) → same_name ours theirs ≡ true → ours ≡ theirs }
     ensures itself { (name : Name) → same_name name name ≡ true }
+{}
+
+/// A name is its short name, one `@` and its host.
+pub fn parts_of_names()
+    ensures { (name : Name) → IsNodeName name → name ≡ short_of name ++ 0x40 ∷ host_of name }
+{}
+
+/// The values of the two flags that mean something here (ERTS User's Guide, Distribution Flags).
+pub fn values_of_flags()
+    ensures handshake_23 { Flags.HANDSHAKE_23.0 ≡ handshake_23 }
+    ensures name_me { Flags.NAME_ME.0 ≡ name_me }
 {}

@@ -14,7 +14,7 @@ mod order;
 pub use byte_string::ByteString;
 pub use creation::Creation;
 pub use flags::Flags;
-pub use laws::order_of_names;
+pub use laws::{order_of_names, parts_of_names, values_of_flags};
 pub use name::NodeName;
 pub use name_error::NameError;
 

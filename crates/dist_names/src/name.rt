@@ -1,4 +1,4 @@
-ghost use Rattle.std.specs.Prelude.{◌≡◌, IfOk, OnOk};
+ghost use Rattle.std.specs.Prelude.{◌≡◌, ◌↔◌, IsTrue, IfOk, OnOk};
 ghost use Rattle.std.specs.List.{list_all, position, position_or_len};
 ghost use Rattle.dist_names.specs.NodeName.{short_of, host_of, is_name_byte, is_separator, has_two_parts, named, IsNodeName};
 ghost use Rattle.dist_names.specs.Order.{same_name};
@@ -134,14 +134,16 @@ impl NodeName {
 
     /// Whether this is the name with these bytes.
     pub fn has_bytes(&self, bytes: &[u8]) -> bool
-        ensures { result ≡ same_name self.now bytes.now }
+        ensures computed { result ≡ same_name self.now bytes.now }
+        ensures each { IsTrue result ↔ (self.now ≡ bytes.now) }
     {
         self.text.as_slice().cmp(bytes).is_eq()
     }
 
     /// Whether the two names are one.
     pub fn is_same(&self, other: &NodeName) -> bool
-        ensures { result ≡ same_name self.now other.now }
+        ensures computed { result ≡ same_name self.now other.now }
+        ensures each { IsTrue result ↔ (self.now ≡ other.now) }
     {
         self.has_bytes(other.bytes())
     }

@@ -96,9 +96,28 @@ fn rows_of_bytes_are_made_copied_and_given_back(rt: HostRuntime) -> Result<(), F
     row.append(b"c")?;
     assert_eq!(rt; row.len(), 3);
     let copy = row.try_clone(rt.alloc())?;
-    assert!(rt; copy.is_same(&row));
+    assert!(rt; copy == row && copy.is_same(&row));
     assert!(rt; ByteString::new(rt.alloc()).is_empty());
     assert!(rt; !copy.is_same(&ByteString::from_vec(vec![in rt.alloc(); b'a', b'b']?)));
     assert_eq!(rt; copy.into_vec().as_slice(), b"abc".as_slice());
+    Ok(())
+}
+
+#[test]
+fn each_refusal_has_a_sentence(rt: HostRuntime) -> Result<(), Fail> {
+    let rows = [
+        (NameError::TooShort, "name is shorter than 3 bytes"),
+        (NameError::TooLong, "name is longer than 255 bytes"),
+        (
+            NameError::BadByte,
+            "name has a byte that is no printable ASCII character",
+        ),
+        (NameError::BadAt, "name is not two parts around one @"),
+        (NameError::NoMemory, "out of memory"),
+    ];
+    for (why, sentence) in rows {
+        let told = format!(in rt.alloc(); "{why}")?;
+        assert_eq!(rt; told.as_str(), sentence);
+    }
     Ok(())
 }

@@ -7,13 +7,14 @@
 //! Source of the verdicts: ERTS User's Guide, Distribution Protocol, Distribution Handshake, the status messages.
 #![tactic(auto)]
 
+mod by_name;
 mod entry;
 mod peers;
-mod sorted;
 mod verdict;
 
 pub use entry::{EndId, Entry, PeersError, Ruling, Verdict};
 pub use peers::Peers;
+pub use verdict::replaced;
 
 #[cfg(test)]
 mod tests;

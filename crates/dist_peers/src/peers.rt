@@ -1,15 +1,16 @@
-ghost use Rattle.std.specs.Prelude.{◌≡◌, IfOk, OnOk, OnErr, true, false, IsSome, slice_get};
+ghost use Rattle.std.specs.Prelude.{◌≡◌, IfOk, OnOk, OnErr, true, false, IsSome, length, slice_get};
 ghost use Rattle.std.specs.Option.{option_map};
 ghost use Rattle.std.specs.FinMap as map;
 ghost use Rattle.dist_names.specs.Order.{same_name};
-ghost use Rattle.dist_peers.specs.Table.{entry_of, is_waiting, replaced_by, left_by, with_entry, OthersStay};
+ghost use Rattle.dist_peers.specs.Table.{entry_of, is_waiting, replaced_by, left_by, with_entry, up_ids, OthersStay};
 ghost use Rattle.dist_peers.specs.Verdicts.{is_full, is_greater, dialled, named, verdict_on, Does};
 
+use crate::by_name::{drop_row, entry_in, put_row, row_at, set_row, up_count};
 use crate::entry::{EndId, Entry, PeersError, Verdict};
-use crate::sorted::{drop_row, entry_in, put_row, row_at, set_row};
 use crate::verdict::{left_over, replaced, ruling_of, waits_for};
 use dist_names::NodeName;
 use std::alloc::{AllocError, Global};
+use std::collections::BTreeMap;
 use std::marker::Model;
 
 /// The most entries, our own limit.
@@ -20,7 +21,8 @@ const MOST: usize = 1024;
 /// Contracts see a finite map from names to entries, and `at` shows it in the order of the names.
 #[derive(Debug, Drop)]
 pub struct Peers {
-    rows: Vec<(NodeName, Entry)>,
+    alloc: Global,
+    by_name: BTreeMap<NodeName, Entry>,
 }
 
 impl Model for Peers {
@@ -36,9 +38,9 @@ impl Model for Peers {
 
     ghost coded = { map.code (coded_list coded_ℕ) (entry.the_row).coded };
 
-    ghost view = { λ p. map.from_sorted p.rows.items };
+    ghost view = { λ p. map.from_sorted p.by_name.entries };
 
-    ghost invariant = { λ p. IsInOrder p.rows.items };
+    ghost invariant = { λ p. IsInOrder p.by_name.entries };
 }
 
 impl Peers {
@@ -47,7 +49,8 @@ impl Peers {
         ensures { result ≡ map.empty }
     {
         Peers {
-            rows: Vec::new(alloc),
+            alloc,
+            by_name: BTreeMap::new(alloc),
         }
     }
 
@@ -55,21 +58,28 @@ impl Peers {
     pub fn len(&self) -> usize
         ensures count { result ≡ map.len self.now }
     {
-        self.rows.len()
+        self.by_name.len()
     }
 
     /// The entry of a peer. `None` where it is idle.
     pub fn entry(&self, peer: &NodeName) -> Option<Entry>
         ensures { result ≡ entry_of self.now peer.now }
     {
-        entry_in(&self.rows, peer)
+        entry_in(&self.by_name, peer)
     }
 
     /// The entry at this place, from 0, in the order of the peers' names, and the peer. `None` from `len` on.
     pub fn at(&self, i: usize) -> Option<(&NodeName, Entry)>
         ensures { option_map (λ r. (r.0.now, r.1)) result ≡ slice_get (map.entries self.now) i }
     {
-        row_at(&self.rows, i)
+        row_at(&self.by_name, i)
+    }
+
+    /// How many ends are up.
+    pub fn ups(&self) -> usize
+        ensures { result ≡ length (up_ids (map.entries self.now)) }
+    {
+        up_count(&self.by_name)
     }
 
     /// Whether a further entry would be needed for this peer, and 1,024 are there.
@@ -177,7 +187,7 @@ impl Peers {
         ensures ok { OnOk result (self.new ≡ map.insert self.old peer.now entry) }
         ensures err { OnErr result (self.new ≡ self.old) }
     {
-        put_row(&mut self.rows, peer, entry)
+        put_row(&mut self.by_name, self.alloc, peer, entry)
     }
 
     // Gives a peer that has an entry another.
@@ -185,13 +195,13 @@ impl Peers {
         requires { IsSome (entry_of self.old peer.now) }
         ensures { self.new ≡ map.insert self.old peer.now entry }
     {
-        set_row(&mut self.rows, peer, entry);
+        set_row(&mut self.by_name, peer, entry);
     }
 
     // A peer becomes idle.
     fn remove(&mut self, peer: &NodeName)
         ensures { self.new ≡ map.remove self.old peer.now }
     {
-        drop_row(&mut self.rows, peer);
+        drop_row(&mut self.by_name, peer);
     }
 }

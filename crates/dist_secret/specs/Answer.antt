@@ -1,17 +1,17 @@
 -- What a call answers that may lack memory.
-use Rattle.std.specs.Prelude.{◌≡◌, ℕ, List, codes, Result, Ok, Err, IsOk}
+use Rattle.std.specs.Prelude.{ℕ, Bool, true, false, List, codes, Result}
+use Rattle.dist_names.specs.Answer.{AnswersBut}
 use Rattle.dist_secret.specs.declared.cookie_error.CookieError.{CookieError}
 use Rattle.dist_secret.specs.declared.cookie_error.CookieError.TheVariants.{Empty, BadByte, TooLong, ReadFailed, NoMemory}
 
--- A refusal is the one expected. Want of memory comes only where none is.
-abbrev pub RefusedAs : {Y : Type 0} → CookieError → Result Y CookieError → Type 0
-RefusedAs NoMemory expected = IsOk expected
-RefusedAs error expected = expected ≡ Err error
+-- memory ran out
+abbrev pub is_want : CookieError → Bool
+is_want NoMemory = true
+is_want _ = false
 
 -- The answer is the one expected, but for want of memory.
 abbrev pub Answers : {Y : Type 0} → Result Y CookieError → Result Y CookieError → Type 0
-Answers (Ok value) expected = expected ≡ Ok value
-Answers (Err error) expected = RefusedAs error expected
+Answers result expected = AnswersBut is_want (λ value. value) result expected
 
 -- the word that a program prints for a refusal
 abbrev pub error_name : CookieError → List ℕ

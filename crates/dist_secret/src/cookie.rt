@@ -41,7 +41,7 @@ fn first_other(text: &[u8]) -> Option<usize>
 }
 
 // How many bytes of a cookie stand at the front.
-#[tactic(auto, using(crate::proofs::Places::place_or_length, crate::proofs::Places::place_within, crate::proofs::Fronts::front_good))]
+#[tactic(auto, using(dist_names::proofs::Places::place_or_length, dist_names::proofs::Places::place_within, crate::proofs::Fronts::front_good))]
 fn front_len(text: &[u8]) -> usize
     ensures place { result ≡ position_or_len is_other text.now }
     ensures within { result ≤ length text.now }

@@ -6,11 +6,13 @@
 mod cookie;
 mod cookie_error;
 mod digesting;
+mod laws;
 mod reading;
 
 pub use cookie::Cookie;
 pub use cookie_error::CookieError;
 pub use digesting::digest;
+pub use laws::length_of_digest;
 pub use reading::read_cookie;
 
 #[cfg(test)]

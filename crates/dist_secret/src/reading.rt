@@ -1,4 +1,4 @@
-ghost use Rattle.std.specs.Prelude.{◌≡◌, ℕ, ◌<◌, ◌≤◌, List, length, take, is_none, false, IfSome, IfNone, MatchOption};
+ghost use Rattle.std.specs.Prelude.{◌≡◌, ℕ, ◌<◌, ◌≤◌, List, length, take, is_none, false, IsTrue, IsErrOf, ◌↔◌, IfSome, IfNone, MatchOption};
 ghost use Rattle.std.specs.Io.KnownBytes.{Consumes, Keeps, IsAtEnd};
 ghost use Rattle.dist_secret.specs.Hearing.{Hears, AnswersUnlessFailed};
 
@@ -30,7 +30,9 @@ fn read_once<R: Read>(reader: &mut R, has_failed: &mut bool, room: &mut [u8]) ->
 }
 
 // Fills the room from the front until it is full or nothing more comes, and says how far. `None` where a read failed.
-fn fill<R: Read>(reader: &mut R, room: &mut [u8]) -> Option<usize>
+fn fill<R: Read>(reader: &mut R, has_failed: &mut bool, room: &mut [u8]) -> Option<usize>
+    requires { has_failed.old ≡ false }
+    ensures marks { has_failed.new ≡ is_none result }
     ensures len { length room.new ≡ length room.old }
     ensures filled { IfSome result (λ n. n ≤ length room.new) }
     ensures taken { MatchOption result
@@ -38,10 +40,9 @@ fn fill<R: Read>(reader: &mut R, room: &mut [u8]) -> Option<usize>
         (λ n. Consumes (R.remaining reader.old) (R.remaining reader.new) (take n room.new)) }
     ensures end { IfSome result (λ n. n < length room.new → IsAtEnd (R.remaining reader.new)) }
 {
-    let mut has_failed = false;
     let mut at = 0;
     while at < room.len() {
-        match read_once(reader, &mut has_failed, &mut room[at..]) {
+        match read_once(reader, has_failed, &mut room[at..]) {
             Some(0) => return Some(at),
             Some(n) => at += n,
             None => return None,
@@ -50,11 +51,20 @@ fn fill<R: Read>(reader: &mut R, room: &mut [u8]) -> Option<usize>
     Some(at)
 }
 
-fn hear<R: Read>(alloc: Global, reader: &mut R) -> Result<Cookie, CookieError>
-    ensures { Hears (R.remaining reader.old) (R.remaining reader.new) result }
+// Reads until the room is full or nothing more comes, and takes the cookie of that.
+fn hear<R: Read>(
+    alloc: Global,
+    reader: &mut R,
+    has_failed: &mut bool,
+) -> Result<Cookie, CookieError>
+    requires { has_failed.old ≡ false }
+    ensures hears { Hears (R.remaining reader.old) (R.remaining reader.new) result }
+
+    // `ReadFailed` is answered exactly where a read failed.
+    ensures marks { IsErrOf result CookieError.ReadFailed ↔ IsTrue has_failed.new }
 {
     let mut room = [0u8; MOST_READ];
-    let Some(len) = fill(reader, &mut room) else {
+    let Some(len) = fill(reader, has_failed, &mut room) else {
         return Err(CookieError::ReadFailed);
     };
     Cookie::from_bytes(alloc, &room[..len])
@@ -71,5 +81,6 @@ pub fn read_cookie<R: Read>(alloc: Global, reader: &mut R) -> Result<Cookie, Coo
     // What was taken from the reader, and what was answered to that.
     ensures hears { Hears (R.remaining reader.old) (R.remaining reader.new) result }
 {
-    hear(alloc, reader)
+    let mut has_failed = false;
+    hear(alloc, reader, &mut has_failed)
 }

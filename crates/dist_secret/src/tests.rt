@@ -14,16 +14,32 @@ fn seen(read: &Result<Cookie, CookieError>) -> Result<&[u8], CookieError> {
 }
 
 #[test]
-fn a_refusal_is_printed_by_its_name(rt: HostRuntime) {
-    for (error, name) in [
-        (CookieError::Empty, "Empty"),
-        (CookieError::BadByte, "BadByte"),
-        (CookieError::TooLong, "TooLong"),
-        (CookieError::ReadFailed, "ReadFailed"),
-        (CookieError::NoMemory, "NoMemory"),
-    ] {
+fn a_refusal_has_a_name_and_a_sentence(rt: HostRuntime) -> Result<(), Fail> {
+    let rows = [
+        (
+            CookieError::Empty,
+            "Empty",
+            "no byte of a cookie stands at the front",
+        ),
+        (
+            CookieError::BadByte,
+            "BadByte",
+            "a byte that may not follow stands behind the cookie",
+        ),
+        (
+            CookieError::TooLong,
+            "TooLong",
+            "the text or the cookie is too long",
+        ),
+        (CookieError::ReadFailed, "ReadFailed", "a read failed"),
+        (CookieError::NoMemory, "NoMemory", "out of memory"),
+    ];
+    for (error, name, sentence) in rows {
         assert_eq!(rt; error.name(), name);
+        let told = format!(in rt.alloc(); "{error}")?;
+        assert_eq!(rt; told.as_str(), sentence, "{name}");
     }
+    Ok(())
 }
 
 #[test]

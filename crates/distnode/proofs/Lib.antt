@@ -1,3 +1,2 @@
 pub mod Numerals
-pub mod Pairs
 pub mod Split

@@ -1,3 +1,3 @@
 pub mod Words
-pub mod Hex
+pub mod Digits
 pub mod Fault

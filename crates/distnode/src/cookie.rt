@@ -4,7 +4,7 @@ ghost use Rattle.std.specs.Prelude.{◌≡◌, ◌≤◌, IfErr};
 ghost use Rattle.distnode.specs.Fault.{status_of};
 
 use crate::fault::Fault;
-use crate::print::hex;
+use crate::print::lower_hex;
 use dist_secret::{Cookie, digest, read_cookie};
 use std::alloc::Global;
 use std::io;
@@ -16,7 +16,7 @@ fn print<W: Write>(out: &mut W, cookie: &Cookie, challenge: u32) -> io::Result<(
         "cookie of {} bytes, digest of {challenge} is ",
         cookie.len()
     )?;
-    hex(out, &digest(cookie, challenge))?;
+    lower_hex(out, &digest(cookie, challenge))?;
     writeln!(out)?;
     out.flush()
 }

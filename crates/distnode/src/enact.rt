@@ -4,7 +4,9 @@ ghost use Rattle.std.specs.Prelude.{◌≡◌, ◌+◌, ◌≤◌, length, IfOk}
 
 use crate::fault::Fault;
 use crate::scene::Scene;
-use crate::script::{Script, script_of};
+use crate::script::{Line, Script, script_of};
+use crate::stage;
+use dist_core::Setup;
 use std::alloc::Global;
 use std::io::{BufWriter, Read, Write};
 
@@ -29,7 +31,7 @@ fn read_piece<R: Read>(input: &mut R, text: &mut Vec<u8>) -> Result<usize, Fault
 }
 
 // The whole input. Reading ends with the read that shows that it is too long.
-fn read_text<R: Read>(alloc: Global, input: &mut R) -> Result<Vec<u8>, Fault>
+pub fn read_text<R: Read>(alloc: Global, input: &mut R) -> Result<Vec<u8>, Fault>
     ensures { IfOk result (λ text. length text.items ≤ MOST_BYTES) }
 {
     let mut text = Vec::new(alloc);
@@ -44,13 +46,25 @@ fn read_text<R: Read>(alloc: Global, input: &mut R) -> Result<Vec<u8>, Fault>
     Err(Fault::ScriptTooLong)
 }
 
-fn play<W: Write>(alloc: Global, script: Script, out: &mut W) -> Result<(), Fault> {
-    let Script { node, lines } = script;
+// What one node is told, and its table at the end.
+fn tell_all<W: Write>(
+    alloc: Global,
+    node: Setup,
+    lines: &[Line],
+    out: &mut W,
+) -> Result<(), Fault> {
     let mut scene = Scene::new(alloc, node);
-    for line in lines.iter() {
+    for line in lines {
         scene.tell(alloc, line, out)?;
     }
     scene.print_table(out)
+}
+
+fn play<W: Write>(alloc: Global, script: Script, out: &mut W) -> Result<(), Fault> {
+    match script {
+        Script::Events { node, lines } => tell_all(alloc, node, &lines, out),
+        Script::Happenings { nodes, lines } => stage::play(alloc, nodes, &lines, out),
+    }
 }
 
 fn perform<R: Read, W: Write>(alloc: Global, input: &mut R, out: &mut W) -> Result<(), Fault> {
@@ -63,11 +77,12 @@ fn perform<R: Read, W: Write>(alloc: Global, input: &mut R, out: &mut W) -> Resu
     flushed.map_err(|_| Fault::WriteFailed)
 }
 
-/// Reads a script, checks it whole, and prints for each of its lines what the node answers, and the table at the end.
-/// Answers the exit status: 0, 2 for a script that is no script, 1 for another fault. A fault is told on `err`.
+/// Reads a script, checks it whole, and plays it. With one node it prints for each line what the node answers, and the table
+/// at the end; with several it prints which ends the happenings close, and at the end how the world stands. Answers the
+/// exit status: 0, 2 for a script that is no script, 1 for another fault. A fault is told on `err`.
 ///
-/// The first fault is told of: a read that failed, a script above 1,048,576 bytes, its first bad line, no node. Until
-/// then nothing is written. A write that fails or want of memory ends the run, and what was written until then is the
+/// The first fault is told of: a read that failed, a script above 1,048,576 bytes, its first bad line, no node, two nodes of
+/// one name. Until then nothing is written. A write that fails or want of memory ends the run, and what was written until then is the
 /// beginning of the whole output.
 pub fn enact<R: Read, W: Write, E: Write>(
     alloc: Global,

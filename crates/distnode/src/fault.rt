@@ -4,10 +4,11 @@ ghost use Rattle.std.specs.Prelude.{◌≡◌};
 ghost use Rattle.distnode.specs.Fault.{status_of};
 
 use crate::order::OrderError;
-use dist_drive::LookupError;
+use dist_mapper::LookupError;
+use dist_run::RunError;
 use dist_secret::CookieError;
-use std::fmt;
 use std::io::Write;
+use std::{fmt, io};
 
 /// What ends a command. Its `Display` is what stands after `distnode: ` on standard error.
 #[derive(Clone, Copy, Debug, PartialEq, Eq)]
@@ -20,6 +21,12 @@ pub enum Fault {
     BadLine(usize),
     /// The script has no line that sets a node up.
     NoNode,
+    /// Two lines of the script set up nodes of one name.
+    SameName,
+    /// The file is no nodes file: it is above 1,048,576 bytes, no UTF-8, or breaks a rule.
+    BadNodesFile,
+    /// The run of the nodes ended before its work was done.
+    RunEnded(RunError),
     /// The input could not be read.
     ReadFailed,
     /// The output could not be written.
@@ -43,6 +50,9 @@ impl fmt::Display for Fault {
             Fault::ScriptTooLong => write!(f, "script too long"),
             Fault::BadLine(number) => write!(f, "bad line {number}"),
             Fault::NoNode => write!(f, "no node"),
+            Fault::SameName => write!(f, "same name"),
+            Fault::BadNodesFile => write!(f, "bad nodes file"),
+            Fault::RunEnded(error) => f.write_str(error.name()),
             Fault::ReadFailed => write!(f, "ReadFailed"),
             Fault::WriteFailed => write!(f, "WriteFailed"),
             Fault::OpenFailed => write!(f, "OpenFailed"),
@@ -69,7 +79,12 @@ impl Fault {
         ensures { result ≡ status_of self }
     {
         match self {
-            Fault::BadCommandLine | Fault::ScriptTooLong | Fault::BadLine(_) | Fault::NoNode => 2,
+            Fault::BadCommandLine
+            | Fault::ScriptTooLong
+            | Fault::BadLine(_)
+            | Fault::NoNode
+            | Fault::SameName
+            | Fault::BadNodesFile => 2,
             _ => 1,
         }
     }
@@ -81,4 +96,9 @@ impl Fault {
         let _ = writeln!(err, "distnode: {self}");
         self.status()
     }
+}
+
+/// A write that failed, as a fault.
+pub fn written(outcome: io::Result<()>) -> Result<(), Fault> {
+    outcome.map_err(|_| Fault::WriteFailed)
 }

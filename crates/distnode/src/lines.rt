@@ -1,11 +1,11 @@
-//! The lines of a script that tell the node something.
+//! The lines of a script that tell its one node something, and the words that both languages have.
 
 ghost use Rattle.std.specs.Prelude.{◌≡◌, drop};
 ghost use Rattle.std.specs.Str.Parse.{digits_value};
 ghost use Rattle.dist_names.specs.NodeName.{IsNodeName};
 ghost use Rattle.distnode.specs.Words.{ReadsNext, IsDecimal};
 
-use crate::hex::bytes_of;
+use crate::digits::bytes_of;
 use crate::numbers::{number_32, number_64};
 use crate::script::Line;
 use crate::words::{LineFault, Words};
@@ -34,7 +34,8 @@ pub fn number_word(words: &mut Words<'_>) -> Result<u32, LineFault>
     number_32(words.word()?).ok_or(LineFault::Bad)
 }
 
-fn end_word(words: &mut Words<'_>) -> Result<EndId, LineFault> {
+/// The number of an end that the next word is.
+pub fn end_word(words: &mut Words<'_>) -> Result<EndId, LineFault> {
     Ok(EndId(number_word(words)?))
 }
 
@@ -44,7 +45,8 @@ fn link_word(words: &mut Words<'_>) -> Result<u64, LineFault>
     number_64(words.word()?).ok_or(LineFault::Bad)
 }
 
-fn opening_word(words: &mut Words<'_>) -> Result<Opening, LineFault> {
+/// The form of a name message that the next word is: `new` or `old`.
+pub fn opening_word(words: &mut Words<'_>) -> Result<Opening, LineFault> {
     match words.word()? {
         b"new" => Ok(Opening::New),
         b"old" => Ok(Opening::Old),
@@ -73,7 +75,8 @@ fn why_of(word: &[u8]) -> Option<Why> {
     }
 }
 
-fn why_word(words: &mut Words<'_>) -> Result<Why, LineFault> {
+/// The cause that the next word is.
+pub fn why_word(words: &mut Words<'_>) -> Result<Why, LineFault> {
     why_of(words.word()?).ok_or(LineFault::Bad)
 }
 
@@ -106,29 +109,29 @@ fn lost(words: &mut Words<'_>) -> Result<Event, LineFault> {
     })
 }
 
-fn event(alloc: Global, first: &[u8], words: &mut Words<'_>) -> Result<Event, LineFault> {
-    match first {
-        b"incoming" => Ok(Event::Incoming {
+fn told(alloc: Global, words: &mut Words<'_>) -> Result<Line, LineFault> {
+    let event = match words.word()? {
+        b"bytes" => return bytes_line(alloc, words),
+        b"incoming" => Event::Incoming {
             link: link_word(words)?,
-        }),
-        b"dial" => dial(alloc, words),
-        b"opened" => opened(words),
-        b"lost" => lost(words),
-        b"tick" => Ok(Event::Tick {
+        },
+        b"dial" => dial(alloc, words)?,
+        b"opened" => opened(words)?,
+        b"lost" => lost(words)?,
+        b"tick" => Event::Tick {
             end_: end_word(words)?,
-        }),
-        _ => Err(LineFault::Bad),
-    }
+        },
+        _ => return Err(LineFault::Bad),
+    };
+    Ok(Line::Event(event))
 }
 
-/// What a line tells the node: its first word, and the others behind it.
-pub fn line_of(alloc: Global, first: &[u8], words: &mut Words<'_>) -> Result<Line, LineFault> {
-    let line = match first {
-        b"bytes" => bytes_line(alloc, words)?,
-        _ => Line::Event(event(alloc, first, words)?),
-    };
+/// What a line tells the node.
+pub fn line_of(alloc: Global, line: &[u8]) -> Result<Line, LineFault> {
+    let mut words = Words::new(line);
+    let told = told(alloc, &mut words)?;
     if words.is_done() {
-        Ok(line)
+        Ok(told)
     } else {
         Err(LineFault::Bad)
     }

@@ -1,56 +1,79 @@
-//! The program: handshakes of a node by a script, the digest of a cookie, and what a port mapper knows.
+//! The program: handshakes of nodes by a script, the digest of a cookie, what a port mapper knows, and nodes at work.
 //!
 //! Each command is a public function over any reader and writers, which answers the exit status. Only `main` knows of
 //! files, sockets and the process.
 #![tactic(auto)]
 
 mod cookie;
+mod digits;
 mod enact;
 mod fault;
-mod hex;
+mod happenings;
 mod lines;
 mod names;
 mod node_line;
 mod numbers;
 mod order;
 mod print;
+mod run;
 mod scene;
 mod script;
+mod stage;
 #[cfg(test)]
 mod tests;
 mod words;
 
-use dist_drive::SocketStream;
+use dist_streams::SocketStream;
 use fault::Fault;
 use order::{Order, order_of};
 use std::alloc::{AllocError, Global};
 use std::fs::File;
-use std::io::ErrorKind;
-use std::net::{Ipv4Addr, TcpStream};
+use std::io::{ErrorKind, Write};
+use std::net::{Ipv4Addr, Net, TcpListener, TcpStream};
 use std::process::ExitCode;
-use std::time::Duration;
+use std::random::RandomSource;
+use std::sync::Wait;
+use std::thread::Threads;
+use std::time::{Clock, Duration};
 use std::{env, io};
 
-/// How long a read or a write waits for the port mapper.
-const TURN_IN_MILLISECONDS: u64 = 10;
+/// How long a read or a write waits for the port mapper: the length of a turn.
+const TURN_IN_MILLISECONDS: u64 = 5;
 
 fn main(rt: HostRuntime) -> ExitCode {
-    ExitCode::from(answer(&rt, rt.alloc()))
+    ExitCode::from(answer(&rt, &rt, rt.alloc()))
 }
 
-// Does what the command line asks for, and answers the exit status.
-fn answer(rt: &HostRuntime, alloc: Global) -> u8 {
-    match order_and_run(rt, alloc) {
+// Does what the command line asks for, and answers the exit status. What starts threads is handed in once more as `host`:
+// outside of `main` the runtime itself starts none.
+fn answer<R>(rt: &HostRuntime, host: &R, alloc: Global) -> u8
+where
+    R: Net<Listener = TcpListener, Stream = TcpStream>
+        + Threads
+        + Wait
+        + Clock
+        + RandomSource
+        + Sync,
+{
+    match order_and_run(rt, host, alloc) {
         Ok(status) => status,
         Err(fault) => fault.tell(&mut rt.stderr()),
     }
 }
 
-fn order_and_run(rt: &HostRuntime, alloc: Global) -> Result<u8, Fault> {
+fn order_and_run<R>(rt: &HostRuntime, host: &R, alloc: Global) -> Result<u8, Fault>
+where
+    R: Net<Listener = TcpListener, Stream = TcpStream>
+        + Threads
+        + Wait
+        + Clock
+        + RandomSource
+        + Sync,
+{
     let words = own_words(rt, alloc)?;
     let words = texts(alloc, &words).map_err(|_| Fault::NoMemory)?;
     let order = order_of(alloc, &words)?;
-    Ok(run(rt, alloc, order))
+    Ok(follow(rt, host, order, &mut rt.stdout(), &mut rt.stderr()))
 }
 
 // The words after the program's name. One that is no UTF-8 is no word of a command.
@@ -66,18 +89,36 @@ fn texts(alloc: Global, words: &[String]) -> Result<Vec<&str>, AllocError> {
     words.iter().map(|word| word.as_str()).collect(alloc)
 }
 
-fn run(rt: &HostRuntime, alloc: Global, order: Order<'_>) -> u8 {
-    let mut out = rt.stdout();
-    let mut err = rt.stderr();
+// Does what an order says, and answers the exit status.
+fn follow<R, W: Write, E: Write>(
+    rt: &HostRuntime,
+    host: &R,
+    order: Order<'_>,
+    out: &mut W,
+    err: &mut E,
+) -> u8
+where
+    R: Net<Listener = TcpListener, Stream = TcpStream>
+        + Threads
+        + Wait
+        + Clock
+        + RandomSource
+        + Sync,
+{
+    let alloc = rt.alloc();
     match order {
-        Order::Enact => enact::enact(alloc, &mut rt.stdin(), &mut out, &mut err),
+        Order::Enact => enact::enact(alloc, &mut rt.stdin(), out, err),
         Order::Cookie { file, challenge } => match File::open(rt, file) {
-            Ok(mut file) => cookie::cookie(alloc, &mut file, challenge, &mut out, &mut err),
-            Err(_) => Fault::OpenFailed.tell(&mut err),
+            Ok(mut file) => cookie::cookie(alloc, &mut file, challenge, out, err),
+            Err(_) => Fault::OpenFailed.tell(err),
         },
         Order::Names { port } => match connected(rt, port) {
-            Ok(mut stream) => names::names(alloc, &mut stream, &mut out, &mut err),
-            Err(_) => Fault::ConnectFailed.tell(&mut err),
+            Ok(mut stream) => names::names(alloc, &mut stream, out, err),
+            Err(_) => Fault::ConnectFailed.tell(err),
+        },
+        Order::Run { file } => match File::open(rt, file) {
+            Ok(mut file) => run::run_file(host, alloc, &mut file, out, err),
+            Err(_) => Fault::OpenFailed.tell(err),
         },
     }
 }

@@ -4,13 +4,16 @@ ghost use Rattle.std.specs.Prelude.{◌≡◌, ◌≤◌, IfErr};
 ghost use Rattle.distnode.specs.Fault.{status_of};
 
 use crate::fault::Fault;
-use dist_drive::{Stream, ask_names};
+use dist_mapper::ask_names;
+use dist_streams::Stream;
 use std::alloc::Global;
 use std::io::Write;
 
-/// The most reads and writes, quiet ones among them. With turns of 10 milliseconds a port mapper has 5 seconds to answer,
-/// our own choice.
-const MOST_TURNS: usize = 500;
+/// The most turns. A turn is one read or one write, a quiet one among them, which over a socket waits for at most 5
+/// milliseconds. A real port mapper writes each line of its answer by itself, so that as many reads may be needed as it
+/// knows nodes: an `epmd` holds some 1,018, and there is room for 1,024. A silent one is given up after some seconds. Our
+/// own choice.
+const MOST_TURNS: usize = 1280;
 
 fn perform<S: Stream, W: Write>(alloc: Global, stream: &mut S, out: &mut W) -> Result<(), Fault>
     ensures { IfErr result (λ fault. status_of fault ≡ 1) }

@@ -2,9 +2,9 @@
 
 ghost use Rattle.std.specs.Prelude.{◌≡◌};
 ghost use Rattle.distnode.specs.Words.{ReadsNext};
-ghost use Rattle.distnode.specs.Hex.{AreFlags, flags_of};
+ghost use Rattle.distnode.specs.Digits.{AreFlags, flags_of};
 
-use crate::hex::flags_value;
+use crate::digits::flags_value;
 use crate::lines::{name_word, number_word};
 use crate::words::{LineFault, Words};
 use dist_core::{NameList, Setup};

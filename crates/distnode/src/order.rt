@@ -17,6 +17,8 @@ pub enum Order<'a> {
     Cookie { file: &'a str, challenge: u32 },
     /// Print the names that the port mapper at this port knows.
     Names { port: u16 },
+    /// Run the nodes of the nodes file at this path.
+    Run { file: &'a str },
 }
 
 /// Why the words ask for nothing.
@@ -49,6 +51,13 @@ fn names_command<'a>(alloc: Global) -> Result<Command<'a>, AllocError> {
     Command::new(alloc, "names").arg(port)
 }
 
+fn run_command<'a>(alloc: Global) -> Result<Command<'a>, AllocError> {
+    let file = Arg::new(alloc, "file")
+        .required(true)
+        .action(ArgAction::Set);
+    Command::new(alloc, "run").arg(file)
+}
+
 fn program<'a>(alloc: Global) -> Result<Command<'a>, AllocError> {
     Command::new(alloc, "distnode")
         .no_binary_name(true)
@@ -56,7 +65,8 @@ fn program<'a>(alloc: Global) -> Result<Command<'a>, AllocError> {
         .subcommand_required(true)
         .subcommand(Command::new(alloc, "enact"))?
         .subcommand(cookie_command(alloc)?)?
-        .subcommand(names_command(alloc)?)
+        .subcommand(names_command(alloc)?)?
+        .subcommand(run_command(alloc)?)
 }
 
 fn cookie_order<'a>(matches: &ArgMatches<'a>) -> Option<Order<'a>> {
@@ -78,12 +88,19 @@ fn names_order<'a>(matches: &ArgMatches<'a>) -> Option<Order<'a>> {
     Some(Order::Names { port })
 }
 
+fn run_order<'a>(matches: &ArgMatches<'a>) -> Option<Order<'a>> {
+    Some(Order::Run {
+        file: matches.get_str("file")?,
+    })
+}
+
 fn order_in<'a>(matches: &ArgMatches<'a>) -> Option<Order<'a>> {
     let (name, matches) = matches.subcommand()?;
     match name {
         "enact" => Some(Order::Enact),
         "cookie" => cookie_order(matches),
         "names" => names_order(matches),
+        "run" => run_order(matches),
         _ => None,
     }
 }

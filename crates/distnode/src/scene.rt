@@ -3,7 +3,7 @@
 ghost use Rattle.std.specs.Prelude.{◌≡◌, ◌≤◌, [], ◌∷◌, length, IfOk, MatchOption};
 ghost use Rattle.dist_frames.specs.Reader.{to_come};
 
-use crate::fault::Fault;
+use crate::fault::{Fault, written};
 use crate::print;
 use crate::script::Line;
 use dist_core::{Event, Node, Reply, Setup, StepError, Still};
@@ -12,7 +12,6 @@ use dist_names::ByteString;
 use dist_peers::EndId;
 use std::alloc::Global;
 use std::collections::BTreeMap;
-use std::io;
 use std::io::Write;
 
 /// The node, and a reader for each open end to which bytes came.
@@ -20,13 +19,6 @@ use std::io::Write;
 pub struct Scene {
     node: Node,
     readers: BTreeMap<u32, Frames>,
-}
-
-fn written(outcome: io::Result<()>) -> Result<(), Fault> {
-    match outcome {
-        Ok(()) => Ok(()),
-        Err(_) => Err(Fault::WriteFailed),
-    }
 }
 
 // Makes a step and prints what comes of it. Want of memory ends the run; another refusal is printed and answered `None`.

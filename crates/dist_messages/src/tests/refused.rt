@@ -122,3 +122,21 @@ fn each_side_writes_its_own_messages_alone(rt: HostRuntime) -> Result<(), Fail> 
     }
     Ok(())
 }
+
+#[test]
+fn each_refusal_has_a_sentence(rt: HostRuntime) -> Result<(), Fail> {
+    let rows = [
+        (Empty, "body is empty"),
+        (UnknownTag, "this side has no such message"),
+        (Short, "body ends inside a field"),
+        (Long, "bytes stand after the last field"),
+        (MessageError::BadName, "name has more than 255 bytes"),
+        (UnknownStatus, "this side has no such status"),
+        (MessageError::NoMemory, "out of memory"),
+    ];
+    for (error, sentence) in rows {
+        let told = format!(in rt.alloc(); "{error}")?;
+        assert_eq!(rt; told.as_str(), sentence);
+    }
+    Ok(())
+}

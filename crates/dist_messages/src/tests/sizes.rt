@@ -26,10 +26,7 @@ fn a_name_of_any_length_is_read(rt: HostRuntime) -> Result<(), Fail> {
         body.extend_from_slice(&bytes_of(alloc, digits)?)?;
         body.extend_from_slice(name_of(alloc, len)?.as_slice())?;
         let read = decode(alloc, Side::Dialler, &body)?;
-        assert!(rt;
-            is_same(&read, &new_name(name_of(alloc, len)?)),
-            "{len} bytes"
-        );
+        assert!(rt; read == new_name(name_of(alloc, len)?), "{len} bytes");
         let last = body.len() - 1;
         let refusal = decode(alloc, Side::Dialler, &body[..last]).err();
         assert_eq!(rt;
@@ -67,7 +64,7 @@ fn bytes_after_a_name_are_ignored_and_not_written(rt: HostRuntime) -> Result<(),
         longer.extend_from_slice(&bytes_of(alloc, more)?)?;
         let message = decode(alloc, side, &longer)?;
         assert!(rt;
-            is_same(&message, &decode(alloc, side, &body)?),
+            message == decode(alloc, side, &body)?,
             "{more} after {text}"
         );
         let written = encode(alloc, side, &message)?;

@@ -13,7 +13,7 @@ fn is_spelled(
 ) -> Result<(), Fail> {
     let body = bytes_of(alloc, text)?;
     let read = decode(alloc, side, &body)?;
-    assert!(rt; is_same(&read, &message), "{text} is read as {read:?}");
+    assert!(rt; read == message, "{text} is read as {read:?}");
     let written = encode(alloc, side, &message)?;
     assert_eq!(rt;
         written.as_slice(),

@@ -2,70 +2,99 @@
 
 use super::*;
 
-const BAD: [(&str, &str); 62] = [
-    ("", "no node"),
-    ("\n\n# a comment", "no node"),
-    ("incoming 1", "no node"),
-    ("incoming 1\ntick 0\n", "no node"),
-    ("{b}\nincoming 1\nbytes 0 001 0", "bad line 3"),
-    ("{b}\nincoming 1\nbytes 0  0\n", "bad line 3"),
-    ("{b}\nincoming 1\nbytes 0 0g 0\n", "bad line 3"),
-    ("{b}\nbytes 0 00\n", "bad line 2"),
-    ("{b}\nbytes 0 00 0 0\n", "bad line 2"),
-    ("{b}\nbytes 0 00 4294967296\n", "bad line 2"),
-    ("{b}\nbytes 4294967296 00 0\n", "bad line 2"),
-    ("begin 0 5", "bad line 1"),
-    ("{b}\nbegin 0 5\n", "bad line 2"),
-    ("{b}\n{b}\n", "bad line 2"),
-    ("{a}\n{b}\n", "bad line 2"),
-    ("incoming 1\n{b}\n", "bad line 2"),
-    ("# one\n\nno line\n", "bad line 3"),
-    ("x", "bad line 1"),
-    (" ", "bad line 1"),
-    ("{b} \n", "bad line 1"),
-    (" {b}\n", "bad line 1"),
-    ("{b}\r\n", "bad line 1"),
-    ("{b}\nincoming 1\r\n", "bad line 2"),
-    ("{b}\nincoming  1\n", "bad line 2"),
-    ("{b}\nincoming 1 \n", "bad line 2"),
-    ("{b}\nincoming\t1\n", "bad line 2"),
-    ("{b}\nincoming\n", "bad line 2"),
-    ("{b}\nincoming +1\n", "bad line 2"),
-    ("{b}\nincoming -1\n", "bad line 2"),
-    ("{b}\nincoming 1_0\n", "bad line 2"),
-    ("{b}\nincoming 18446744073709551616\n", "bad line 2"),
-    ("{b}\nINCOMING 1\n", "bad line 2"),
-    ("{b}\nopened 0\n", "bad line 2"),
-    ("{b}\nopened 4294967296 0\n", "bad line 2"),
-    ("{b}\nopened 0 18446744073709551616\n", "bad line 2"),
-    ("{b}\ntick 4294967296\n", "bad line 2"),
-    ("{b}\ntick 0 0\n", "bad line 2"),
-    ("{b}\nlost 0 ended\n", "bad line 2"),
-    ("{b}\nlost 0\n", "bad line 2"),
-    ("{b}\nlost 4294967296 Ended\n", "bad line 2"),
-    ("{b}\ndial c@127.0.0.1\n", "bad line 2"),
-    ("{b}\ndial c@127.0.0.1 New\n", "bad line 2"),
-    ("{b}\ndial c new\n", "bad line 2"),
-    ("{b}\ndial @c new\n", "bad line 2"),
-    ("{b}\ndial c@h new new\n", "bad line 2"),
-    ("node", "bad line 1"),
-    ("node b@h c 1", "bad line 1"),
-    ("node b c 1 1", "bad line 1"),
-    ("node b@h  1 1", "bad line 1"),
-    ("node b@h c\u{7f} 1 1", "bad line 1"),
-    ("node b@h c 0x1 1", "bad line 1"),
-    ("node b@h c 00000000000000001 1", "bad line 1"),
-    ("node b@h c g 1", "bad line 1"),
-    ("node b@h c 1 4294967296", "bad line 1"),
-    ("node b@h c 1 -1", "bad line 1"),
-    ("node b@h c 1 1 x", "bad line 1"),
-    ("node b@h c 1 1 require", "bad line 1"),
-    ("node b@h c 1 1 require 1 require 1", "bad line 1"),
-    ("node b@h c 1 1 allow a@h require 1", "bad line 1"),
-    ("node b@h c 1 1 allow", "bad line 1"),
-    ("node b@h c 1 1 allow a", "bad line 1"),
-    ("node b@h c 1 1 version 5", "bad line 1"),
-];
+// What is told, and the script, in which `;` stands for the end of a line.
+const BAD: &str = "\
+no node: 
+no node: ;;# a comment
+no node: incoming 1
+no node: incoming 1;tick 0;
+bad line 3: {b};incoming 1;bytes 0 001 0
+bad line 3: {b};incoming 1;bytes 0  0;
+bad line 3: {b};incoming 1;bytes 0 0g 0;
+bad line 2: {b};bytes 0 00;
+bad line 2: {b};bytes 0 00 0 0;
+bad line 2: {b};bytes 0 00 4294967296;
+bad line 2: {b};bytes 4294967296 00 0;
+no node: begin 0 5
+no node: dial 0 c@h old;dial c@h old;
+bad line 2: begin 0 5;{a};
+bad line 2: {b};begin 0 5;
+same name: {b};{b};
+same name: {a};{b};# the first name again;{a};begin 0 5;
+bad line 3: {b};{b};no line;
+bad line 4: {a};{b};begin 0 5;{c};
+bad line 3: {a};{b};incoming 1;
+bad line 3: {a};{b};bytes 0 00 0;
+bad line 3: {a};{b};dial c@h new;
+bad line 3: {a};{b};opened 0;
+bad line 3: {a};{b};begin 0;
+bad line 3: {a};{b};begin 0 4294967296;
+bad line 3: {a};{b};begin 4294967296 0;
+bad line 3: {a};{b};begin 0 5 0;
+bad line 3: {a};{b};halt;
+bad line 3: {a};{b};halt 0 0;
+bad line 3: {a};{b};dial 0 c new;
+bad line 3: {a};{b};dial 0 c@h;
+bad line 3: {a};{b};reach 0 0;
+bad line 3: {a};{b};reach 0 0 -1;
+bad line 3: {a};{b};accept;
+bad line 3: {a};{b};accept 0 0;
+bad line 3: {a};{b};deliver 0 0;
+bad line 3: {a};{b};deliver 0 0 4294967296;
+bad line 3: {a};{b};take 0 0;
+bad line 3: {a};{b};lose 0 0;
+bad line 3: {a};{b};lose 0 0 gaveup;
+bad line 3: {a};{b};tick 0;
+bad line 3: {a};{b};Halt 0;
+bad line 2: incoming 1;{b};
+bad line 3: # one;;no line;
+bad line 1: x
+bad line 1:  
+bad line 1: {b} ;
+bad line 1:  {b};
+bad line 1: {b}\r;
+bad line 2: {b};incoming 1\r;
+bad line 2: {b};incoming  1;
+bad line 2: {b};incoming 1 ;
+bad line 2: {b};incoming\t1;
+bad line 2: {b};incoming;
+bad line 2: {b};incoming +1;
+bad line 2: {b};incoming -1;
+bad line 2: {b};incoming 1_0;
+bad line 2: {b};incoming 18446744073709551616;
+bad line 2: {b};INCOMING 1;
+bad line 2: {b};opened 0;
+bad line 2: {b};opened 4294967296 0;
+bad line 2: {b};opened 0 18446744073709551616;
+bad line 2: {b};tick 4294967296;
+bad line 2: {b};tick 0 0;
+bad line 2: {b};lost 0 ended;
+bad line 2: {b};lost 0;
+bad line 2: {b};lost 4294967296 Ended;
+bad line 2: {b};dial c@127.0.0.1;
+bad line 2: {b};dial c@127.0.0.1 New;
+bad line 2: {b};dial c new;
+bad line 2: {b};dial @c new;
+bad line 2: {b};dial c@h new new;
+bad line 1: node
+bad line 1: node b@h c 1
+bad line 1: node b c 1 1
+bad line 1: node b@h  1 1
+bad line 1: node b@h c\u{7f} 1 1
+bad line 1: node b@h c 0x1 1
+bad line 1: node b@h c 00000000000000001 1
+bad line 1: node b@h c g 1
+bad line 1: node b@h c 1 4294967296
+bad line 1: node b@h c 1 -1
+bad line 1: node b@h c 1 1 x
+bad line 1: node b@h c 1 1 require
+bad line 1: node b@h c 1 1 require 1 require 1
+bad line 1: node b@h c 1 1 allow a@h require 1
+bad line 1: node b@h c 1 1 allow
+bad line 1: node b@h c 1 1 allow a
+bad line 1: node b@h c 1 1 version 5
+bad line 42: {b};;;;;;;;;;;;;;;;;;;;;;;;;;;;;;;;;;;;;;;;;x
+";
 
 fn check_bad<A: Abort>(
     rt: &A,
@@ -75,52 +104,37 @@ fn check_bad<A: Abort>(
 ) -> Result<(), AllocError> {
     let told = format!(in alloc; "distnode: {wanted}\n")?;
     let ran = enacted(alloc, script);
-    assert_eq!(rt; text_of(&ran.err), told.as_str(), "{:?}", text_of(script));
-    assert_eq!(rt; text_of(&ran.out), "", "{:?}", text_of(script));
-    assert_eq!(rt; ran.status, 2, "{:?}", text_of(script));
+    check_ran(rt, &ran, (2, "", told.as_str()), text_of(script));
     Ok(())
 }
 
 #[test]
 fn the_first_bad_line_is_told_and_nothing_is_enacted(rt: HostRuntime) -> Result<(), Fail> {
     let alloc = rt.alloc();
-    for (script, wanted) in &BAD {
-        check_bad(&rt, alloc, expanded(alloc, script)?.as_bytes(), wanted)?;
+    for row in BAD.lines() {
+        let (wanted, script) = row.split_once(": ").ok_or("a row without a script")?;
+        let script = expanded(alloc, script)?.replace(alloc, ';', "\n")?;
+        check_bad(&rt, alloc, script.as_bytes(), wanted)?;
     }
-    let raw: [(&[u8], &str); 5] = [
-        (b"\xff", "bad line 1"),
-        (b"# \xff\xfe\nincoming \xc3\xa9\n", "bad line 2"),
-        (b"# \xff\xfe\n", "no node"),
-        (b"incoming 1\0\n", "bad line 1"),
-        (b"\0", "bad line 1"),
-    ];
-    for (script, wanted) in &raw {
-        check_bad(&rt, alloc, script, wanted)?;
-    }
+    check_bad(&rt, alloc, b"\xff", "bad line 1")?;
+    check_bad(&rt, alloc, b"# \xff\nincoming \xc3\xa9\n", "bad line 2")?;
+    check_bad(&rt, alloc, b"# \xff\xfe\n", "no node")?;
+    check_bad(&rt, alloc, b"incoming 1\0\n", "bad line 1")?;
     Ok(())
 }
 
 #[test]
-fn a_cookie_has_at_most_255_bytes(rt: HostRuntime) -> Result<(), Fail> {
+fn a_cookie_and_a_script_have_their_limits(rt: HostRuntime) -> Result<(), Fail> {
     let alloc = rt.alloc();
     let cookie = vec![in alloc; b'~'; 255]?;
     let most = format!(in alloc; "node b@h {} 0 0", text_of(&cookie))?;
-    assert_eq!(rt; text_of(&enacted(alloc, most.as_bytes()).out), "no peers\n");
+    check_script(&rt, alloc, most.as_str(), "no peers\n", "255 bytes")?;
     let more = format!(in alloc; "node b@h {}! 0 0", text_of(&cookie))?;
     check_bad(&rt, alloc, more.as_bytes(), "bad line 1")?;
-    Ok(())
-}
 
-#[test]
-fn a_script_has_at_most_1048576_bytes(rt: HostRuntime) -> Result<(), Fail> {
-    let alloc = rt.alloc();
     let mut script = Vec::from_slice(alloc, b"node b@h c ffffffffffffffff 4294967295\n#")?;
-    let rest = vec![in alloc; b'x'; 1048576 - 40]?;
-    script.extend_from_slice(&rest)?;
-    assert_eq!(rt; script.len(), 1048576);
-    let ran = enacted(alloc, &script);
-    assert_eq!(rt; text_of(&ran.out), "no peers\n");
-    assert_eq!(rt; ran.status, 0);
+    script.resize(1048576, b'x')?;
+    check_ran(&rt, &enacted(alloc, &script), (0, "no peers\n", ""), "");
     script.push(b'\n')?;
     check_bad(&rt, alloc, &script, "script too long")?;
 

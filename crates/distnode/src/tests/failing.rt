@@ -1,7 +1,7 @@
 //! Inputs and outputs that fail.
 
 use super::*;
-use dist_drive::FaultStream;
+use dist_streams::FaultStream;
 
 // Gives its bytes in pieces, and then fails, or ends where it has no fault.
 #[derive(Drop)]
@@ -34,6 +34,16 @@ struct Sink {
     fails_on_flush: bool,
 }
 
+impl Sink {
+    fn new(alloc: Global, room: usize) -> Sink {
+        Sink {
+            taken: Vec::new(alloc),
+            room,
+            fails_on_flush: true,
+        }
+    }
+}
+
 impl Write for Sink {
     fn write(&mut self, buf: &[u8]) -> io::Result<usize> {
         let count = self.room.min(buf.len());
@@ -59,49 +69,45 @@ const SCRIPT: &str = "{b}\nincoming 1\nbytes 0 {NA} {X}\n";
 
 const PRINTED: &str = "end 0 {-}\nend 0 say {OK}{CB} closed - up -\na@127.0.0.1 in 0\n";
 
+// Enacts what a source gives.
+fn enacted_from(alloc: Global, rest: &[u8], piece: usize, fault: Option<ErrorKind>) -> Ran {
+    let mut input = Source { rest, piece, fault };
+    let (mut out, mut err) = (Vec::new(alloc), Vec::new(alloc));
+    let status = crate::enact::enact(alloc, &mut input, &mut out, &mut err);
+    Ran { status, out, err }
+}
+
 #[test]
-fn a_read_that_fails_is_told_and_nothing_is_written(rt: HostRuntime) -> Result<(), Fail> {
+fn a_script_comes_in_any_pieces_and_a_read_that_fails_is_told(rt: HostRuntime) -> Result<(), Fail> {
     let alloc = rt.alloc();
     let script = expanded(alloc, SCRIPT)?;
+    let printed = expanded(alloc, PRINTED)?;
+    for piece in [1, 2, 3, 64, 5000] {
+        let ran = enacted_from(alloc, script.as_bytes(), piece, None);
+        check_ran(&rt, &ran, (0, printed.as_str(), ""), "in pieces");
+    }
     for kind in [
         ErrorKind::Other,
         ErrorKind::Interrupted,
         ErrorKind::WouldBlock,
     ] {
-        for count in [0, 1, script.len()] {
-            let (mut out, mut err) = (Vec::new(alloc), Vec::new(alloc));
-            let given = script.as_bytes().get(..count).ok_or("cut")?;
-            let mut input = Source {
-                rest: given,
-                piece: 7,
-                fault: Some(kind),
-            };
-            let status = crate::enact::enact(alloc, &mut input, &mut out, &mut err);
-            assert_eq!(rt; text_of(&err), "distnode: ReadFailed\n", "after {count}");
-            assert_eq!(rt; text_of(&out), "", "after {count}");
-            assert_eq!(rt; status, 1, "after {count}");
+        for given in [b"".as_slice(), b"n", script.as_bytes()] {
+            let ran = enacted_from(alloc, given, 7, Some(kind));
+            check_ran(&rt, &ran, (1, "", "distnode: ReadFailed\n"), "a read");
         }
     }
     Ok(())
 }
 
-#[test]
-fn a_script_comes_in_any_pieces(rt: HostRuntime) -> Result<(), Fail> {
-    let alloc = rt.alloc();
-    let script = expanded(alloc, SCRIPT)?;
-    let wanted = expanded(alloc, PRINTED)?;
-    for piece in [1, 2, 3, 64, 5000] {
-        let (mut out, mut err) = (Vec::new(alloc), Vec::new(alloc));
-        let mut input = Source {
-            rest: script.as_bytes(),
-            piece,
-            fault: None,
-        };
-        let status = crate::enact::enact(alloc, &mut input, &mut out, &mut err);
-        assert_eq!(rt; text_of(&out), wanted.as_str(), "in pieces of {piece}");
-        assert_eq!(rt; status, 0, "in pieces of {piece}");
-    }
-    Ok(())
+// Enacts a script where the output has room for so many bytes and cannot be flushed, and answers what was written.
+fn written<A: Abort>(rt: &A, alloc: Global, script: &[u8], room: usize) -> Vec<u8> {
+    let mut out = Sink::new(alloc, room);
+    let mut err = Vec::new(alloc);
+    let mut input = script;
+    let status = crate::enact::enact(alloc, &mut input, &mut out, &mut err);
+    assert_eq!(rt; text_of(&err), "distnode: WriteFailed\n", "room for {room}");
+    assert_eq!(rt; status, 1, "room for {room}");
+    out.taken
 }
 
 #[test]
@@ -110,62 +116,30 @@ fn a_write_that_fails_is_told_and_what_was_written_is_the_beginning(
 ) -> Result<(), Fail> {
     let alloc = rt.alloc();
     let script = expanded(alloc, SCRIPT)?;
-    let wanted = expanded(alloc, PRINTED)?;
-    for (room, fails_on_flush) in [(0, false), (1, false), (30, false), (5000, true)] {
-        let mut out = Sink {
-            taken: Vec::new(alloc),
-            room,
-            fails_on_flush,
-        };
-        let mut err = Vec::new(alloc);
-        let mut input = script.as_bytes();
-        let status = crate::enact::enact(alloc, &mut input, &mut out, &mut err);
-        assert_eq!(rt; text_of(&err), "distnode: WriteFailed\n", "room for {room}");
-        assert_eq!(rt; status, 1, "room for {room}");
-        assert!(rt;
-            wanted.as_bytes().starts_with(&out.taken),
-            "room for {room}"
-        );
+    let printed = expanded(alloc, PRINTED)?;
+    for room in [0, 1, 30, 5000] {
+        let taken = written(&rt, alloc, script.as_bytes(), room);
+        assert!(rt; printed.as_bytes().starts_with(&taken), "room for {room}");
     }
-    Ok(())
-}
 
-// More than a buffer holds is written, so that a write fails while the script is enacted.
-#[test]
-fn a_write_that_fails_ends_the_script(rt: HostRuntime) -> Result<(), Fail> {
-    let alloc = rt.alloc();
+    // More than a buffer holds is written, so that a write fails while the script is enacted.
     let mut script = expanded(alloc, "{b}\n")?;
     for _ in 0..1000 {
         script.push_str("incoming 1\n")?;
     }
-    let mut out = Sink {
-        taken: Vec::new(alloc),
-        room: 100,
-        fails_on_flush: false,
-    };
-    let mut err = Vec::new(alloc);
-    let mut input = script.as_bytes();
-    let status = crate::enact::enact(alloc, &mut input, &mut out, &mut err);
-    assert_eq!(rt; text_of(&err), "distnode: WriteFailed\n");
-    assert_eq!(rt; status, 1);
-    assert_eq!(rt; out.taken.len(), 100);
+    let taken = written(&rt, alloc, script.as_bytes(), 100);
+    assert_eq!(rt; taken.len(), 100);
     Ok(())
 }
 
 #[test]
-fn a_status_is_answered_also_where_it_cannot_be_told(rt: HostRuntime) -> Result<(), Fail> {
+fn a_status_is_answered_also_where_it_cannot_be_told(rt: HostRuntime) {
     let alloc = rt.alloc();
     let mut out = Vec::new(alloc);
-    let mut err = Sink {
-        taken: Vec::new(alloc),
-        room: 0,
-        fails_on_flush: true,
-    };
     let mut input = b"x".as_slice();
-    let status = crate::enact::enact(alloc, &mut input, &mut out, &mut err);
+    let status = crate::enact::enact(alloc, &mut input, &mut out, &mut Sink::new(alloc, 0));
     assert_eq!(rt; status, 2);
     assert_eq!(rt; text_of(&out), "");
-    Ok(())
 }
 
 #[test]
@@ -177,44 +151,36 @@ fn a_cookie_is_not_told_where_a_read_or_a_write_fails(rt: HostRuntime) -> Result
         piece: 2,
         fault: Some(ErrorKind::Other),
     };
-    assert_eq!(rt;
-        crate::cookie::cookie(alloc, &mut file, 0, &mut out, &mut err),
-        1
-    );
-    assert_eq!(rt; text_of(&err), "distnode: ReadFailed\n");
-    assert_eq!(rt; text_of(&out), "");
+    let status = crate::cookie::cookie(alloc, &mut file, 0, &mut out, &mut err);
+    let ran = Ran { status, out, err };
+    check_ran(&rt, &ran, (1, "", "distnode: ReadFailed\n"), "a read");
 
-    let mut full = Sink {
-        taken: Vec::new(alloc),
-        room: 0,
-        fails_on_flush: false,
-    };
-    let mut err = Vec::new(alloc);
-    let mut file = b"ABC".as_slice();
-    assert_eq!(rt;
-        crate::cookie::cookie(alloc, &mut file, 0, &mut full, &mut err),
-        1
-    );
-    assert_eq!(rt; text_of(&err), "distnode: WriteFailed\n");
+    for room in [0, 5000] {
+        let mut err = Vec::new(alloc);
+        let mut file = b"ABC".as_slice();
+        let mut full = Sink::new(alloc, room);
+        let status = crate::cookie::cookie(alloc, &mut file, 0, &mut full, &mut err);
+        assert_eq!(rt; text_of(&err), "distnode: WriteFailed\n", "room for {room}");
+        assert_eq!(rt; status, 1, "room for {room}");
+    }
     Ok(())
 }
 
 #[test]
 fn names_that_cannot_be_written_are_a_failed_write(rt: HostRuntime) -> Result<(), Fail> {
     let alloc = rt.alloc();
-    let mut full = Sink {
-        taken: Vec::new(alloc),
-        room: 7,
-        fails_on_flush: false,
-    };
-    let mut err = Vec::new(alloc);
-    let heard = Vec::from_slice(alloc, b"\x00\x00\x11\x11name a at port 9001\n")?;
-    let mut stream = FaultStream::new(alloc, heard);
-    assert_eq!(rt;
-        crate::names::names(alloc, &mut stream, &mut full, &mut err),
-        1
-    );
-    assert_eq!(rt; text_of(&err), "distnode: WriteFailed\n");
-    assert_eq!(rt; text_of(&full.taken), "name a ");
+    for room in [7, 5000] {
+        let mut full = Sink::new(alloc, room);
+        let mut err = Vec::new(alloc);
+        let heard = Vec::from_slice(alloc, b"\x00\x00\x11\x11name a at port 9001\n")?;
+        let mut stream = FaultStream::new(alloc, heard);
+        let status = crate::names::names(alloc, &mut stream, &mut full, &mut err);
+        assert_eq!(rt; text_of(&err), "distnode: WriteFailed\n", "room for {room}");
+        assert_eq!(rt; status, 1, "room for {room}");
+        assert!(rt;
+            text_of(&full.taken).starts_with("name a "),
+            "room for {room}"
+        );
+    }
     Ok(())
 }

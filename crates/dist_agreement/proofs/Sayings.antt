@@ -1,0 +1,98 @@
+-- What a node says is whole frames of messages that it may say.
+use Rattle.std.proofs.Common.{◌≡◌, ℕ, ◌/◌, ◌^◌, ◌<◌, true, List, [], ◌∷◌, ◌++◌, length, Option, Ok, refl, sym, ◌∙◌, subst, arith, is_some, length-append, lit<}
+use Rattle.std.proofs.lemmas.Nat.{and_le_r}
+use Rattle.std.specs.Int.{w32, to_le_bytes}
+use Rattle.std.specs.Int.Bits.{bit_or}
+use Rattle.md5.specs.Md5.{md5, digest_bytes, hash_after, padded_message}
+use Rattle.std.specs.Prelude.{slice_index}
+use Rattle.dist_names.specs.NodeName.{IsNodeName}
+use Rattle.dist_messages.specs.Spelling.{Fits, is_said_by}
+use Rattle.dist_messages.specs.Canonical.{canonical}
+use Rattle.dist_messages.specs.Reading.{read}
+use Rattle.dist_messages.specs.declared.message.Side.{Side}
+use Rattle.dist_messages.specs.declared.message.Side.TheVariants.{Dialler, Acceptor}
+use Rattle.dist_messages.specs.declared.message.Status.{Status}
+use Rattle.dist_messages.specs.declared.message.Status.TheVariants as status
+use Rattle.dist_messages.specs.declared.message.Message.{Message}
+use Rattle.dist_messages.specs.declared.message.Message.TheVariants as message
+use Rattle.dist_setup.specs.declared.setup.Setup.{Setup}
+use Rattle.dist_messages.specs.declared.opening.Opening.{Opening}
+use Rattle.dist_messages.specs.declared.opening.Opening.TheVariants as opening
+use Rattle.dist_setup.specs.Rules.{announced_by, own_digest}
+use Rattle.dist_setup.specs.Saying.{CanBeSaid, frame_of, said, name_text, status_text, greeting_text, challenge_text, reply_text, ack_text, tick_text, challenge_message, complement_message, reply_message, ack_message, name_message}
+use Rattle.dist_agreement.proofs.Ways.{Whole, whole-one, whole-append, whole-empty}
+use Rattle.dist_agreement.proofs.Wires.{MaySay, MayAnswer, Said}
+use Rattle.dist_agreement.specs.NodeLaws.{NodeLaws}
+
+-- the setup's name is a name, and its numbers fit
+pub record IsFit (s : Setup) : Type 0 where
+  pub name : IsNodeName s.name
+  pub flags : announced_by s < 2 ^ 64
+  pub creation : s.creation.0 < 2 ^ 32
+
+-- a digest has 16 bytes
+digest-bytes : (h : List ℕ) → length (digest_bytes h 4) ≡ 16
+unfolding digest_bytes
+digest-bytes h = omega (arith, length-append (((([] ++ to_le_bytes w32 (slice_index h 0)) ++ to_le_bytes w32 (slice_index h 1)) ++ to_le_bytes w32 (slice_index h 2))) (to_le_bytes w32 (slice_index h 3)), length-append ((([] ++ to_le_bytes w32 (slice_index h 0)) ++ to_le_bytes w32 (slice_index h 1))) (to_le_bytes w32 (slice_index h 2)), length-append (([] ++ to_le_bytes w32 (slice_index h 0))) (to_le_bytes w32 (slice_index h 1)))
+
+md5-length : (m : List ℕ) → length (md5 m) ≡ 16
+unfolding md5
+md5-length m = digest-bytes (hash_after (padded_message m) (length (padded_message m) / 64))
+
+digest-length : (s : Setup) (p : List ℕ) (n : ℕ) → length (own_digest s p n) ≡ 16
+unfolding own_digest
+digest-length s p n = md5-length _
+
+-- ---- one message
+
+framed-said : (P : List ℕ → Type 0) (m : Message) → length (canonical m) < 2 ^ 16 → P (canonical m) → Whole P (frame_of m)
+unfolding frame_of
+framed-said P m f h = whole-one P (canonical m) f h
+
+module _ (laws : NodeLaws) where
+  canonical-said : (side : Side) (P : Message → Type 0) (m : Message) → CanBeSaid side m → Fits m → P m → Said side P (canonical m)
+  canonical-said side P m c f h k e = let q : Ok m ≡ Ok k = sym (laws.sayings.read_back side m f c) ∙ e in let z : m ≡ k = cc in subst P z h
+
+  pub message-said : (side : Side) (P : Message → Type 0) (m : Message) → CanBeSaid side m → Fits m → P m → Whole (Said side P) (said (m ∷ []))
+  message-said side P m c f h = framed-said (Said side P) m c.1 (canonical-said side P m c f h)
+
+  pub two-said : (side : Side) (P : Message → Type 0) (m k : Message) → CanBeSaid side m → Fits m → P m → CanBeSaid side k → Fits k → P k → Whole (Said side P) (said (m ∷ k ∷ []))
+  two-said side P m k c f h c' f' h' = whole-append (Said side P) (frame_of m) (said (k ∷ [])) (message-said side P m c f h) (message-said side P k c' f' h')
+
+-- nothing is read in a body of no byte
+empty-said : (side : Side) (P : Message → Type 0) → Said side P []
+unfolding read
+empty-said side P m e = absurd cc
+
+pub tick-said : (side : Side) (P : Message → Type 0) → Whole (Said side P) tick_text
+tick-said side P = whole-append (Said side P) (0 ∷ 0 ∷ []) (0 ∷ 0 ∷ []) (whole-one (Said side P) [] (lit< tt) (empty-said side P)) (whole-one (Said side P) [] (lit< tt) (empty-said side P))
+
+pub nothing-said : (side : Side) (P : Message → Type 0) → Whole (Said side P) []
+nothing-said side P = whole-empty (Said side P)
+
+module _ (laws : NodeLaws) where
+  pub status-said : (side : Side) (P : Message → Type 0) (s : Status) → is_said_by s side ≡ true → P (message.Status s) → Whole (Said side P) (status_text s)
+  status-said side P s h p = message-said laws side P (message.Status s) (laws.sayings.says_status side s h) tt p
+
+  -- ---- the dialling side
+
+  module _ (s : Setup) (fit : IsFit s) (replied : Option ℕ) where
+    pub name-said : (o : Opening) → Whole (Said Dialler (MaySay s replied)) (name_text s o)
+    name-said opening.New = message-said laws Dialler (MaySay s replied) (name_message s opening.New) (laws.sayings.says_new_name _ _ _ fit.name) (fit.flags, fit.creation) (refl, refl, refl)
+    name-said opening.Old = message-said laws Dialler (MaySay s replied) (name_message s opening.Old) (laws.sayings.says_old_name _ _ fit.name) (let f = fit.flags in omega arith) (refl, refl)
+
+    pub reply-said : (o : Opening) (p : List ℕ) (fresh challenge : ℕ) → fresh < 2 ^ 32 → is_some replied ≡ true → Whole (Said Dialler (MaySay s replied)) (reply_text s o p fresh challenge)
+    reply-said opening.New p fresh challenge f h = message-said laws Dialler (MaySay s replied) (reply_message s p fresh challenge) (laws.sayings.says_reply fresh _ (digest-length s p challenge)) (f, digest-length s p challenge) h
+    reply-said opening.Old p fresh challenge f h = two-said laws Dialler (MaySay s replied) (complement_message s) (reply_message s p fresh challenge) (laws.sayings.says_complement _ _) ((let g = fit.flags in omega arith), fit.creation) (refl, refl) (laws.sayings.says_reply fresh _ (digest-length s p challenge)) (f, digest-length s p challenge) h
+
+  -- ---- the accepting side
+
+  module _ (s : Setup) (fit : IsFit s) (named rose : Option ℕ) where
+    pub challenge-said : (fresh : ℕ) → fresh < 2 ^ 32 → is_some named ≡ true → Whole (Said Acceptor (MayAnswer s named rose)) (challenge_text s fresh)
+    challenge-said fresh f h = message-said laws Acceptor (MayAnswer s named rose) (challenge_message s fresh) (laws.sayings.says_challenge _ fresh _ _ fit.name) (fit.flags, f, fit.creation) (h, refl, refl, refl)
+
+    pub greeting-said : (k : Status) (fresh : ℕ) → is_said_by k Acceptor ≡ true → fresh < 2 ^ 32 → is_some named ≡ true → Whole (Said Acceptor (MayAnswer s named rose)) (greeting_text s k fresh)
+    greeting-said k fresh b f h = two-said laws Acceptor (MayAnswer s named rose) (message.Status k) (challenge_message s fresh) (laws.sayings.says_status Acceptor k b) tt tt (laws.sayings.says_challenge _ fresh _ _ fit.name) (fit.flags, f, fit.creation) (h, refl, refl, refl)
+
+    pub ack-said : (p : List ℕ) (challenge : ℕ) → is_some rose ≡ true → Whole (Said Acceptor (MayAnswer s named rose)) (ack_text s p challenge)
+    ack-said p challenge h = message-said laws Acceptor (MayAnswer s named rose) (ack_message s p challenge) (laws.sayings.says_ack _ (digest-length s p challenge)) (digest-length s p challenge) h

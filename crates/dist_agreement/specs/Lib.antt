@@ -1,0 +1,13 @@
+pub mod Lists
+pub mod Rows
+pub mod World
+pub mod Delivery
+pub mod Happenings
+pub mod Run
+pub mod Holders
+pub mod Crossing
+pub mod Stones
+pub mod Order
+pub mod Laws
+pub mod Agreement
+pub mod NodeLaws

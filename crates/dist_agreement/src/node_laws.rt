@@ -1,0 +1,27 @@
+//! What the laws of worlds take from one node.
+ghost use Rattle.dist_agreement.specs.NodeLaws.{NodeLaws};
+
+use dist_core::{
+    a_reply_is_of_its_end, another_end_is_replaced, entries_are_whole, steps_are_rows,
+    two_ends_change_at_most,
+};
+use dist_ends::ends_after_a_change;
+use dist_names::order_of_names;
+use dist_setup::{announced_flags_fit, messages_can_be_said, what_is_said_is_read};
+
+/// Every node keeps the laws of one step, of names and of what is said: each is the contract of a crate below, and nothing
+/// else is taken from there.
+pub fn nodes_keep_laws()
+    ensures { NodeLaws }
+{
+    order_of_names();
+    messages_can_be_said();
+    what_is_said_is_read();
+    announced_flags_fit();
+    ends_after_a_change();
+    steps_are_rows();
+    entries_are_whole();
+    a_reply_is_of_its_end();
+    another_end_is_replaced();
+    two_ends_change_at_most();
+}

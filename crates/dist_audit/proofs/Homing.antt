@@ -1,0 +1,464 @@
+-- A link comes to the node of its line: the connection of its number leads to the incarnation of that node.
+use Rattle.std.proofs.Common.{◌≡◌, ℕ, zero, suc, ◌+◌, Bool, true, false, cond, ltb, eqb, not, ◌&&◌, ◌||◌, List, [], ◌∷◌, ◌++◌, length, Option, Some, None, IfSome, Result, Ok, Err, slice_get, is_some, option_to_list, refl, sym, ap, subst, ◌∙◌, arith, append_assoc}
+use Rattle.std.specs.Option.{option_map}
+use Rattle.std.specs.Int.{w16}
+use Rattle.std.specs.List.{list_any}
+use Rattle.std.proofs.lemmas.Bool.{eqb-true}
+use Rattle.dist_frames.specs.Stream.{first_body}
+use Rattle.dist_messages.specs.declared.message.Side.{Side}
+use Rattle.dist_messages.specs.declared.message.Side.TheVariants.{Dialler, Acceptor}
+use Rattle.dist_peers.specs.declared.entry.EndId.{EndId}
+use Rattle.dist_ends.specs.Ends.{is_dialing}
+use Rattle.dist_setup.specs.declared.setup.Setup.{Setup}
+use Rattle.dist_names.specs.declared.creation.Creation.{Creation}
+use Rattle.dist_locked.specs.declared.closing.Closed.{Closed}
+use Rattle.dist_core.specs.declared.event.Event.{Event}
+use Rattle.dist_core.specs.declared.event.Event.TheVariants as event
+use Rattle.dist_core.specs.declared.reply.Reply.{Reply}
+use Rattle.dist_core.specs.declared.step_error.StepError.{StepError}
+use Rattle.dist_core.specs.Node.{NodeState}
+use Rattle.dist_core.specs.Step.{step}
+use Rattle.dist_agreement.specs.declared.happening.Happening.{Happening}
+use Rattle.dist_agreement.specs.declared.happening.Happening.TheVariants as happening
+use Rattle.dist_agreement.specs.Lists.{at_place, first_where}
+use Rattle.dist_agreement.specs.Rows.{EndRow}
+use Rattle.dist_agreement.specs.World.{World, Life, Conn, Text, empty, runs, runs_for, running, row_at, end_at}
+use Rattle.dist_agreement.specs.Delivery.{says, spoken, spoken_on, text_to, change_to, delivered, body_taken}
+use Rattle.dist_agreement.specs.Happenings.{answered, lived, begun, new_life, told_in, told, told_of, new_conn, reached, reached_life, conn_of as wire_number, opened, opened_on, accepted, accepted_by, next_end, is_open_end, is_nonempty, came, came_on, came_to, deliver, taken_body, taken_from, taken_on, taken_by, take_next, applied, unclosed, ticked_on, applied_at, happens}
+use Rattle.dist_agreement.specs.Run.{run, one_where}
+use Rattle.dist_audit.proofs.Numbers.{eqb-self}
+use Rattle.dist_audit.specs.Audit as audit
+use Rattle.dist_audit.specs.Audit.{AllApply, AreFollowed, AreOfOneWorld, after, ComesHere, ComeHome, EachLinkComesHome}
+use Rattle.dist_audit.specs.Lines.{Told, lines_of}
+use Rattle.dist_audit.specs.Links.{link_in, opens, opens_in, comes, comes_in, dialled, dialled_in, or_else, is_among, dialler_of, acceptor_of, target_of, conn_of, mention}
+use Rattle.dist_audit.specs.Happenings.{setups_of, begins, mentioned, reach, reach_first, before, own}
+use Rattle.dist_audit.specs.Faults.{repeats, links_repeat, unopened, comes_unopened, links_unpaired}
+
+-- ---- the incarnations that connections lead to
+
+abbrev pub targets : List Conn → List ℕ
+targets [] = []
+targets (k ∷ ks) = k.target ∷ targets ks
+
+targets-get : (cs : List Conn) (c : ℕ) → option_map (λ k. k.target) (slice_get cs c) ≡ slice_get (targets cs) c
+targets-get [] c = refl
+targets-get (k ∷ cs) zero = refl
+targets-get (k ∷ cs) (suc c) = targets-get cs c
+
+targets-more : (cs : List Conn) (k : Conn) → targets (cs ++ k ∷ []) ≡ targets cs ++ k.target ∷ []
+targets-more [] k = refl
+targets-more (x ∷ cs) k = ap (λ r. x.target ∷ r) (targets-more cs k)
+
+targets-at : (c : ℕ) (f : Conn → Conn) → ((k : Conn) → (let x = f k in x.target) ≡ k.target) → (cs : List Conn) → targets (at_place c f cs) ≡ targets cs
+targets-at c f keeps [] = refl
+targets-at zero f keeps (k ∷ cs) = ap (λ n. n ∷ targets cs) (keeps k)
+targets-at (suc c) f keeps (k ∷ cs) = ap (λ r. k.target ∷ r) (targets-at c f keeps cs)
+
+says-target : (side : Side) (s : List ℕ) (k : Conn) → (let x = says side s k in x.target) ≡ k.target
+says-target Dialler s k = refl
+says-target Acceptor s k = refl
+
+change-target : (side : Side) (f : Text → Text) (k : Conn) → (let x = change_to side f k in x.target) ≡ k.target
+change-target Dialler f k = refl
+change-target Acceptor f k = refl
+
+targets-on : (cs : List Conn) (o : Option ℕ) (side : Side) (s : List ℕ) → targets (spoken_on cs o side s) ≡ targets cs
+targets-on cs None side s = refl
+targets-on cs (Some c) side s = targets-at c (says side s) (says-target side s) cs
+
+targets-spoken : (cs : List Conn) (o : Option EndRow) (s : List ℕ) → targets (spoken cs o s) ≡ targets cs
+targets-spoken cs None s = refl
+targets-spoken cs (Some row) s = targets-on cs row.conn row.side s
+
+-- ---- which incarnations run
+
+first-at : (test : Life → Bool) (p : ℕ) (g : Life → Life) (ls : List Life) (l : Life) → slice_get ls p ≡ Some l → test (g l) ≡ test l → first_where test (at_place p g ls) ≡ first_where test ls
+first-at test p g [] l at same = refl
+first-at test zero g (x ∷ ls) l at same = let z : l ≡ x = cc in ap (λ b. cond b (Some 0) (option_map suc (first_where test ls))) (subst (λ (y : Life). test (g y) ≡ test y) z same)
+first-at test (suc p) g (x ∷ ls) l at same = ap (λ o. cond (test x) (Some 0) (option_map suc o)) (first-at test p g ls l at same)
+
+first-all : (test : Life → Bool) (p : ℕ) (g : Life → Life) → ((l : Life) → test (g l) ≡ test l) → (ls : List Life) → first_where test (at_place p g ls) ≡ first_where test ls
+first-all test p g same [] = refl
+first-all test zero g same (x ∷ ls) = ap (λ b. cond b (Some 0) (option_map suc (first_where test ls))) (same x)
+first-all test (suc p) g same (x ∷ ls) = ap (λ o. cond (test x) (Some 0) (option_map suc o)) (first-all test p g same ls)
+
+-- the same incarnations run, and the connections lead to the same
+record SameFrame (w x : World) : Type 0 where
+  run_same : (j : ℕ) → running x j ≡ running w j
+  lead_same : targets x.conns ≡ targets w.conns
+
+same-refl : (w : World) → SameFrame w w
+same-refl w = record { run_same = λ j. refl; lead_same = refl }
+
+module _ (w : World) where
+  frame-answered : (i : ℕ) (l : Life) (v : Event) → slice_get w.lives i ≡ Some l → (s : Result (Reply × NodeState) StepError) → IfSome (answered w i l v s) (SameFrame w)
+  frame-answered i l v at (Err e) = tt
+  frame-answered i l v at (Ok x) = record {
+    run_same = λ j. first-at (runs_for j) i (λ old. lived w.clock v x.0 x.1 l) w.lives l at refl;
+    lead_same = targets-spoken w.conns _ (let r = x.0 in r.say);
+  }
+
+  frame-told : (i : ℕ) (v : Event) (fresh : ℕ) → IfSome (told w i v fresh) (SameFrame w)
+  frame-told i v fresh = by (slice_get w.lives i) refl
+    where
+      by : (o : Option Life) → slice_get w.lives i ≡ o → IfSome (told_in w i o v fresh) (SameFrame w)
+      by None e = tt
+      by (Some l) e = if-runs (runs l)
+        where
+          if-runs : (b : Bool) → IfSome (cond b (answered w i l v (step l.node v fresh)) None) (SameFrame w)
+          if-runs true = frame-answered i l v e (step l.node v fresh)
+          if-runs false = tt
+
+  frame-told-of : (o : Option ℕ) (v : Event) (fresh : ℕ) → IfSome (told_of w o v fresh) (SameFrame w)
+  frame-told-of None v fresh = tt
+  frame-told-of (Some i) v fresh = frame-told i v fresh
+
+  frame-opened : (id : EndId) (o : Option ℕ) → IfSome (opened w id o) (SameFrame w)
+  frame-opened id None = tt
+  frame-opened id (Some i) = by (wire_number (row_at w i id.0))
+    where
+      by : (o : Option ℕ) → IfSome (opened_on w i id o) (SameFrame w)
+      by None = tt
+      by (Some c) = frame-told i (event.Opened id c) 0
+
+-- told in a world whose connections lead to the same
+frame-by : (w v : World) → ((j : ℕ) → running v j ≡ running w j) → targets v.conns ≡ targets w.conns → (o : Option World) → IfSome o (SameFrame v) → IfSome o (SameFrame w)
+frame-by w v r t None q = tt
+frame-by w v r t (Some x) q = record { run_same = λ j. q.run_same j ∙ r j; lead_same = q.lead_same ∙ t }
+
+module _ (w : World) where
+  frame-accepted : (c : ℕ) (o : Option Conn) → IfSome (accepted w c o) (SameFrame w)
+  frame-accepted c None = tt
+  frame-accepted c (Some x) = by (is_some x.accepted)
+    where
+      v : World
+      v = record w { conns = at_place c (accepted_by (next_end (slice_get w.lives x.target))) w.conns }
+
+      by : (b : Bool) → IfSome (cond b None (told v x.target (event.Incoming c) 0)) (SameFrame w)
+      by true = tt
+      by false = frame-by w v (λ j. refl) (targets-at c (accepted_by (next_end (slice_get w.lives x.target))) (λ k. refl) w.conns) (told v x.target (event.Incoming c) 0) (frame-told v x.target (event.Incoming c) 0)
+
+  frame-came : (c : ℕ) (side : Side) (n : ℕ) (o : Option Conn) → IfSome (came w c side n o) (SameFrame w)
+  frame-came c side n None = tt
+  frame-came c side n (Some x) = by (ltb 0 n && is_nonempty (let t = text_to side x in t.said))
+    where
+      by : (b : Bool) → IfSome (cond b (Some (record w { conns = at_place c (change_to side (delivered n)) w.conns })) None) (SameFrame w)
+      by true = record { run_same = λ j. refl; lead_same = targets-at c (change_to side (delivered n)) (change-target side (delivered n)) w.conns }
+      by false = tt
+
+  frame-came-on : (side : Side) (n : ℕ) (o : Option ℕ) → IfSome (came_on w side n o) (SameFrame w)
+  frame-came-on side n None = tt
+  frame-came-on side n (Some c) = frame-came c side n (slice_get w.conns c)
+
+  frame-came-to : (o : Option EndRow) (n : ℕ) → IfSome (came_to w o n) (SameFrame w)
+  frame-came-to None n = tt
+  frame-came-to (Some row) n = frame-came-on row.side n row.conn
+
+  frame-deliver : (id n : ℕ) (o : Option ℕ) → IfSome (deliver w id n o) (SameFrame w)
+  frame-deliver id n None = tt
+  frame-deliver id n (Some i) = by (is_open_end (end_at w i id))
+    where
+      by : (b : Bool) → IfSome (cond b (came_to w (row_at w i id) n) None) (SameFrame w)
+      by true = frame-came-to (row_at w i id) n
+      by false = tt
+
+  frame-body : (i : ℕ) (id : EndId) (fresh : ℕ) (side : Side) (c : ℕ) (o : Option (List ℕ)) → IfSome (taken_body w i id fresh side c o) (SameFrame w)
+  frame-body i id fresh side c None = tt
+  frame-body i id fresh side c (Some body) = frame-by w v (λ j. refl) (targets-at c (change_to side body_taken) (change-target side body_taken) w.conns) (told v i (event.Frame id body) fresh) (frame-told v i (event.Frame id body) fresh)
+    where
+      v : World
+      v = record w { conns = at_place c (change_to side body_taken) w.conns }
+
+  frame-from : (i : ℕ) (id : EndId) (fresh : ℕ) (side : Side) (c : ℕ) (o : Option Conn) → IfSome (taken_from w i id fresh side c o) (SameFrame w)
+  frame-from i id fresh side c None = tt
+  frame-from i id fresh side c (Some x) = frame-body i id fresh side c (let t = text_to side x in first_body w16 t.come)
+
+  frame-on : (i : ℕ) (id : EndId) (fresh : ℕ) (side : Side) (o : Option ℕ) → IfSome (taken_on w i id fresh side o) (SameFrame w)
+  frame-on i id fresh side None = tt
+  frame-on i id fresh side (Some c) = frame-from i id fresh side c (slice_get w.conns c)
+
+  frame-taken-by : (i : ℕ) (id : EndId) (fresh : ℕ) (o : Option EndRow) → IfSome (taken_by w i id fresh o) (SameFrame w)
+  frame-taken-by i id fresh None = tt
+  frame-taken-by i id fresh (Some row) = frame-on i id fresh row.side row.conn
+
+  frame-take : (id : EndId) (fresh : ℕ) (o : Option ℕ) → IfSome (take_next w id fresh o) (SameFrame w)
+  frame-take id fresh None = tt
+  frame-take id fresh (Some i) = frame-taken-by i id fresh (row_at w i id.0)
+
+-- ---- happenings
+
+frame-settled : (w : World) (o : Option World) → IfSome o (SameFrame w) → SameFrame w (ticked_on w o)
+frame-settled w None q = same-refl w
+frame-settled w (Some x) q = record { run_same = q.run_same; lead_same = q.lead_same }
+
+frame-happens : (w : World) (e : Happening) → IfSome (applied (unclosed w) e) (SameFrame (unclosed w)) → SameFrame w (happens w e)
+frame-happens w e q = frame-settled w (applied_at w e) (by (ltb w.clock 4611686018427387904))
+  where
+    off : (o : Option World) → IfSome o (SameFrame (unclosed w)) → IfSome o (SameFrame w)
+    off None k = tt
+    off (Some x) k = record { run_same = k.run_same; lead_same = k.lead_same }
+
+    by : (b : Bool) → IfSome (cond b (applied (unclosed w) e) None) (SameFrame w)
+    by true = off (applied (unclosed w) e) q
+    by false = tt
+
+-- a dialled end reaches a running node
+record Leads (w x : World) (j : ℕ) : Type 0 where
+  place : ℕ
+  runs_there : running w j ≡ Some place
+  run_same : (k : ℕ) → running x k ≡ running w k
+  lead_more : targets x.conns ≡ targets w.conns ++ place ∷ []
+
+leads-reached : (w : World) (id j : ℕ) (a b : Option ℕ) → running w j ≡ b → IfSome (reached w id a b) (λ x. Leads w x j)
+leads-reached w id j None None e = tt
+leads-reached w id j None (Some q) e = tt
+leads-reached w id j (Some p) None e = tt
+leads-reached w id j (Some p) (Some q) e = by (is_dialing (end_at w p id) && not (is_some (wire_number (row_at w p id))) && ltb (length w.conns) 1048576)
+  where
+    by : (b : Bool) → IfSome (cond b (Some (record w { lives = at_place p (reached_life id (length w.conns)) w.lives; conns = w.conns ++ new_conn p id q ∷ [] })) None) (λ x. Leads w x j)
+    by true = record {
+      place = q;
+      runs_there = e;
+      run_same = λ k. first-all (runs_for k) p (reached_life id (length w.conns)) (λ l. refl) w.lives;
+      lead_more = targets-more w.conns (new_conn p id q);
+    }
+    by false = tt
+
+leads-settled : (w : World) (j : ℕ) (o : Option World) → IfSome o (λ x. Leads w x j) → one_where o + 0 ≡ 1 → Leads w (ticked_on w o) j
+leads-settled w j None q e = absurd (omega (arith, e))
+leads-settled w j (Some x) q e = record { place = q.place; runs_there = q.runs_there; run_same = q.run_same; lead_more = q.lead_more }
+
+leads-happens : (w : World) (i : ℕ) (id : EndId) (j : ℕ) → AllApply (happening.Reach i id j ∷ []) w → Leads w (happens w (happening.Reach i id j)) j
+leads-happens w i id j a = leads-settled w j (applied_at w (happening.Reach i id j)) (by (ltb w.clock 4611686018427387904)) a
+  where
+    off : (o : Option World) → IfSome o (λ x. Leads (unclosed w) x j) → IfSome o (λ x. Leads w x j)
+    off None k = tt
+    off (Some x) k = record { place = k.place; runs_there = k.runs_there; run_same = k.run_same; lead_more = k.lead_more }
+
+    by : (b : Bool) → IfSome (cond b (applied (unclosed w) (happening.Reach i id j)) None) (λ x. Leads w x j)
+    by true = off (applied (unclosed w) (happening.Reach i id j)) (leads-reached (unclosed w) id.0 j (running w i) (running w j) refl)
+    by false = tt
+
+-- ---- links and connections
+
+-- each link's connection leads to the running incarnation of its node
+abbrev Matches : (ℕ → Option ℕ) → (ℕ → ℕ) → List ℕ → List ℕ → Type 0
+Matches r home [] [] = Unit {0}
+Matches r home [] (p ∷ ps) = ⊥
+Matches r home (k ∷ ks) [] = ⊥
+Matches r home (k ∷ ks) (p ∷ ps) = (r (home k) ≡ Some p) × Matches r home ks ps
+
+matches-same : (r s : ℕ → Option ℕ) (home : ℕ → ℕ) → ((j : ℕ) → s j ≡ r j) → (ks ps : List ℕ) → Matches r home ks ps → Matches s home ks ps
+matches-same r s home e [] [] m = tt
+matches-same r s home e [] (p ∷ ps) m = m
+matches-same r s home e (k ∷ ks) [] m = m
+matches-same r s home e (k ∷ ks) (p ∷ ps) m = (e (home k) ∙ m.0, matches-same r s home e ks ps m.1)
+
+matches-more : (r : ℕ → Option ℕ) (home : ℕ → ℕ) (k p : ℕ) → r (home k) ≡ Some p → (ks ps : List ℕ) → Matches r home ks ps → Matches r home (ks ++ k ∷ []) (ps ++ p ∷ [])
+matches-more r home k p e [] [] m = (e, tt)
+matches-more r home k p e [] (q ∷ ps) m = absurd m
+matches-more r home k p e (j ∷ ks) [] m = absurd m
+matches-more r home k p e (j ∷ ks) (q ∷ ps) m = (m.0, matches-more r home k p e ks ps m.1)
+
+-- the connection of a link that was mentioned
+matches-at : (r : ℕ → Option ℕ) (home : ℕ → ℕ) (k : ℕ) (ks ps : List ℕ) → is_among k ks ≡ true → Matches r home ks ps → slice_get ps (conn_of k ks) ≡ r (home k)
+matches-at r home k [] ps e m = absurd cc
+matches-at r home k (j ∷ ks) [] e m = absurd m
+matches-at r home k (j ∷ ks) (p ∷ ps) e m = elim (eqb j k) as (λ b. eqb j k ≡ b → (b || is_among k ks) ≡ true → slice_get (p ∷ ps) (cond b 0 (suc (conn_of k ks))) ≡ r (home k)) [
+  | true ↦ λ b f. sym m.0 ∙ ap (λ n. r (home n)) (eqb-true j k b)
+  | false ↦ λ b f. matches-at r home k ks ps f m.1
+] refl e
+
+among-last : (k : ℕ) (ks : List ℕ) → is_among k (ks ++ k ∷ []) ≡ true
+among-last k [] = ap (λ b. b || false) (eqb-self k)
+among-last k (j ∷ ks) = elim (eqb j k) as (λ b. (b || is_among k (ks ++ k ∷ [])) ≡ true) [ true ↦ refl | false ↦ among-last k ks ]
+
+among-mention : (k : ℕ) (ks : List ℕ) → is_among k (mention ks (Some k)) ≡ true
+among-mention k ks = by (is_among k ks) refl
+  where
+    by : (b : Bool) → is_among k ks ≡ b → is_among k (cond b ks (ks ++ k ∷ [])) ≡ true
+    by true e = e
+    by false e = among-last k ks
+
+-- ---- pairs of lines
+
+any-at : (test : Told → Bool) (pre ts : List Told) (t : Told) → test t ≡ true → list_any test (pre ++ t ∷ ts) ≡ true
+any-at test [] ts t e = ap (λ b. b || list_any test ts) e
+any-at test (x ∷ pre) ts t e = elim (test x) as (λ b. (b || list_any test (pre ++ t ∷ ts)) ≡ true) [ true ↦ refl | false ↦ any-at test pre ts t e ]
+
+none-at : (test : Told → Bool) (pre ts : List Told) (t : Told) → list_any test (pre ++ t ∷ ts) ≡ false → test t ≡ false
+none-at test pre ts t e = elim (test t) as (λ b. test t ≡ b → b ≡ false) [
+  | true ↦ λ h. let f : true ≡ false = sym (any-at test pre ts t h) ∙ e in cc
+  | false ↦ λ h. refl
+] refl
+
+abbrev HasDialler : List Told → ℕ → Type 0
+HasDialler all k = (x : ℕ × EndId) × (dialler_of k all ≡ Some x)
+
+opens-dialled : (k : ℕ) (e : Event) → opens k e ≡ true → dialled k e ≡ None → ⊥
+opens-dialled k (event.Opened id j) o n = by (eqb j k) o n
+  where
+    by : (b : Bool) → b ≡ true → cond b (Some id) None ≡ None → ⊥
+    by true o n = absurd cc
+    by false o n = absurd cc
+opens-dialled k (event.Dial p o') o n = absurd cc
+opens-dialled k (event.Incoming j) o n = absurd cc
+opens-dialled k (event.Frame id body) o n = absurd cc
+opens-dialled k (event.Lost id w) o n = absurd cc
+opens-dialled k (event.Tick id) o n = absurd cc
+
+has-dialler : (k : ℕ) (ts : List Told) → list_any (opens_in k) ts ≡ true → HasDialler ts k
+has-dialler k [] e = absurd cc
+has-dialler k (t ∷ ts) e = by (λ h. has-dialler k ts h) (dialled_in k t) refl
+  where
+    by : (list_any (opens_in k) ts ≡ true → HasDialler ts k) → (o : Option EndId) → dialled_in k t ≡ o → HasDialler (t ∷ ts) k
+    by more (Some id) d = ((t.node, id), ap (λ o. or_else t.node o (dialler_of k ts)) d)
+    by more None d =
+        let rest : HasDialler ts k = more (elim (opens_in k t) as (λ b. opens_in k t ≡ b → (b || list_any (opens_in k) ts) ≡ true → list_any (opens_in k) ts ≡ true) [
+          | true ↦ λ h f. absurd (opens-dialled k (let l = t.line in l.event) h d)
+          | false ↦ λ h f. f
+        ] refl e) in
+        (rest.0, ap (λ o. or_else t.node o (dialler_of k ts)) d ∙ rest.1)
+
+or-left : (a b : Bool) → (a || b) ≡ false → a ≡ false
+or-left true b e = absurd cc
+or-left false b e = refl
+
+or-right : (a b : Bool) → (a || b) ≡ false → b ≡ false
+or-right true b e = absurd cc
+or-right false b e = e
+
+-- an event in which this link comes
+comes-incoming : (k : ℕ) (e : Event) → comes k e ≡ true → e ≡ event.Incoming k
+comes-incoming k (event.Incoming j) o = ap (λ n. event.Incoming n) (eqb-true j k o)
+comes-incoming k (event.Dial p o') o = absurd cc
+comes-incoming k (event.Opened id j) o = absurd cc
+comes-incoming k (event.Frame id body) o = absurd cc
+comes-incoming k (event.Lost id w) o = absurd cc
+comes-incoming k (event.Tick id) o = absurd cc
+
+acceptor-mine : (k : ℕ) (pre ts : List Told) (t : Told) → links_repeat (pre ++ t ∷ ts) ≡ false → comes_in k t ≡ true → acceptor_of k (pre ++ t ∷ ts) ≡ Some t.node
+acceptor-mine k [] ts t once c = ap (λ b. cond b (Some t.node) (acceptor_of k ts)) c
+acceptor-mine k (x ∷ pre) ts t once c = elim (comes_in k x) as (λ b. comes_in k x ≡ b → cond b (Some x.node) (acceptor_of k (pre ++ t ∷ ts)) ≡ Some t.node) [
+  | true ↦ λ h.
+      let is : (let l = x.line in l.event) ≡ event.Incoming k = comes-incoming k (let l = x.line in l.event) h in
+      let first : repeats (event.Incoming k) (pre ++ t ∷ ts) ≡ false = ap (λ e. repeats e (pre ++ t ∷ ts)) (sym is) ∙ or-left (repeats (let l = x.line in l.event) (pre ++ t ∷ ts)) (links_repeat (pre ++ t ∷ ts)) once in
+      absurd (let f : true ≡ false = sym (any-at (comes_in k) pre ts t c) ∙ first in cc)
+  | false ↦ λ h. acceptor-mine k pre ts t (or-right (repeats (let l = x.line in l.event) (pre ++ t ∷ ts)) (links_repeat (pre ++ t ∷ ts)) once) c
+] refl
+
+-- ---- a line
+
+abbrev home_of : List Told → ℕ → ℕ → Option (ℕ × EndId) → ℕ
+home_of all count k None = 0
+home_of all count k (Some x) = target_of count x.0 (acceptor_of k all)
+
+-- the node to which a link leads
+abbrev home : List Told → ℕ → ℕ → ℕ
+home all count k = home_of all count k (dialler_of k all)
+
+abbrev Goes : List Told → ℕ → World → List ℕ → Type 0
+Goes all count w ks = Matches (running w) (home all count) ks (targets w.conns)
+
+abbrev Fine : List Told → ℕ → Event → Type 0
+Fine all i (event.Opened id k) = HasDialler all k
+Fine all i (event.Incoming k) = HasDialler all k × (acceptor_of k all ≡ Some i)
+Fine all i _ = Unit {0}
+
+fine : (all pre ts : List Told) (t : Told) → all ≡ pre ++ t ∷ ts → links_unpaired all ≡ false → (e : Event) → (let l = t.line in l.event) ≡ e → Fine all t.node e
+fine all pre ts t is paired (event.Opened id k) e =
+    let mine : opens_in k t ≡ true = ap (opens k) e ∙ eqb-self k in
+    has-dialler k all (ap (list_any (opens_in k)) is ∙ any-at (opens_in k) pre ts t mine)
+fine all pre ts t is paired (event.Incoming k) e =
+    let once : links_repeat (pre ++ t ∷ ts) ≡ false = ap links_repeat (sym is) ∙ or-left (links_repeat all) (comes_unopened all) paired in
+    let opened-all : comes_unopened all ≡ false = or-right (links_repeat all) (comes_unopened all) paired in
+    let test : Told → Bool = λ x. unopened all (let l = x.line in l.event) in
+    let mine : unopened all (event.Incoming k) ≡ false = ap (unopened all) (sym e) ∙ none-at test pre ts t (ap (list_any test) (sym is) ∙ opened-all) in
+    let some : list_any (opens_in k) all ≡ true = elim (list_any (opens_in k) all) as (λ b. not b ≡ false → b ≡ true) [ true ↦ λ q. refl | false ↦ λ q. absurd cc ] mine in
+    let here : comes_in k t ≡ true = ap (comes k) e ∙ eqb-self k in
+    (has-dialler k all some, ap (acceptor_of k) is ∙ acceptor-mine k pre ts t once here)
+fine all pre ts t is paired (event.Dial p o) e = tt
+fine all pre ts t is paired (event.Frame id body) e = tt
+fine all pre ts t is paired (event.Lost id w) e = tt
+fine all pre ts t is paired (event.Tick id) e = tt
+
+goes-frame : (all : List Told) (count : ℕ) (w x : World) (ks : List ℕ) → SameFrame w x → Goes all count w ks → Goes all count x ks
+goes-frame all count w x ks f g = subst (λ ps. Matches (running x) (home all count) ks ps) (sym f.lead_same) (matches-same (running w) (running x) (home all count) f.run_same ks (targets w.conns) g)
+
+goes-ready : (all : List Told) (count : ℕ) (w : World) (ks : List ℕ) (k : ℕ) (x : ℕ × EndId) → dialler_of k all ≡ Some x → (b : Bool) → Goes all count w ks
+    → AllApply (option_to_list (cond b None (reach all count k (Some x)))) w → Goes all count (run (option_to_list (cond b None (reach all count k (Some x)))) w) (cond b ks (ks ++ k ∷ []))
+goes-ready all count w ks k x e true g a = g
+goes-ready all count w ks k x e false g a =
+    let j = target_of count x.0 (acceptor_of k all) in
+    let v = happens w (happening.Reach x.0 x.1 j) in
+    let l = leads-happens w x.0 x.1 j a in
+    let here : running v (home all count k) ≡ Some l.place = l.run_same (home all count k) ∙ (ap (λ o. running w (home_of all count k o)) e ∙ l.runs_there) in
+    subst (λ ps. Matches (running v) (home all count) (ks ++ k ∷ []) ps) (sym l.lead_more) (matches-more (running v) (home all count) k l.place here ks (targets w.conns) (matches-same (running w) (running v) (home all count) l.run_same ks (targets w.conns) g))
+
+goes-first : (all : List Told) (count : ℕ) (w : World) (ks : List ℕ) (k : ℕ) → HasDialler all k → Goes all count w ks → AllApply (option_to_list (reach_first all count ks k)) w → Goes all count (run (option_to_list (reach_first all count ks k)) w) (mention ks (Some k))
+goes-first all count w ks k d g = subst (λ o. AllApply (option_to_list (cond (is_among k ks) None (reach all count k o))) w → Goes all count (run (option_to_list (cond (is_among k ks) None (reach all count k o))) w) (mention ks (Some k))) (sym d.1) (goes-ready all count w ks k d.0 d.1 (is_among k ks) g)
+
+line-goes : (all : List Told) (count : ℕ) (w : World) (ks : List ℕ) (i : ℕ) (e : Event) (fresh : ℕ) → Fine all i e → Goes all count w ks → AllApply (option_to_list (before all count ks i e)) w
+    → ComesHere (run (option_to_list (before all count ks i e)) w) (mention ks (link_in e)) i e × Goes all count (run (own (mention ks (link_in e)) i e fresh ∷ []) (run (option_to_list (before all count ks i e)) w)) (mention ks (link_in e))
+line-goes all count w ks i (event.Dial p o) fresh f g a = (tt, goes-frame all count w _ ks (frame-happens w (happening.Dial i p o) (frame-told-of (unclosed w) (running w i) (event.Dial p o) 0)) g)
+line-goes all count w ks i (event.Opened id k) fresh f g a =
+    let x = run (option_to_list (reach_first all count ks k)) w in
+    let q : Goes all count x (mention ks (Some k)) = goes-first all count w ks k f g a in
+    (tt, goes-frame all count x _ (mention ks (Some k)) (frame-happens x (happening.Opened i id) (frame-opened (unclosed x) id (running x i))) q)
+line-goes all count w ks i (event.Incoming k) fresh f g a =
+    let x = run (option_to_list (reach_first all count ks k)) w in
+    let js = mention ks (Some k) in
+    let q : Goes all count x js = goes-first all count w ks k f.0 g a in
+    let d = f.0 in
+    let mine : home all count k ≡ i = ap (home_of all count k) d.1 ∙ ap (target_of count (let y = d.0 in y.0)) f.1 in (
+      targets-get x.conns (conn_of k js) ∙ (matches-at (running x) (home all count) k js (targets x.conns) (among-mention k ks) q ∙ ap (running x) mine),
+      goes-frame all count x _ js (frame-happens x (happening.Accept (conn_of k js)) (frame-accepted (unclosed x) (conn_of k js) (slice_get x.conns (conn_of k js)))) q,
+    )
+line-goes all count w ks i (event.Frame id body) fresh f g a =
+    let x = happens w (happening.Deliver i id (2 + length body)) in
+    let s : SameFrame w x = frame-happens w (happening.Deliver i id (2 + length body)) (frame-deliver (unclosed w) id.0 (2 + length body) (running w i)) in
+    (tt, goes-frame all count x _ ks (frame-happens x (happening.Take i id fresh) (frame-take (unclosed x) id fresh (running x i))) (goes-frame all count w x ks s g))
+line-goes all count w ks i (event.Lost id y) fresh f g a = (tt, goes-frame all count w _ ks (frame-happens w (happening.Lose i id y) (frame-told-of (unclosed w) (running w i) (event.Lost id y) 0)) g)
+line-goes all count w ks i (event.Tick id) fresh f g a = (tt, goes-frame all count w _ ks (frame-happens w (happening.Tick i id) (frame-told-of (unclosed w) (running w i) (event.Tick id) 0)) g)
+
+-- ---- ALL LINES
+
+come-home : (all : List Told) (count : ℕ) (ks : List ℕ) (w : World) (pre ts : List Told) → all ≡ pre ++ ts → links_unpaired all ≡ false → Goes all count w ks → AreFollowed all count ks w ts → ComeHome all count ks w ts
+come-home all count ks w pre [] is paired g f = tt
+come-home all count ks w pre (t ∷ ts) is paired g f =
+    let h = f.0 in
+    let l = t.line in
+    let x = line-goes all count w ks t.node l.event l.fresh (fine all pre ts t is paired l.event refl) g h.before in
+    (x.0, come-home all count (mentioned ks t) (after all count ks w t) (pre ++ t ∷ []) ts (is ∙ sym (append_assoc pre (t ∷ []) ts)) paired x.1 f.1)
+
+same-conns : (w : World) (i : ℕ) (c : Creation) (a : Option Setup) (b : Option ℕ) → IfSome (begun w i c a b) (λ x. x.conns ≡ w.conns)
+same-conns w i c None None = tt
+same-conns w i c None (Some j) = tt
+same-conns w i c (Some s) (Some j) = tt
+same-conns w i c (Some s) None = by (ltb (length w.lives) 1048576)
+  where
+    by : (b : Bool) → IfSome (cond b (Some (record w { lives = w.lives ++ new_life i w.clock s c ∷ [] })) None) (λ x. x.conns ≡ w.conns)
+    by true = refl
+    by false = tt
+
+conns-settled : (w : World) (o : Option World) → IfSome o (λ x. x.conns ≡ w.conns) → (let y = ticked_on w o in y.conns) ≡ w.conns
+conns-settled w None q = refl
+conns-settled w (Some x) q = q
+
+conns-begins : (w : World) (i : ℕ) (ss : List Setup) → (let x = run (begins i ss) w in x.conns) ≡ w.conns
+conns-begins w i [] = refl
+conns-begins w i (s ∷ ss) =
+    let e = happening.Begin i s.creation in
+    let one : (let y = happens w e in y.conns) ≡ w.conns = conns-settled w (applied_at w e) (by (ltb w.clock 4611686018427387904)) in
+    conns-begins (happens w (happening.Begin i s.creation)) (suc i) ss ∙ one
+  where
+    by : (b : Bool) → IfSome (cond b (applied (unclosed w) (happening.Begin i s.creation)) None) (λ x. x.conns ≡ w.conns)
+    by true = same-conns (unclosed w) i s.creation (slice_get w.setups i) (running w i)
+    by false = tt
+
+-- in histories of one world each link comes to the node of its line
+pub all-come-home : (cs : List Closed) → links_unpaired (lines_of cs) ≡ false → AreOfOneWorld cs → EachLinkComesHome cs
+all-come-home cs paired f =
+    let all = lines_of cs in
+    let none : targets (let x = audit.begun cs in x.conns) ≡ [] = ap targets (conns-begins (empty (setups_of cs)) 0 (setups_of cs)) in
+    come-home all (length cs) [] (audit.begun cs) [] all refl paired (subst (λ ps. Matches (running (audit.begun cs)) (home all (length cs)) [] ps) (sym none) tt) f.followed

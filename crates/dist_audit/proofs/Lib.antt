@@ -1,0 +1,13 @@
+pub mod Numbers
+pub mod Either
+pub mod Putting
+pub mod Tickets
+pub mod Linking
+pub mod Mentioning
+pub mod Walking
+pub mod Beginning
+pub mod Faultless
+pub mod Playing
+pub mod Sameness
+pub mod Quiet
+pub mod Homing

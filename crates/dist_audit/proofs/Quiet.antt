@@ -1,0 +1,350 @@
+-- Of what came to an end nothing is left once a line has happened, so that each line takes its very body.
+use Rattle.std.proofs.Common.{◌≡◌, ℕ, zero, suc, ◌+◌, ◌^◌, ◌<◌, Bool, true, false, cond, ltb, not, ◌&&◌, List, [], ◌∷◌, ◌++◌, length, take, drop, Option, Some, None, IfSome, Result, Ok, Err, slice_get, is_some, option_to_list, refl, sym, ap, subst, ◌∙◌, arith, length-append}
+use Rattle.std.proofs.lemmas.List.{take_at}
+use Rattle.std.specs.Int.{w16, to_be_bytes}
+use Rattle.std.specs.Option.{option_map, option_and_then}
+use Rattle.dist_frames.specs.Stream.{framed, first_body, after_first}
+use Rattle.dist_messages.specs.declared.message.Side.{Side}
+use Rattle.dist_messages.specs.declared.message.Side.TheVariants.{Dialler, Acceptor}
+use Rattle.dist_peers.specs.declared.entry.EndId.{EndId}
+use Rattle.dist_ends.specs.Ends.{is_dialing}
+use Rattle.dist_core.specs.declared.event.Event.{Event}
+use Rattle.dist_core.specs.declared.event.Event.TheVariants as event
+use Rattle.dist_core.specs.declared.reply.Reply.{Reply}
+use Rattle.dist_setup.specs.declared.setup.Setup.{Setup}
+use Rattle.dist_core.specs.declared.step_error.StepError.{StepError}
+use Rattle.dist_core.specs.Node.{NodeState}
+use Rattle.dist_core.specs.Step.{step}
+use Rattle.dist_names.specs.declared.creation.Creation.{Creation}
+use Rattle.dist_locked.specs.declared.closing.Closed.{Closed}
+use Rattle.dist_agreement.specs.declared.happening.Happening.{Happening}
+use Rattle.dist_agreement.specs.declared.happening.Happening.TheVariants as happening
+use Rattle.dist_agreement.specs.Lists.{at_place}
+use Rattle.dist_agreement.specs.Rows.{EndRow}
+use Rattle.dist_agreement.specs.World.{World, Life, Conn, Text, empty, runs, running, row_at, end_at}
+use Rattle.dist_agreement.specs.Delivery.{says, spoken, spoken_on, text_to, change_to, delivered, body_taken}
+use Rattle.dist_world.specs.Hearing.{wire_of}
+use Rattle.dist_world.specs.Asking.{said_to, undelivered}
+use Rattle.dist_agreement.specs.Happenings.{answered, told_in, told, told_of, new_life, new_conn, reached, reached_life, conn_of, opened, opened_on, accepted, accepted_by, next_end, begun, is_open_end, is_nonempty, came, came_on, came_to, deliver, taken_body, taken_from, taken_on, taken_by, take_next, applied, unclosed, ticked_on, applied_at, happens}
+use Rattle.dist_agreement.specs.Run.{run, one_where}
+use Rattle.dist_audit.specs.Audit as audit
+use Rattle.dist_audit.specs.Audit.{AllApply, BeginsWith, Says, IsNext, come_of, IsFront, TakeTheirs, AreFollowed, AreOfOneWorld, after}
+use Rattle.dist_audit.specs.Lines.{Told, lines_of}
+use Rattle.dist_audit.specs.Happenings.{setups_of, begins, mentioned, reach, reach_first, before, own}
+use Rattle.dist_audit.specs.Links.{is_among, dialler_of, acceptor_of, target_of, conn_of as number_of}
+
+-- nothing that came is left, on either side
+abbrev pub IsQuiet : Conn → Type 0
+IsQuiet k = ((let t = k.there in t.come) ≡ []) × ((let t = k.back in t.come) ≡ [])
+
+abbrev pub AreQuiet : List Conn → Type 0
+AreQuiet [] = Unit {0}
+AreQuiet (k ∷ ks) = IsQuiet k × AreQuiet ks
+
+abbrev pub QuietIn : World → Type 0
+QuietIn w = AreQuiet w.conns
+
+-- ---- lists
+
+quiet-more : (ks : List Conn) (k : Conn) → AreQuiet ks → IsQuiet k → AreQuiet (ks ++ k ∷ [])
+quiet-more [] k h q = (q, tt)
+quiet-more (x ∷ ks) k h q = (h.0, quiet-more ks k h.1 q)
+
+quiet-at : (c : ℕ) (f : Conn → Conn) → ((k : Conn) → IsQuiet k → IsQuiet (f k)) → (ks : List Conn) → AreQuiet ks → AreQuiet (at_place c f ks)
+quiet-at c f keeps [] h = tt
+quiet-at zero f keeps (k ∷ ks) h = (keeps k h.0, h.1)
+quiet-at (suc c) f keeps (k ∷ ks) h = (h.0, quiet-at c f keeps ks h.1)
+
+quiet-get : (ks : List Conn) (c : ℕ) (k : Conn) → slice_get ks c ≡ Some k → AreQuiet ks → IsQuiet k
+quiet-get [] c k at h = absurd cc
+quiet-get (x ∷ ks) zero k at h = let z : x ≡ k = cc in subst IsQuiet z h.0
+quiet-get (x ∷ ks) (suc c) k at h = quiet-get ks c k at h.1
+
+quiet-twice : (ks : List Conn) (c : ℕ) (f g : Conn → Conn) (k : Conn) → slice_get ks c ≡ Some k → IsQuiet (f (g k)) → AreQuiet ks → AreQuiet (at_place c f (at_place c g ks))
+quiet-twice [] c f g k at q h = absurd cc
+quiet-twice (x ∷ ks) zero f g k at q h = let z : k ≡ x = cc in (subst (λ (y : Conn). IsQuiet (f (g y))) z q, h.1)
+quiet-twice (x ∷ ks) (suc c) f g k at q h = (h.0, quiet-twice ks c f g k at q h.1)
+
+get-at : (ks : List Conn) (c : ℕ) (f : Conn → Conn) (k : Conn) → slice_get ks c ≡ Some k → slice_get (at_place c f ks) c ≡ Some (f k)
+get-at [] c f k at = absurd cc
+get-at (x ∷ ks) zero f k at = let z : x ≡ k = cc in ap (λ (y : Conn). Some (f y)) z
+get-at (x ∷ ks) (suc c) f k at = get-at ks c f k at
+
+-- ---- what is said
+
+quiet-says : (side : Side) (s : List ℕ) (k : Conn) → IsQuiet k → IsQuiet (says side s k)
+quiet-says Dialler s k h = h
+quiet-says Acceptor s k h = h
+
+quiet-on : (ks : List Conn) (o : Option ℕ) (side : Side) (s : List ℕ) → AreQuiet ks → AreQuiet (spoken_on ks o side s)
+quiet-on ks None side s h = h
+quiet-on ks (Some c) side s h = quiet-at c (says side s) (quiet-says side s) ks h
+
+quiet-spoken : (ks : List Conn) (o : Option EndRow) (s : List ℕ) → AreQuiet ks → AreQuiet (spoken ks o s)
+quiet-spoken ks None s h = h
+quiet-spoken ks (Some row) s h = quiet-on ks row.conn row.side s h
+
+module _ (w : World) (h : QuietIn w) where
+  quiet-answered : (i : ℕ) (l : Life) (v : Event) (s : Result (Reply × NodeState) StepError) → IfSome (answered w i l v s) QuietIn
+  quiet-answered i l v (Err e) = tt
+  quiet-answered i l v (Ok x) = quiet-spoken w.conns _ (let r = x.0 in r.say) h
+
+  quiet-told : (i : ℕ) (v : Event) (fresh : ℕ) → IfSome (told w i v fresh) QuietIn
+  quiet-told i v fresh = by (slice_get w.lives i)
+    where
+      by : (o : Option Life) → IfSome (told_in w i o v fresh) QuietIn
+      by None = tt
+      by (Some l) = if-runs (runs l)
+        where
+          if-runs : (b : Bool) → IfSome (cond b (answered w i l v (step l.node v fresh)) None) QuietIn
+          if-runs true = quiet-answered i l v (step l.node v fresh)
+          if-runs false = tt
+
+  quiet-told-of : (o : Option ℕ) (v : Event) (fresh : ℕ) → IfSome (told_of w o v fresh) QuietIn
+  quiet-told-of None v fresh = tt
+  quiet-told-of (Some i) v fresh = quiet-told i v fresh
+
+  quiet-reached : (id : ℕ) (a b : Option ℕ) → IfSome (reached w id a b) QuietIn
+  quiet-reached id None None = tt
+  quiet-reached id None (Some j) = tt
+  quiet-reached id (Some i) None = tt
+  quiet-reached id (Some i) (Some j) = by (is_dialing (end_at w i id) && not (is_some (conn_of (row_at w i id))) && ltb (length w.conns) 1048576)
+    where
+      R : Option World
+      R = Some (record w { lives = at_place i (reached_life id (length w.conns)) w.lives; conns = w.conns ++ new_conn i id j ∷ [] })
+
+      by : (b : Bool) → IfSome (cond b R None) QuietIn
+      by true = quiet-more w.conns (new_conn i id j) h (refl, refl)
+      by false = tt
+
+  quiet-opened : (id : EndId) (o : Option ℕ) → IfSome (opened w id o) QuietIn
+  quiet-opened id None = tt
+  quiet-opened id (Some i) = by (conn_of (row_at w i id.0))
+    where
+      by : (o : Option ℕ) → IfSome (opened_on w i id o) QuietIn
+      by None = tt
+      by (Some c) = quiet-told i (event.Opened id c) 0
+
+quiet-accepted : (w : World) → QuietIn w → (c : ℕ) (o : Option Conn) → IfSome (accepted w c o) QuietIn
+quiet-accepted w h c None = tt
+quiet-accepted w h c (Some x) = by (is_some x.accepted)
+  where
+    v : World
+    v = record w { conns = at_place c (accepted_by (next_end (slice_get w.lives x.target))) w.conns }
+
+    by : (b : Bool) → IfSome (cond b None (told v x.target (event.Incoming c) 0)) QuietIn
+    by true = tt
+    by false = quiet-told v (quiet-at c (accepted_by (next_end (slice_get w.lives x.target))) (λ k q. q) w.conns h) x.target (event.Incoming c) 0
+
+-- ---- happenings that apply
+
+at-clock : (w : World) (e : Happening) (Q : World → Type 0) → IfSome (applied (unclosed w) e) Q → IfSome (applied_at w e) Q
+at-clock w e Q q = by (ltb w.clock 4611686018427387904)
+  where
+    by : (b : Bool) → IfSome (cond b (applied (unclosed w) e) None) Q
+    by true = q
+    by false = tt
+
+settled : (w : World) (o : Option World) → IfSome o QuietIn → one_where o + 0 ≡ 1 → QuietIn (ticked_on w o)
+settled w None q e = absurd (omega (arith, e))
+settled w (Some x) q e = q
+
+pub quiet-happens : (w : World) (e : Happening) → IfSome (applied (unclosed w) e) QuietIn → AllApply (e ∷ []) w → QuietIn (happens w e)
+quiet-happens w e q a = settled w (applied_at w e) (at-clock w e QuietIn q) a
+
+-- ---- a frame
+
+-- a frame alone has its body at the front, and nothing behind it
+pub record FramesAlone : Type 0 where
+  pub front : (body : List ℕ) → length body < 2 ^ 16 → first_body w16 (framed w16 body) ≡ Some body
+  pub behind : (body : List ℕ) → length body < 2 ^ 16 → after_first w16 (framed w16 body) ≡ []
+
+-- the frame comes whole where nothing had come before
+comes-whole : (t : Text) (body rest : List ℕ) → t.come ≡ [] → framed w16 body ++ rest ≡ t.said → (let d = delivered (2 + length body) t in d.come) ≡ framed w16 body
+comes-whole t body rest none said =
+    (λ j. none j ++ take (2 + length body) t.said)
+    ∙ (ap (take (2 + length body)) (sym said) ∙ take_at (framed w16 body) rest (2 + length body) (length-append (to_be_bytes w16 (length body)) body))
+
+text-at : (side : Side) (f : Text → Text) (k : Conn) → text_to side (change_to side f k) ≡ f (text_to side k)
+text-at Dialler f k = refl
+text-at Acceptor f k = refl
+
+quiet-text : (side : Side) (k : Conn) → IsQuiet k → (let t = text_to side k in t.come) ≡ []
+quiet-text Dialler k h = h.1
+quiet-text Acceptor k h = h.0
+
+quiet-taken : (side : Side) (n : ℕ) (k : Conn) → IsQuiet k → (let t = body_taken (delivered n (text_to side k)) in t.come) ≡ [] → IsQuiet (change_to side body_taken (change_to side (delivered n) k))
+quiet-taken Dialler n k h e = (h.0, e)
+quiet-taken Acceptor n k h e = (e, h.1)
+
+-- where the text stands that begins with the frame of a body
+record Stands (w : World) (i : ℕ) (id : EndId) (body : List ℕ) : Type 0 where
+  place : ℕ
+  row : EndRow
+  conn : ℕ
+  there : Conn
+  rest : List ℕ
+  runs_at : running w i ≡ Some place
+  beside : row_at w place id.0 ≡ Some row
+  on : row.conn ≡ Some conn
+  at : slice_get w.conns conn ≡ Some there
+  said : framed w16 body ++ rest ≡ (let t = text_to row.side there in t.said)
+
+stands : (w : World) (i : ℕ) (id : EndId) (body : List ℕ) → BeginsWith (said_to w i id) body → Stands w i id body
+stands w i id body b = by (running w i) refl b
+  where
+    by : (o : Option ℕ) → running w i ≡ o → BeginsWith (option_and_then (λ place. undelivered w (wire_of (row_at w place id.0))) o) body → Stands w i id body
+    by None e1 b = absurd b
+    by (Some place) e1 b = by-row (row_at w place id.0) refl b
+      where
+        by-row : (o : Option EndRow) → row_at w place id.0 ≡ o → BeginsWith (undelivered w (wire_of o)) body → Stands w i id body
+        by-row None e2 b = absurd b
+        by-row (Some r) e2 b = by-conn r.conn refl b
+          where
+            by-conn : (o : Option ℕ) → r.conn ≡ o → BeginsWith (undelivered w (option_map (λ c. (r.side, c)) o)) body → Stands w i id body
+            by-conn None e3 b = absurd b
+            by-conn (Some c) e3 b = by-there (slice_get w.conns c) refl b
+              where
+                by-there : (o : Option Conn) → slice_get w.conns c ≡ o → BeginsWith (option_map (λ k. (let t = text_to r.side k in t.said)) o) body → Stands w i id body
+                by-there None e4 b = absurd b
+                by-there (Some x) e4 b = record { place = place; row = r; conn = c; there = x; rest = b.0; runs_at = e1; beside = e2; on = e3; at = e4; said = b.1 }
+
+-- a happening that applies, behind three tests
+one-left : (o : Option World) (y : World) (a b c : Bool) → o ≡ cond a (cond b (cond c (Some y) None) None) None → one_where o + 0 ≡ 1 → o ≡ Some y
+one-left o y true true true e n = e
+one-left o y true true false e n = absurd (let m : one_where o + 0 ≡ 0 = ap (λ (x : Option World). one_where x + 0) e in omega (arith, m, n))
+one-left o y true false c e n = absurd (let m : one_where o + 0 ≡ 0 = ap (λ (x : Option World). one_where x + 0) e in omega (arith, m, n))
+one-left o y false b c e n = absurd (let m : one_where o + 0 ≡ 0 = ap (λ (x : Option World). one_where x + 0) e in omega (arith, m, n))
+
+module _ (alone : FramesAlone) (w : World) (i : ℕ) (id : EndId) (body : List ℕ) (few : length body < 2 ^ 16) (s : Stands w i id body) (h : QuietIn w) where
+  size : ℕ
+  size = 2 + length body
+
+  -- the world once the frame came
+  abbrev y : World
+  y = record (unclosed w) { conns = at_place s.conn (change_to (let r = s.row in r.side) (delivered (2 + length body))) w.conns }
+
+  abbrev z : World
+  z = record y { clock = w.clock + 1 }
+
+  delivers : applied (unclosed w) (happening.Deliver i id (2 + length body)) ≡ cond (is_open_end (end_at w s.place id.0)) (cond (ltb 0 (2 + length body) && is_nonempty (let r = s.row in let t = text_to r.side s.there in t.said)) (Some y) None) None
+  delivers =
+      ap (λ o. deliver (unclosed w) id.0 (2 + length body) o) s.runs_at
+      ∙ (ap (λ o. cond (is_open_end (end_at w s.place id.0)) (came_to (unclosed w) o (2 + length body)) None) s.beside
+      ∙ (ap (λ o. cond (is_open_end (end_at w s.place id.0)) (came_on (unclosed w) (let r = s.row in r.side) (2 + length body) o) None) s.on
+      ∙ ap (λ o. cond (is_open_end (end_at w s.place id.0)) (came (unclosed w) s.conn (let r = s.row in r.side) (2 + length body) o) None) s.at))
+
+  has-come : AllApply (happening.Deliver i id (2 + length body) ∷ []) w → happens w (happening.Deliver i id (2 + length body)) ≡ z
+  has-come a = ap (ticked_on w) (one-left (applied_at w (happening.Deliver i id (2 + length body))) y (ltb w.clock 4611686018427387904) (is_open_end (end_at w s.place id.0)) (ltb 0 (2 + length body) && is_nonempty (let r = s.row in let t = text_to r.side s.there in t.said))
+      (ap (λ o. cond (ltb w.clock 4611686018427387904) o None) delivers) a)
+
+  abbrev came-there : Conn
+  came-there = change_to (let r = s.row in r.side) (delivered (2 + length body)) s.there
+
+  stands-there : slice_get z.conns s.conn ≡ Some came-there
+  stands-there = get-at w.conns s.conn (change_to (let r = s.row in r.side) (delivered (2 + length body))) s.there s.at
+
+  come-there : (let t = text_to (let r = s.row in r.side) came-there in t.come) ≡ framed w16 body
+  come-there =
+      ap (λ (t : Text). t.come) (text-at (let r = s.row in r.side) (delivered (2 + length body)) s.there)
+      ∙ comes-whole (text_to (let r = s.row in r.side) s.there) body s.rest (quiet-text (let r = s.row in r.side) s.there (quiet-get w.conns s.conn s.there s.at h)) s.said
+
+  front-there : first_body w16 (let t = text_to (let r = s.row in r.side) came-there in t.come) ≡ Some body
+  front-there = ap (first_body w16) come-there ∙ alone.front body few
+
+  is-front : IsFront z i (event.Frame id body)
+  is-front =
+      ap (λ o. option_and_then (first_body w16) (option_and_then (λ place. come_of z (wire_of (row_at w place id.0))) o)) s.runs_at
+      ∙ (ap (λ o. option_and_then (first_body w16) (come_of z (wire_of o))) s.beside
+      ∙ (ap (λ o. option_and_then (first_body w16) (come_of z (option_map (λ c. ((let r = s.row in r.side), c)) o))) s.on
+      ∙ (ap (λ o. option_and_then (first_body w16) (option_map (λ c. (let t = text_to (let r = s.row in r.side) c in t.come)) o)) stands-there
+      ∙ front-there)))
+
+  -- the world before the frame is told
+  abbrev v : World
+  v = record (unclosed z) { conns = at_place s.conn (change_to (let r = s.row in r.side) body_taken) z.conns }
+
+  takes : (fresh : ℕ) → applied (unclosed z) (happening.Take i id fresh) ≡ told v s.place (event.Frame id body) fresh
+  takes fresh =
+      ap (λ o. take_next (unclosed z) id fresh o) s.runs_at
+      ∙ (ap (λ o. taken_by (unclosed z) s.place id fresh o) s.beside
+      ∙ (ap (λ o. taken_on (unclosed z) s.place id fresh (let r = s.row in r.side) o) s.on
+      ∙ (ap (λ o. taken_from (unclosed z) s.place id fresh (let r = s.row in r.side) s.conn o) stands-there
+      ∙ ap (λ o. taken_body (unclosed z) s.place id fresh (let r = s.row in r.side) s.conn o) front-there)))
+
+  quiet-v : QuietIn v
+  quiet-v = quiet-twice w.conns s.conn (change_to (let r = s.row in r.side) body_taken) (change_to (let r = s.row in r.side) (delivered (2 + length body))) s.there s.at
+      (quiet-taken (let r = s.row in r.side) (2 + length body) s.there (quiet-get w.conns s.conn s.there s.at h)
+      (ap (after_first w16) (comes-whole (text_to (let r = s.row in r.side) s.there) body s.rest (quiet-text (let r = s.row in r.side) s.there (quiet-get w.conns s.conn s.there s.at h)) s.said) ∙ alone.behind body few)) h
+
+  quiet-takes : (fresh : ℕ) → AllApply (happening.Take i id fresh ∷ []) z → QuietIn (happens z (happening.Take i id fresh))
+  quiet-takes fresh a = quiet-happens z (happening.Take i id fresh) (subst (λ (o : Option World). IfSome o QuietIn) (sym (takes fresh)) (quiet-told v quiet-v s.place (event.Frame id body) fresh)) a
+
+-- ---- ONE LINE: its very body is at the front, and afterwards nothing is left
+
+abbrev pub Leaves : World → ℕ → Event → World → Type 0
+Leaves w i e x = IsFront w i e × QuietIn x
+
+quiet-reach : (w : World) → QuietIn w → (all : List Told) (count k : ℕ) (o : Option (ℕ × EndId)) → AllApply (option_to_list (reach all count k o)) w → QuietIn (run (option_to_list (reach all count k o)) w)
+quiet-reach w h all count k None a = h
+quiet-reach w h all count k (Some x) a =
+    let t = target_of count x.0 (acceptor_of k all) in
+    quiet-happens w (happening.Reach x.0 x.1 t) (quiet-reached (unclosed w) h (let y = x.1 in y.0) (running w x.0) (running w t)) a
+
+quiet-first : (w : World) → QuietIn w → (all : List Told) (count k : ℕ) (b : Bool) → AllApply (option_to_list (cond b None (reach all count k (dialler_of k all)))) w → QuietIn (run (option_to_list (cond b None (reach all count k (dialler_of k all)))) w)
+quiet-first w h all count k true a = h
+quiet-first w h all count k false a = quiet-reach w h all count k (dialler_of k all) a
+
+pub line-leaves : FramesAlone → (w : World) → QuietIn w → (all : List Told) (count : ℕ) (ks js : List ℕ) (i : ℕ) (e : Event) (fresh : ℕ)
+    → IsNext w i e → AllApply (option_to_list (before all count ks i e)) w → AllApply (own js i e fresh ∷ []) (run (option_to_list (before all count ks i e)) w)
+    → Leaves (run (option_to_list (before all count ks i e)) w) i e (run (own js i e fresh ∷ []) (run (option_to_list (before all count ks i e)) w))
+line-leaves alone w h all count ks js i (event.Dial p o) fresh n a b = (tt, quiet-happens w (happening.Dial i p o) (quiet-told-of (unclosed w) h (running w i) (event.Dial p o) 0) b)
+line-leaves alone w h all count ks js i (event.Opened id k) fresh n a b =
+    let x = run (option_to_list (reach_first all count ks k)) w in
+    let q : QuietIn x = quiet-first w h all count k (is_among k ks) a in
+    (tt, quiet-happens x (happening.Opened i id) (quiet-opened (unclosed x) q id (running x i)) b)
+line-leaves alone w h all count ks js i (event.Incoming k) fresh n a b =
+    let x = run (option_to_list (reach_first all count ks k)) w in
+    let q : QuietIn x = quiet-first w h all count k (is_among k ks) a in
+    (tt, quiet-happens x (happening.Accept (number_of k js)) (quiet-accepted (unclosed x) q (number_of k js) (slice_get x.conns (number_of k js))) b)
+line-leaves alone w h all count ks js i (event.Frame id body) fresh n a b =
+    let s = stands w i id body n.1 in
+    let e = has-come alone w i id body n.0 s h a in
+    subst (λ (x : World). AllApply (happening.Take i id fresh ∷ []) x → Leaves x i (event.Frame id body) (happens x (happening.Take i id fresh))) (sym e) (λ c. (is-front alone w i id body n.0 s h, quiet-takes alone w i id body n.0 s h fresh c)) b
+line-leaves alone w h all count ks js i (event.Lost id y) fresh n a b = (tt, quiet-happens w (happening.Lose i id y) (quiet-told-of (unclosed w) h (running w i) (event.Lost id y) 0) b)
+line-leaves alone w h all count ks js i (event.Tick id) fresh n a b = (tt, quiet-happens w (happening.Tick i id) (quiet-told-of (unclosed w) h (running w i) (event.Tick id) 0) b)
+
+-- ---- ALL LINES
+
+quiet-begun : (w : World) (i : ℕ) (c : Creation) → QuietIn w → (a : Option Setup) (b : Option ℕ) → IfSome (begun w i c a b) QuietIn
+quiet-begun w i c h None None = tt
+quiet-begun w i c h None (Some j) = tt
+quiet-begun w i c h (Some s) (Some j) = tt
+quiet-begun w i c h (Some s) None = by (ltb (length w.lives) 1048576)
+  where
+    by : (b : Bool) → IfSome (cond b (Some (record w { lives = w.lives ++ new_life i w.clock s c ∷ [] })) None) QuietIn
+    by true = h
+    by false = tt
+
+stays-quiet : (w : World) → QuietIn w → (o : Option World) → IfSome o QuietIn → QuietIn (ticked_on w o)
+stays-quiet w h None q = h
+stays-quiet w h (Some x) q = q
+
+quiet-begins : (w : World) (i : ℕ) (ss : List Setup) → QuietIn w → QuietIn (run (begins i ss) w)
+quiet-begins w i [] h = h
+quiet-begins w i (s ∷ ss) h =
+    let e = happening.Begin i s.creation in
+    let q = at-clock w e QuietIn (quiet-begun (unclosed w) i s.creation h (slice_get w.setups i) (running w i)) in
+    quiet-begins (happens w e) (suc i) ss (stays-quiet w h (applied_at w e) q)
+
+take-theirs : FramesAlone → (all : List Told) (count : ℕ) (ks : List ℕ) (w : World) (ts : List Told) → QuietIn w → AreFollowed all count ks w ts → TakeTheirs all count ks w ts
+take-theirs alone all count ks w [] h f = tt
+take-theirs alone all count ks w (t ∷ ts) h f =
+    let g = f.0 in
+    let l = t.line in
+    let x = line-leaves alone w h all count ks (mentioned ks t) t.node l.event l.fresh g.next g.before g.applies in
+    (x.0, take-theirs alone all count (mentioned ks t) (after all count ks w t) ts x.1 f.1)
+
+-- in histories of one world each line takes its very body
+pub all-take-theirs : FramesAlone → (cs : List Closed) → AreOfOneWorld cs → TakeTheirs (lines_of cs) (length cs) [] (audit.begun cs) (lines_of cs)
+all-take-theirs alone cs f = take-theirs alone (lines_of cs) (length cs) [] (audit.begun cs) (lines_of cs) (quiet-begins (empty (setups_of cs)) 0 (setups_of cs) tt) f.followed

@@ -1,0 +1,70 @@
+-- Lines that are followed, one on.
+use Rattle.std.proofs.Common.{◌≡◌, ℕ, suc, ◌+◌, ◌<◌, List, [], ◌∷◌, ◌++◌, option_to_list, refl, ap, sym, subst, ◌∙◌, length, get_or, drop, drop-cons, add-one, add_assoc, length-append, arith}
+use Rattle.dist_agreement.specs.declared.happening.Happening.{Happening}
+use Rattle.dist_locked.specs.declared.closing.Closed.{Closed}
+use Rattle.dist_agreement.specs.World.{World, empty}
+use Rattle.dist_agreement.specs.Run.{run, count_applied, one_where}
+use Rattle.dist_agreement.specs.Happenings.{happens, applied_at}
+use Rattle.dist_audit.specs.declared.audit_error.AuditError.{AuditError}
+use Rattle.dist_audit.specs.declared.audit_error.AuditError.TheVariants as error
+use Rattle.dist_audit.specs.Lines.{Told, lines_of}
+use Rattle.dist_audit.specs.Happenings.{setups_of, begins, happenings, of_lines, ahead, itself, mentioned}
+use Rattle.dist_audit.specs.Audit.{AllApply, IsFollowed, AreFollowed, AreOfOneWorld, after, begun, Refutes}
+
+pub run-append : (xs ys : List Happening) (w : World) → run (xs ++ ys) w ≡ run ys (run xs w)
+run-append [] ys w = refl
+run-append (x ∷ xs) ys w = run-append xs ys (happens w x)
+
+-- a refusal of what follows from it is a refusal of the whole
+pub refutes-whole : (e : AuditError) (P Q : Type 0) → (Q → P) → Refutes e P → Refutes e Q
+refutes-whole error.NoMemory P Q f r = tt
+refutes-whole error.NotSent P Q f r = λ q. r (f q)
+refutes-whole error.OtherReply P Q f r = λ q. r (f q)
+refutes-whole error.TicketFalls P Q f r = absurd r
+refutes-whole error.TicketTwice P Q f r = absurd r
+refutes-whole error.Unpaired P Q f r = absurd r
+
+-- what is left of the lines decides
+pub record Decides (all : List Told) (count : ℕ) (ks : List ℕ) (w : World) (rest : List Told) (begun : World) : Type 0 where
+  pub whole : AreFollowed all count ks w rest → AreFollowed all count [] begun all
+  pub part : AreFollowed all count [] begun all → AreFollowed all count ks w rest
+  pub runs : run (of_lines all count ks rest) w ≡ run (of_lines all count [] all) begun
+
+module _ (all : List Told) (count : ℕ) (ks : List ℕ) (w begun : World) (i : ℕ) (t : Told) (few : i < length all) (is : t ≡ get_or all i t) where
+  split : drop i all ≡ t ∷ drop (i + 1) all
+  split = drop-cons all i t few ∙ (ap (λ (x : Told). x ∷ drop (suc i) all) (sym is) ∙ ap (λ n. t ∷ drop n all) (sym (add-one i)))
+
+  -- the first of those that are left is followed
+  pub first_of_rest : Decides all count ks w (drop i all) begun → AreFollowed all count [] begun all → IsFollowed all count ks w t
+  first_of_rest d f = (subst (AreFollowed all count ks w) split (d.part f)).0
+
+  pub goes_on : (new : World) (js : List ℕ) → Decides all count ks w (drop i all) begun → IsFollowed all count ks w t → new ≡ after all count ks w t → js ≡ mentioned ks t → Decides all count js new (drop (i + 1) all) begun
+  goes_on new js d f did named =
+      let Q : List ℕ → World → Type 0 = λ ls v. Decides all count ls v (drop (i + 1) all) begun in
+      let at : Q (mentioned ks t) (after all count ks w t) = record {
+        whole = λ g. d.whole (subst (AreFollowed all count ks w) (sym split) (f, g));
+        part = λ g. (subst (AreFollowed all count ks w) split (d.part g)).1;
+        runs = sym (run-append (option_to_list (ahead all count ks t)) (itself ks t ∷ of_lines all count (mentioned ks t) (drop (i + 1) all)) w) ∙ (sym (ap (λ (rest : List Told). run (of_lines all count ks rest) w) split) ∙ d.runs);
+      } in
+      subst (λ v. Q js v) (sym did) (subst (λ ls. Q ls (after all count ks w t)) (sym named) at)
+
+-- ---- all of them apply
+
+count-append : (xs ys : List Happening) (w : World) → count_applied (xs ++ ys) w ≡ count_applied xs w + count_applied ys (run xs w)
+count-append [] ys w = omega arith
+count-append (x ∷ xs) ys w = ap (λ n. one_where (applied_at w x) + n) (count-append xs ys (happens w x)) ∙ sym (add_assoc (one_where (applied_at w x)) (count_applied xs (happens w x)) (count_applied ys (run xs (happens w x))))
+
+-- what is joined of two lists that apply applies
+all-append : (xs ys : List Happening) (w : World) → AllApply xs w → AllApply ys (run xs w) → AllApply (xs ++ ys) w
+all-append xs ys w p q = count-append xs ys w ∙ ((λ j. p j + q j) ∙ sym (length-append xs ys))
+
+all-followed : (all : List Told) (count : ℕ) (ks : List ℕ) (w : World) (ts : List Told) → AreFollowed all count ks w ts → AllApply (of_lines all count ks ts) w
+all-followed all count ks w [] f = refl
+all-followed all count ks w (t ∷ ts) f =
+    let x = ahead all count ks t in
+    let later = all-followed all count (mentioned ks t) (after all count ks w t) ts f.1 in
+    all-append (option_to_list x) (itself ks t ∷ of_lines all count (mentioned ks t) ts) w (let g = f.0 in g.before) (all-append (itself ks t ∷ []) (of_lines all count (mentioned ks t) ts) (run (option_to_list x) w) (let g = f.0 in g.applies) later)
+
+-- all the happenings of histories of one world apply
+pub all-apply : (cs : List Closed) → AllApply (begins 0 (setups_of cs)) (empty (setups_of cs)) → AreOfOneWorld cs → AllApply (happenings cs) (empty (setups_of cs))
+all-apply cs b f = all-append (begins 0 (setups_of cs)) (of_lines (lines_of cs) (length cs) [] (lines_of cs)) (empty (setups_of cs)) b (all-followed (lines_of cs) (length cs) [] (begun cs) (lines_of cs) f.followed)

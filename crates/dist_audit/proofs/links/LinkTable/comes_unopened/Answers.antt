@@ -1,0 +1,6 @@
+use Rattle.std.proofs.Common.{◌∙◌}
+use Rattle.dist_audit.proofs.Linking.{all_unknown}
+use Rattle.dist_audit.proofs.links.LinkTable.comes_unopened.Goals as goal
+
+pub returns : goal.returns
+returns c = c.has_unknown.ensures ∙ all_unknown (let t = c.args.self.now in t.diallers) (let t = c.args.self.now in t.acceptors) c.args.lines.now c.requires

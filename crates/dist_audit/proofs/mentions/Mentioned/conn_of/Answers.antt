@@ -1,0 +1,10 @@
+use Rattle.std.proofs.Common.{ap, ◌∙◌}
+use Rattle.dist_audit.specs.Links.{conn_of}
+use Rattle.dist_audit.proofs.Mentioning.{number_found, number_absent}
+use Rattle.dist_audit.proofs.mentions.Mentioned.conn_of.Goals as goal
+
+pub returns-in-Some : goal.returns-in-Some
+returns-in-Some c = number_found c.self.inside.numbers c.self.inside.links.items c.self.invariant c.args.wanted c.in-Some.number.now c.in-Some.ensures.value ∙ ap (conn_of c.args.wanted) c.self.view_is
+
+pub returns-in-None : goal.returns-in-None
+returns-in-None c = c.len.ensures ∙ (c.self.inside.links.ok.0 ∙ (number_absent c.self.inside.numbers c.self.inside.links.items c.self.invariant c.args.wanted c.in-None.ensures.value ∙ ap (conn_of c.args.wanted) c.self.view_is))

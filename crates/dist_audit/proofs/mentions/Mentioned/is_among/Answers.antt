@@ -1,0 +1,7 @@
+use Rattle.std.proofs.Common.{ap, ◌∙◌}
+use Rattle.dist_audit.specs.Links.{is_among}
+use Rattle.dist_audit.proofs.Mentioning.{among}
+use Rattle.dist_audit.proofs.mentions.Mentioned.is_among.Goals as goal
+
+pub returns : goal.returns
+returns c = c.contains_key.ensures ∙ (among c.self.inside.numbers c.self.inside.links.items c.self.invariant c.args.wanted ∙ ap (is_among c.args.wanted) c.self.view_is)

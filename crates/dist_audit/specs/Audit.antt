@@ -1,0 +1,170 @@
+-- HISTORIES THAT ARE THOSE OF ONE WORLD.
+use Rattle.std.specs.Prelude.{◌≡◌, ℕ, ◌<◌, ◌^◌, List, [], ◌∷◌, ◌++◌, length, Option, Some, None, Ok, slice_get, option_to_list}
+use Rattle.std.specs.Option.{option_map, option_and_then}
+use Rattle.std.specs.Int.{w16}
+use Rattle.std.specs.FinMap as map
+use Rattle.dist_names.specs.Order.{Name}
+use Rattle.dist_messages.specs.declared.message.Side.{Side}
+use Rattle.dist_frames.specs.Stream.{framed, first_body}
+use Rattle.dist_peers.specs.declared.entry.EndId.{EndId}
+use Rattle.dist_peers.specs.declared.entry.Entry.{Entry}
+use Rattle.dist_ends.specs.declared.known.UpRecord.{UpRecord}
+use Rattle.dist_core.specs.declared.event.Event.{Event}
+use Rattle.dist_core.specs.declared.event.Event.TheVariants as event
+use Rattle.dist_ends.specs.Ends.{table_of, up_ids, up_from}
+use Rattle.dist_core.specs.Node.{NodeState}
+use Rattle.dist_core.specs.Step.{step}
+use Rattle.dist_core.specs.Answers.{reply_of}
+use Rattle.dist_locked.specs.declared.line.Line.{Line}
+use Rattle.dist_locked.specs.declared.closing.Closed.{Closed}
+use Rattle.dist_agreement.specs.declared.happening.Happening.{Happening}
+use Rattle.dist_agreement.specs.World.{World, empty, running, row_at}
+use Rattle.dist_agreement.specs.Delivery.{text_to}
+use Rattle.dist_world.specs.Hearing.{wire_of}
+use Rattle.dist_world.specs.Asking.{node_of, said_to}
+use Rattle.dist_agreement.specs.Run.{run, count_applied}
+use Rattle.dist_audit.specs.declared.audit_error.AuditError.{AuditError}
+use Rattle.dist_audit.specs.declared.audit_error.AuditError.TheVariants as error
+use Rattle.dist_audit.specs.Lines.{Told, lines_of}
+use Rattle.dist_audit.specs.Links.{conn_of}
+use Rattle.dist_audit.specs.Faults.{fault_of}
+use Rattle.dist_audit.specs.Happenings.{setups_of, begins, ahead, itself, mentioned, happenings}
+
+-- the text begins with the frame of this body
+abbrev pub BeginsWith : Option (List ℕ) → List ℕ → Type 0
+BeginsWith None body = ⊥
+BeginsWith (Some text) body = (rest : List ℕ) × (framed w16 body ++ rest ≡ text)
+
+-- the body is the next that was said to this end of node i and is undelivered
+abbrev pub Says : World → ℕ → EndId → List ℕ → Type 0
+Says w i id body = (length body < 2 ^ 16) × BeginsWith (said_to w i id) body
+
+-- the body of a frame is the next that the other end had said by then
+abbrev pub IsNext : World → ℕ → Event → Type 0
+IsNext w i (event.Frame id body) = Says w i id body
+IsNext w i _ = Unit {0}
+
+-- the node gives the very reply of the line
+abbrev pub Gives : NodeState → Line → Type 0
+Gives n l = reply_of (step n l.event l.fresh) ≡ Ok l.reply
+
+-- there is a node, and it gives the very reply of the line
+abbrev pub Replies : Option NodeState → Line → Type 0
+Replies None l = ⊥
+Replies (Some n) l = Gives n l
+
+-- all of these apply
+abbrev pub AllApply : List Happening → World → Type 0
+AllApply hs w = count_applied hs w ≡ length hs
+
+-- A LINE IS FOLLOWED from world w on: a frame's body is the next one said; what is to happen before it applies; the node
+-- gives that very reply; and the line itself applies
+pub record IsFollowed (all : List Told) (count : ℕ) (ks : List ℕ) (w : World) (t : Told) : Type 0 where
+  pub next : IsNext w t.node (let l = t.line in l.event)
+  pub before : AllApply (option_to_list (ahead all count ks t)) w
+  pub reply : Replies (node_of (run (option_to_list (ahead all count ks t)) w) t.node) t.line
+  pub applies : AllApply (itself ks t ∷ []) (run (option_to_list (ahead all count ks t)) w)
+
+-- the world after one line
+abbrev pub after : List Told → ℕ → List ℕ → World → Told → World
+after all count ks w t = run (itself ks t ∷ []) (run (option_to_list (ahead all count ks t)) w)
+
+-- these lines are followed in turn
+abbrev pub AreFollowed : List Told → ℕ → List ℕ → World → List Told → Type 0
+AreFollowed all count ks w [] = Unit {0}
+AreFollowed all count ks w (t ∷ ts) = IsFollowed all count ks w t × AreFollowed all count (mentioned ks t) (after all count ks w t) ts
+
+-- ---- tables
+
+abbrev pub entry_at : NodeState → ℕ → Option (Name × Entry)
+entry_at n k = slice_get (map.entries (table_of n.ends)) k
+
+abbrev pub record_at : NodeState → ℕ → Option (EndId × UpRecord)
+record_at n k = up_from n.ends (slice_get (up_ids (map.entries (table_of n.ends))) k)
+
+-- the two have the same entries and the same records
+pub record AreAlike (n m : NodeState) : Type 0 where
+  pub entries : (k : ℕ) → entry_at n k ≡ entry_at m k
+  pub records : (k : ℕ) → record_at n k ≡ record_at m k
+
+abbrev pub IsAlike : NodeState → Option NodeState → Type 0
+IsAlike n None = ⊥
+IsAlike n (Some m) = AreAlike n m
+
+-- the nodes have the entries and the records of these closed nodes
+abbrev pub HasTables : World → List Closed → Type 0
+HasTables w cs = (k : ℕ) (c : Closed) → slice_get cs k ≡ Some c → IsAlike c.node (node_of w k)
+
+-- ---- THE AUDIT
+
+-- the world of these histories, before their lines
+abbrev pub begun : List Closed → World
+begun cs = run (begins 0 (setups_of cs)) (empty (setups_of cs))
+
+-- THE WORLD OF THESE HISTORIES
+abbrev pub world_of : List Closed → World
+world_of cs = run (happenings cs) (empty (setups_of cs))
+
+-- THE HISTORIES ARE THOSE OF ONE WORLD: each line is followed, and each closed node has the entries and the records of its
+-- node in that world
+pub record AreOfOneWorld (cs : List Closed) : Type 0 where
+  pub followed : AreFollowed (lines_of cs) (length cs) [] (begun cs) (lines_of cs)
+  pub tables : HasTables (world_of cs) cs
+
+-- ---- refusals
+
+-- a refusal says that this is not so, and nothing where memory was short
+abbrev pub Refutes : AuditError → Type 0 → Type 0
+Refutes error.NoMemory P = Unit {0}
+Refutes error.NotSent P = P → ⊥
+Refutes error.OtherReply P = P → ⊥
+Refutes e P = ⊥
+
+-- WHAT A REFUSAL TELLS: the first fault of the histories by themselves; where there is none, that they are not those of
+-- one world; and nothing where memory was short
+abbrev pub Tells : AuditError → List Closed → Type 0
+Tells error.NoMemory cs = Unit {0}
+Tells error.NotSent cs = (fault_of cs ≡ None) × (AreOfOneWorld cs → ⊥)
+Tells error.OtherReply cs = (fault_of cs ≡ None) × (AreOfOneWorld cs → ⊥)
+Tells e cs = fault_of cs ≡ Some e
+
+-- ---- what each line takes
+
+-- what came to this side of a connection and is not taken
+abbrev pub come_of : World → Option (Side × ℕ) → Option (List ℕ)
+come_of w None = None
+come_of w (Some x) = option_map (λ c. (let t = text_to x.0 c in t.come)) (slice_get w.conns x.1)
+
+-- the text that came to an end of the running incarnation of node i and is not taken
+abbrev pub come_to : World → ℕ → EndId → Option (List ℕ)
+come_to w i id = option_and_then (λ place. come_of w (wire_of (row_at w place id.0))) (running w i)
+
+-- the first body that came to the end of a frame is the frame's
+abbrev pub IsFront : World → ℕ → Event → Type 0
+IsFront w i (event.Frame id body) = option_and_then (first_body w16) (come_to w i id) ≡ Some body
+IsFront w i _ = Unit {0}
+
+-- THESE LINES TAKE THEIR VERY BODIES, each once what is to happen before it has happened
+abbrev pub TakeTheirs : List Told → ℕ → List ℕ → World → List Told → Type 0
+TakeTheirs all count ks w [] = Unit {0}
+TakeTheirs all count ks w (t ∷ ts) = IsFront (run (option_to_list (ahead all count ks t)) w) t.node (let l = t.line in l.event) × TakeTheirs all count (mentioned ks t) (after all count ks w t) ts
+
+-- each line of histories takes its very body
+abbrev pub EachTakesItsBody : List Closed → Type 0
+EachTakesItsBody cs = TakeTheirs (lines_of cs) (length cs) [] (begun cs) (lines_of cs)
+
+-- ---- where each link leads
+
+-- the connection of a link that comes to node i leads to the running incarnation of node i
+abbrev pub ComesHere : World → List ℕ → ℕ → Event → Type 0
+ComesHere w ks i (event.Incoming k) = option_map (λ c. c.target) (slice_get w.conns (conn_of k ks)) ≡ running w i
+ComesHere w ks i _ = Unit {0}
+
+-- these lines come to the nodes to which their links lead
+abbrev pub ComeHome : List Told → ℕ → List ℕ → World → List Told → Type 0
+ComeHome all count ks w [] = Unit {0}
+ComeHome all count ks w (t ∷ ts) = ComesHere (run (option_to_list (ahead all count ks t)) w) (mentioned ks t) t.node (let l = t.line in l.event) × ComeHome all count (mentioned ks t) (after all count ks w t) ts
+
+-- each link that comes to a node leads to that node
+abbrev pub EachLinkComesHome : List Closed → Type 0
+EachLinkComesHome cs = ComeHome (lines_of cs) (length cs) [] (begun cs) (lines_of cs)

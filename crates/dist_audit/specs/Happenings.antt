@@ -1,0 +1,74 @@
+-- THE HAPPENINGS OF HISTORIES.
+use Rattle.std.specs.Prelude.{ℕ, ◌+◌, suc, List, [], ◌∷◌, ◌++◌, length, Option, Some, None, if◌then◌else◌, option_to_list}
+use Rattle.dist_peers.specs.declared.entry.EndId.{EndId}
+use Rattle.dist_setup.specs.declared.setup.Setup.{Setup}
+use Rattle.dist_core.specs.declared.event.Event.{Event}
+use Rattle.dist_core.specs.declared.event.Event.TheVariants as event
+use Rattle.dist_locked.specs.declared.line.Line.{Line}
+use Rattle.dist_locked.specs.declared.closing.Closed.{Closed}
+use Rattle.dist_agreement.specs.declared.happening.Happening.{Happening}
+use Rattle.dist_agreement.specs.declared.happening.Happening.TheVariants as happening
+use Rattle.dist_audit.specs.Lines.{Told, lines_of}
+use Rattle.dist_audit.specs.Links.{link_in, dialler_of, acceptor_of, target_of, is_among, mention, conn_of}
+
+-- what all nodes were set up with
+abbrev pub setups_of : List Closed → List Setup
+setups_of [] = []
+setups_of (c ∷ cs) = (let n = c.node in n.setup) ∷ setups_of cs
+
+-- each node begins, with its setup's creation
+abbrev pub begins : ℕ → List Setup → List Happening
+begins i [] = []
+begins i (s ∷ ss) = happening.Begin i s.creation ∷ begins (suc i) ss
+
+-- the dialling end reaches the node to which the link comes
+abbrev pub reach : List Told → ℕ → ℕ → Option (ℕ × EndId) → Option Happening
+reach all count k None = None
+reach all count k (Some x) = Some (happening.Reach x.0 x.1 (target_of count x.0 (acceptor_of k all)))
+
+-- at the first mention of a link
+abbrev pub reach_first : List Told → ℕ → List ℕ → ℕ → Option Happening
+reach_first all count ks k = if is_among k ks then None else reach all count k (dialler_of k all)
+
+-- WHAT HAPPENS BEFORE A LINE: of all these lines, with so many nodes, where these links were mentioned before
+abbrev pub before : List Told → ℕ → List ℕ → ℕ → Event → Option Happening
+before all count ks i (event.Dial p o) = None
+before all count ks i (event.Opened id k) = reach_first all count ks k
+before all count ks i (event.Incoming k) = reach_first all count ks k
+before all count ks i (event.Frame id body) = Some (happening.Deliver i id (2 + length body))
+before all count ks i (event.Lost id w) = None
+before all count ks i (event.Tick id) = None
+
+-- THE HAPPENING OF A LINE of node i, where these links were mentioned, its own among them
+abbrev pub own : List ℕ → ℕ → Event → ℕ → Happening
+own ks i (event.Dial p o) fresh = happening.Dial i p o
+own ks i (event.Opened id k) fresh = happening.Opened i id
+own ks i (event.Incoming k) fresh = happening.Accept (conn_of k ks)
+own ks i (event.Frame id body) fresh = happening.Take i id fresh
+own ks i (event.Lost id w) fresh = happening.Lose i id w
+own ks i (event.Tick id) fresh = happening.Tick i id
+
+-- the links mentioned, those of this line among them
+abbrev pub mentioned : List ℕ → Told → List ℕ
+mentioned ks t = let l = t.line in mention ks (link_in l.event)
+
+-- what happens before this line
+abbrev pub ahead : List Told → ℕ → List ℕ → Told → Option Happening
+ahead all count ks t = let l = t.line in before all count ks t.node l.event
+
+-- the same, where those mentioned before are given
+abbrev pub own_of : List ℕ → ℕ → Line → Happening
+own_of ks i l = own (mention ks (link_in l.event)) i l.event l.fresh
+
+-- the happening of this line
+abbrev pub itself : List ℕ → Told → Happening
+itself ks t = own_of ks t.node t.line
+
+-- what happens for these lines, in turn
+abbrev pub of_lines : List Told → ℕ → List ℕ → List Told → List Happening
+of_lines all count ks [] = []
+of_lines all count ks (t ∷ ts) = option_to_list (ahead all count ks t) ++ (itself ks t ∷ of_lines all count (mentioned ks t) ts)
+
+-- THE HAPPENINGS OF THESE HISTORIES: each node begins, and then each line happens, in the order of tickets
+abbrev pub happenings : List Closed → List Happening
+happenings cs = begins 0 (setups_of cs) ++ of_lines (lines_of cs) (length cs) [] (lines_of cs)

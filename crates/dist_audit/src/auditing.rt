@@ -1,0 +1,112 @@
+//! The audit.
+ghost use Rattle.std.specs.Prelude.{◌≡◌, ◌↔◌, None, Some, IsTrue, true, false, IfOk, IfErr, OnOk};
+ghost use Rattle.dist_agreement.specs.World.{empty};
+ghost use Rattle.dist_agreement.specs.Run.{run};
+ghost use Rattle.dist_audit.specs.Lines.{lines_of};
+ghost use Rattle.dist_audit.specs.Happenings.{setups_of, begins, happenings};
+ghost use Rattle.dist_audit.specs.Faults.{fault_of, nodes_unpaired, Unpairs, IsFault};
+ghost use Rattle.dist_audit.specs.Audit.{AllApply, AreOfOneWorld, EachLinkComesHome, EachTakesItsBody, Refutes, Tells, world_of};
+
+use crate::audit_error::AuditError;
+use crate::checks::{falls, twice};
+use crate::happenings::{begins, setups_of};
+use crate::pairing::{Lines, paired_lines};
+use crate::tables::has_tables;
+use crate::walk::{follow_all, happen};
+use dist_frames::frame_in_front;
+use dist_locked::Closed;
+use dist_world::{World, WorldError};
+use std::alloc::{AllocError, Global};
+
+/// The most closed nodes.
+const MOST_NODES: usize = 1048576;
+
+// The world of these nodes, none of which runs yet.
+fn opening_world(alloc: Global, closed: &[Closed]) -> Result<World, AuditError>
+    ensures ok { IfOk result (λ w. w ≡ empty (setups_of closed.now)) }
+    ensures paired { OnOk result (nodes_unpaired closed.now ≡ false) }
+    ensures err { IfErr result (λ e. Unpairs e (nodes_unpaired closed.now)) }
+{
+    if closed.len() > MOST_NODES {
+        return Err(AuditError::Unpaired);
+    }
+    let setups = setups_of(alloc, closed)?;
+    match World::new(alloc, setups) {
+        Ok(world) => Ok(world),
+        Err(WorldError::SameName) => Err(AuditError::Unpaired),
+        Err(WorldError::NoMemory) => Err(AuditError::NoMemory),
+    }
+}
+
+// The opening world and all lines, where the histories have no fault by themselves.
+fn checked(alloc: Global, closed: &[Closed]) -> Result<(World, Lines), AuditError>
+    ensures ok { IfOk result (λ r. (r.0 ≡ empty (setups_of closed.now)) × (r.1 ≡ lines_of closed.now)) }
+    ensures faultless { OnOk result (fault_of closed.now ≡ None) }
+    ensures err { IfErr result (λ e. IsFault e closed.now) }
+{
+    if falls(closed) {
+        return Err(AuditError::TicketFalls);
+    }
+    if twice(alloc, closed)? {
+        return Err(AuditError::TicketTwice);
+    }
+    let world = opening_world(alloc, closed)?;
+    let lines = paired_lines(alloc, closed)?;
+    Ok((world, lines))
+}
+
+// All nodes begin.
+fn begin(alloc: Global, world: &mut World) -> Result<bool, AllocError>
+    ensures after { OnOk result (world.new ≡ run (begins 0 world.old.setups) world.old) }
+    ensures all { IfOk result (λ b. IsTrue b ↔ AllApply (begins 0 world.old.setups) world.old) }
+{
+    let list = begins(alloc, world.setups())?;
+    happen(world, alloc, &list)
+}
+
+// All nodes begin, all lines are followed, and the tables are compared.
+fn play(
+    alloc: Global,
+    world: &mut World,
+    lines: &Lines,
+    closed: &[Closed],
+) -> Result<(), AuditError>
+    requires opening { (world.old ≡ empty (setups_of closed.now)) × (lines.now ≡ lines_of closed.now) }
+    requires faultless { fault_of closed.now ≡ None }
+    ensures world { OnOk result (world.new ≡ world_of closed.now) }
+    ensures one_world { OnOk result (AreOfOneWorld closed.now) }
+    ensures err { IfErr result (λ e. Refutes e (AreOfOneWorld closed.now)) }
+{
+    if !begin(alloc, world)? {
+        return Err(AuditError::OtherReply);
+    }
+    follow_all(alloc, world, lines, closed.len())?;
+    if !has_tables(world, closed) {
+        return Err(AuditError::OtherReply);
+    }
+    Ok(())
+}
+
+/// The world of these histories, where they are those of one: node `i` of the world has the entries and the records of
+/// closed node `i`. Our own choice: the standard knows no such check.
+///
+/// At most 1,048,576 nodes. The histories are looked at first, for `TicketFalls`, then `TicketTwice`, then `Unpaired`; then
+/// the lines are followed in the order of their tickets, and the first that does not fit is told; then the tables are
+/// compared. `NoMemory` may come at any point but the first, and says nothing of the histories. The cost grows as the lines
+/// and the bytes of their frames do, times a logarithm of the number of lines.
+pub fn audit(alloc: Global, closed: &[Closed]) -> Result<World, AuditError>
+    ensures world { IfOk result (λ w. w ≡ world_of closed.now) }
+    ensures applied { OnOk result (AllApply (happenings closed.now) (empty (setups_of closed.now))) }
+    ensures one_world { OnOk result (AreOfOneWorld closed.now) }
+    ensures links { OnOk result (EachLinkComesHome closed.now) }
+    ensures bodies { OnOk result (EachTakesItsBody closed.now) }
+    ensures faultless { OnOk result (fault_of closed.now ≡ None) }
+
+    // A refusal tells the first fault, or that the histories are not those of one world.
+    ensures err { IfErr result (λ e. Tells e closed.now) }
+{
+    frame_in_front();
+    let (mut world, lines) = checked(alloc, closed)?;
+    play(alloc, &mut world, &lines, closed)?;
+    Ok(world)
+}

@@ -1,0 +1,110 @@
+//! The happenings of histories.
+ghost use Rattle.std.specs.Prelude.{◌≡◌, IfOk, OnOk};
+ghost use Rattle.dist_audit.specs.Happenings.{setups_of, begins, reach, reach_first, before, own};
+ghost use Rattle.dist_audit.specs.Links.{dialler_of};
+
+use crate::links::target_of;
+use crate::mentions::Mentioned;
+use crate::pairing::Lines;
+use dist_core::{Event, Setup};
+use dist_locked::Closed;
+use dist_world::Happening;
+use std::alloc::{AllocError, Global};
+
+/// What all nodes were set up with.
+pub fn setups_of(alloc: Global, closed: &[Closed]) -> Result<Vec<Setup>, AllocError>
+    ensures { IfOk result (λ setups. setups.items ≡ setups_of closed.now) }
+{
+    let mut setups = Vec::new(alloc);
+    for i in 0..closed.len() {
+        setups.push(closed[i].node.setup().try_clone(alloc)?)?;
+    }
+    Ok(setups)
+}
+
+/// Each node begins, with its setup's creation.
+pub fn begins(alloc: Global, setups: &[Setup]) -> Result<Vec<Happening>, AllocError>
+    ensures { IfOk result (λ list. list.items ≡ begins 0 setups.now) }
+{
+    let mut list = Vec::new(alloc);
+    for node in 0..setups.len() {
+        let creation = setups[node].creation;
+        list.push(Happening::Begin { node, creation })?;
+    }
+    Ok(list)
+}
+
+// The dialling end reaches the node to which the link comes.
+fn reach(lines: &Lines, count: usize, link: u64) -> Option<Happening>
+    ensures { result ≡ reach lines.now count link (dialler_of link lines.now) }
+{
+    let (node, end_) = lines.dialler_of(link)?;
+    let target = target_of(count, node, lines.acceptor_of(link));
+    Some(Happening::Reach { node, end_, target })
+}
+
+// The same at the first mention of a link.
+fn reach_first(lines: &Lines, count: usize, links: &Mentioned, link: u64) -> Option<Happening>
+    ensures { result ≡ reach_first lines.now count links.now link }
+{
+    if links.is_among(link) {
+        return None;
+    }
+    reach(lines, count, link)
+}
+
+/// What happens before a line of this node, where these links were mentioned before.
+pub fn before(
+    lines: &Lines,
+    count: usize,
+    links: &Mentioned,
+    node: usize,
+    event: &Event,
+) -> Option<Happening>
+    ensures { result ≡ before lines.now count links.now node event.now }
+{
+    match event {
+        Event::Opened { end_: _, link } => reach_first(lines, count, links, *link),
+        Event::Incoming { link } => reach_first(lines, count, links, *link),
+        Event::Frame { end_, body } => Some(Happening::Deliver {
+            node,
+            end_: *end_,
+            bytes: 2 + body.as_slice().len(),
+        }),
+        _ => None,
+    }
+}
+
+/// The happening of a line of this node, where these links were mentioned, its own among them.
+pub fn own(
+    alloc: Global,
+    links: &Mentioned,
+    node: usize,
+    event: &Event,
+    fresh: u32,
+) -> Result<Happening, AllocError>
+    ensures { IfOk result (λ h. h ≡ own links.now node event.now fresh) }
+{
+    Ok(match event {
+        Event::Dial { peer, opening } => Happening::Dial {
+            node,
+            peer: peer.try_clone(alloc)?,
+            opening: *opening,
+        },
+        Event::Opened { end_, link: _ } => Happening::Opened { node, end_: *end_ },
+        Event::Incoming { link } => Happening::Accept {
+            conn: links.conn_of(*link),
+        },
+        Event::Frame { end_, body: _ } => Happening::Take {
+            node,
+            end_: *end_,
+            fresh,
+        },
+        Event::Lost { end_, why } => Happening::Lose {
+            node,
+            end_: *end_,
+            why: *why,
+        },
+        Event::Tick { end_ } => Happening::Tick { node, end_: *end_ },
+    })
+}

@@ -1,0 +1,126 @@
+//! Links: the numbers by which those who carried a connection knew it.
+ghost use Rattle.std.specs.Prelude.{◌≡◌, ℕ, if◌then◌else◌, [], Some, false, IfOk, IfErr, OnOk};
+ghost use Rattle.std.specs.List.{list_any};
+ghost use Rattle.std.specs.Ordering.{nat_cmp};
+ghost use Rattle.std.specs.BTreeMap.{get};
+ghost use Rattle.dist_audit.specs.Links.{link_in, dialled, dialled_in, comes, comes_in, or_else, first_other, target_of};
+ghost use Rattle.dist_audit.specs.Faults.{links_repeat, comes_unopened, Unpairs};
+ghost use Rattle.dist_audit.specs.Kept.{Knows, is_again, is_unknown};
+
+use crate::audit_error::AuditError;
+use crate::lines::Told;
+use dist_core::Event;
+use dist_peers::EndId;
+use std::alloc::{AllocError, Global};
+use std::collections::BTreeMap;
+
+/// The link that an event mentions.
+pub fn link_in(event: &Event) -> Option<u64>
+    ensures { result ≡ link_in event.now }
+{
+    match event {
+        Event::Opened { end_: _, link } => Some(*link),
+        Event::Incoming { link } => Some(*link),
+        _ => None,
+    }
+}
+
+fn first_other(count: usize, node: usize) -> usize
+    ensures { result ≡ first_other count node }
+{
+    if node == 0 && 1 < count { 1 } else { 0 }
+}
+
+/// Where a link leads to: the node to which it came, or one that is not known to have seen it.
+pub fn target_of(count: usize, node: usize, acceptor: Option<usize>) -> usize
+    ensures { result ≡ target_of count node acceptor }
+{
+    match acceptor {
+        Some(target) => target,
+        None => first_other(count, node),
+    }
+}
+
+/// For each link the node and the end that were told of it when they had dialled, and the node to which it came.
+#[derive(Drop)]
+pub struct LinkTable {
+    pub diallers: BTreeMap<u64, (usize, EndId)>,
+    pub acceptors: BTreeMap<u64, usize>,
+}
+
+impl LinkTable {
+    fn new(alloc: Global) -> LinkTable
+        ensures { Knows result.diallers result.acceptors [] }
+    {
+        LinkTable {
+            diallers: BTreeMap::new(alloc),
+            acceptors: BTreeMap::new(alloc),
+        }
+    }
+
+    // Learns what an event of this node tells, and says whether its link was known from another of its kind.
+    fn learn_event(&mut self, node: usize, event: &Event) -> Result<bool, AllocError>
+        ensures diallers { OnOk result ((k : ℕ) → get nat_cmp self.new.diallers k ≡ or_else node (dialled k event.now) (get nat_cmp self.old.diallers k)) }
+        ensures acceptors { OnOk result ((k : ℕ) → get nat_cmp self.new.acceptors k ≡ (if comes k event.now then Some node else get nat_cmp self.old.acceptors k)) }
+        ensures again { IfOk result (λ b. b ≡ is_again self.old.diallers self.old.acceptors event.now) }
+    {
+        match event {
+            Event::Opened { end_, link } => {
+                let known = self.diallers.insert(*link, (node, *end_))?;
+                Ok(known.is_some())
+            }
+            Event::Incoming { link } => {
+                let known = self.acceptors.insert(*link, node)?;
+                Ok(known.is_some())
+            }
+            _ => Ok(false),
+        }
+    }
+
+    fn learn(&mut self, told: &Told) -> Result<bool, AllocError>
+        ensures diallers { OnOk result ((k : ℕ) → get nat_cmp self.new.diallers k ≡ or_else told.now.node (dialled_in k told.now) (get nat_cmp self.old.diallers k)) }
+        ensures acceptors { OnOk result ((k : ℕ) → get nat_cmp self.new.acceptors k ≡ (if comes_in k told.now then Some told.now.node else get nat_cmp self.old.acceptors k)) }
+        ensures again { IfOk result (λ b. b ≡ is_again self.old.diallers self.old.acceptors (let l = told.now.line in l.event)) }
+    {
+        self.learn_event(told.node(), &told.line().event)
+    }
+
+    // A link came that has no dialler.
+    fn is_unknown(&self, event: &Event) -> bool
+        ensures { result ≡ is_unknown self.now.diallers event.now }
+    {
+        match event {
+            Event::Incoming { link } => !self.diallers.contains_key(link),
+            _ => false,
+        }
+    }
+
+    fn has_unknown(&self, lines: &[Told]) -> bool
+        ensures { result ≡ list_any (λ t. is_unknown self.now.diallers (let l = t.line in l.event)) lines.now }
+    {
+        lines.iter().any(|told| self.is_unknown(&told.line().event))
+    }
+
+    /// A link came that no node was told of when it had dialled.
+    pub fn comes_unopened(&self, lines: &[Told]) -> bool
+        requires { Knows self.now.diallers self.now.acceptors lines.now }
+        ensures { result ≡ comes_unopened lines.now }
+    {
+        self.has_unknown(lines)
+    }
+}
+
+/// What these lines tell of each link, where no link stands in two lines of one kind.
+pub fn link_table(alloc: Global, lines: &[Told]) -> Result<LinkTable, AuditError>
+    ensures known { IfOk result (λ t. Knows t.diallers t.acceptors lines.now) }
+    ensures once { OnOk result (links_repeat lines.now ≡ false) }
+    ensures err { IfErr result (λ e. Unpairs e (links_repeat lines.now)) }
+{
+    let mut table = LinkTable::new(alloc);
+    for i in (0..lines.len()).rev() {
+        if table.learn(&lines[i])? {
+            return Err(AuditError::Unpaired);
+        }
+    }
+    Ok(table)
+}

@@ -1,0 +1,165 @@
+//! The walk along the lines, in a world.
+ghost use Rattle.std.specs.Prelude.{◌≡◌, ◌↔◌, ◌∷◌, [], length, IsTrue, IfOk, IfErr, OnOk, OnErr, option_to_list};
+ghost use Rattle.dist_agreement.specs.Run.{run};
+ghost use Rattle.dist_world.specs.Asking.{node_of};
+ghost use Rattle.dist_audit.specs.Happenings.{mentioned, own_of, of_lines};
+ghost use Rattle.dist_audit.specs.Links.{mention, link_in};
+ghost use Rattle.dist_audit.specs.Audit.{AllApply, Says, IsNext, Gives, Replies, IsFollowed, AreFollowed, after, Refutes};
+
+use crate::audit_error::AuditError;
+use crate::happenings::{before, own};
+use crate::lines::Told;
+use crate::mentions::Mentioned;
+use crate::pairing::Lines;
+use dist_core::{Event, Node, Reply, StepError};
+use dist_frames::{FrameError, write_short};
+use dist_locked::Line;
+use dist_peers::EndId;
+use dist_world::{Happening, World};
+use std::alloc::{AllocError, Global};
+
+/// Lets these happenings happen, and says whether all applied.
+pub fn happen(
+    world: &mut World,
+    alloc: Global,
+    happenings: &[Happening],
+) -> Result<bool, AllocError>
+    ensures after { OnOk result (world.new ≡ run happenings.now world.old) }
+    ensures all { IfOk result (λ b. IsTrue b ↔ AllApply happenings.now world.old) }
+{
+    match world.run(alloc, happenings) {
+        Ok(count) => Ok(count == happenings.len()),
+        Err(_) => Err(AllocError),
+    }
+}
+
+// The same of one, where there is one.
+fn happen_before(
+    world: &mut World,
+    alloc: Global,
+    happening: Option<Happening>,
+) -> Result<bool, AllocError>
+    ensures after { OnOk result (world.new ≡ run (option_to_list happening) world.old) }
+    ensures all { IfOk result (λ b. IsTrue b ↔ AllApply (option_to_list happening) world.old) }
+{
+    match happening {
+        None => Ok(true),
+        Some(one) => happen(world, alloc, &[one]),
+    }
+}
+
+// The frame of this body is the next that was said to an end.
+fn is_said_next(
+    alloc: Global,
+    world: &World,
+    node: usize,
+    id: EndId,
+    body: &[u8],
+) -> Result<bool, AllocError>
+    ensures { IfOk result (λ b. IsTrue b ↔ Says world.now node id body.now) }
+{
+    match write_short(alloc, body) {
+        Ok(frame) => Ok(world.said_next(node, id, &frame)),
+        Err(FrameError::TooLong) => Ok(false),
+        Err(FrameError::NoMemory) => Err(AllocError),
+    }
+}
+
+// The body of a frame is the next that the other end had said by then.
+fn is_next(alloc: Global, world: &World, node: usize, event: &Event) -> Result<bool, AllocError>
+    ensures { IfOk result (λ b. IsTrue b ↔ IsNext world.now node event.now) }
+{
+    match event {
+        Event::Frame { end_, body } => is_said_next(alloc, world, node, *end_, body.as_slice()),
+        _ => Ok(true),
+    }
+}
+
+// The node gives that very reply.
+fn gives(alloc: Global, node: &Node, line: &Line) -> Result<bool, AllocError>
+    ensures { IfOk result (λ b. IsTrue b ↔ Gives node.now line.now) }
+{
+    match node.answer(alloc, &line.event, line.fresh) {
+        Ok(reply) => Ok(reply.is_same(&line.reply)),
+        Err(StepError::NoMemory) => Err(AllocError),
+        Err(_) => Ok(false),
+    }
+}
+
+// The running node gives the line's very reply.
+fn replies(alloc: Global, world: &World, node: usize, line: &Line) -> Result<bool, AllocError>
+    ensures { IfOk result (λ b. IsTrue b ↔ Replies (node_of world.now node) line.now) }
+{
+    match world.node(node) {
+        Some(node) => gives(alloc, node, line),
+        None => Ok(false),
+    }
+}
+
+// The line itself happens, and its link, if any, is mentioned.
+fn happen_itself(
+    alloc: Global,
+    world: &mut World,
+    links: &mut Mentioned,
+    node: usize,
+    line: &Line,
+) -> Result<bool, AllocError>
+    ensures after { OnOk result (world.new ≡ run (own_of links.old node line.now ∷ []) world.old) }
+    ensures links { OnOk result (links.new ≡ mention links.old (link_in line.now.event)) }
+    ensures all { IfOk result (λ b. IsTrue b ↔ AllApply (own_of links.old node line.now ∷ []) world.old) }
+{
+    links.mention(&line.event)?;
+    let happening = own(alloc, links, node, &line.event, line.fresh)?;
+    happen(world, alloc, &[happening])
+}
+
+// One line is followed.
+fn follow(
+    alloc: Global,
+    world: &mut World,
+    lines: &Lines,
+    count: usize,
+    links: &mut Mentioned,
+    told: &Told,
+) -> Result<(), AuditError>
+    ensures followed { OnOk result (IsFollowed lines.now count links.old world.old told.now) }
+    ensures after { OnOk result (world.new ≡ after lines.now count links.old world.old told.now) }
+    ensures links { OnOk result (links.new ≡ mentioned links.old told.now) }
+    ensures err { IfErr result (λ e. Refutes e (IsFollowed lines.now count links.old world.old told.now)) }
+{
+    let node = told.node();
+    let line = told.line();
+    if !is_next(alloc, world, node, &line.event)? {
+        return Err(AuditError::NotSent);
+    }
+    let ahead = before(lines, count, links, node, &line.event);
+    if !happen_before(world, alloc, ahead)? {
+        return Err(AuditError::OtherReply);
+    }
+    if !replies(alloc, world, node, line)? {
+        return Err(AuditError::OtherReply);
+    }
+    if !happen_itself(alloc, world, links, node, line)? {
+        return Err(AuditError::OtherReply);
+    }
+    Ok(())
+}
+
+/// All lines are followed, in turn.
+pub fn follow_all(
+    alloc: Global,
+    world: &mut World,
+    lines: &Lines,
+    count: usize,
+) -> Result<(), AuditError>
+    ensures followed { OnOk result (AreFollowed lines.now count [] world.old lines.now) }
+    ensures after { OnOk result (world.new ≡ run (of_lines lines.now count [] lines.now) world.old) }
+    ensures err { IfErr result (λ e. Refutes e (AreFollowed lines.now count [] world.old lines.now)) }
+{
+    let mut links = Mentioned::new(alloc);
+    let told = lines.told();
+    for i in 0..told.len() {
+        follow(alloc, world, lines, count, &mut links, &told[i])?;
+    }
+    Ok(())
+}

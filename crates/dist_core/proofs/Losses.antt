@@ -1,0 +1,69 @@
+-- What a call answers to a loss.
+use Rattle.std.proofs.Common.{◌≡◌, true, Option, Some, None, Result, Ok, Err, slice_get, List, refl, ap, subst}
+use Rattle.std.specs.Prelude.{IsOk, IfOk, IfErr}
+use Rattle.dist_peers.specs.declared.entry.EndId.{EndId}
+use Rattle.dist_ends.specs.declared.why.Why.{Why}
+use Rattle.dist_ends.specs.declared.known.End.{End}
+use Rattle.dist_ends.specs.declared.known.End.TheVariants as ends
+use Rattle.dist_core.specs.declared.event.Event.{Event}
+use Rattle.dist_core.specs.declared.event.Event.TheVariants as event
+use Rattle.dist_core.specs.declared.reply.Reply.{Reply}
+use Rattle.dist_core.specs.declared.step_error.StepError.{StepError}
+use Rattle.dist_core.specs.declared.step_error.StepError.TheVariants as error
+use Rattle.dist_core.specs.Answers.{IsLoss}
+use Rattle.dist_ends.specs.Ends.{is_open}
+use Rattle.dist_core.specs.Laws.{end_of, loss_reply}
+use Rattle.dist_core.specs.Losses.{IsGone, IsSilent}
+
+abbrev bad : StepError → Result Reply StepError
+bad e = Err e
+
+bad_is : (e f : StepError) → bad e ≡ bad f → f ≡ e
+bad_is e f h = cc
+
+gone_in : (o : Option End) (e : StepError) → (o ≡ None → bad e ≡ bad error.NoSuchEnd) → ((w : Why) → o ≡ Some (ends.Closed w) → bad e ≡ bad (error.Gone w)) → ((d : End) → o ≡ Some d → is_open d ≡ true → ⊥) → IsGone e
+gone_in None e unknown gone lost = subst IsGone (bad_is e error.NoSuchEnd (unknown refl)) tt
+gone_in (Some (ends.Closed w)) e unknown gone lost = subst IsGone (bad_is e (error.Gone w) (gone w refl)) tt
+gone_in (Some ends.Unnamed) e unknown gone lost = absurd (lost ends.Unnamed refl refl)
+gone_in (Some (ends.Attempt a)) e unknown gone lost = absurd (lost (ends.Attempt a) refl refl)
+gone_in (Some (ends.Up r)) e unknown gone lost = absurd (lost (ends.Up r) refl refl)
+
+not_ok : (e : StepError) → IsOk (bad e) → ⊥
+not_ok e h = cc
+
+-- a loss is refused only where its end is unknown or closed
+pub loss_gone : (es : List End) (v : Event) (e : StepError) → IsLoss v
+    → ((x : EndId) → end_of v ≡ Some x → slice_get es x.0 ≡ None → bad e ≡ bad error.NoSuchEnd)
+    → ((x : EndId) (w : Why) → end_of v ≡ Some x → slice_get es x.0 ≡ Some (ends.Closed w) → bad e ≡ bad (error.Gone w))
+    → ((x : EndId) (w : Why) (d : End) → v ≡ event.Lost x w → slice_get es x.0 ≡ Some d → is_open d ≡ true → IsOk (bad e))
+    → IsGone e
+loss_gone es (event.Lost x w) e h unknown gone lost = gone_in (slice_get es x.0) e (unknown x refl) (λ w. gone x w refl) (λ d at opened. not_ok e (lost x w d refl at opened))
+loss_gone es (event.Dial p o) e h unknown gone lost = absurd h
+loss_gone es (event.Opened x link) e h unknown gone lost = absurd h
+loss_gone es (event.Incoming link) e h unknown gone lost = absurd h
+loss_gone es (event.Frame x body) e h unknown gone lost = absurd h
+loss_gone es (event.Tick x) e h unknown gone lost = absurd h
+
+-- a loss that is answered
+pub answer_gone : (es : List End) (v : Event) (r : Result Reply StepError) → IsLoss v
+    → ((x : EndId) → end_of v ≡ Some x → slice_get es x.0 ≡ None → r ≡ bad error.NoSuchEnd)
+    → ((x : EndId) (w : Why) → end_of v ≡ Some x → slice_get es x.0 ≡ Some (ends.Closed w) → r ≡ bad (error.Gone w))
+    → ((x : EndId) (w : Why) (d : End) → v ≡ event.Lost x w → slice_get es x.0 ≡ Some d → is_open d ≡ true → IsOk r)
+    → IfErr r IsGone
+answer_gone es v (Ok r) h unknown gone lost = tt
+answer_gone es v (Err e) h unknown gone lost = loss_gone es v e h unknown gone lost
+
+silent_is : (x : EndId) (w : Why) (r : Reply) → r ≡ loss_reply x w → IsSilent r
+silent_is x w r e = (ap (λ (q : Reply). q.say) e, ap (λ (q : Reply). q.up) e, ap (λ (q : Reply). q.note) e)
+
+silent_so : (x : EndId) (w : Why) (r : Result Reply StepError) → IfOk r (λ q. q ≡ loss_reply x w) → IfOk r IsSilent
+silent_so x w (Ok r) e = silent_is x w r e
+silent_so x w (Err e) h = tt
+
+pub answer_silent : (v : Event) (r : Result Reply StepError) → IsLoss v → ((x : EndId) (w : Why) → v ≡ event.Lost x w → IfOk r (λ q. q ≡ loss_reply x w)) → IfOk r IsSilent
+answer_silent (event.Lost x w) r h silent = silent_so x w r (silent x w refl)
+answer_silent (event.Dial p o) r h silent = absurd h
+answer_silent (event.Opened x link) r h silent = absurd h
+answer_silent (event.Incoming link) r h silent = absurd h
+answer_silent (event.Frame x body) r h silent = absurd h
+answer_silent (event.Tick x) r h silent = absurd h

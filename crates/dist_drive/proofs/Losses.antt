@@ -1,0 +1,76 @@
+-- A loss at one end of a node.
+use Rattle.std.proofs.Common.{◌≡◌, ℕ, true, false, List, Option, Some, None, Result, Ok, Err, slice_get, refl, sym, ap, ◌∙◌}
+use Rattle.dist_peers.specs.declared.entry.EndId.{EndId}
+use Rattle.dist_ends.specs.declared.why.Why.{Why}
+use Rattle.dist_ends.specs.declared.known.End.{End}
+use Rattle.dist_ends.specs.declared.known.End.TheVariants as ends
+use Rattle.dist_core.specs.declared.event.Event.{Event}
+use Rattle.dist_core.specs.declared.event.Event.TheVariants as event
+use Rattle.dist_core.specs.declared.reply.Reply.{Reply}
+use Rattle.dist_core.specs.declared.step_error.StepError.{StepError}
+use Rattle.dist_core.specs.declared.step_error.StepError.TheVariants as error
+use Rattle.dist_ends.specs.Ends.{is_open}
+use Rattle.dist_core.specs.Laws.{end_of}
+use Rattle.dist_core.specs.Losses.{is_loss}
+use Rattle.dist_core.specs.Node.{NodeState}
+use Rattle.dist_core.specs.Step.{step}
+use Rattle.dist_drive.specs.Memory.{HasRoom}
+
+-- an end that is neither unknown nor closed is open
+pub record IsOpenAt (es : List End) (id : EndId) : Type 0 where
+  pub kept : End
+  pub there : slice_get es id.0 ≡ Some kept
+  pub opened : is_open kept ≡ true
+
+open_in : (o : Option End) → (o ≡ None → ⊥) → ((w : Why) → o ≡ Some (ends.Closed w) → ⊥) → (e : End) × (o ≡ Some e) × (is_open e ≡ true)
+open_in None none closed = absurd (none refl)
+open_in (Some (ends.Closed w)) none closed = absurd (closed w refl)
+open_in (Some ends.Unnamed) none closed = (ends.Unnamed, refl, refl)
+open_in (Some (ends.Attempt a)) none closed = (ends.Attempt a, refl, refl)
+open_in (Some (ends.Up r)) none closed = (ends.Up r, refl, refl)
+
+abbrev good : Reply → Result Reply StepError
+good r = Ok r
+
+abbrev bad : StepError → Result Reply StepError
+bad e = Err e
+
+unlike : (r : Reply) (e : StepError) → good r ≡ bad e → ⊥
+unlike r e h = cc
+
+-- an event that was taken names an open end
+pub taken_open : (es : List End) (id : EndId) (r : Reply)
+    → (slice_get es id.0 ≡ None → good r ≡ bad error.NoSuchEnd)
+    → ((w : Why) → slice_get es id.0 ≡ Some (ends.Closed w) → good r ≡ bad (error.Gone w))
+    → IsOpenAt es id
+taken_open es id r unknown gone =
+    let o = open_in (slice_get es id.0) (λ h. unlike r error.NoSuchEnd (unknown h)) (λ w h. unlike r (error.Gone w) (gone w h)) in
+    record { kept = o.0; there = o.1; opened = o.2 }
+
+-- ---- after a loss the end is closed
+
+-- a loss that is answered leaves its end closed
+abbrev pub ClosesLost : Type 0
+ClosesLost = (n : NodeState) (x : EndId) (w : Why) (fresh : ℕ) (r : Reply) (m : NodeState) → step n (event.Lost x w) fresh ≡ Ok (r, m) → slice_get m.ends x.0 ≡ Some (ends.Closed w)
+
+shut : (o : Option End) (w : Why) (e : End) → o ≡ Some (ends.Closed w) → o ≡ Some e → is_open e ≡ true → ⊥
+shut o w e closed at opened =
+    let same : ends.Closed w ≡ e = (let s : Some (ends.Closed w) ≡ Some e = sym closed ∙ at in cc) in
+    let not : is_open (ends.Closed w) ≡ true = ap is_open same ∙ opened in
+    absurd cc
+
+-- after a loss no room is needed
+pub loss_room : ClosesLost → (n m : NodeState) (v : Event) (id : EndId) (fresh len capacity : ℕ) (r : Reply) (d : End) → is_loss v ≡ true → end_of v ≡ Some id → slice_get n.ends id.0 ≡ Some d → step n v fresh ≡ Ok (r, m) → HasRoom m id len capacity
+loss_room closes n m (event.Lost x w) id fresh len capacity r d loss names at h =
+    let same : x ≡ id = (let s : Some x ≡ Some id = names in cc) in
+    λ e there opened.
+    let there' : slice_get m.ends x.0 ≡ Some e = ap (λ (y : EndId). slice_get m.ends y.0) same ∙ there in
+    absurd (shut (slice_get m.ends x.0) w e (closes n x w fresh r m h) there' opened)
+loss_room closes n m (event.Dial p o) id fresh len capacity r d loss names at h = absurd cc
+loss_room closes n m (event.Opened x link) id fresh len capacity r d loss names at h = absurd cc
+loss_room closes n m (event.Incoming link) id fresh len capacity r d loss names at h = absurd cc
+loss_room closes n m (event.Frame x body) id fresh len capacity r d loss names at h = absurd cc
+loss_room closes n m (event.Tick x) id fresh len capacity r d loss names at h = absurd cc
+
+pub by_loss : {P : Type 0} (v : Event) → (is_loss v ≡ true → P) → (is_loss v ≡ false → P) → P
+by_loss {P = P} v loses keeps = elim (is_loss v) as (λ b. is_loss v ≡ b → P) [ true ↦ loses | false ↦ keeps ] refl

@@ -1,0 +1,264 @@
+-- What a call shows on its way and where it ends: what was handed on, said and counted.
+use Rattle.std.proofs.Common.{◌≡◌, ℕ, ◌+◌, ◌-◌, ◌*◌, ◌≤◌, ◌⊎◌, Bool, true, false, List, [], ◌∷◌, ◌++◌, length, take, drop, map, Option, Some, None, Result, Ok, Err, refl, sym, ap, subst, ◌∙◌, arith, append_assoc, length-append, inl, inr, ⊎_elim}
+use Rattle.std.specs.Prelude.{is_some, eqb, if◌then◌else◌}
+use Rattle.std.proofs.lemmas.Bool.{eqb-true}
+use Rattle.std.proofs.lemmas.List.{append-nil, map-append, length-map, take-append-drop}
+use Rattle.std.proofs.Math.Seq.{take-length}
+use Rattle.std.specs.Io.KnownBytes.{prepend_known, append_known}
+use Rattle.dist_frames.specs.Reader.{Reader, Short, fed, next_body, without_next, told, to_come}
+use Rattle.dist_frames.specs.History.{Accounts}
+use Rattle.dist_peers.specs.declared.entry.EndId.{EndId}
+use Rattle.dist_ends.specs.declared.why.Why.{Why}
+use Rattle.dist_ends.specs.declared.why.Why.TheVariants as why
+use Rattle.dist_core.specs.declared.event.Event.{Event}
+use Rattle.dist_core.specs.declared.event.Event.TheVariants as event
+use Rattle.dist_core.specs.declared.reply.Reply.{Reply}
+use Rattle.dist_ends.specs.declared.phase.Still.{Still}
+use Rattle.dist_ends.specs.declared.phase.Still.TheVariants as still
+use Rattle.dist_core.specs.declared.step_error.StepError.{StepError}
+use Rattle.dist_core.specs.declared.step_error.StepError.TheVariants as error
+use Rattle.dist_streams.specs.Stream.{StreamState}
+use Rattle.dist_streams.specs.Turns.{Rises, Spends, Says, Hears, SaysFront}
+use Rattle.dist_streams.specs.declared.turn_error.TurnError.{TurnError}
+use Rattle.dist_streams.specs.declared.turn_error.TurnError.TheVariants as fault
+use Rattle.dist_drive.specs.declared.outcome.Ending.{Ending}
+use Rattle.dist_drive.specs.declared.outcome.Ending.TheVariants as ending
+use Rattle.dist_drive.specs.Desks.{Step, event_of, number_of, last_reply}
+use Rattle.dist_core.specs.Losses.{IsGone}
+use Rattle.dist_drive.specs.Numbers.{DrawsAll}
+use Rattle.dist_drive.specs.Driven.{IsFront, frames_of, events_of, text_of, HandsOnAll, WritesAll, HasCause, TellsLoss, Carries}
+use Rattle.std.specs.Prelude.{IsErrAnd, IfErr, OnOk, OnErr}
+use Rattle.dist_drive.specs.Running.{RunsOn, EndsSo, Start, Runs, Keeps, MakesStep, SaysReply, after_reply, own_why, ending_of_refusal, ending_of_stream, HandsOn, HearsPiece}
+use Rattle.dist_drive.proofs.Steps.{last_pushed}
+use Rattle.dist_drive.proofs.Texts.{append_known-append, prepend_known-append, prepend_known-none, Rises-trans, IsFront-refl, IsFront-more, text_front, text_none, text_one, text_before}
+use Rattle.dist_drive.proofs.Keeping.{keeps_none}
+
+pub says_as : {end_ : EndId} {old new : StreamState} {turns left : ℕ} {result : Result Bool Ending} (r q : Reply) → r ≡ q → SaysReply end_ r old new turns left result → SaysReply end_ q old new turns left result
+says_as {end_ = end_} {old = old} {new = new} {turns = turns} {left = left} {result = result} r q e p = subst (λ (x : Reply). SaysReply end_ x old new turns left result) e p
+
+pub same_length : (end_ : EndId) (steps : List Step) (handed : List (List ℕ)) → map event_of steps ≡ events_of end_ handed → length handed ≡ length steps
+same_length end_ steps handed e =
+    let same : length (map event_of steps) ≡ length (events_of end_ handed) = ap length e in
+    omega (arith, same, length-map steps event_of, length-map handed (event.Frame end_))
+
+pub draws_push : {W : Type 0} (gives : W → ℕ → W → Type 0) (w : W) (ns : List ℕ) (v u : W) (n : ℕ) → DrawsAll gives w ns v → gives v n u → DrawsAll gives w (ns ++ n ∷ []) u
+draws_push gives w [] v u n e g = (u, subst (λ x. gives x n u) (sym e) g, refl)
+draws_push gives w (m ∷ ns) v u n (next, g, more) h = (next, g, draws_push gives next ns v u n more h)
+
+-- in more turns no less may be read
+pub pieces_on : (n limit turns left : ℕ) → left ≤ turns → n ≤ 4096 * (limit - turns) → n ≤ 4096 * (limit - left)
+pieces_on n limit turns left fewer h = omega (arith, fewer, h)
+
+-- in one turn one piece more
+pub pieces_one : (heard piece : List ℕ) (limit turns left : ℕ) → turns ≤ limit → turns ≡ left + 1 → length piece ≤ 4096 → length heard ≤ 4096 * (limit - turns) → length (heard ++ piece) ≤ 4096 * (limit - left)
+pieces_one heard piece limit turns left within one small h = omega (arith, length-append heard piece, within, one, small, h)
+
+-- so many calls were made, in so many turns
+pub record Spent (limit left old new : ℕ) : Type 0 where
+  pub within : left ≤ limit
+  pub calls : Rises (limit - left) old new
+
+pub spent : {mid new : StreamState} {told : Option TurnError} (before limit turns left : ℕ) → turns ≤ limit → Rises (limit - turns) before mid.calls → Spends mid new turns left told → Spent limit left before new.calls
+spent {mid = mid} {new = new} before limit turns left within calls s =
+    let fewer : left ≤ turns = s.within in
+    record { within = omega (arith, within, fewer); calls = Rises-trans (limit - turns) (turns - left) (limit - left) before mid.calls new.calls (omega (arith, within, fewer)) calls s.calls }
+
+-- the steps, their events and their numbers, with one more
+pub events_one : (end_ : EndId) (steps : List Step) (handed : List (List ℕ)) (body : List ℕ) (n : ℕ) (reply : Reply) → map event_of steps ≡ events_of end_ handed → map event_of (steps ++ (event.Frame end_ body, n, reply) ∷ []) ≡ events_of end_ (handed ++ body ∷ [])
+events_one end_ steps handed body n reply e =
+    map-append event_of steps ((event.Frame end_ body, n, reply) ∷ [])
+    ∙ ap (λ l. l ++ event.Frame end_ body ∷ []) e
+    ∙ sym (map-append (event.Frame end_) handed (body ∷ []))
+
+pub numbers_one : {W : Type 0} (gives : W → ℕ → W → Type 0) (w : W) (steps : List Step) (v u : W) (s : Step) → DrawsAll gives w (map number_of steps) v → gives v s.1 u → DrawsAll gives w (map number_of (steps ++ s ∷ [])) u
+numbers_one gives w steps v u s p g = subst (λ (l : List ℕ). DrawsAll gives w l u) (sym (map-append number_of steps (s ∷ []))) (draws_push gives w (map number_of steps) v u s.1 p g)
+
+pub list_one : (start before after steps : List Step) (s : Step) → before ≡ start ++ steps → after ≡ before ++ s ∷ [] → after ≡ start ++ (steps ++ s ∷ [])
+list_one start before after steps s e h = h ∙ ap (λ l. l ++ s ∷ []) e ∙ append_assoc start steps (s ∷ [])
+
+pub whole_reply : {old new : StreamState} {turns left : ℕ} (text : List ℕ) → SaysFront old new turns left None text → Says old new turns left None text
+whole_reply {old = old} {new = new} {turns = turns} {left = left} text p =
+    let all : take p.count text ≡ text = ap (λ n. take n text) p.whole ∙ take-length text in
+    subst (λ (l : List ℕ). Says old new turns left None l) all p.says
+
+-- where the call goes on, all was said
+pub goes_on : {old new : StreamState} {turns left : ℕ} (own : Option Why) (told : Option TurnError) (text : List ℕ) → after_reply own told ≡ Ok tt → SaysFront old new turns left told text → Says old new turns left None text
+goes_on own None text e p = whole_reply text p
+goes_on own (Some fault.Limit) text e p = absurd cc
+goes_on (Some w) (Some fault.ReadFailed) text e p = absurd cc
+goes_on (Some w) (Some fault.WriteFailed) text e p = absurd cc
+goes_on (Some w) (Some fault.Ended) text e p = absurd cc
+goes_on None (Some fault.ReadFailed) text e p = absurd cc
+goes_on None (Some fault.WriteFailed) text e p = absurd cc
+goes_on None (Some fault.Ended) text e p = absurd cc
+
+-- what the ending shows after a reply
+pub record ShowsEnd {D : Type 0} (stands : D → EndId → Still → Type 0) (refuses : D → Event → ℕ → StepError → Type 0) (desk : D) (end_ : EndId) (reply : Reply) (new : StreamState) (left : ℕ) (part : List ℕ) (Handed : Type 0) (steps : List Step) (before : List ℕ) (e : Ending) : Type 0 where
+  pub all : HandsOnAll e Handed
+  pub whole : WritesAll e new (before ++ part ≡ before ++ reply.say)
+  pub cause : last_reply steps ≡ Some reply → HasCause stands refuses end_ steps desk new left e
+
+pub own_is : (end_ : EndId) (closed : Option (EndId × Why)) (w : Why) → own_why end_ closed ≡ Some w → closed ≡ Some (end_, w)
+own_is end_ None w e = absurd cc
+own_is end_ (Some x) w e =
+    elim (eqb x.0.0 end_.0) as (λ b. eqb x.0.0 end_.0 ≡ b → (if b then Some x.1 else None) ≡ Some w → Some x ≡ Some (end_, w)) [
+      | true ↦ λ same is.
+          let number : x.0.0 ≡ end_.0 = eqb-true x.0.0 end_.0 same in
+          let why : x.1 ≡ w = cc in
+          λ i. Some (record { 0 = number i }, why i)
+      | false ↦ λ same is. absurd cc
+    ] refl e
+
+pub shows_shut : {D : Type 0} (stands : D → EndId → Still → Type 0) (refuses : D → Event → ℕ → StepError → Type 0) (desk : D) (end_ : EndId) (reply : Reply) {new : StreamState} {left : ℕ} (Handed : Type 0) (steps : List Step) (before : List ℕ) (w : Why) (part : List ℕ) → own_why end_ reply.closed ≡ Some w → ((new.write_failed ≡ true) ⊎ (part ≡ reply.say)) → ShowsEnd stands refuses desk end_ reply new left part Handed steps before (ending.Shut w)
+shows_shut stands refuses desk end_ reply Handed steps before w part own whole = record {
+  all = tt;
+  whole = ⊎_elim (λ h. inl h) (λ h. inr (ap (λ l. before ++ l) h)) whole;
+  cause = λ newest. (reply, newest, own_is end_ reply.closed w own);
+}
+
+pub failed : {old new : StreamState} {turns left : ℕ} (text : List ℕ) → SaysFront old new turns left (Some fault.WriteFailed) text → new.write_failed ≡ true
+failed text p = p.says.spends.write_failed
+
+pub shows_failed : {D : Type 0} (stands : D → EndId → Still → Type 0) (refuses : D → Event → ℕ → StepError → Type 0) (desk : D) (end_ : EndId) (reply : Reply) {old new : StreamState} {turns left : ℕ} (Handed : Type 0) (steps : List Step) (before : List ℕ) (own : Option Why) (e : Ending) → own_why end_ reply.closed ≡ own → (p : SaysFront old new turns left (Some fault.WriteFailed) reply.say) → after_reply own (Some fault.WriteFailed) ≡ Err e → ShowsEnd stands refuses desk end_ reply new left (take p.count reply.say) Handed steps before e
+shows_failed stands refuses desk end_ reply {new = new} {left = left} Handed steps before (Some w) e is p h =
+    let same : ending.Shut w ≡ e = cc in
+    subst (λ (x : Ending). ShowsEnd stands refuses desk end_ reply new left (take p.count reply.say) Handed steps before x) same (shows_shut stands refuses desk end_ reply Handed steps before w (take p.count reply.say) is (inl (failed reply.say p)))
+shows_failed stands refuses desk end_ reply {new = new} {left = left} Handed steps before None e is p h =
+    let same : ending.Fault why.WriteFailed ≡ e = cc in
+    subst (λ (x : Ending). ShowsEnd stands refuses desk end_ reply new left (take p.count reply.say) Handed steps before x) same (record { all = tt; whole = tt; cause = λ newest. failed reply.say p })
+
+pub shows_whole : {D : Type 0} (stands : D → EndId → Still → Type 0) (refuses : D → Event → ℕ → StepError → Type 0) (desk : D) (end_ : EndId) (reply : Reply) {old new : StreamState} {turns left : ℕ} (Handed : Type 0) (steps : List Step) (before : List ℕ) (own : Option Why) (e : Ending) → own_why end_ reply.closed ≡ own → (p : SaysFront old new turns left None reply.say) → after_reply own None ≡ Err e → ShowsEnd stands refuses desk end_ reply new left (take p.count reply.say) Handed steps before e
+shows_whole stands refuses desk end_ reply {new = new} {left = left} Handed steps before (Some w) e is p h =
+    let same : ending.Shut w ≡ e = cc in
+    let all : take p.count reply.say ≡ reply.say = ap (λ n. take n reply.say) p.whole ∙ take-length reply.say in
+    subst (λ (x : Ending). ShowsEnd stands refuses desk end_ reply new left (take p.count reply.say) Handed steps before x) same (shows_shut stands refuses desk end_ reply Handed steps before w (take p.count reply.say) is (inr all))
+shows_whole stands refuses desk end_ reply Handed steps before None e is p h = absurd cc
+
+pub shows_limit : {D : Type 0} (stands : D → EndId → Still → Type 0) (refuses : D → Event → ℕ → StepError → Type 0) (desk : D) (end_ : EndId) (reply : Reply) {old new : StreamState} {turns left : ℕ} (Handed : Type 0) (steps : List Step) (before : List ℕ) (own : Option Why) (e : Ending) → (p : SaysFront old new turns left (Some fault.Limit) reply.say) → after_reply own (Some fault.Limit) ≡ Err e → ShowsEnd stands refuses desk end_ reply new left (take p.count reply.say) Handed steps before e
+shows_limit stands refuses desk end_ reply {new = new} {left = left} Handed steps before own e p h =
+    let same : ending.Limit ≡ e = cc in
+    subst (λ (x : Ending). ShowsEnd stands refuses desk end_ reply new left (take p.count reply.say) Handed steps before x) same (record { all = tt; whole = tt; cause = λ newest. p.says.spends.cause })
+
+pub shows : {D : Type 0} (stands : D → EndId → Still → Type 0) (refuses : D → Event → ℕ → StepError → Type 0) (desk : D) (end_ : EndId) (reply : Reply) {old new : StreamState} {turns left : ℕ} (Handed : Type 0) (steps : List Step) (before : List ℕ) (told : Option TurnError) (e : Ending) → (p : SaysFront old new turns left told reply.say) → after_reply (own_why end_ reply.closed) told ≡ Err e → ShowsEnd stands refuses desk end_ reply new left (take p.count reply.say) Handed steps before e
+shows stands refuses desk end_ reply Handed steps before None e p h = shows_whole stands refuses desk end_ reply Handed steps before (own_why end_ reply.closed) e refl p h
+shows stands refuses desk end_ reply Handed steps before (Some fault.WriteFailed) e p h = shows_failed stands refuses desk end_ reply Handed steps before (own_why end_ reply.closed) e refl p h
+shows stands refuses desk end_ reply Handed steps before (Some fault.Limit) e p h = shows_limit stands refuses desk end_ reply Handed steps before (own_why end_ reply.closed) e p h
+shows stands refuses desk end_ reply Handed steps before (Some fault.ReadFailed) e p h = absurd p.says.fault_is
+shows stands refuses desk end_ reply Handed steps before (Some fault.Ended) e p h = absurd p.says.fault_is
+
+abbrev pub ends_as : Ending → Result Bool Ending
+ends_as e = Err e
+
+pub endings_are : (e f : Ending) → ends_as e ≡ ends_as f → f ≡ e
+endings_are e f h = cc
+
+pub not_refused : (up : Bool) (e : Ending) → Ok up ≡ Err e → ⊥
+not_refused up e h = cc
+
+-- what an exit by `?` tells
+pub at_err : {X : Type 0} (P : Ending → Type 0) (r : Result X Ending) (e : Ending) → IsErrAnd r (λ y. y ≡ e) → P e → IfErr r P
+at_err P (Ok x) e h p = absurd h
+at_err P (Err y) e h p = subst P (sym h) p
+
+pub at_end : {D W : Type 0} (lists : D → List Step) (refuses : D → Event → ℕ → StepError → Type 0) (gives : W → ℕ → W → Type 0) (end_ other : EndId) (body : List ℕ) (draws drawn : W) (before after : D) (old new : StreamState) (turns left : ℕ) (result : Result Bool Ending) → other ≡ end_ → HandsOn lists refuses gives end_ body draws drawn before after old new turns left result → HandsOn lists refuses gives other body draws drawn before after old new turns left result
+at_end lists refuses gives end_ other body draws drawn before after old new turns left result e h = subst (λ (x : EndId). HandsOn lists refuses gives x body draws drawn before after old new turns left result) (sym e) h
+
+-- what the ending shows then
+pub record ShowsUnheard {D : Type 0} (stands : D → EndId → Still → Type 0) (refuses : D → Event → ℕ → StepError → Type 0) (end_ : EndId) (steps : List Step) (desk : D) (new : StreamState) (left : ℕ) (All : Type 0) (text : List ℕ) (e : Ending) : Type 0 where
+  pub all : HandsOnAll e All
+  pub cause : HasCause stands refuses end_ steps desk new left e
+  pub whole : WritesAll e new (text ≡ text)
+
+pub unheard_shows : {D : Type 0} (stands : D → EndId → Still → Type 0) (refuses : D → Event → ℕ → StepError → Type 0) (end_ : EndId) (steps : List Step) (desk : D) {old new : StreamState} {turns left : ℕ} (error : TurnError) (All : Type 0) (text : List ℕ) → All → Hears old new turns left (Some error) [] → ShowsUnheard stands refuses end_ steps desk new left All text (ending_of_stream error)
+unheard_shows stands refuses end_ steps desk fault.Limit All text all hears = record { all = tt; cause = hears.spends.cause; whole = tt }
+unheard_shows stands refuses end_ steps desk fault.Ended All text all hears = record { all = all; cause = (hears.spends.ended, hears.spends.cause); whole = refl }
+unheard_shows stands refuses end_ steps desk fault.ReadFailed All text all hears = record { all = all; cause = hears.spends.read_failed; whole = refl }
+unheard_shows stands refuses end_ steps desk fault.WriteFailed All text all hears = absurd hears.fault_is
+
+abbrev pub ends_whole : Ending → Result (Unit {0}) Ending
+ends_whole e = Err e
+
+pub endings_same : (e f : Ending) → ends_whole e ≡ ends_whole f → f ≡ e
+endings_same e f h = cc
+
+-- what the ending shows where the first words were not written whole
+pub record ShowsFirst {D : Type 0} (stands : D → EndId → Still → Type 0) (refuses : D → Event → ℕ → StepError → Type 0) (end_ : EndId) (desk : D) (new : StreamState) (left : ℕ) (All Said : Type 0) (e : Ending) : Type 0 where
+  pub all : HandsOnAll e All
+  pub cause : HasCause stands refuses end_ [] desk new left e
+  pub whole : WritesAll e new Said
+
+pub first_shows : {D : Type 0} (stands : D → EndId → Still → Type 0) (refuses : D → Event → ℕ → StepError → Type 0) (end_ : EndId) (desk : D) {old new : StreamState} {limit left : ℕ} {All Said : Type 0} (error : TurnError) (first : List ℕ) → SaysFront old new limit left (Some error) first → ShowsFirst stands refuses end_ desk new left All Said (ending_of_stream error)
+first_shows stands refuses end_ desk fault.Limit first p = record { all = tt; cause = p.says.spends.cause; whole = tt }
+first_shows stands refuses end_ desk fault.WriteFailed first p = record { all = tt; cause = failed first p; whole = tt }
+first_shows stands refuses end_ desk fault.ReadFailed first p = absurd p.says.fault_is
+first_shows stands refuses end_ desk fault.Ended first p = absurd p.says.fault_is
+
+-- the first words were not written whole
+pub first_cut : {D W : Type 0} (lists : D → List Step) (stands : D → EndId → Still → Type 0) (refuses : D → Event → ℕ → StepError → Type 0) (gives : W → ℕ → W → Type 0) (end_ : EndId) (first : List ℕ) (limit left : ℕ) (old new : StreamState) (desk : D) (draws : W) (error : TurnError)
+    → SaysFront old new limit left (Some error) first
+    → Carries lists stands refuses gives end_ first limit old new (lists desk) desk draws (ending_of_stream error)
+first_cut lists stands refuses gives end_ first limit left old new desk draws error p =
+    let shown = first_shows stands refuses end_ desk error first p in
+    record {
+      heard = [];
+      steps = [];
+      drawn = draws;
+      said = take p.count first;
+      left = left;
+      read = sym (prepend_known-none old.unread) ∙ ap (prepend_known []) (sym p.says.unread);
+      written = p.says.written;
+      list = sym (append-nil (lists desk));
+      frames = (events_of end_ (frames_of [] []), refl);
+      all_frames = shown.all;
+      numbers = refl;
+      cause = shown.cause;
+      text = (drop p.count first, text_none first ∙ sym (take-append-drop p.count first));
+      all_text = shown.whole;
+      in_turn = λ i h. absurd (omega (arith, h));
+      within = p.says.spends.within;
+      turns = p.says.spends.calls;
+      pieces = omega arith;
+    }
+
+-- they were
+pub begins_so : {W : Type 0} → Accounts [] [] [] → (gives : W → ℕ → W → Type 0) (end_ : EndId) (first : List ℕ) (limit left : ℕ) (old new : StreamState) (list : List Step) (draws : W)
+    → SaysFront old new limit left None first
+    → Runs gives (record { end_ = end_; first = first; limit = limit; stream = old; list = list; draws = draws }) new left list draws (Short [])
+begins_so none gives end_ first limit left old new list draws p =
+    let says = whole_reply first p in
+    record {
+      heard = [];
+      handed = [];
+      steps = [];
+      read = sym (prepend_known-none old.unread) ∙ ap (prepend_known []) (sym says.unread);
+      written = says.written ∙ ap (append_known old.written) (sym (text_none first));
+      within = says.spends.within;
+      turns = says.spends.calls;
+      list_is = sym (append-nil list);
+      events = refl;
+      numbers = refl;
+      pieces = omega arith;
+      keeps = keeps_none none;
+    }
+
+-- the loss was told, or the end was gone or unknown by then
+pub tells : {D : Type 0} (lists : D → List Step) (refuses : D → Event → ℕ → StepError → Type 0) (end_ : EndId) (before after : D) (w : Why) (r : Result (Unit {0}) StepError)
+    → OnOk r ((reply : Reply) × (lists after ≡ lists before ++ (event.Lost end_ w, 0, reply) ∷ []))
+    → OnErr r (after ≡ before)
+    → IfErr r (λ e. refuses before (event.Lost end_ w) 0 e)
+    → IfErr r IsGone
+    → (told : List Step) × (lists after ≡ lists before ++ told) × TellsLoss refuses end_ before (ending.Fault w) told
+tells lists refuses end_ before after w (Ok x) (reply, list) same why gone = ((event.Lost end_ w, 0, reply) ∷ [], list, inl (reply, refl))
+tells lists refuses end_ before after w (Err e) made same why gone = ([], ap lists same ∙ sym (append-nil (lists before)), inr (refl, (e, why, gone)))
+
+pub ok_maps : {X E : Type 0} {P Q : Type 0} (r : Result X E) → OnOk r P → (P → Q) → OnOk r Q
+ok_maps (Ok x) p f = f p
+ok_maps (Err e) p f = tt
+
+pub ok_so : {X E : Type 0} {P : Type 0} (r : Result X E) → P → OnOk r P
+ok_so (Ok x) p = p
+ok_so (Err e) p = tt
+
+pub err_maps : {X E : Type 0} (P Q : E → Type 0) (r : Result X E) → IfErr r P → ((e : E) → P e → Q e) → IfErr r Q
+err_maps P Q (Ok x) p f = tt
+err_maps P Q (Err e) p f = f e p

@@ -1,0 +1,69 @@
+-- Texts and lists of steps that grow by one step, and what a stream tells then.
+use Rattle.std.proofs.Common.{◌≡◌, ℕ, ◌+◌, ◌<◌, ◌≤◌, List, [], ◌∷◌, ◌++◌, length, take, drop, Option, Some, None, refl, sym, ap, subst, ◌∙◌, arith, append_assoc, length-append}
+use Rattle.std.proofs.lemmas.List.{append-nil, take-append-le, take-append-drop}
+use Rattle.std.specs.List.{flat_map}
+use Rattle.std.proofs.lemmas.List.Concat.{flat_map-append}
+use Rattle.std.specs.Io.KnownBytes.{prepend_known, append_known}
+use Rattle.dist_streams.specs.Turns.{Rises}
+use Rattle.dist_drive.specs.Desks.{Step}
+use Rattle.dist_drive.specs.Driven.{IsFront, text_of}
+
+-- ---- a stream
+
+pub append_known-append : (known : Option (List ℕ)) (a b : List ℕ) → append_known (append_known known a) b ≡ append_known known (a ++ b)
+append_known-append None a b = refl
+append_known-append (Some x) a b = ap Some (append_assoc x a b)
+
+pub prepend_known-append : (known : Option (List ℕ)) (a b : List ℕ) → prepend_known a (prepend_known b known) ≡ prepend_known (a ++ b) known
+prepend_known-append None a b = refl
+prepend_known-append (Some x) a b = ap Some (sym (append_assoc a b x))
+
+pub prepend_known-none : (known : Option (List ℕ)) → prepend_known [] known ≡ known
+prepend_known-none None = refl
+prepend_known-none (Some x) = refl
+
+-- calls after calls
+pub Rises-trans : (a b total x y z : ℕ) → a + b ≡ total → Rises a x y → Rises b y z → Rises total x z
+Rises-trans a b total x y z e p q =
+    let p-most : y ≤ x + a = p.most in
+    let q-most : z ≤ y + b = q.most in
+    record {
+      most = omega arith;
+      exact = λ h.
+          let last : z ≡ y + b = q.exact h in
+          let first : y ≡ x + a = p.exact (omega arith) in
+          omega arith;
+    }
+
+-- ---- texts
+
+abbrev says : Step → List ℕ
+says step = step.2.say
+
+pub IsFront-refl : {X : Type 0} (xs : List X) → IsFront xs xs
+IsFront-refl xs = ([], sym (append-nil xs))
+
+pub IsFront-trans : {X : Type 0} (xs ys zs : List X) → IsFront xs ys → IsFront ys zs → IsFront xs zs
+IsFront-trans xs ys zs p q = (p.0 ++ q.0, q.1 ∙ ap (λ l. l ++ q.0) p.1 ∙ append_assoc xs p.0 q.0)
+
+pub IsFront-more : {X : Type 0} (xs ys : List X) → IsFront xs (xs ++ ys)
+IsFront-more xs ys = (ys, refl)
+
+pub text_none : (first : List ℕ) → text_of first [] ≡ first
+text_none first = append-nil first
+
+pub text_more : (first : List ℕ) (xs ys : List Step) → text_of first (xs ++ ys) ≡ text_of first xs ++ flat_map says ys
+text_more first xs ys = ap (λ l. first ++ l) (flat_map-append says xs ys) ∙ sym (append_assoc first (flat_map says xs) (flat_map says ys))
+
+pub text_one : (first : List ℕ) (xs : List Step) (s : Step) → text_of first (xs ++ s ∷ []) ≡ text_of first xs ++ s.2.say
+text_one first xs s = text_more first xs (s ∷ []) ∙ ap (λ l. text_of first xs ++ l) (append-nil s.2.say)
+
+pub text_front : (first : List ℕ) (steps : List Step) (i : ℕ) → IsFront (text_of first (take i steps)) (text_of first steps)
+text_front first steps i = (flat_map says (drop i steps), ap (text_of first) (sym (take-append-drop i steps)) ∙ text_more first (take i steps) (drop i steps))
+
+-- before the last step was handed on, all was said that stood before it
+pub text_before : (first : List ℕ) (steps : List Step) (s : Step) (said : List ℕ) (i : ℕ) → i < length (steps ++ s ∷ []) → IsFront (text_of first steps) said → IsFront (text_of first (take i (steps ++ s ∷ []))) said
+text_before first steps s said i h p =
+    let few : i ≤ length steps = omega (arith, length-append steps (s ∷ [])) in
+    let same : text_of first (take i (steps ++ s ∷ [])) ≡ text_of first (take i steps) = ap (text_of first) (take-append-le i steps (s ∷ []) few) in
+    subst (λ (l : List ℕ). IsFront l said) (sym same) (IsFront-trans _ _ _ (text_front first steps i) p)

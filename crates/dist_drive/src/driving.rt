@@ -1,0 +1,280 @@
+//! One end, driven over a stream.
+ghost use Rattle.std.specs.Prelude.{◌≡◌, ◌<◌, ◌≤◌, ◌+◌, ◌++◌, ◌∷◌, [], ℕ, List, MatchOption, Err, IfOk, IfErr, OnOk, OnErr, take, length};
+ghost use Rattle.dist_core.specs.declared.step_error.StepError.{StepError};
+ghost use Rattle.dist_drive.specs.Desks.{Step};
+ghost use Rattle.dist_drive.specs.Driven.{Carries, Drives, TellsLoss};
+ghost use Rattle.dist_frames.specs.Reader.Reader.{Short};
+ghost use Rattle.dist_frames.specs.Reader.{next_body, without_next, to_come, fed, told};
+ghost use Rattle.dist_frames.specs.History.{IsBytes};
+ghost use Rattle.dist_streams.specs.Turns.{fault_of};
+ghost use Rattle.dist_drive.specs.Running.{after_reply, ending_of_refusal, ending_of_stream, own_why, MakesStep, SaysReply, HandsOn, RunsOn, EndsSo, HearsPiece};
+
+use crate::desk::Desk;
+use crate::draws::Draws;
+use crate::outcome::{Ending, Outcome};
+use dist_core::{Event, Reply, StepError, Still, Why};
+use dist_frames::{Frames, bodies_of_stream, fed_and_moved};
+use dist_names::ByteString;
+use dist_peers::EndId;
+use dist_streams::{Stream, TurnError, read_turn, write_all};
+use std::alloc::Global;
+
+// Why the call ends where the desk refused a frame.
+fn ending_of_refusal(error: StepError) -> Ending
+    ensures { result ≡ ending_of_refusal error }
+{
+    match error {
+        StepError::Gone(why) => Ending::Gone(why),
+        StepError::NoMemory => Ending::Fault(Why::NoMemory),
+        _ => Ending::Fault(Why::GaveUp),
+    }
+}
+
+// Why the call ends where a read or a write failed.
+fn ending_of_stream(error: TurnError) -> Ending
+    ensures { result ≡ ending_of_stream error }
+{
+    match error {
+        TurnError::Limit => Ending::Limit,
+        TurnError::Ended => Ending::Fault(Why::Ended),
+        TurnError::ReadFailed => Ending::Fault(Why::ReadFailed),
+        TurnError::WriteFailed => Ending::Fault(Why::WriteFailed),
+    }
+}
+
+// Why a reply closed its own end.
+fn own_why(reply: &Reply, end_: EndId) -> Option<Why>
+    ensures { result ≡ own_why end_ reply.now.closed }
+{
+    match reply.closed {
+        Some((id, why)) => { if id.0 == end_.0 { Some(why) } else { None } }
+        None => None,
+    }
+}
+
+// Whether the call goes on after a reply was written, or not whole.
+fn after_reply(own: Option<Why>, written: Result<(), TurnError>) -> Result<(), Ending>
+    ensures { result ≡ after_reply own (fault_of written) }
+{
+    match written {
+        Err(TurnError::Limit) => Err(Ending::Limit),
+        Err(_) => match own {
+            Some(why) => Err(Ending::Shut(why)),
+            None => Err(Ending::Fault(Why::WriteFailed)),
+        },
+        Ok(()) => match own {
+            Some(why) => Err(Ending::Shut(why)),
+            None => Ok(()),
+        },
+    }
+}
+
+// The most bytes of one read.
+const PIECE: usize = 4096;
+
+// Hands a frame on with a number of its own.
+fn make_step<D: Desk, W: Draws>(
+    desk: &mut D,
+    draws: &mut W,
+    end_: EndId,
+    body: ByteString,
+) -> Result<(), Ending>
+    ensures ok { OnOk result (MakesStep W.gives end_ body draws.old draws.new (D.list desk.old) (D.list desk.new)) }
+    ensures err { OnErr result (desk.new ≡ desk.old) }
+    ensures cause { IfErr result (λ e. (n : ℕ) × (why : StepError) × D.refuses desk.old (Event.Frame end_ body) n why × (e ≡ ending_of_refusal why)) }
+    ensures base { (D.base desk.new ≡ D.base desk.old) × (D.serves desk.new ≡ D.serves desk.old) }
+{
+    let fresh = draws.draw();
+    desk.step(Event::Frame { end_, body }, fresh)
+        .map_err(ending_of_refusal)
+}
+
+// Writes what a reply says. Whether it brought its end up.
+fn say_reply<S: Stream>(
+    stream: &mut S,
+    reply: &Reply,
+    end_: EndId,
+    turns: &mut usize,
+) -> Result<bool, Ending>
+    ensures { SaysReply end_ reply.now (S.meaning stream.old) (S.meaning stream.new) turns.old turns.new result }
+{
+    let written = write_all(stream, reply.say.as_slice(), turns);
+    after_reply(own_why(reply, end_), written)?;
+    Ok(reply.up.is_some())
+}
+
+// Hands a frame on, and writes what the reply says. Whether it brought the end up.
+fn hand_on<S: Stream, D: Desk, W: Draws>(
+    stream: &mut S,
+    desk: &mut D,
+    draws: &mut W,
+    end_: EndId,
+    body: ByteString,
+    turns: &mut usize,
+) -> Result<bool, Ending>
+    ensures hands { HandsOn D.list D.refuses W.gives end_ body draws.old draws.new desk.old desk.new (S.meaning stream.old) (S.meaning stream.new) turns.old turns.new result }
+    ensures turns { turns.new ≤ turns.old }
+    ensures base { (D.base desk.new ≡ D.base desk.old) × (D.serves desk.new ≡ D.serves desk.old) }
+{
+    make_step(desk, draws, end_, body)?;
+    let Some(reply) = desk.last() else {
+        unreachable!()
+    };
+    say_reply(stream, reply, end_, turns)
+}
+
+// The next whole frame that came.
+fn next_frame(frames: &mut Frames) -> Result<Option<ByteString>, Ending>
+    ensures next { IfOk result (λ body. (body ≡ next_body frames.old) × (frames.new ≡ without_next frames.old)) }
+    ensures first { IfOk result (λ body. MatchOption body (to_come frames.old ≡ []) (λ b. to_come frames.old ≡ b ∷ to_come frames.new)) }
+    ensures err { IfErr result (λ e. (e ≡ Ending.Fault Why.NoMemory) × (frames.new ≡ frames.old)) }
+{
+    match frames.next_short() {
+        Ok(Some(body)) => Ok(Some(ByteString::from_vec(body))),
+        Ok(None) => Ok(None),
+        Err(_) => Err(Ending::Fault(Why::NoMemory)),
+    }
+}
+
+// Hands on each whole frame that came.
+fn hand_on_all<S: Stream, D: Desk, W: Draws>(
+    stream: &mut S,
+    desk: &mut D,
+    draws: &mut W,
+    end_: EndId,
+    frames: &mut Frames,
+    turns: &mut usize,
+) -> Result<(), Ending>
+    ensures runs { OnOk result (RunsOn W.gives end_ (S.meaning stream.old) (S.meaning stream.new) turns.old turns.new (D.list desk.old) (D.list desk.new) draws.old draws.new frames.old frames.new) }
+    ensures all { OnOk result (to_come frames.new ≡ []) }
+    ensures turns { turns.new ≤ turns.old }
+    ensures ends { IfErr result (EndsSo D.list D.stands D.refuses W.gives end_ (S.meaning stream.old) (S.meaning stream.new) turns.old desk.old desk.new draws.old frames.old) }
+    ensures base { (D.base desk.new ≡ D.base desk.old) × (D.serves desk.new ≡ D.serves desk.old) }
+{
+    fed_and_moved();
+    while let Some(body) = next_frame(frames)? {
+        if hand_on(stream, desk, draws, end_, body, turns)? {
+            frames.to_linked();
+        }
+    }
+    Ok(())
+}
+
+// Gives a piece to the reader. Packets are dropped at once.
+fn keep_piece(frames: &mut Frames, piece: &[u8]) -> Result<(), Ending>
+    ensures ok { OnOk result (frames.new ≡ told (fed frames.old piece.now)) }
+    ensures err { IfErr result (λ e. e ≡ Ending.Fault Why.NoMemory) }
+    ensures bytes { IsBytes piece.now }
+{
+    match frames.feed(piece) {
+        Ok(()) => {
+            frames.skip_long();
+            Ok(())
+        }
+        Err(_) => Err(Ending::Fault(Why::NoMemory)),
+    }
+}
+
+// Reads a piece, and gives it to the reader.
+fn hear<S: Stream>(stream: &mut S, frames: &mut Frames, turns: &mut usize) -> Result<(), Ending>
+    ensures hears { HearsPiece (S.meaning stream.old) (S.meaning stream.new) turns.old turns.new frames.old frames.new result }
+    ensures turn { OnOk result (turns.old ≡ turns.new + 1) }
+{
+    let mut room = [0u8; PIECE];
+    match read_turn(stream, &mut room, turns) {
+        Ok(count) => keep_piece(frames, &room[..count]),
+        Err(error) => Err(ending_of_stream(error)),
+    }
+}
+
+// Reads a piece, and hands on what came whole, unless the end is closed.
+fn turn<S: Stream, D: Desk, W: Draws>(
+    stream: &mut S,
+    desk: &mut D,
+    draws: &mut W,
+    end_: EndId,
+    frames: &mut Frames,
+    turns: &mut usize,
+) -> Result<(), Ending>
+    ensures runs { OnOk result (to_come frames.old ≡ [] → RunsOn W.gives end_ (S.meaning stream.old) (S.meaning stream.new) turns.old turns.new (D.list desk.old) (D.list desk.new) draws.old draws.new frames.old frames.new) }
+    ensures all { OnOk result (to_come frames.new ≡ []) }
+    ensures ends { IfErr result (λ e. to_come frames.old ≡ [] → EndsSo D.list D.stands D.refuses W.gives end_ (S.meaning stream.old) (S.meaning stream.new) turns.old desk.old desk.new draws.old frames.old e) }
+    ensures fewer { OnOk result (turns.new < turns.old) }
+    ensures base { (D.base desk.new ≡ D.base desk.old) × (D.serves desk.new ≡ D.serves desk.old) }
+{
+    fed_and_moved();
+    if let Still::Gone(why) = desk.still(end_) {
+        return Err(Ending::Gone(why));
+    }
+    match hear(stream, frames, turns) {
+        Ok(()) => hand_on_all(stream, desk, draws, end_, frames, turns),
+        Err(ending) => Err(ending),
+    }
+}
+
+// Drives to the end, but for the loss that is then told.
+fn run<S: Stream, D: Desk, W: Draws>(
+    alloc: Global,
+    stream: &mut S,
+    desk: &mut D,
+    draws: &mut W,
+    end_: EndId,
+    first: &[u8],
+    limit: usize,
+) -> Ending
+    ensures carries { Carries D.list D.stands D.refuses W.gives end_ first.now limit (S.meaning stream.old) (S.meaning stream.new) (D.list desk.old) desk.new draws.old result }
+    ensures base { (D.base desk.new ≡ D.base desk.old) × (D.serves desk.new ≡ D.serves desk.old) }
+{
+    fed_and_moved();
+    bodies_of_stream();
+    let mut turns = limit;
+    if let Err(error) = write_all(stream, first, &mut turns) {
+        return ending_of_stream(error);
+    }
+    let mut frames = Frames::new(alloc);
+    loop {
+        if let Err(ending) = turn(stream, desk, draws, end_, &mut frames, &mut turns) {
+            return ending;
+        }
+    }
+}
+
+// Tells a fault of the call's own as a loss.
+fn tell<D: Desk>(desk: &mut D, end_: EndId, ending: Ending)
+    ensures told { (told : List Step) × (D.list desk.new ≡ D.list desk.old ++ told) × TellsLoss D.refuses end_ desk.old ending told }
+    ensures base { (D.base desk.new ≡ D.base desk.old) × (D.serves desk.new ≡ D.serves desk.old) }
+{
+    if let Ending::Fault(why) = ending {
+        let _ = desk.step(Event::Lost { end_, why }, 0);
+    }
+}
+
+/// Drives an end over a stream, in at most `limit` reads and writes, until it is closed or no turn is left.
+///
+/// It writes `first`: what the end said when its connection was there, and nothing for an accepted end. Then, again and
+/// again, it asks the desk how the end stands, reads a piece of at most 4,096 bytes, and hands each whole frame in it on,
+/// with a number of its own, writing all that the reply says before the next frame. Once a reply has brought the end up,
+/// what comes is packets, which are skipped unread.
+///
+/// Closed comes with the cause of the reply that closed the end, also where its last words could not be written; or with
+/// that for which the desk says that the end is gone; or with a fault, which is told the desk as one loss: Ended (a read
+/// gave nothing), ReadFailed, WriteFailed (also a write that took nothing), NoMemory, GaveUp (the desk refused a frame for
+/// another reason). Limit comes where the turns ran out, and nothing is told then.
+///
+/// It is meant for an end that took no frame before. Source: our own choice.
+pub fn drive<S: Stream, D: Desk, W: Draws>(
+    alloc: Global,
+    stream: &mut S,
+    desk: &mut D,
+    draws: &mut W,
+    end_: EndId,
+    first: &[u8],
+    limit: usize,
+) -> Outcome
+    ensures drives { Drives D.list D.stands D.refuses W.gives end_ first.now limit (S.meaning stream.old) (S.meaning stream.new) desk.old desk.new draws.old result }
+    ensures base { (D.base desk.new ≡ D.base desk.old) × (D.serves desk.new ≡ D.serves desk.old) }
+{
+    let ending = run(alloc, stream, desk, draws, end_, first, limit);
+    tell(desk, end_, ending);
+    ending.outcome()
+}

@@ -1,0 +1,10 @@
+pub mod Agreement
+pub mod Tables
+pub mod Changes
+pub mod Fitting
+pub mod Ups
+pub mod Opens
+pub mod Legal
+pub mod Keeping
+pub mod UpPeers
+pub mod Naming

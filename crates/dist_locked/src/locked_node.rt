@@ -1,0 +1,126 @@
+ghost use Rattle.std.specs.Prelude.{◌≡◌, ◌≢◌, ◌<◌, ◌≤◌, ◌∷◌, [], ◌++◌, vec_len, false, Ok, Err, IfOk, IfErr, OnOk, OnErr};
+ghost use Rattle.dist_core.specs.Losses.{is_loss, IsGone};
+ghost use Rattle.dist_core.specs.Answers.{IsLoss};
+ghost use Rattle.dist_locked.specs.History.{AreFresh, IsLegal};
+
+use super::book::{Book, step_on};
+use super::line::Receipt;
+use super::seat::Seat;
+use dist_core::{Event, Setup, StepError, Still};
+use dist_peers::EndId;
+use std::alloc::{AllocError, Global};
+use std::sync::atomic::{AtomicU64, Ordering};
+use std::sync::{Arc, Mutex, Wait};
+
+/// Numbers for the steps of all nodes: a line's ticket is drawn while its node's lock is held, so that tickets rise along a
+/// history. They begin again at 0 after 2^64 draws.
+#[derive(Drop)]
+pub struct Tickets {
+    next: AtomicU64,
+}
+
+impl Tickets {
+    /// Tickets from 0 on.
+    pub fn new() -> Tickets {
+        Tickets {
+            next: AtomicU64::new(0),
+        }
+    }
+
+    // The next number.
+    fn draw(&self) -> u64 {
+        self.next.fetch_add(1, Ordering::SeqCst)
+    }
+}
+
+/// A node under a lock, with its book. Whenever the lock is held, the book's history is one that a single thread could have
+/// made.
+#[derive(Drop)]
+pub struct LockedNode {
+    book: Mutex<Book>,
+    tickets: Arc<Tickets, Global>,
+    alloc: Global,
+}
+
+impl LockedNode {
+    /// The opening node of a setup under a lock, with the seats that it has, in the order of their numbers. Where memory runs
+    /// out, the setup is dropped.
+    pub fn new(
+        alloc: Global,
+        setup: Setup,
+        tickets: Arc<Tickets, Global>,
+        seats: u32,
+    ) -> Result<(LockedNode, Vec<Seat>), AllocError>
+        // from 1 to 64 seats: the caller says how many, as a constant or after a check
+        requires { (0 < seats) × (seats ≤ 64) }
+        ensures count { IfOk result (λ r. vec_len r.1 ≡ seats) }
+        ensures seats { IfOk result (λ r. AreFresh r.1.items) }
+    {
+        let mut all = Vec::new(alloc);
+        for number in 0..seats {
+            all.push(Seat::new(alloc, number)?)?;
+        }
+        let book = Mutex::new(Book::new(alloc, setup, seats));
+        Ok((
+            LockedNode {
+                book,
+                tickets,
+                alloc,
+            },
+            all,
+        ))
+    }
+
+    /// Makes a step under the lock, with a ticket that is drawn there. What the node was at that moment, and so which reply it
+    /// gave, no clause of a caller can say: the line's reply is the node's by the book's own type, and `close` compares.
+    ///
+    /// It is refused as the node refuses the step, want of memory last, and changes nothing then. Source: our own choice.
+    pub fn step<R: Wait>(
+        &self,
+        rt: &R,
+        seat: &mut Seat,
+        event: &Event,
+        fresh: u32,
+    ) -> Result<Receipt, StepError>
+        ensures line { IfOk result (λ r. (r.line.seat ≡ seat.old.number) × (r.line.event ≡ event.now) × (r.line.fresh ≡ fresh)) }
+        ensures receipt { IfOk result (λ r. seat.new.list ≡ seat.old.list ++ r ∷ []) }
+        ensures err { OnErr result (seat.new.list ≡ seat.old.list) }
+        ensures seat { seat.new.number ≡ seat.old.number }
+        ensures gone { IsLoss event.now → 0 < seat.old.spare → IfErr result IsGone }
+        ensures room { OnOk result (is_loss event.now ≡ false → 0 < seat.new.spare) }
+        ensures room_kept { OnErr result (seat.old.spare ≤ seat.new.spare) }
+    {
+        let mut book = self.book.lock(rt);
+        let ticket = self.tickets.draw();
+        step_on(self.alloc, &mut book, seat, ticket, event, fresh)
+    }
+
+    // Why a step is refused for which there is no room: want of memory is the last of its refusals.
+    pub(crate) fn lacks<R: Wait>(&self, rt: &R, event: &Event, fresh: u32) -> StepError {
+        let book = self.book.lock(rt);
+        match book.node().answer(self.alloc, event, fresh) {
+            Ok(_) => StepError::NoMemory,
+            Err(error) => error,
+        }
+    }
+
+    /// How an end stands at this moment.
+    pub fn still<R: Wait>(&self, rt: &R, end_: EndId) -> Still {
+        self.book.lock(rt).node().still(end_)
+    }
+
+    /// The book, whose history is legal.
+    pub fn into_book(self) -> Book
+        ensures { IsLegal result }
+    {
+        let LockedNode {
+            book,
+            tickets: _,
+            alloc: _,
+        } = self;
+        let book = book.into_inner();
+        // that shows what the book keeps
+        let _lines = book.history().len();
+        book
+    }
+}

@@ -1,0 +1,52 @@
+//! A registry that threads share.
+ghost use Rattle.std.specs.Prelude.{◌≡◌};
+
+use dist_drive::Mapper;
+use dist_epmd::{Answer, Registry, Request};
+use std::alloc::{AllocError, Global};
+use std::sync::{Mutex, Wait};
+
+/// A registry under a lock. Whenever the lock is held, no two registrations share a name, a connection or a creation, there
+/// are at most 1,024, and the next creation is above all of theirs: that is so of every registry.
+#[derive(Drop)]
+pub struct LockedRegistry {
+    registry: Mutex<Registry>,
+}
+
+impl LockedRegistry {
+    /// This registry under a lock.
+    pub fn new(registry: Registry) -> LockedRegistry {
+        LockedRegistry {
+            registry: Mutex::new(registry),
+        }
+    }
+}
+
+/// The registry, as one thread asks it.
+#[derive(Drop)]
+pub struct SharedMapper<'a, R: Wait> {
+    rt: &'a R,
+    shared: &'a LockedRegistry,
+}
+
+impl<'a, R: Wait> SharedMapper<'a, R> {
+    /// This registry, asked with this handle.
+    pub fn new(rt: &'a R, shared: &'a LockedRegistry) -> SharedMapper<'a, R> {
+        SharedMapper { rt, shared }
+    }
+}
+
+impl<'a, R: Wait> Mapper for SharedMapper<'a, R> {
+    // other threads may have changed it before and after
+    ghost allows = { λ before conn request answer after. Unit {0} };
+
+    ghost leaves = { λ before conn after. Unit {0} };
+
+    fn ask(&mut self, alloc: Global, conn: u64, request: &Request) -> Result<Answer, AllocError> {
+        self.shared.registry.lock(self.rt).ask(alloc, conn, request)
+    }
+
+    fn closed(&mut self, conn: u64) {
+        self.shared.registry.lock(self.rt).closed(conn);
+    }
+}

@@ -1,0 +1,4 @@
+pub mod Asks
+pub mod Registering
+pub mod Serves
+pub mod Keeping

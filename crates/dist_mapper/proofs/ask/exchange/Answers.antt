@@ -1,0 +1,16 @@
+use Rattle.std.proofs.Common.{rules, sym, subst}
+use Rattle.dist_mapper.specs.Steps.{ExchangesWritten}
+use Rattle.dist_mapper.proofs.Asks.{told, no_frame, exchange_written, exchange_in_part, exchange_unheard, exchange_whole}
+use Rattle.dist_mapper.proofs.ask.exchange.Goals as goal
+
+pub returns-in_err-frame : goal.returns-in_err-frame
+returns-in_err-frame g c = subst (ExchangesWritten _ _ _ _) (sym (told c.from_residual.ensures.1)) (no_frame _ _ _ _ c.in_err-frame.ensures)
+
+pub returns-in_err-write_all : goal.returns-in_err-write_all
+returns-in_err-write_all g c = subst (ExchangesWritten _ _ _ _) (sym (told c.from_residual-in_err-write_all.ensures.1)) (exchange_written c.in_ok-frame.ensures c.as_slice.ensures (exchange_in_part _ c.in_err-write_all.ensures))
+
+pub returns-in_err-read_to_end : goal.returns-in_err-read_to_end
+returns-in_err-read_to_end g c = subst (ExchangesWritten _ _ _ _) (sym (told c.from_residual-in_err-read_to_end.ensures.1)) (exchange_written c.in_ok-frame.ensures c.as_slice.ensures (exchange_unheard _ c.in_ok-write_all.ensures c.in_err-read_to_end.ensures))
+
+pub returns : goal.returns
+returns g c = exchange_written c.in_ok-frame.ensures c.as_slice.ensures (exchange_whole c.in_ok-read_to_end.field-0 _ _ _ (search rules) c.from_vec.ensures c.in_ok-write_all.ensures c.in_ok-read_to_end.ensures)

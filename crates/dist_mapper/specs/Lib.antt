@@ -1,0 +1,5 @@
+pub mod Refusals
+pub mod Mapping
+pub mod Asking
+pub mod Serving
+pub mod Steps

@@ -1,0 +1,151 @@
+//! One request of a client, served.
+
+ghost use Rattle.std.specs.Prelude.{◌≡◌, length};
+ghost use Rattle.dist_mapper.specs.Serving.{AfterCut, Serves, served_as};
+ghost use Rattle.dist_mapper.specs.Steps.{HearsBody, HearsLen, HearsRequest, SaysAnswer, SaysReply};
+
+use crate::lookup_error::LookupError;
+use crate::mapper::Mapper;
+use crate::refusals::whole_refusal;
+use dist_epmd::{Answer, Request, decode_request, encode_answer};
+use dist_names::ByteString;
+use dist_streams::{Stream, TurnError, read_exact, write_all};
+use std::alloc::Global;
+
+/// How a request was served.
+#[derive(Clone, Copy, Debug, PartialEq, Eq)]
+pub enum Served {
+    /// A registration was answered with result 0: the caller keeps the stream as long as it lasts.
+    Registered,
+    /// Any other request was answered: the caller closes the stream.
+    Answered,
+}
+
+// The length of the next frame, which is read into the header.
+fn read_len<S: Stream>(
+    stream: &mut S,
+    header: &mut [u8],
+    turns: &mut usize,
+) -> Result<usize, TurnError>
+    requires { length header.old ≡ 2 }
+    ensures { HearsLen (S.meaning stream.old) (S.meaning stream.new) turns.old turns.new result }
+{
+    read_exact(stream, header, turns)?;
+    Ok(u16::from_be_bytes([header[0], header[1]]) as usize)
+}
+
+// The body of the next frame.
+fn read_body<S: Stream>(
+    alloc: Global,
+    stream: &mut S,
+    turns: &mut usize,
+) -> Result<ByteString, LookupError>
+    ensures { HearsBody (S.meaning stream.old) (S.meaning stream.new) turns.old turns.new result }
+{
+    let len = read_len(stream, &mut [0; 2], turns)?;
+    let mut body = vec![in alloc; 0u8; len]?;
+    read_exact(stream, &mut body, turns)?;
+    Ok(ByteString::from_vec(body))
+}
+
+// The next request.
+fn read_request<S: Stream>(
+    alloc: Global,
+    stream: &mut S,
+    turns: &mut usize,
+) -> Result<Request, LookupError>
+    ensures { HearsRequest (S.meaning stream.old) (S.meaning stream.new) turns.old turns.new result }
+{
+    let body = read_body(alloc, stream, turns)?;
+    match decode_request(alloc, body.as_slice()) {
+        Ok(request) => Ok(request),
+        Err(error) => Err(whole_refusal(error)),
+    }
+}
+
+fn write_answer<S: Stream>(
+    alloc: Global,
+    stream: &mut S,
+    answer: &Answer,
+    turns: &mut usize,
+) -> Result<(), LookupError>
+    ensures { SaysAnswer (S.meaning stream.old) (S.meaning stream.new) turns.old turns.new result answer.now }
+{
+    let bytes = match encode_answer(alloc, answer) {
+        Ok(bytes) => bytes,
+        Err(error) => return Err(whole_refusal(error)),
+    };
+    write_all(stream, bytes.as_slice(), turns)?;
+    Ok(())
+}
+
+fn served_as(request: &Request, answer: &Answer) -> Served
+    ensures { result ≡ served_as request.now answer.now }
+{
+    let Request::Alive(_) = request else {
+        return Served::Answered;
+    };
+    match answer {
+        Answer::AliveX { result_code: 0, .. } | Answer::Alive { result_code: 0, .. } => {
+            Served::Registered
+        }
+        _ => Served::Answered,
+    }
+}
+
+// Where the answer to a registration was cut off, its connection counts as closed.
+fn close_cut<M: Mapper>(mapper: &mut M, request: &Request, conn: u64)
+    ensures { AfterCut M.leaves request.now conn mapper.old mapper.new }
+{
+    if let Request::Alive(_) = request {
+        mapper.closed(conn);
+    }
+}
+
+// Answers a request that came.
+fn reply<S: Stream, M: Mapper>(
+    alloc: Global,
+    stream: &mut S,
+    mapper: &mut M,
+    conn: u64,
+    request: &Request,
+    turns: &mut usize,
+) -> Result<Served, LookupError>
+    ensures { SaysReply M.allows M.leaves conn mapper.old mapper.new request.now (S.meaning stream.old) (S.meaning stream.new) turns.old turns.new result }
+{
+    let Ok(answer) = mapper.ask(alloc, conn, request) else {
+        return Err(LookupError::NoMemory);
+    };
+    match write_answer(alloc, stream, &answer, turns) {
+        Ok(()) => Ok(served_as(request, &answer)),
+        Err(error) => {
+            close_cut(mapper, request, conn);
+            Err(error)
+        }
+    }
+}
+
+/// Serves one request that comes on this connection, in at most `limit` reads and writes. `conn` is the connection's
+/// number, by which the mapper knows it again.
+///
+/// A frame that spells no request is Malformed, also where it ends inside a field, and nothing is written. Before the
+/// mapper has answered, a refusal leaves it as it was. The answer goes out in one write where the stream takes it whole,
+/// since real nodes want it in one piece. Where the answer to a registration isn't written whole, for whatever cause,
+/// the connection counts as closed, and the mapper is told so before this call ends: no client lost the answer to a
+/// registration that is kept. NotThere and Refused don't come.
+///
+/// Source: ERTS User's Guide, Distribution Protocol, EPMD Protocol. The rule on cut answers and the limit are our own
+/// choice.
+pub fn serve_registry<S: Stream, M: Mapper>(
+    alloc: Global,
+    stream: &mut S,
+    mapper: &mut M,
+    conn: u64,
+    limit: usize,
+) -> Result<Served, LookupError>
+    ensures { Serves M.allows M.leaves conn limit (S.meaning stream.old) (S.meaning stream.new) mapper.old mapper.new result }
+{
+    let mut turns = limit;
+    let request = read_request(alloc, stream, &mut turns)?;
+    reply(alloc, stream, mapper, conn, &request, &mut turns)
+}

@@ -1,0 +1,63 @@
+-- Which body is written for a message, and why there is none, in the words of the layouts.
+use Rattle.std.specs.Prelude.{◌≡◌, ℕ, ◌+◌, ◌<◌, ◌≤◌, List, [], length, take, drop}
+use Rattle.std.specs.Int.{w16, to_be_bytes}
+use Rattle.dist_messages.specs.declared.message.Side.{Side}
+use Rattle.dist_messages.specs.declared.message.Status.{Status}
+use Rattle.dist_messages.specs.declared.message.Message.{Message}
+use Rattle.dist_messages.specs.declared.message.Message.TheVariants as message
+use Rattle.dist_messages.specs.Canonical.{written_version}
+use Rattle.dist_messages.specs.Spelling.{Spells}
+
+-- the name that a message has, and no bytes where it has none
+abbrev pub name_in : Message → List ℕ
+name_in (message.OldName flags name) = name
+name_in (message.NewName flags creation name) = name
+name_in (message.OldChallenge flags challenge name) = name
+name_in (message.NewChallenge flags challenge creation name) = name
+name_in _ = []
+
+-- the same message with a name of no bytes
+abbrev pub nameless : Message → Message
+nameless (message.OldName flags name) = message.OldName flags []
+nameless (message.NewName flags creation name) = message.NewName flags creation []
+nameless (message.Status s) = message.Status s
+nameless (message.OldChallenge flags challenge name) = message.OldChallenge flags challenge []
+nameless (message.NewChallenge flags challenge creation name) = message.NewChallenge flags challenge creation []
+nameless (message.Complement high creation) = message.Complement high creation
+nameless (message.Reply challenge digest) = message.Reply challenge digest
+nameless (message.Ack digest) = message.Ack digest
+
+-- this side has a row for the message, whatever its name
+pub record HasRow (side : Side) (m : Message) : Type 0 where
+  pub body : List ℕ
+  pub row : Spells side (nameless m) body
+
+-- The version, where the body has one, is 5. No bytes stand after a name.
+abbrev pub IsPlain : Message → List ℕ → Type 0
+IsPlain (message.OldName flags name) body = take 2 (drop 1 body) ≡ to_be_bytes w16 written_version
+IsPlain (message.NewName flags creation name) body = length body ≡ 15 + length name
+IsPlain (message.OldChallenge flags challenge name) body = take 2 (drop 1 body) ≡ to_be_bytes w16 written_version
+IsPlain (message.NewChallenge flags challenge creation name) body = length body ≡ 19 + length name
+IsPlain _ body = Unit {0}
+
+-- The body spells the message with version 5 and no bytes after the name, which has at most 255.
+pub record IsWritten (side : Side) (m : Message) (body : List ℕ) : Type 0 where
+  pub spelled : Spells side m body
+  pub plain : IsPlain m body
+  pub short : length (name_in m) ≤ 255
+
+-- The message is no status, and this side has no row for it.
+pub record HasNoRow (side : Side) (m : Message) : Type 0 where
+  pub no_status : (s : Status) → m ≡ message.Status s → ⊥
+  pub no_row : HasRow side m → ⊥
+
+-- This side has a row for the message, and the name has more than 255 bytes.
+pub record HasLongName (side : Side) (m : Message) : Type 0 where
+  pub has_row : HasRow side m
+  pub long : 255 < length (name_in m)
+
+-- The message is a status, and not one of this side.
+pub record IsOtherStatus (side : Side) (m : Message) : Type 0 where
+  pub status : Status
+  pub is : m ≡ message.Status status
+  pub no_row : HasRow side m → ⊥

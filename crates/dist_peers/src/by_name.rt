@@ -1,0 +1,76 @@
+//! Entries by name, in an ordered map.
+
+ghost use Rattle.std.specs.Prelude.{◌≡◌, IfOk, OnOk, OnErr, IsOk, IsSome, is_some, Some, None, slice_get, length, ◌+◌, if◌then◌else◌};
+ghost use Rattle.std.specs.Option.{option_map};
+ghost use Rattle.std.specs.BTreeMap.{get, Updates, IsUnchanged, IsOrdered, btree_map_len};
+ghost use Rattle.dist_names.specs.Order.{name_cmp};
+ghost use Rattle.dist_peers.specs.Table.{up_ids};
+
+use crate::entry::Entry;
+use dist_names::NodeName;
+use std::alloc::{AllocError, Global};
+use std::collections::BTreeMap;
+
+/// The entry of a name.
+pub fn entry_in(entries: &BTreeMap<NodeName, Entry>, name: &NodeName) -> Option<Entry>
+    ensures { result ≡ get name_cmp entries.now name.now }
+{
+    entries.get(name).copied()
+}
+
+/// The row at this place, in the order of the names.
+pub fn row_at(entries: &BTreeMap<NodeName, Entry>, i: usize) -> Option<(&NodeName, Entry)>
+    ensures { option_map (λ r. (r.0.now, r.1)) result ≡ slice_get entries.now.entries i }
+{
+    match entries.iter().nth(i) {
+        Some((name, entry)) => Some((name, *entry)),
+        None => None,
+    }
+}
+
+/// How many ends are up.
+pub fn up_count(entries: &BTreeMap<NodeName, Entry>) -> usize
+    ensures { result ≡ length (up_ids entries.now.entries) }
+{
+    entries.iter().filter_map(|(_, entry)| entry.up()).count()
+}
+
+/// Gives a name an entry.
+pub fn put_row(
+    entries: &mut BTreeMap<NodeName, Entry>,
+    alloc: Global,
+    name: &NodeName,
+    entry: Entry,
+) -> Result<(), AllocError>
+    ensures ok { OnOk result (Updates name_cmp entries.old entries.new name.now (Some entry)) }
+    ensures len { OnOk result (btree_map_len entries.new ≡ btree_map_len entries.old + (if is_some (get name_cmp entries.old name.now) then 0 else 1)) }
+    ensures err { OnErr result (IsUnchanged entries.old entries.new) }
+    ensures ordered { OnOk result (IsOrdered name_cmp entries.new) }
+{
+    let name = name.try_clone(alloc)?;
+    match entries.insert(name, entry) {
+        Ok(_) => Ok(()),
+        Err(_) => Err(AllocError),
+    }
+}
+
+/// Gives a name that has an entry another. It takes no memory.
+pub fn set_row(entries: &mut BTreeMap<NodeName, Entry>, name: &NodeName, entry: Entry)
+    requires there { IsSome (get name_cmp entries.old name.now) }
+    ensures changed { Updates name_cmp entries.old entries.new name.now (Some entry) }
+    ensures len { btree_map_len entries.new ≡ btree_map_len entries.old }
+    ensures ordered { IsOrdered name_cmp entries.new }
+{
+    if let Some(place) = entries.get_mut(name) {
+        *place = entry;
+    }
+}
+
+/// Takes out the row of a name, where there is one. It takes no memory.
+pub fn drop_row(entries: &mut BTreeMap<NodeName, Entry>, name: &NodeName)
+    ensures changed { Updates name_cmp entries.old entries.new name.now None }
+    ensures len { btree_map_len entries.new + (if is_some (get name_cmp entries.old name.now) then 1 else 0) ≡ btree_map_len entries.old }
+    ensures ordered { IsOrdered name_cmp entries.new }
+{
+    let _ = entries.remove(name);
+}

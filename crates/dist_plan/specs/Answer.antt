@@ -1,0 +1,8 @@
+-- What a call answers that reads something.
+use Rattle.std.specs.Prelude.{◌≡◌, Option, Some, None, Result, MatchResult}
+use Rattle.dist_plan.specs.declared.plan_error.PlanError.{PlanError}
+use Rattle.dist_plan.specs.declared.plan_error.PlanError.TheVariants.{Bad}
+
+-- The answer is what is there. Bad comes just where nothing is, want of memory apart.
+abbrev pub Reads : {T : Type 0} → Result T PlanError → Option T → Type 0
+Reads result there = MatchResult result (λ value. there ≡ Some value) (λ error. error ≡ Bad → there ≡ None)

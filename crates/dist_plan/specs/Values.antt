@@ -1,0 +1,58 @@
+-- What a single value of a TOML tree says in a nodes file.
+use Rattle.std.specs.Prelude.{ℕ, Bool, ◌&&◌, nat_le, nat_lt, if◌then◌else◌, List, [], ◌∷◌, length, map, pos, Option, Some, None, option_map, option_and_then}
+use Rattle.std.specs.Result.{result_ok}
+use Rattle.std.specs.Char.{digit_value}
+use Rattle.std.specs.Str.Parse.{digits_value}
+use Rattle.std.specs.List.{list_all}
+use Rattle.toml.specs.Data.{Data, integer, Items, no_items, item, as_str, as_array}
+use Rattle.dist_names.specs.NodeName.{named}
+use Rattle.dist_names.specs.declared.flags.Flags.{Flags}
+use Rattle.dist_secret.specs.Cookie.{is_cookie_byte, cookie_of}
+
+-- a whole number within these bounds
+abbrev pub number_in : ℕ → ℕ → Data → Option ℕ
+number_in least most (integer (pos n)) = if nat_le least n && nat_le n most then Some n else None
+number_in least most _ = None
+
+-- a text that is the name of a node
+abbrev pub name_in : Data → Option (List ℕ)
+name_in value = option_and_then (λ text. result_ok (named text)) (as_str value)
+
+-- a text of printable ASCII characters, spaces among them, that is a cookie
+abbrev pub cookie_in : Data → Option (List ℕ)
+cookie_in value = option_and_then (λ text. if list_all is_cookie_byte text then result_ok (cookie_of text) else None) (as_str value)
+
+-- a hexadecimal digit, of either case
+abbrev pub is_digit : ℕ → Bool
+is_digit byte = nat_lt (digit_value byte) 16
+
+-- 1 to 16 hexadecimal digits
+abbrev pub are_flags : List ℕ → Bool
+are_flags text = nat_le 1 (length text) && (nat_le (length text) 16 && list_all is_digit text)
+
+-- the number that flags write
+abbrev pub flags_written : List ℕ → Option ℕ
+flags_written text = if are_flags text then Some (digits_value 16 text) else None
+
+-- a text that writes flags
+abbrev pub flags_in : Data → Option Flags
+flags_in value = option_map (λ flags. record { 0 = flags }) (option_and_then flags_written (as_str value))
+
+-- what each one is, where each is something
+abbrev pub all_some : {T : Type 0} → List (Option T) → Option (List T)
+all_some [] = Some []
+all_some (None ∷ others) = None
+all_some (Some x ∷ others) = option_map (λ xs. x ∷ xs) (all_some others)
+
+-- the items of an array, in order
+abbrev pub list_of : Items → List Data
+list_of no_items = []
+list_of (item value items) = value ∷ list_of items
+
+-- the values of an array, in order
+abbrev pub array_in : Data → Option (List Data)
+array_in value = option_map list_of (as_array value)
+
+-- an array of names
+abbrev pub names_in : Data → Option (List (List ℕ))
+names_in value = option_and_then (λ values. all_some (map name_in values)) (array_in value)

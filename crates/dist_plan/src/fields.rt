@@ -1,0 +1,173 @@
+//! What single values say.
+
+ghost use Rattle.std.specs.Prelude.{◌≡◌, ◌<◌, ◌≤◌, true, map, length, Some, None, MatchResult};
+ghost use Rattle.std.specs.List.{list_all};
+ghost use Rattle.std.specs.Str.Parse.{digits_value};
+ghost use Rattle.toml.specs.Data.{as_str, as_table};
+ghost use Rattle.toml.specs.View.{view, table_view};
+ghost use Rattle.std.specs.Result.{result_ok};
+ghost use Rattle.dist_secret.specs.Cookie.{is_cookie_byte, cookie_of};
+ghost use Rattle.dist_plan.specs.declared.plan_error.PlanError.TheVariants.{Bad, NoMemory};
+ghost use Rattle.dist_plan.specs.Answer.{Reads};
+ghost use Rattle.dist_plan.specs.Values.{number_in, name_in, cookie_in, is_digit, are_flags, flags_written, flags_in, names_in, array_in, all_some};
+
+use crate::plan_error::PlanError;
+use dist_names::{Flags, NameError, NodeName};
+use dist_secret::{Cookie, CookieError};
+use dist_setup::NameList;
+use std::alloc::Global;
+use toml::{Table, Value};
+
+/// The most digits of flags, which have 64 bits.
+const MOST_DIGITS: usize = 16;
+
+// The text of a string.
+fn text_of(value: &Value) -> Result<&str, PlanError>
+    ensures { MatchResult result (λ text. as_str (view value.now) ≡ Some text.now) (λ error. as_str (view value.now) ≡ None) }
+{
+    value.as_str().ok_or(PlanError::Bad)
+}
+
+/// The values of an array, in order.
+#[tactic(auto, using(crate::proofs::Found::list_of_view))]
+pub fn array_of(value: &Value) -> Result<&[Value], PlanError>
+    ensures { MatchResult result (λ values. array_in (view value.now) ≡ Some (map view values.now)) (λ error. array_in (view value.now) ≡ None) }
+{
+    match value.as_array() {
+        Some(values) => Ok(values.as_slice()),
+        None => Err(PlanError::Bad),
+    }
+}
+
+/// The members of a table.
+pub fn table_of(value: &Value) -> Result<&Table, PlanError>
+    ensures { MatchResult result (λ table. as_table (view value.now) ≡ Some (table_view table.now)) (λ error. as_table (view value.now) ≡ None) }
+{
+    value.as_table().ok_or(PlanError::Bad)
+}
+
+/// A port, 0 to 65,535.
+pub fn port_of(value: &Value) -> Result<u16, PlanError>
+    ensures { Reads result (number_in 0 65535 (view value.now)) }
+{
+    match value.as_integer() {
+        Some(number) if 0 <= number && number <= 65535 => Ok(number as u16),
+        _ => Err(PlanError::Bad),
+    }
+}
+
+/// How many turns a connection has, 1 to 1,000,000.
+pub fn turns_of(value: &Value) -> Result<u32, PlanError>
+    ensures { Reads result (number_in 1 1000000 (view value.now)) }
+{
+    match value.as_integer() {
+        Some(number) if 1 <= number && number <= 1_000_000 => Ok(number as u32),
+        _ => Err(PlanError::Bad),
+    }
+}
+
+/// The name of a node.
+pub fn name_of(alloc: Global, value: &Value) -> Result<NodeName, PlanError>
+    ensures { Reads result (name_in (view value.now)) }
+{
+    let text = text_of(value)?;
+    match NodeName::new(alloc, text.as_bytes()) {
+        Ok(name) => Ok(name),
+        Err(NameError::NoMemory) => Err(PlanError::NoMemory),
+        Err(_) => Err(PlanError::Bad),
+    }
+}
+
+// Whether all bytes are printable ASCII characters or spaces.
+fn are_cookie_bytes(text: &[u8]) -> bool
+    ensures { result ≡ list_all is_cookie_byte text.now }
+{
+    text.iter().all(|byte| 0x20 <= *byte && *byte <= 0x7E)
+}
+
+// The cookie of a text.
+fn cookie_from(alloc: Global, text: &[u8]) -> Result<Cookie, PlanError>
+    ensures { Reads result (result_ok (cookie_of text.now)) }
+{
+    match Cookie::from_bytes(alloc, text) {
+        Ok(cookie) => Ok(cookie),
+        Err(CookieError::NoMemory) => Err(PlanError::NoMemory),
+        Err(_) => Err(PlanError::Bad),
+    }
+}
+
+/// A cookie: all bytes of the text, spaces at its end among them.
+pub fn cookie_of(alloc: Global, value: &Value) -> Result<Cookie, PlanError>
+    ensures { Reads result (cookie_in (view value.now)) }
+{
+    let text = text_of(value)?;
+    if are_cookie_bytes(text.as_bytes()) {
+        cookie_from(alloc, text.as_bytes())
+    } else {
+        Err(PlanError::Bad)
+    }
+}
+
+// Whether all bytes are hexadecimal digits.
+fn are_digits(text: &[u8]) -> bool
+    ensures { result ≡ list_all is_digit text.now }
+{
+    text.iter()
+        .all(|byte| (*byte as char).to_digit(16).is_some())
+}
+
+// Whether these are 1 to 16 hexadecimal digits.
+fn are_flags(text: &[u8]) -> bool
+    ensures { result ≡ are_flags text.now }
+{
+    1 <= text.len() && (text.len() <= MOST_DIGITS && are_digits(text))
+}
+
+// The number that flags write.
+fn number_of(text: &str) -> Option<u64>
+    requires { are_flags text.now ≡ true }
+    ensures { result ≡ Some (digits_value 16 text.now) }
+{
+    u64::from_str_radix(text, 16).ok()
+}
+
+// The flags that hexadecimal digits write.
+fn flags_value(text: &str) -> Option<u64>
+    ensures { result ≡ flags_written text.now }
+{
+    if are_flags(text.as_bytes()) {
+        number_of(text)
+    } else {
+        None
+    }
+}
+
+/// Flags, in 1 to 16 hexadecimal digits of either case.
+pub fn flags_of(value: &Value) -> Result<Flags, PlanError>
+    ensures { Reads result (flags_in (view value.now)) }
+{
+    let text = text_of(value)?;
+    match flags_value(text) {
+        Some(flags) => Ok(Flags(flags)),
+        None => Err(PlanError::Bad),
+    }
+}
+
+// A name for each value.
+fn all_names(alloc: Global, values: &[Value]) -> Result<Vec<NodeName>, PlanError>
+    ensures { MatchResult result (λ names. all_some (map name_in (map view values.now)) ≡ Some names.items) (λ error. error ≡ Bad → all_some (map name_in (map view values.now)) ≡ None) }
+{
+    let mut names = Vec::new(alloc);
+    for value in values {
+        names.push(name_of(alloc, value)?)?;
+    }
+    Ok(names)
+}
+
+/// The names of an array, in order. One may stand there twice.
+pub fn names_of(alloc: Global, value: &Value) -> Result<NameList, PlanError>
+    ensures { Reads result (names_in (view value.now)) }
+{
+    let names = all_names(alloc, array_of(value)?)?;
+    Ok(NameList::from_vec(names))
+}

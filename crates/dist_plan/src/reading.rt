@@ -1,0 +1,307 @@
+//! A plan is read from the outside to the inside: the document, its keys, each node and dial, each value.
+
+ghost use Rattle.std.specs.Prelude.{◌≡◌, ◌≤◌, option_map, option_and_then, map, length, codes, not, [], Some, None, MatchResult};
+ghost use Rattle.toml.specs.View.{view, table_view};
+ghost use Rattle.toml.specs.Data.{get_member};
+ghost use Rattle.toml.specs.Errors.{IsMemory};
+ghost use Rattle.std.specs.List.{list_all, list_any};
+ghost use Rattle.dist_names.specs.Order.{same_name};
+ghost use Rattle.dist_names.specs.NodeName.{short_of};
+ghost use Rattle.dist_plan.specs.declared.plan_error.PlanError.TheVariants.{Bad};
+ghost use Rattle.dist_plan.specs.Answer.{Reads};
+ghost use Rattle.dist_plan.specs.Values.{number_in, names_in, flags_in, name_in, cookie_in, all_some};
+ghost use Rattle.dist_plan.specs.Plans.{or_usual, needed, port_in, node_of, node_in, dial_of, dial_in, are_within, nodes_in, dials_in, are_apart, are_made_by, parts_of, whole, plan_in, plan_of};
+
+use crate::fields::{
+    array_of, cookie_of, flags_of, name_of, names_of, port_of, table_of, turns_of,
+};
+use crate::keys::{has_only, value_at};
+use crate::lists::{DialList, NodeList};
+use crate::plan::{DialPlan, NodePlan, Plan};
+use crate::plan_error::PlanError;
+use dist_names::{Flags, NodeName};
+use dist_setup::NameList;
+use std::alloc::Global;
+use toml::{Table, Value};
+
+// The usual number of turns.
+const TURNS: u32 = 200;
+
+// The most nodes of a file.
+const MOST_NODES: usize = 16;
+
+// The most dials of a file.
+const MOST_DIALS: usize = 64;
+
+// The value at a key that must be there.
+fn value_of<'a>(table: &'a Table, key: &str) -> Result<&'a Value, PlanError>
+    ensures { MatchResult result (λ v. get_member key.now (table_view table.now) ≡ Some (view v.now)) (λ error. get_member key.now (table_view table.now) ≡ None) }
+{
+    match value_at(table, key) {
+        Some(value) => Ok(value),
+        None => Err(PlanError::Bad),
+    }
+}
+
+// A port, or 0 for any.
+fn port_or_any(value: Option<&Value>) -> Result<u16, PlanError>
+    ensures { Reads result (or_usual port_in 0 (option_map (λ v. view v.now) value.entry)) }
+{
+    match value {
+        Some(value) => port_of(value),
+        None => Ok(0),
+    }
+}
+
+// A number of turns, or the usual one.
+fn turns_or_usual(value: Option<&Value>) -> Result<u32, PlanError>
+    ensures { Reads result (or_usual (number_in 1 1000000) 200 (option_map (λ v. view v.now) value.entry)) }
+{
+    match value {
+        Some(value) => turns_of(value),
+        None => Ok(TURNS),
+    }
+}
+
+// Flags, or no flag.
+fn flags_or_none(value: Option<&Value>) -> Result<Flags, PlanError>
+    ensures { Reads result (or_usual flags_in (record { 0 = 0 }) (option_map (λ v. view v.now) value.entry)) }
+{
+    match value {
+        Some(value) => flags_of(value),
+        None => Ok(Flags(0)),
+    }
+}
+
+// A list of names, or no limit.
+fn names_or_all(alloc: Global, value: Option<&Value>) -> Result<Option<NameList>, PlanError>
+    ensures { Reads result (or_usual (λ x. option_map Some (names_in x)) None (option_map (λ v. view v.now) value.entry)) }
+{
+    match value {
+        Some(value) => Ok(Some(names_of(alloc, value)?)),
+        None => Ok(None),
+    }
+}
+
+// The node of a table whose keys are a node's.
+fn node_of(alloc: Global, table: &Table) -> Result<NodePlan, PlanError>
+    ensures { Reads result (node_of (table_view table.now)) }
+{
+    let name = name_of(alloc, value_of(table, "name")?)?;
+    let cookie = cookie_of(alloc, value_of(table, "cookie")?)?;
+    let flags = flags_of(value_of(table, "flags")?)?;
+    let required = flags_or_none(value_at(table, "required"))?;
+    let listen = port_or_any(value_at(table, "listen"))?;
+    let allow = names_or_all(alloc, value_at(table, "allow"))?;
+    Ok(NodePlan {
+        name,
+        cookie,
+        flags,
+        required,
+        listen,
+        allow,
+    })
+}
+
+// A node, in a table that has the keys of a node and no other.
+fn node_in(alloc: Global, value: &Value) -> Result<NodePlan, PlanError>
+    ensures { Reads result (node_in (view value.now)) }
+{
+    let table = table_of(value)?;
+    if has_only(
+        table,
+        &["name", "cookie", "flags", "required", "listen", "allow"],
+    ) {
+        node_of(alloc, table)
+    } else {
+        Err(PlanError::Bad)
+    }
+}
+
+// The dial of a table whose keys are a dial's.
+fn dial_of(alloc: Global, table: &Table) -> Result<DialPlan, PlanError>
+    ensures { Reads result (dial_of (table_view table.now)) }
+{
+    let from = name_of(alloc, value_of(table, "from")?)?;
+    let to = name_of(alloc, value_of(table, "to")?)?;
+    Ok(DialPlan { from, to })
+}
+
+// A dial, in a table that has the keys of a dial and no other.
+fn dial_in(alloc: Global, value: &Value) -> Result<DialPlan, PlanError>
+    ensures { Reads result (dial_in (view value.now)) }
+{
+    let table = table_of(value)?;
+    if has_only(table, &["from", "to"]) {
+        dial_of(alloc, table)
+    } else {
+        Err(PlanError::Bad)
+    }
+}
+
+// A node for each value.
+fn all_nodes(alloc: Global, values: &[Value]) -> Result<Vec<NodePlan>, PlanError>
+    ensures { MatchResult result (λ nodes. all_some (map node_in (map view values.now)) ≡ Some nodes.items) (λ error. error ≡ Bad → all_some (map node_in (map view values.now)) ≡ None) }
+{
+    let mut nodes = Vec::new(alloc);
+    for value in values {
+        nodes.push(node_in(alloc, value)?)?;
+    }
+    Ok(nodes)
+}
+
+// A dial for each value.
+fn all_dials(alloc: Global, values: &[Value]) -> Result<Vec<DialPlan>, PlanError>
+    ensures { MatchResult result (λ dials. all_some (map dial_in (map view values.now)) ≡ Some dials.items) (λ error. error ≡ Bad → all_some (map dial_in (map view values.now)) ≡ None) }
+{
+    let mut dials = Vec::new(alloc);
+    for value in values {
+        dials.push(dial_in(alloc, value)?)?;
+    }
+    Ok(dials)
+}
+
+// Whether there are so many values.
+#[tactic(auto, using(crate::proofs::Found::length_view))]
+fn are_within(values: &[Value], least: usize, most: usize) -> bool
+    ensures { result ≡ are_within least most (map view values.now) }
+{
+    least <= values.len() && values.len() <= most
+}
+
+// The 1 to 16 nodes of an array.
+fn nodes_in(alloc: Global, value: &Value) -> Result<NodeList, PlanError>
+    ensures { Reads result (nodes_in (view value.now)) }
+{
+    let values = array_of(value)?;
+    if are_within(values, 1, MOST_NODES) {
+        Ok(NodeList::from_vec(all_nodes(alloc, values)?))
+    } else {
+        Err(PlanError::Bad)
+    }
+}
+
+// The at most 64 dials of an array.
+fn dials_in(alloc: Global, value: &Value) -> Result<DialList, PlanError>
+    ensures { Reads result (dials_in (view value.now)) }
+{
+    let values = array_of(value)?;
+    if are_within(values, 0, MOST_DIALS) {
+        Ok(DialList::from_vec(all_dials(alloc, values)?))
+    } else {
+        Err(PlanError::Bad)
+    }
+}
+
+// An array of dials, or no dial.
+fn dials_or_none(alloc: Global, value: Option<&Value>) -> Result<DialList, PlanError>
+    ensures { Reads result (or_usual dials_in [] (option_map (λ v. view v.now) value.entry)) }
+{
+    match value {
+        Some(value) => dials_in(alloc, value),
+        None => Ok(DialList::from_vec(Vec::new(alloc))),
+    }
+}
+
+// Whether two names have one short name.
+fn is_same_short(one: &NodeName, other: &NodeName) -> bool
+    ensures { result ≡ same_name (short_of one.now) (short_of other.now) }
+{
+    one.short().cmp(other.short()).is_eq()
+}
+
+// Whether no other node has the short name of this one.
+fn is_apart(node: &NodePlan, others: &[NodePlan]) -> bool
+    ensures { result ≡ list_all (λ other. not (same_name (short_of other.name) (short_of node.now.name))) others.now }
+{
+    others
+        .iter()
+        .all(|other| !is_same_short(&other.name, &node.name))
+}
+
+// Whether no two nodes have one short name. Their names differ then too.
+fn are_apart(nodes: &[NodePlan]) -> bool
+    ensures { result ≡ are_apart nodes.now }
+{
+    match nodes {
+        [node, others @ ..] => is_apart(node, others) && are_apart(others),
+        [] => true,
+    }
+}
+
+// Whether one of the nodes has this name.
+fn is_there(nodes: &[NodePlan], name: &NodeName) -> bool
+    ensures { result ≡ list_any (λ node. same_name node.name name.now) nodes.now }
+{
+    nodes.iter().any(|node| node.name.is_same(name))
+}
+
+// Whether each dial is made by one of the nodes.
+fn are_made_by(nodes: &[NodePlan], dials: &[DialPlan]) -> bool
+    ensures { result ≡ are_made_by nodes.now dials.now }
+{
+    dials.iter().all(|dial| is_there(nodes, &dial.from))
+}
+
+// What the keys of the file say.
+fn parts_of(alloc: Global, table: &Table) -> Result<Plan, PlanError>
+    ensures { Reads result (parts_of (table_view table.now)) }
+{
+    let port = port_or_any(value_at(table, "port"))?;
+    let turns = turns_or_usual(value_at(table, "turns"))?;
+    let node = nodes_in(alloc, value_of(table, "node")?)?;
+    let dial = dials_or_none(alloc, value_at(table, "dial"))?;
+    Ok(Plan {
+        port,
+        turns,
+        node,
+        dial,
+    })
+}
+
+// The plan, where its nodes and dials fit together.
+fn whole(plan: Plan) -> Result<Plan, PlanError>
+    ensures { Reads result (whole plan) }
+{
+    if are_apart(plan.node.as_slice()) && are_made_by(plan.node.as_slice(), plan.dial.as_slice()) {
+        Ok(plan)
+    } else {
+        Err(PlanError::Bad)
+    }
+}
+
+// The plan of a document.
+fn plan_in(alloc: Global, table: &Table) -> Result<Plan, PlanError>
+    ensures { Reads result (plan_in (table_view table.now)) }
+{
+    if has_only(table, &["port", "turns", "node", "dial"]) {
+        whole(parts_of(alloc, table)?)
+    } else {
+        Err(PlanError::Bad)
+    }
+}
+
+/// The plan that a text says.
+///
+/// `Bad` comes just where the text is no TOML document, or the document breaks a rule: a key that isn't known, one that is
+/// missing, a value of the wrong type or out of its range, a name that is none, two nodes of one short name, a dial by a
+/// node that isn't in the file. A key that may be absent has its usual value then. The keys are our own choice.
+pub fn plan_of(alloc: Global, text: &str) -> Result<Plan, PlanError>
+    ensures { Reads result (plan_of text.now) }
+{
+    match toml::table_from_str(alloc, text) {
+        Ok(table) => plan_in(alloc, &table),
+        Err(error) => Err(refusal_of(&error)),
+    }
+}
+
+// Why a text is no document.
+fn refusal_of(error: &toml::de::Error) -> PlanError
+    ensures { result ≡ Bad → ¬ IsMemory error.now }
+{
+    if error.is_memory() {
+        PlanError::NoMemory
+    } else {
+        PlanError::Bad
+    }
+}

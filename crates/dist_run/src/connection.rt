@@ -1,0 +1,135 @@
+//! The thread of a connection.
+
+use crate::challenges::Challenges;
+use crate::host::Host;
+use crate::sockets::say_goodbye;
+use dist_core::{Event, Still, Why};
+use dist_drive::{Outcome, SocketStream};
+use dist_locked::{LockedNode, Seat, drive_end};
+use dist_names::ByteString;
+use dist_peers::EndId;
+use std::alloc::Global;
+use std::net::TcpStream;
+use std::sync::Wait;
+use std::sync::atomic::{AtomicUsize, Ordering};
+
+/// An end of a node, with what is needed to drive it.
+#[derive(Drop)]
+pub struct Job<'a> {
+    /// Its number among the jobs of the thread that made it.
+    pub number: usize,
+    /// The node.
+    pub host: &'a Host,
+    /// The end.
+    pub end_: EndId,
+    /// The seat for its steps.
+    pub seat: Seat,
+    /// The connection.
+    pub stream: SocketStream,
+    /// Another handle of its socket.
+    pub handle: TcpStream,
+    /// What the end said when it was opened.
+    pub first: ByteString,
+    /// Where its challenges come from.
+    pub challenges: Challenges,
+    /// The most reads and writes.
+    pub turns: usize,
+}
+
+/// What is left of a job. Neither the seat nor the stream is let go before the run ends.
+#[derive(Drop)]
+pub struct Left {
+    pub seat: Seat,
+    pub stream: SocketStream,
+}
+
+/// Loses an end. Where it is closed already nothing changes.
+pub fn lose<R: Wait>(rt: &R, node: &LockedNode, seat: &mut Seat, end_: EndId, why: Why) {
+    let _ = node.step(rt, seat, &Event::Lost { end_, why }, 0);
+}
+
+// Once the turns of an end have run out: one that is not up is given up. Whether the end is over now.
+fn give_up<R: Wait>(rt: &R, node: &LockedNode, seat: &mut Seat, end_: EndId) -> bool {
+    if node.still(rt, end_) == Still::Up {
+        return false;
+    }
+    lose(rt, node, seat, end_, Why::GaveUp);
+    true
+}
+
+impl<'a> Job<'a> {
+    /// Drives the end. The job whose number is `refused` is the one for which no thread could be made: its end is lost.
+    pub fn run<R: Wait>(self, rt: &R, alloc: Global, refused: &AtomicUsize) -> Left {
+        if refused.load(Ordering::SeqCst) == self.number {
+            self.give_away(rt)
+        } else {
+            self.drive(rt, alloc)
+        }
+    }
+
+    // Loses the end before anything is read or written.
+    fn give_away<R: Wait>(self, rt: &R) -> Left {
+        let Job {
+            number: _,
+            host,
+            end_,
+            seat,
+            stream,
+            handle,
+            first: _,
+            challenges: _,
+            turns: _,
+        } = self;
+        let mut seat = seat;
+        lose(rt, &host.node, &mut seat, end_, Why::GaveUp);
+        say_goodbye(&handle);
+        Left { seat, stream }
+    }
+
+    fn drive<R: Wait>(self, rt: &R, alloc: Global) -> Left {
+        let Job {
+            number: _,
+            host,
+            end_,
+            seat,
+            stream,
+            handle,
+            first,
+            challenges,
+            turns,
+        } = self;
+        let (mut stream, mut challenges) = (stream, challenges);
+        let first = first.as_slice();
+        let node = &host.node;
+        let driven = drive_end(
+            rt,
+            alloc,
+            node,
+            seat,
+            &mut stream,
+            &mut challenges,
+            end_,
+            first,
+            turns,
+        );
+        match driven {
+            Ok(driven) => {
+                let mut seat = driven.seat;
+                let mut is_over = true;
+                if driven.outcome == Outcome::Limit {
+                    is_over = give_up(rt, node, &mut seat, end_);
+                }
+                if is_over {
+                    say_goodbye(&handle);
+                }
+                Left { seat, stream }
+            }
+            Err((_, seat)) => {
+                let mut seat = seat;
+                lose(rt, node, &mut seat, end_, Why::NoMemory);
+                say_goodbye(&handle);
+                Left { seat, stream }
+            }
+        }
+    }
+}

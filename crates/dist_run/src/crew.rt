@@ -1,0 +1,184 @@
+//! The threads for connections that one thread starts at one node.
+
+use crate::challenges::Challenges;
+use crate::connection::{Job, Left, lose};
+use crate::host::Host;
+use crate::seats::Pool;
+use crate::sockets::{Connection, say_goodbye};
+use dist_core::{Event, StepError, Why};
+use dist_drive::SocketStream;
+use dist_locked::{Receipt, Seat};
+use dist_names::ByteString;
+use dist_peers::EndId;
+use std::alloc::Global;
+use std::sync::Wait;
+use std::sync::atomic::{AtomicUsize, Ordering};
+use std::thread::{JoinHandle, Scope, Threads};
+
+/// Threads that were started and not joined yet, with what is left of the others.
+#[derive(Drop)]
+pub struct Crew<'a> {
+    alloc: Global,
+    host: &'a Host,
+    pool: Pool,
+    challenges: Challenges,
+    turns: usize,
+    handles: Vec<JoinHandle<Left>>,
+    streams: Vec<SocketStream>,
+}
+
+/// What a crew leaves: its seats, and its streams.
+#[derive(Drop)]
+pub struct Rest {
+    pub pool: Pool,
+    pub streams: Vec<SocketStream>,
+}
+
+impl<'a> Crew<'a> {
+    /// A crew that has started nothing.
+    pub fn new(
+        alloc: Global,
+        host: &'a Host,
+        pool: Pool,
+        challenges: Challenges,
+        turns: usize,
+    ) -> Crew<'a> {
+        Crew {
+            alloc,
+            host,
+            pool,
+            challenges,
+            turns,
+            handles: Vec::new(alloc),
+            streams: Vec::new(alloc),
+        }
+    }
+
+    /// The node.
+    pub fn host(&self) -> &'a Host {
+        self.host
+    }
+
+    /// Makes a step of the crew's own.
+    pub fn step<R: Wait>(&mut self, rt: &R, event: &Event) -> Result<Receipt, StepError> {
+        self.host.node.step(rt, &mut self.pool.own, event, 0)
+    }
+
+    /// Loses an end.
+    pub fn lose<R: Wait>(&mut self, rt: &R, end_: EndId, why: Why) {
+        lose(rt, &self.host.node, &mut self.pool.own, end_, why);
+    }
+
+    // Keeps a stream to the end of the run. Where memory is short it is closed now, which its peer is told.
+    fn keep(&mut self, stream: SocketStream) {
+        let _ = self.streams.push(stream);
+    }
+
+    /// Keeps a connection that has no open end to the end of the run.
+    pub fn keep_closed(&mut self, connection: Connection) {
+        let Connection {
+            stream,
+            handle,
+            dialler_port: _,
+        } = connection;
+        say_goodbye(&handle);
+        self.keep(stream);
+    }
+
+    // Keeps what is left of a job. The seat comes back to its place.
+    fn keep_left(&mut self, left: Left) {
+        let Left { seat, stream } = left;
+        let _ = self.pool.free.push(seat);
+        self.keep(stream);
+    }
+
+    // A seat and room for a thread.
+    fn seat(&mut self) -> Option<Seat> {
+        if self.handles.reserve(1).is_err() {
+            return None;
+        }
+        self.pool.free.pop()
+    }
+
+    /// Starts a thread that drives an end. Where no seat is left, or no thread can be made, the end is lost.
+    pub fn start<'s, E, R: Threads + Wait + Sync>(
+        &mut self,
+        scope: &'s Scope<'s, E>,
+        rt: &'s R,
+        refused: &'s AtomicUsize,
+        number: usize,
+        end_: EndId,
+        first: ByteString,
+        connection: Connection,
+    )
+    where
+        'a: 's,
+    {
+        let Some(seat) = self.seat() else {
+            self.lose(rt, end_, Why::GaveUp);
+            self.keep_closed(connection);
+            return;
+        };
+        let Connection {
+            stream,
+            handle,
+            dialler_port: _,
+        } = connection;
+        let job = Job {
+            number,
+            host: self.host,
+            end_,
+            seat,
+            stream,
+            handle,
+            first,
+            challenges: self.challenges.fork(),
+            turns: self.turns,
+        };
+        self.spawn(scope, rt, refused, job);
+    }
+
+    fn spawn<'s, E, R: Threads + Wait + Sync>(
+        &mut self,
+        scope: &'s Scope<'s, E>,
+        rt: &'s R,
+        refused: &'s AtomicUsize,
+        job: Job<'s>,
+    ) {
+        let alloc = self.alloc;
+        let number = job.number;
+        match scope.spawn(move || job.run(rt, alloc, refused)) {
+            Ok(handle) => {
+                if let Err(failed) = self.handles.push(handle) {
+                    self.keep_left(failed.value.join(rt));
+                }
+            }
+            Err(back) => {
+                refused.store(number, Ordering::SeqCst);
+                let job = back.value;
+                self.keep_left(job());
+            }
+        }
+    }
+
+    /// Joins all threads.
+    pub fn joined<R: Threads>(self, rt: &R) -> Rest {
+        let Crew {
+            alloc: _,
+            host: _,
+            pool,
+            challenges: _,
+            turns: _,
+            handles,
+            streams,
+        } = self;
+        let mut pool = pool;
+        let mut streams = streams;
+        for handle in handles {
+            let Left { seat, stream } = handle.join(rt);
+            let _ = pool.free.push(seat);
+            let _ = streams.push(stream);
+        }
+        Rest { pool, streams }
+    }
+}

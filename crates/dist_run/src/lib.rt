@@ -1,0 +1,31 @@
+//! Runs the nodes of a plan on 127.0.0.1: a port mapper, nodes that listen and register, workers that dial, and a thread
+//! for each connection.
+//!
+//! What a node does stands in the crates below, and nothing is printed or read from a file here: these are sockets and
+//! threads alone. No thread holds a lock while it reads or writes. Every thread is joined, and every wait ends after at
+//! most 10 milliseconds, so that a run ends by its number of turns.
+#![tactic(auto)]
+
+mod accepting;
+mod challenges;
+mod connection;
+mod crew;
+mod dialling;
+mod dispatching;
+mod host;
+mod mapping;
+mod order_fault;
+mod run_error;
+mod running;
+mod seats;
+mod sockets;
+mod threads;
+
+pub use challenges::Challenges;
+pub use host::opening_for;
+pub use order_fault::{OrderFault, OrderRefusal};
+pub use run_error::RunError;
+pub use running::{Ran, run_plan};
+
+#[cfg(test)]
+mod tests;

@@ -1,0 +1,83 @@
+//! Sockets whose calls wait for one turn.
+
+use dist_drive::SocketStream;
+use std::net::{Ipv4Addr, Net, Shutdown, SocketAddr, TcpListener, TcpStream};
+use std::time::{Clock, Duration};
+use std::{io, thread};
+
+// How long a read, a write or an accept waits.
+const TURN_IN_MILLISECONDS: u64 = 10;
+
+fn one_turn() -> Duration {
+    Duration::from_millis(TURN_IN_MILLISECONDS)
+}
+
+/// A connection, another handle of its socket, and the port at its dialling end.
+#[derive(Drop)]
+pub struct Connection {
+    pub stream: SocketStream,
+    pub handle: TcpStream,
+    pub dialler_port: u16,
+}
+
+/// Lets the other side see that nothing more will be said. The socket stays open, so its port is not used again.
+pub fn say_goodbye(handle: &TcpStream) {
+    let _ = handle.shutdown(Shutdown::Write);
+}
+
+fn port_of(address: SocketAddr) -> u16 {
+    address.port()
+}
+
+fn timed(socket: TcpStream, dialler_port: u16) -> io::Result<Connection> {
+    socket.set_read_timeout(Some(one_turn()))?;
+    socket.set_write_timeout(Some(one_turn()))?;
+    let handle = socket.try_clone()?;
+    Ok(Connection {
+        stream: SocketStream::new(socket),
+        handle,
+        dialler_port,
+    })
+}
+
+/// A connection to a port of this host.
+pub fn connected<R: Net<Listener = TcpListener, Stream = TcpStream>>(
+    rt: &R,
+    port: u16,
+) -> io::Result<Connection> {
+    let socket = TcpStream::connect(rt, (Ipv4Addr::LOCALHOST, port))?;
+    let dialler_port = port_of(socket.local_addr()?);
+    timed(socket, dialler_port)
+}
+
+/// A listener at a port of this host, and its port.
+pub fn listening<R: Net<Listener = TcpListener, Stream = TcpStream>>(
+    rt: &R,
+    port: u16,
+) -> io::Result<(TcpListener, u16)> {
+    let listener = TcpListener::bind(rt, (Ipv4Addr::LOCALHOST, port))?;
+    listener.set_nonblocking(true)?;
+    let port = port_of(listener.local_addr()?);
+    Ok((listener, port))
+}
+
+fn taken(listener: &TcpListener) -> io::Result<Connection> {
+    let (socket, from) = listener.accept()?;
+    timed(socket, port_of(from))
+}
+
+/// The next connection, where one has come. Else waits for a turn.
+pub fn accepted<R: Clock>(rt: &R, listener: &TcpListener) -> Option<Connection> {
+    match taken(listener) {
+        Ok(connection) => Some(connection),
+        Err(_) => {
+            thread::sleep(rt, one_turn());
+            None
+        }
+    }
+}
+
+/// The number of a connection between two nodes: which ports it joins.
+pub fn link_of(dialler_port: u16, listening_port: u16) -> u64 {
+    u64::from(dialler_port) * 65_536 + u64::from(listening_port)
+}

@@ -1,0 +1,2 @@
+pub mod Sayable
+pub mod Wholes

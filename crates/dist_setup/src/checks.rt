@@ -1,0 +1,74 @@
+//! What a node's setup decides: what it announces and asks for, its digests, and the checks on a name.
+ghost use Rattle.std.specs.Prelude.{◌≡◌, IfOk, true, false, Ok, Err, Some, None};
+ghost use Rattle.dist_setup.specs.Rules.{announced_by, required_of, own_digest, is_good, is_allowed, is_refused, GoodName};
+
+use crate::setup::{NameList, Setup};
+use dist_messages::Opening;
+use dist_names::{Flags, NameError, NodeName};
+use dist_secret::digest;
+use std::alloc::{AllocError, Global};
+
+/// The flags that the node announces: its own with `DFLAG_HANDSHAKE_23`, without `DFLAG_NAME_ME`.
+#[tactic(auto, unfolding(crate::specs::Rules::announced_by))]
+pub fn announced_by(setup: &Setup) -> Flags
+    ensures { result ≡ record { 0 = announced_by setup.now } }
+{
+    setup.flags.announced()
+}
+
+/// What is asked of a peer: what the setup requires and `DFLAG_HANDSHAKE_23`; of an old name, which has no more, the low
+/// half alone.
+#[tactic(auto, unfolding(crate::specs::Rules::required_of))]
+pub fn required_of(setup: &Setup, opening: Opening) -> Flags
+    ensures { result.0 ≡ required_of setup.now opening }
+{
+    match opening {
+        Opening::New => setup.required.required(),
+        Opening::Old => Flags(setup.required.required().low() as u64),
+    }
+}
+
+/// The digest of a challenge, for this peer and from it (ERTS User's Guide, Distribution Handshake).
+#[tactic(auto, unfolding(crate::specs::Rules::own_digest))]
+pub fn own_digest(setup: &Setup, _peer: &NodeName, challenge: u32) -> [u8; 16]
+    ensures { result ≡ own_digest setup.now _peer.now challenge }
+{
+    digest(&setup.cookie, challenge)
+}
+
+/// The name that these bytes are, where they are one.
+#[tactic(auto, unfolding(crate::specs::Rules::is_good))]
+pub fn good_name(alloc: Global, name: &[u8]) -> Result<Option<NodeName>, AllocError>
+    ensures { IfOk result (λ found. GoodName found name.now) }
+{
+    match NodeName::new(alloc, name) {
+        Ok(name) => Ok(Some(name)),
+        Err(NameError::TooShort) => Ok(None),
+        Err(NameError::TooLong) => Ok(None),
+        Err(NameError::BadByte) => Ok(None),
+        Err(NameError::BadAt) => Ok(None),
+        Err(NameError::NoMemory) => Err(AllocError),
+    }
+}
+
+/// Whether a good name is refused: it asks to be given a name, lacks a required flag, is the own name, isn't among those that
+/// may connect, or has no room for its entry, as `full` tells. That it is a good name is for `good_name` to find.
+pub fn is_refused(setup: &Setup, required: Flags, full: bool, flags: Flags, name: &NodeName) -> bool
+    requires { is_good name.now ≡ true }
+    ensures { result ≡ is_refused setup.now required.0 full flags name.now }
+{
+    flags.has(Flags::NAME_ME)
+        || !flags.has(required)
+        || setup.name.is_same(name)
+        || !is_allowed(&setup.allow, name.bytes())
+        || full
+}
+
+fn is_allowed(allow: &Option<NameList>, name: &[u8]) -> bool
+    ensures { result ≡ is_allowed allow.now name.now }
+{
+    match allow {
+        None => true,
+        Some(names) => names.lists(name),
+    }
+}

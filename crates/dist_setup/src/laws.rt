@@ -1,0 +1,46 @@
+//! Laws of what a node says: each is a function whose contract is the law.
+ghost use Rattle.std.specs.Prelude.{◌≡◌, ℕ, ◌<◌, ◌^◌, List, [], length, map, true, Ok};
+ghost use Rattle.std.specs.List.{AllByRecursion};
+ghost use Rattle.std.specs.Int.{w16};
+ghost use Rattle.dist_names.specs.Order.{Name};
+ghost use Rattle.dist_names.specs.NodeName.{IsNodeName};
+ghost use Rattle.dist_names.specs.declared.flags.Flags.{Flags};
+ghost use Rattle.dist_names.specs.declared.creation.Creation.{Creation};
+ghost use Rattle.dist_frames.specs.Stream.{Splits};
+ghost use Rattle.dist_messages.specs.declared.message.Side.{Side};
+ghost use Rattle.dist_messages.specs.declared.message.Side.TheVariants.{Dialler, Acceptor};
+ghost use Rattle.dist_messages.specs.declared.message.Status.{Status};
+ghost use Rattle.dist_messages.specs.declared.message.Message.{Message};
+ghost use Rattle.dist_messages.specs.declared.message.Message.TheVariants as message;
+ghost use Rattle.dist_messages.specs.Spelling.{Fits, is_said_by};
+ghost use Rattle.dist_messages.specs.Canonical.{canonical};
+ghost use Rattle.dist_messages.specs.Reading.{read};
+ghost use Rattle.dist_setup.specs.declared.setup.Setup.{Setup};
+ghost use Rattle.dist_setup.specs.Rules.{announced_by};
+ghost use Rattle.dist_setup.specs.Saying.{CanBeSaid, said};
+
+use dist_messages::written_is_read;
+
+/// Each message that a node says has a spelling of its side, and it fits a frame.
+pub fn messages_can_be_said()
+    ensures status { (side : Side) (s : Status) → is_said_by s side ≡ true → CanBeSaid side (message.Status s) }
+    ensures new_name { (flags : Flags) (c : Creation) (name : Name) → IsNodeName name → CanBeSaid Dialler (message.NewName flags c name) }
+    ensures old_name { (flags : ℕ) (name : Name) → IsNodeName name → CanBeSaid Dialler (message.OldName flags name) }
+    ensures challenge { (flags : Flags) (n : ℕ) (c : Creation) (name : Name) → IsNodeName name → CanBeSaid Acceptor (message.NewChallenge flags n c name) }
+    ensures complement { (high : ℕ) (c : Creation) → CanBeSaid Dialler (message.Complement high c) }
+    ensures reply { (n : ℕ) (digest : List ℕ) → length digest ≡ 16 → CanBeSaid Dialler (message.Reply n digest) }
+    ensures ack { (digest : List ℕ) → length digest ≡ 16 → CanBeSaid Acceptor (message.Ack digest) }
+{}
+
+/// What is said is whole frames, one for each message, and each body is read as the message that was said.
+pub fn what_is_said_is_read()
+    ensures whole { (side : Side) (ms : List Message) → AllByRecursion (CanBeSaid side) ms → Splits w16 (said ms) (map canonical ms) [] }
+    ensures read { (side : Side) (m : Message) → Fits m → CanBeSaid side m → read side (canonical m) ≡ Ok m }
+{
+    written_is_read();
+}
+
+/// The flags that a node announces fit a field of 64 bits.
+pub fn announced_flags_fit()
+    ensures { (s : Setup) → announced_by s < 2 ^ 64 }
+{}

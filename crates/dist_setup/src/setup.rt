@@ -1,0 +1,133 @@
+//! The fixed part of a node.
+ghost use Rattle.std.specs.Prelude.{◌≡◌, length, slice_get, IfOk};
+ghost use Rattle.std.specs.Option.{option_map};
+ghost use Rattle.dist_names.specs.Order.{same_name, is_listed};
+
+use dist_names::{Creation, Flags, NodeName};
+use dist_secret::Cookie;
+use std::alloc::{AllocError, Global};
+use std::marker::Model;
+
+/// What a node is set up with. It never changes.
+#[derive(Drop)]
+pub struct Setup {
+    /// The own name.
+    pub name: NodeName,
+    /// The secret that it shares with its peers.
+    pub cookie: Cookie,
+    /// What it announces, but for `DFLAG_HANDSHAKE_23`, which is announced always, and `DFLAG_NAME_ME`, which never is.
+    pub flags: Flags,
+    /// What it asks of a peer beside `DFLAG_HANDSHAKE_23`.
+    pub required: Flags,
+    /// The number of this incarnation.
+    pub creation: Creation,
+    /// The peers that may connect, where they are limited. Our own choice: a dial is not bound by it.
+    pub allow: Option<NameList>,
+}
+
+impl Setup {
+    /// An equal setup.
+    pub fn try_clone(&self, alloc: Global) -> Result<Setup, AllocError>
+        ensures { IfOk result (λ copy. copy ≡ self.now) }
+    {
+        Ok(Setup {
+            name: self.name.try_clone(alloc)?,
+            cookie: self.cookie.try_clone(alloc)?,
+            flags: self.flags,
+            required: self.required,
+            creation: self.creation,
+            allow: copied_allow(alloc, &self.allow)?,
+        })
+    }
+}
+
+/// A list of names, in which one may stand twice.
+#[derive(Debug, Drop)]
+pub struct NameList {
+    names: Vec<NodeName>,
+}
+
+impl Model for NameList {
+    ghost use Rattle.std.specs.Prelude.{List, ℕ};
+
+    ghost Value = { List (List ℕ) };
+
+    ghost view = { λ b. b.names.items };
+}
+
+impl NameList {
+    /// The list of these names. It takes no memory.
+    pub fn from_vec(names: Vec<NodeName>) -> NameList
+        ensures { result ≡ names.items }
+    {
+        NameList { names }
+    }
+
+    /// Its names, given back. It takes no memory.
+    pub fn into_vec(self) -> Vec<NodeName>
+        ensures { result.items ≡ self }
+    {
+        let NameList { names } = self;
+        names
+    }
+
+    /// How many names it has.
+    pub fn len(&self) -> usize
+        ensures { result ≡ length self.now }
+    {
+        self.names.len()
+    }
+
+    /// The name at this place.
+    pub fn at(&self, i: usize) -> Option<&NodeName>
+        ensures { option_map (λ r. r.now) result ≡ slice_get self.now i }
+    {
+        self.names.get(i)
+    }
+
+    /// Its names.
+    pub fn names(&self) -> &[NodeName]
+        ensures { result.now ≡ self.now }
+    {
+        &self.names
+    }
+
+    /// Whether a name with these bytes is among them.
+    pub fn lists(&self, name: &[u8]) -> bool
+        ensures { result ≡ is_listed self.now name.now }
+    {
+        self.names.iter().any(|one| is_one(name, one))
+    }
+
+    /// An equal list.
+    pub fn try_clone(&self, alloc: Global) -> Result<NameList, AllocError>
+        ensures { IfOk result (λ copy. copy ≡ self.now) }
+    {
+        Ok(NameList::from_vec(copied_names(alloc, self.names())?))
+    }
+}
+
+fn copied_names(alloc: Global, names: &[NodeName]) -> Result<Vec<NodeName>, AllocError>
+    ensures { IfOk result (λ copy. copy.items ≡ names.now) }
+{
+    let mut copy = Vec::new(alloc);
+    for i in 0..names.len() {
+        copy.push(names[i].try_clone(alloc)?)?;
+    }
+    Ok(copy)
+}
+
+fn copied_allow(alloc: Global, allow: &Option<NameList>) -> Result<Option<NameList>, AllocError>
+    ensures { IfOk result (λ copy. copy ≡ allow.now) }
+{
+    match allow {
+        None => Ok(None),
+        Some(names) => Ok(Some(names.try_clone(alloc)?)),
+    }
+}
+
+fn is_one(name: &[u8], one: &NodeName) -> bool
+    ensures { result ≡ same_name name.now one.now }
+{
+    name.cmp(one.bytes()).is_eq()
+}

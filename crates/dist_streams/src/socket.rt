@@ -1,0 +1,126 @@
+//! A socket as a stream.
+
+ghost use Rattle.std.specs.Prelude.{◌≡◌, ◌≤◌, None, length};
+ghost use Rattle.dist_streams.specs.Stream.{heard_count, took_count, unused};
+ghost use Rattle.dist_streams.specs.Socket.{is_quiet, heard_as, took_as};
+
+use crate::marks::{is_end, is_failed_read, is_failed_write};
+use crate::stream::{Heard, Stream, Took};
+use std::io::{self, ErrorKind, Read, Write};
+use std::net::TcpStream;
+
+/// A connection of the system. Which bytes come and go is not told.
+///
+/// A call that would wait is quiet, and so is one that a signal broke off; the caller sets how long a call waits, by
+/// the socket's timeouts. Any other error is a failure.
+#[derive(Drop)]
+pub struct SocketStream {
+    socket: TcpStream,
+    calls: u64,
+    ended: bool,
+    read_failed: bool,
+    write_failed: bool,
+}
+
+impl SocketStream {
+    /// The stream over this socket, without marks.
+    pub fn new(socket: TcpStream) -> SocketStream
+        ensures fresh { ⟦<SocketStream as Stream>⟧.meaning result ≡ unused None None }
+        ensures socket { result.socket ≡ socket }
+    {
+        SocketStream {
+            socket,
+            calls: 0,
+            ended: false,
+            read_failed: false,
+            write_failed: false,
+        }
+    }
+
+    /// The socket, as to say how long a call waits, or to watch a connection that is kept.
+    pub fn get_ref(&self) -> &TcpStream
+        ensures { result.now ≡ self.now.socket }
+    {
+        &self.socket
+    }
+
+    /// The socket, given back.
+    pub fn into_inner(self) -> TcpStream
+        ensures { result ≡ self.socket }
+    {
+        self.socket
+    }
+}
+
+// The socket is fine, and had nothing to give or no room so far.
+fn is_quiet(kind: ErrorKind) -> bool
+    ensures { result ≡ is_quiet kind }
+{
+    matches!(
+        kind,
+        ErrorKind::WouldBlock | ErrorKind::TimedOut | ErrorKind::Interrupted
+    )
+}
+
+// What a read gave that the system answered so.
+fn heard_of(answer: io::Result<usize>) -> Heard
+    ensures { result ≡ heard_as answer }
+{
+    match answer {
+        Ok(count) => Heard::Bytes(count),
+        Err(error) => {
+            if is_quiet(error.kind()) {
+                Heard::Quiet
+            } else {
+                Heard::Failed
+            }
+        }
+    }
+}
+
+// What a write took that the system answered so.
+fn took_of(answer: io::Result<usize>) -> Took
+    ensures { result ≡ took_as answer }
+{
+    match answer {
+        Ok(count) => Took::Bytes(count),
+        Err(error) => {
+            if is_quiet(error.kind()) {
+                Took::Quiet
+            } else {
+                Took::Failed
+            }
+        }
+    }
+}
+
+fn read_from(socket: &mut TcpStream, room: &mut [u8]) -> Heard
+    ensures { heard_count result ≤ length room.new }
+{
+    heard_of(socket.read(room))
+}
+
+fn write_to(socket: &mut TcpStream, bytes: &[u8]) -> Took
+    ensures { took_count result ≤ length bytes.now }
+{
+    took_of(socket.write(bytes))
+}
+
+impl Stream for SocketStream {
+    ghost meaning = { λ s. record { unread = None; written = None; calls = s.calls; ended = s.ended; read_failed = s.read_failed; write_failed = s.write_failed } };
+
+    fn read(&mut self, room: &mut [u8]) -> Heard {
+        self.calls = self.calls.saturating_add(1);
+        let heard = read_from(&mut self.socket, room);
+        self.ended = is_end(heard) || self.ended;
+        self.read_failed = is_failed_read(heard) || self.read_failed;
+        heard
+    }
+
+    fn write(&mut self, bytes: &[u8]) -> Took {
+        self.calls = self.calls.saturating_add(1);
+        let took = write_to(&mut self.socket, bytes);
+        self.write_failed = is_failed_write(took) || self.write_failed;
+        took
+    }
+}

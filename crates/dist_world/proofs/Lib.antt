@@ -1,0 +1,11 @@
+pub mod Edits
+pub mod Writing
+pub mod Told
+pub mod Marked
+pub mod Runs
+pub mod UpLinks
+pub mod Directions
+pub mod Wired
+pub mod Naming
+pub mod Agreed
+pub mod Indexes

@@ -1,0 +1,8 @@
+use Rattle.std.proofs.Common.{◌≡◌, ℕ, ◌<◌, Some, slice_get}
+use Rattle.dist_setup.specs.declared.setup.Setup.{Setup}
+use Rattle.dist_agreement.specs.Agreement.{IsSetup}
+use Rattle.dist_world.proofs.setups.all_known.Given as goal
+
+-- those so far
+abbrev pub invariant-loop-i : goal.invariant-loop-i
+invariant-loop-i l = (k : ℕ) (s : Setup) → k < l.i → slice_get l.setups k ≡ Some s → IsSetup s

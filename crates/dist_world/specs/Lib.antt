@@ -1,0 +1,7 @@
+pub mod Hearing
+pub mod Telling
+pub mod Doing
+pub mod Setups
+pub mod Asking
+pub mod Ups
+pub mod Index

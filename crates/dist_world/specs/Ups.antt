@@ -1,0 +1,67 @@
+-- Which nodes count each other as up.
+use Rattle.std.specs.Prelude.{◌≡◌, ◌≢◌, ℕ, List, Option, Some, None, slice_get}
+use Rattle.std.specs.Option.{option_map}
+use Rattle.dist_names.specs.Order.{Name}
+use Rattle.dist_peers.specs.declared.entry.EndId.{EndId}
+use Rattle.dist_ends.specs.declared.known.UpRecord.{UpRecord}
+use Rattle.dist_ends.specs.Ends.{IsUpWith}
+use Rattle.dist_agreement.specs.Rows.{EndRow}
+use Rattle.dist_agreement.specs.World.{World, Life}
+use Rattle.dist_agreement.specs.Happenings.{conn_of}
+use Rattle.dist_names.specs.Flags.{announced, common}
+use Rattle.dist_names.specs.declared.creation.Creation.{Creation}
+use Rattle.dist_agreement.specs.Agreement.{IsUp, AreAgreed}
+use Rattle.dist_world.specs.declared.agreement.Agreement.{Agreement}
+
+-- the connection of an end beside its record
+abbrev pub linked : List EndRow → Option (EndId × UpRecord) → Option (ℕ × UpRecord)
+linked rows None = None
+linked rows (Some x) = option_map (λ c. (c, x.1)) (conn_of (slice_get rows (let y = x.0 in y.0)))
+
+-- a connection and the record of an end on it
+abbrev pub up_on : ℕ → UpRecord → Option (ℕ × UpRecord)
+up_on c r = Some (c, r)
+
+-- what was found is the connection of an end of this incarnation that is up with this peer, and its record
+abbrev pub FindsLink : Life → Name → Option (ℕ × UpRecord) → Type 0
+FindsLink l p None = Unit {0}
+FindsLink l p (Some x) = (id : EndId) × IsUpWith l.node.ends p id x.1 × (conn_of (slice_get l.rows id.0) ≡ Some x.0)
+
+-- what was found is a connection on which node a counts node b as up, and the record there
+abbrev pub FindsPeer : World → ℕ → ℕ → Option (ℕ × UpRecord) → Type 0
+FindsPeer w a b None = Unit {0}
+FindsPeer w a b (Some x) = (u : IsUp w a b x.0) × (u.kept ≡ x.1)
+
+-- what is told of two records
+abbrev pub agreed : ℕ → UpRecord → UpRecord → Agreement
+agreed c here there = record { conn = c; common = here.common; creation_a = there.creation; creation_b = here.creation }
+
+abbrev pub agreed_of : Option (ℕ × UpRecord) → Option (ℕ × UpRecord) → Option Agreement
+agreed_of None there = None
+agreed_of (Some x) None = None
+agreed_of (Some x) (Some y) = Some (agreed x.0 x.1 y.1)
+
+-- what was found is that two different nodes each count the other as up: the connection of the first one's end, and the
+-- values of the two records
+abbrev pub FindsBoth : World → ℕ → ℕ → Option Agreement → Type 0
+FindsBoth w a b None = Unit {0}
+FindsBoth w a b (Some g) = (a ≢ b) × ((d : ℕ) × (x : IsUp w a b g.conn) × (y : IsUp w b a d) × (g ≡ agreed g.conn x.kept y.kept))
+
+abbrev pub flags_of : {w : World} {a b c : ℕ} → IsUp w a b c → ℕ
+flags_of x = let s = x.life in s.node.setup.flags.0
+
+-- the creation of the incarnation that runs
+abbrev pub creation_of : {w : World} {a b c : ℕ} → IsUp w a b c → Creation
+creation_of x = let s = x.life in s.node.setup.creation
+
+-- what was told is what the two nodes agree on: both ends are those of that connection, both records have the flags that
+-- both announced, each the other's creation, and each bears the digest of its own cookie and challenge
+abbrev pub FindsAgreed : World → ℕ → ℕ → Option Agreement → Type 0
+FindsAgreed w a b None = Unit {0}
+FindsAgreed w a b (Some g) = (d : ℕ) × (x : IsUp w a b g.conn) × (y : IsUp w b a d) × AreAgreed w a b g.conn d x y
+    × (g.common.0 ≡ common (announced (flags_of x)) (announced (flags_of y)))
+    × (g.creation_a ≡ creation_of x) × (g.creation_b ≡ creation_of y)
+
+-- these two records were told, on whatever connection
+abbrev pub IsTold : Option Agreement → UpRecord → UpRecord → Type 0
+IsTold o here there = (c : ℕ) × (o ≡ Some (agreed c here there))

@@ -1,0 +1,67 @@
+//! Two nodes that each count the other as up.
+ghost use Rattle.std.specs.Prelude.{◌≡◌, ◌≢◌, ℕ, Some};
+ghost use Rattle.std.specs.Option.{option_map};
+ghost use Rattle.dist_world.specs.Ups.{linked, agreed, agreed_of, FindsBoth};
+ghost use Rattle.dist_agreement.specs.Agreement.{IsUp};
+
+use crate::row::EndRow;
+use crate::scene::Scene;
+use dist_core::UpRecord;
+use dist_names::{Creation, Flags};
+use dist_peers::EndId;
+
+/// What two running nodes have in common that each count the other as up.
+#[derive(Clone, Copy, Debug, PartialEq, Eq)]
+pub struct Agreement {
+    /// The connection of the first one's end.
+    pub conn: usize,
+    /// The flags that both announced, as each has them in its record.
+    pub common: Flags,
+    /// The creation of the first one's running incarnation, as the other one has it in its record.
+    pub creation_a: Creation,
+    /// The creation of the other one's, as the first one has it.
+    pub creation_b: Creation,
+}
+
+// The connection of an end, beside its record.
+pub fn linked<'a>(
+    rows: &[EndRow],
+    up: Option<(EndId, &'a UpRecord)>,
+) -> Option<(usize, &'a UpRecord)>
+    ensures { option_map (λ r. (r.0, r.1.now)) result ≡ linked rows.now (option_map (λ r. (r.0, r.1.now)) up.entry) }
+{
+    let (id, kept) = up?;
+    let row = rows.get(id.0 as usize)?;
+    Some((row.conn()?, kept))
+}
+
+fn agreed_of(
+    here: Option<(usize, &UpRecord)>,
+    there: Option<(usize, &UpRecord)>,
+) -> Option<Agreement>
+    ensures { result ≡ agreed_of (option_map (λ r. (r.0, r.1.now)) here.entry) (option_map (λ r. (r.0, r.1.now)) there.entry) }
+{
+    match (here, there) {
+        (Some((conn, here)), Some((_, there))) => Some(Agreement {
+            conn,
+            common: here.common,
+            creation_a: there.creation,
+            creation_b: here.creation,
+        }),
+        _ => None,
+    }
+}
+
+impl Scene {
+    /// What nodes `a` and `b` have in common, where they are two different running nodes and each has an up end whose peer
+    /// is the other.
+    pub fn both_up(&self, a: usize, b: usize) -> Option<Agreement>
+        ensures found { FindsBoth self.now a b result }
+        ensures only { (c d : ℕ) (x : IsUp self.now a b c) (y : IsUp self.now b a d) → a ≢ b → result ≡ Some (agreed c x.kept y.kept) }
+    {
+        if a == b {
+            return None;
+        }
+        agreed_of(self.up_with(a, b), self.up_with(b, a))
+    }
+}

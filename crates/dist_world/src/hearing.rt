@@ -1,0 +1,177 @@
+//! An event that an incarnation is told.
+ghost use Rattle.std.specs.Prelude.{◌≡◌, IfOk, IfErr, OnErr, Ok};
+ghost use Rattle.dist_core.specs.Answers.{Refuses};
+ghost use Rattle.dist_core.specs.Step.{step};
+ghost use Rattle.dist_agreement.specs.Lists.{at_each, at_place};
+ghost use Rattle.dist_agreement.specs.Rows.{mark, given_by};
+ghost use Rattle.dist_agreement.specs.Delivery.{more_said};
+ghost use Rattle.dist_world.specs.Hearing.{heard_of, Says, HasHeard, own_row, shut_by, doomed_by, doomed_of};
+
+use crate::direction::Direction;
+use crate::row::EndRow;
+use dist_core::{Event, Node, Note, Reply, StepError, Why};
+use dist_messages::Side;
+use dist_names::ByteString;
+use dist_peers::EndId;
+use std::alloc::{AllocError, Global};
+
+/// What is left of a reply once its words are on their way and the rows have what it writes.
+#[derive(Clone, Copy, Debug)]
+pub struct Heard {
+    /// The event's end, or the one that was given out.
+    pub end_: EndId,
+    /// The end that the step closed, and why.
+    pub closed: Option<(EndId, Why)>,
+}
+
+// The row of the end that an event gives out.
+pub fn given(alloc: Global, clock: u64, event: &Event) -> Result<Option<EndRow>, AllocError>
+    ensures { IfOk result (λ row. row ≡ given_by clock event.now) }
+{
+    match event {
+        Event::Dial { peer, opening: _ } => Ok(Some(EndRow::new(
+            Side::Dialler,
+            Some(peer.try_clone(alloc)?),
+            None,
+            clock,
+        ))),
+        Event::Incoming { link } => Ok(Some(EndRow::new(
+            Side::Acceptor,
+            None,
+            Some(*link as usize),
+            clock,
+        ))),
+        _ => Ok(None),
+    }
+}
+
+// What an event's reply says, where the node takes the event.
+fn saying(node: &Node, alloc: Global, event: &Event, fresh: u32) -> Result<ByteString, StepError>
+    ensures ok { IfOk result (λ say. Says say (step node.now event.now fresh)) }
+    ensures err { IfErr result (λ e. Refuses e (step node.now event.now fresh)) }
+{
+    let Reply {
+        end_: _,
+        say,
+        closed: _,
+        up: _,
+        note: _,
+    } = node.answer(alloc, event, fresh)?;
+    Ok(say)
+}
+
+// A node makes the step that was foreseen, and what it says is on its way.
+fn speak(
+    node: &mut Node,
+    text: &mut Direction,
+    alloc: Global,
+    event: &Event,
+    fresh: u32,
+    say: &[u8],
+) -> Result<Reply, AllocError>
+    requires { Says say.now (step node.old event.now fresh) }
+    ensures ok { IfOk result (λ r. (step node.old event.now fresh ≡ Ok (r, node.new)) × (text.new ≡ more_said r.say text.old)) }
+    ensures err { OnErr result ((node.new ≡ node.old) × (text.new ≡ text.old)) }
+{
+    text.say(say)?;
+    match node.step(alloc, event, fresh) {
+        Ok(reply) => Ok(reply),
+        Err(_) => {
+            text.unsay(say.len());
+            Err(AllocError)
+        }
+    }
+}
+
+// ---- rows
+
+fn shut(rows: &mut Vec<EndRow>, closed: Option<(EndId, Why)>, clock: u64)
+    ensures { rows.new.items ≡ shut_by clock closed rows.old.items }
+{
+    if let Some((id, _)) = closed {
+        let i = id.0 as usize;
+        if i < rows.len() {
+            let row = &mut rows[i];
+            row.shut(clock);
+        }
+    }
+}
+
+// The end that a name made doomed.
+fn doomed(note: &Note) -> Option<EndId>
+    ensures { result ≡ doomed_of note.now }
+{
+    match note {
+        Note::NameTaken { peer: _, dooms } => *dooms,
+        _ => None,
+    }
+}
+
+fn doom(rows: &mut Vec<EndRow>, doomed: Option<EndId>, clock: u64)
+    ensures { rows.new.items ≡ doomed_by clock doomed rows.old.items }
+{
+    if let Some(id) = doomed {
+        let i = id.0 as usize;
+        if i < rows.len() {
+            let row = &mut rows[i];
+            row.doom(clock);
+        }
+    }
+}
+
+fn note_own(rows: &mut Vec<EndRow>, id: EndId, note: Note, is_up: bool, clock: u64)
+    ensures { rows.new.items ≡ at_place id.0 (own_row clock note is_up) rows.old.items }
+{
+    let i = id.0 as usize;
+    if i < rows.len() {
+        let row = &mut rows[i];
+        row.note(clock, note, is_up);
+    }
+}
+
+// The rows get what a reply writes.
+fn write(rows: &mut Vec<EndRow>, clock: u64, reply: Reply) -> Heard
+    ensures rows { rows.new.items ≡ at_each 0 (mark clock reply) rows.old.items }
+    ensures heard { result ≡ heard_of reply }
+{
+    let Reply {
+        end_,
+        say: _,
+        closed,
+        up,
+        note,
+    } = reply;
+    shut(rows, closed, clock);
+    doom(rows, doomed(&note), clock);
+    note_own(rows, end_, note, up.is_some(), clock);
+    Heard { end_, closed }
+}
+
+// An incarnation is told an event. A refusal changes nothing.
+pub fn hear(
+    node: &mut Node,
+    rows: &mut Vec<EndRow>,
+    text: &mut Direction,
+    alloc: Global,
+    clock: u64,
+    event: &Event,
+    fresh: u32,
+) -> Result<Heard, StepError>
+    ensures ok { IfOk result (λ h. HasHeard h (step node.old event.now fresh) clock event.now node.new rows.old.items rows.new.items text.old text.new) }
+    ensures err { IfErr result (λ e. Refuses e (step node.old event.now fresh) × (node.new ≡ node.old) × (rows.new.items ≡ rows.old.items) × (text.new ≡ text.old)) }
+{
+    let say = saying(node, alloc, event, fresh)?;
+    let Ok(row) = given(alloc, clock, event) else {
+        return Err(StepError::NoMemory);
+    };
+    if rows.reserve(1).is_err() {
+        return Err(StepError::NoMemory);
+    }
+    let Ok(reply) = speak(node, text, alloc, event, fresh, say.as_slice()) else {
+        return Err(StepError::NoMemory);
+    };
+    if let Some(row) = row {
+        rows.push(row).unwrap();
+    }
+    Ok(write(rows, clock, reply))
+}

@@ -1,0 +1,29 @@
+//! Worlds: several nodes, their incarnations, and the connections between them, as a machine that is handed happenings.
+//!
+//! No sockets, no clock, no threads: a list of happenings says what connects, what is delivered, what is lost and which
+//! node is restarted, and the world says what comes of it.
+#![tactic(auto)]
+
+mod agreement;
+mod connection;
+mod direction;
+mod events;
+mod hearing;
+mod incarnations;
+mod life;
+mod links;
+mod row;
+mod run;
+mod scene;
+mod setups;
+mod world;
+mod world_error;
+
+pub use agreement::Agreement;
+pub use dist_agreement::Happening;
+pub use run::Stopped;
+pub use world::World;
+pub use world_error::WorldError;
+
+#[cfg(test)]
+mod tests;

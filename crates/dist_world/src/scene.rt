@@ -1,0 +1,126 @@
+//! All that a world has, and one happening.
+ghost use Rattle.std.specs.Prelude.{◌≡◌, ◌↔◌, IsTrue, IsErrOf, ℕ, Ok, slice_get, option_copied, IfOk, OnOk};
+ghost use Rattle.std.specs.Option.{option_map};
+ghost use Rattle.dist_agreement.specs.World.{empty, running};
+ghost use Rattle.dist_world.specs.Setups.{names_repeat};
+ghost use Rattle.dist_world.specs.Asking.{node_of, said_to, SaidNext, closing};
+ghost use Rattle.dist_world.specs.Ups.{FindsPeer, up_on};
+ghost use Rattle.dist_agreement.specs.Agreement.{AreSetups, IsUp};
+
+use crate::connection::Connection;
+use crate::incarnations::Lives;
+use crate::links::{begins_with, undelivered};
+use crate::setups::are_good;
+use crate::world_error::WorldError;
+use dist_core::{Node, Setup, UpRecord, Why};
+use dist_peers::EndId;
+use std::alloc::Global;
+use std::marker::Model;
+
+mod moves;
+
+/// Several nodes, all their incarnations, and the connections between them.
+#[derive(Drop)]
+pub struct Scene {
+    setups: Vec<Setup>,
+    lives: Lives,
+    conns: Vec<Connection>,
+    /// How many happenings applied.
+    clock: u64,
+    /// What the step of the last of them closed, and at which node.
+    last_closed: Option<(usize, (EndId, Why))>,
+}
+
+impl Model for Scene {
+    ghost use Rattle.dist_agreement.specs.World as world;
+
+    ghost Value = { world.World };
+
+    ghost view = { λ w. record { setups = w.setups.items; lives = w.lives; conns = w.conns.items; clock = w.clock; last_closed = w.last_closed } };
+}
+
+fn setup_at(setups: &[Setup], node: usize) -> Option<&Setup>
+    ensures { option_copied result ≡ slice_get setups.now node }
+{
+    setups.get(node)
+}
+
+impl Scene {
+    /// A world of nodes with these setups, none of which runs yet. The creations of the setups are not used.
+    pub fn new(alloc: Global, setups: Vec<Setup>) -> Result<Scene, WorldError>
+        ensures ok { IfOk result (λ w. w ≡ empty setups.items) }
+        ensures same { IsErrOf result WorldError.SameName ↔ IsTrue (names_repeat setups.items) }
+        ensures good { OnOk result (AreSetups setups.items) }
+    {
+        if !are_good(&setups) {
+            return Err(WorldError::SameName);
+        }
+        Ok(Scene {
+            setups,
+            lives: Lives::new(alloc),
+            conns: Vec::new(alloc),
+            clock: 0,
+            last_closed: None,
+        })
+    }
+
+    /// What the nodes were set up with, but for their creations.
+    pub fn setups(&self) -> &[Setup]
+        ensures { result.now ≡ self.now.setups }
+    {
+        &self.setups
+    }
+
+    /// The running incarnation of a node.
+    pub fn node(&self, node: usize) -> Option<&Node>
+        ensures { option_copied result ≡ node_of self.now node }
+    {
+        self.lives.node(self.running(node)?)
+    }
+
+    /// The node, end and cause that the step of the last happening that applied closed. `None` where it closed none or made
+    /// no step, or none applied yet.
+    pub fn last_closed(&self) -> Option<(usize, EndId, Why)>
+        ensures { result ≡ option_map closing self.now.last_closed }
+    {
+        match self.last_closed {
+            Some((node, (id, why))) => Some((node, id, why)),
+            None => None,
+        }
+    }
+
+    /// Whether the undelivered text for this end of the running incarnation begins with these bytes. `false` without a
+    /// connection.
+    pub fn said_next(&self, node: usize, id: EndId, bytes: &[u8]) -> bool
+        ensures { SaidNext result (said_to self.now node id) bytes.now }
+    {
+        let Some(place) = self.running(node) else {
+            return false;
+        };
+        let Some((side, conn)) = self.lives.wire(place, id) else {
+            return false;
+        };
+        match undelivered(&self.conns, conn, side) {
+            Some(text) => begins_with(text, bytes),
+            None => false,
+        }
+    }
+
+    // The connection on which a node counts another as up, and the record of its end there.
+    pub(crate) fn up_with(&self, a: usize, b: usize) -> Option<(usize, &UpRecord)>
+        ensures found { FindsPeer self.now a b (option_map (λ r. (r.0, r.1.now)) result) }
+        ensures only { (c : ℕ) (u : IsUp self.now a b c) → option_map (λ r. (r.0, r.1.now)) result ≡ up_on c u.kept }
+    {
+        let place = self.running(a)?;
+        let setup = setup_at(&self.setups, b)?;
+        let life = self.lives.at(place)?;
+        life.up_with(&setup.name)
+    }
+
+    // The running incarnation of a node.
+    fn running(&self, node: usize) -> Option<usize>
+        ensures { result ≡ running self.now node }
+    {
+        self.lives.running(node)
+    }
+}

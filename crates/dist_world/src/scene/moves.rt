@@ -1,0 +1,293 @@
+//! The ten happenings.
+ghost use Rattle.std.specs.Prelude.{◌≡◌, Ok, slice_get};
+ghost use Rattle.std.specs.Option.{option_map};
+ghost use Rattle.dist_agreement.specs.World.{running};
+ghost use Rattle.dist_agreement.specs.Happenings.{told, told_of, unclosed, begun, halted, reached, opened, accepted, deliver, take_next, applied, applied_at};
+ghost use Rattle.dist_world.specs.Doing.{Did, Happened};
+
+use crate::connection::Connection;
+use crate::links::{accept_at, deliver_at, front_at, take_at, unaccepted};
+use crate::scene::{Scene, setup_at};
+use dist_agreement::Happening;
+use dist_core::{Event, Opening, Why, a_reply_is_of_its_end};
+use dist_names::{Creation, NodeName};
+use dist_peers::EndId;
+use std::alloc::{AllocError, Global};
+
+/// The most begins.
+const MOST_BEGINS: usize = 1048576;
+
+/// The most connections.
+const MOST_CONNECTIONS: usize = 1048576;
+
+/// The most happenings that apply.
+const MOST_APPLIED: u64 = 4611686018427387904;
+
+// What a step closed, and at which node.
+fn closed_at(who: usize, closed: Option<(EndId, Why)>) -> Option<(usize, (EndId, Why))>
+    ensures { result ≡ option_map (λ y. (who, y)) closed }
+{
+    match closed {
+        None => None,
+        Some(x) => Some((who, x)),
+    }
+}
+
+impl Scene {
+    // An incarnation is told an event.
+    fn tell(
+        &mut self,
+        alloc: Global,
+        place: usize,
+        event: &Event,
+        fresh: u32,
+    ) -> Result<bool, AllocError>
+        ensures { Did result (told (unclosed self.old) place event.now fresh) self.old self.new }
+    {
+        match self
+            .lives
+            .tell(&mut self.conns, place, alloc, self.clock, event, fresh)?
+        {
+            None => Ok(false),
+            Some((who, heard)) => {
+                self.last_closed = closed_at(who, heard.closed);
+                Ok(true)
+            }
+        }
+    }
+
+    // The running incarnation of a node is told an event.
+    fn tell_node(
+        &mut self,
+        alloc: Global,
+        node: usize,
+        event: &Event,
+        fresh: u32,
+    ) -> Result<bool, AllocError>
+        ensures { Did result (told_of (unclosed self.old) (running self.old node) event.now fresh) self.old self.new }
+    {
+        match self.running(node) {
+            Some(place) => self.tell(alloc, place, event, fresh),
+            None => Ok(false),
+        }
+    }
+
+    // A node that does not run begins.
+    fn begin(&mut self, alloc: Global, node: usize, creation: Creation) -> Result<bool, AllocError>
+        ensures { Did result (begun (unclosed self.old) node creation (slice_get self.old.setups node) (running self.old node)) self.old self.new }
+    {
+        if self.running(node).is_some() {
+            return Ok(false);
+        }
+        if self.lives.len() >= MOST_BEGINS {
+            return Ok(false);
+        }
+        let Some(setup) = setup_at(&self.setups, node) else {
+            return Ok(false);
+        };
+        self.lives.begin(alloc, node, self.clock, setup, creation)?;
+        self.last_closed = None;
+        Ok(true)
+    }
+
+    // A running node ends.
+    fn halt(&mut self, node: usize) -> bool
+        ensures { Did (Ok result) (halted (unclosed self.old) (running self.old node)) self.old self.new }
+    {
+        if !self.lives.end(node, self.clock) {
+            return false;
+        }
+        self.last_closed = None;
+        true
+    }
+
+    // A dialled end gets a connection.
+    fn reach(
+        &mut self,
+        alloc: Global,
+        node: usize,
+        id: EndId,
+        target: usize,
+    ) -> Result<bool, AllocError>
+        ensures { Did result (reached (unclosed self.old) id.0 (running self.old node) (running self.old target)) self.old self.new }
+    {
+        let Some(place) = self.running(node) else {
+            return Ok(false);
+        };
+        let Some(target) = self.running(target) else {
+            return Ok(false);
+        };
+        if !self.lives.is_unreached(place, id) {
+            return Ok(false);
+        }
+        let number = self.conns.len();
+        if number >= MOST_CONNECTIONS {
+            return Ok(false);
+        }
+        self.conns.push(Connection::new(alloc, place, id, target))?;
+        self.lives.reach(place, id, number);
+        self.last_closed = None;
+        Ok(true)
+    }
+
+    // An end that has a connection is told of it.
+    fn open(&mut self, alloc: Global, node: usize, id: EndId) -> Result<bool, AllocError>
+        ensures { Did result (opened (unclosed self.old) id (running self.old node)) self.old self.new }
+    {
+        let Some(place) = self.running(node) else {
+            return Ok(false);
+        };
+        match self.lives.wire(place, id) {
+            Some((_, conn)) => {
+                let event = Event::Opened {
+                    end_: id,
+                    link: conn as u64,
+                };
+                self.tell(alloc, place, &event, 0)
+            }
+            None => Ok(false),
+        }
+    }
+
+    // A connection comes to the incarnation that it leads to.
+    fn accept(&mut self, alloc: Global, conn: usize) -> Result<bool, AllocError>
+        ensures { Did result (accepted (unclosed self.old) conn (slice_get self.old.conns conn)) self.old self.new }
+    {
+        a_reply_is_of_its_end();
+        let Some(target) = unaccepted(&self.conns, conn) else {
+            return Ok(false);
+        };
+        let event = Event::Incoming { link: conn as u64 };
+        match self
+            .lives
+            .tell(&mut self.conns, target, alloc, self.clock, &event, 0)?
+        {
+            None => Ok(false),
+            Some((who, heard)) => {
+                accept_at(&mut self.conns, conn, heard.end_);
+                self.last_closed = closed_at(who, heard.closed);
+                Ok(true)
+            }
+        }
+    }
+
+    // Some of what the other side said comes to an open end.
+    fn deliver(&mut self, node: usize, id: EndId, count: usize) -> bool
+        ensures { Did (Ok result) (deliver (unclosed self.old) id.0 count (running self.old node)) self.old self.new }
+    {
+        let Some(place) = self.running(node) else {
+            return false;
+        };
+        if !self.lives.is_open(place, id) {
+            return false;
+        }
+        let Some((side, conn)) = self.lives.wire(place, id) else {
+            return false;
+        };
+        if !deliver_at(&mut self.conns, conn, side, count) {
+            return false;
+        }
+        self.last_closed = None;
+        true
+    }
+
+    // An end takes the first frame that came to it.
+    fn take(
+        &mut self,
+        alloc: Global,
+        node: usize,
+        id: EndId,
+        fresh: u32,
+    ) -> Result<bool, AllocError>
+        ensures { Did result (take_next (unclosed self.old) id fresh (running self.old node)) self.old self.new }
+    {
+        a_reply_is_of_its_end();
+        let Some(place) = self.running(node) else {
+            return Ok(false);
+        };
+        let Some((side, conn)) = self.lives.wire(place, id) else {
+            return Ok(false);
+        };
+        let Some(body) = front_at(&self.conns, conn, side, alloc)? else {
+            return Ok(false);
+        };
+        let count = body.len();
+        let event = Event::Frame { end_: id, body };
+        match self
+            .lives
+            .tell(&mut self.conns, place, alloc, self.clock, &event, fresh)?
+        {
+            None => Ok(false),
+            Some((who, heard)) => {
+                take_at(&mut self.conns, conn, side, count);
+                self.last_closed = closed_at(who, heard.closed);
+                Ok(true)
+            }
+        }
+    }
+
+    // A dial, which takes a copy of the name.
+    fn dial(
+        &mut self,
+        alloc: Global,
+        node: usize,
+        peer: &NodeName,
+        opening: Opening,
+    ) -> Result<bool, AllocError>
+        ensures { Did result (told_of (unclosed self.old) (running self.old node) (Event.Dial peer.now opening) 0) self.old self.new }
+    {
+        let event = Event::Dial {
+            peer: peer.try_clone(alloc)?,
+            opening,
+        };
+        self.tell_node(alloc, node, &event, 0)
+    }
+
+    // One happening, but for the clock.
+    fn apply(&mut self, alloc: Global, happening: &Happening) -> Result<bool, AllocError>
+        ensures { Did result (applied (unclosed self.old) happening.now) self.old self.new }
+    {
+        match happening {
+            Happening::Begin { node, creation } => self.begin(alloc, *node, *creation),
+            Happening::Halt { node } => Ok(self.halt(*node)),
+            Happening::Dial {
+                node,
+                peer,
+                opening,
+            } => self.dial(alloc, *node, peer, *opening),
+            Happening::Tick { node, end_ } => {
+                self.tell_node(alloc, *node, &Event::Tick { end_: *end_ }, 0)
+            }
+            Happening::Reach { node, end_, target } => self.reach(alloc, *node, *end_, *target),
+            Happening::Opened { node, end_ } => self.open(alloc, *node, *end_),
+            Happening::Accept { conn } => self.accept(alloc, *conn),
+            Happening::Deliver { node, end_, bytes } => Ok(self.deliver(*node, *end_, *bytes)),
+            Happening::Take { node, end_, fresh } => self.take(alloc, *node, *end_, *fresh),
+            Happening::Lose { node, end_, why } => {
+                let event = Event::Lost {
+                    end_: *end_,
+                    why: *why,
+                };
+                self.tell_node(alloc, *node, &event, 0)
+            }
+        }
+    }
+
+    // One happening: whether it applied. An `Err` changes nothing.
+    pub(crate) fn happen(
+        &mut self,
+        alloc: Global,
+        happening: &Happening,
+    ) -> Result<bool, AllocError>
+        ensures { Happened result (applied_at self.old happening.now) self.old self.new }
+    {
+        if self.clock >= MOST_APPLIED {
+            return Ok(false);
+        }
+        let applies = self.apply(alloc, happening)?;
+        if applies {
+            self.clock += 1;
+        }
+        Ok(applies)
+    }
+}

@@ -1,0 +1,125 @@
+//! The world.
+ghost use Rattle.std.specs.Prelude.{◌≡◌, ◌↔◌, ◌≢◌, ◌<◌, ℕ, Some, length, take, option_copied, IfOk, IfErr, OnOk, IsErrOf, IsTrue};
+ghost use Rattle.std.specs.Option.{option_map};
+ghost use Rattle.dist_agreement.specs.World.{empty};
+ghost use Rattle.dist_agreement.specs.Run.{run, count_applied};
+ghost use Rattle.dist_world.specs.Setups.{names_repeat};
+ghost use Rattle.dist_world.specs.Asking.{node_of, said_to, SaidNext, closing};
+ghost use Rattle.dist_agreement.specs.Laws.{AllLives, Decided};
+ghost use Rattle.dist_agreement.specs.Agreement.{Agreement as NodesAgree, Counts, IsUp};
+ghost use Rattle.dist_world.specs.Ups.{agreed, FindsBoth, FindsAgreed, IsTold};
+
+use crate::agreement::Agreement;
+use crate::run::Stopped;
+use crate::scene::Scene;
+use crate::world_error::WorldError;
+use dist_agreement::{
+    Happening, crossings_are_decided, nodes_agree, ups_are_linked, worlds_are_reached,
+};
+use dist_core::{Node, Setup, Why};
+use dist_peers::EndId;
+use std::alloc::Global;
+use std::marker::Model;
+
+/// Several nodes, all their incarnations, and the connections between them. There is no world but those that happenings
+/// lead to, so the agreement theorem holds of each.
+///
+/// It is our own: the standard speaks of one connection.
+#[derive(Drop)]
+pub struct World {
+    scene: Scene,
+}
+
+impl Model for World {
+    ghost use Rattle.dist_agreement.specs.World as world;
+    ghost use Rattle.dist_agreement.specs.Agreement.{IsReached};
+
+    ghost Value = { world.World };
+
+    ghost view = { λ w. w.scene };
+
+    ghost invariant = { λ w. IsReached w.scene };
+}
+
+impl World {
+    /// A world of nodes with these setups, none of which runs yet. The creations of the setups are not used.
+    ///
+    /// `SameName` where two setups have one name. It takes no memory.
+    pub fn new(alloc: Global, setups: Vec<Setup>) -> Result<World, WorldError>
+        ensures ok { IfOk result (λ w. w ≡ empty setups.items) }
+        ensures same { IsErrOf result WorldError.SameName ↔ IsTrue (names_repeat setups.items) }
+    {
+        worlds_are_reached();
+        let scene = Scene::new(alloc, setups)?;
+        Ok(World { scene })
+    }
+
+    /// Lets these happenings happen in turn, and answers how many applied. One that does not apply changes nothing: among
+    /// others a begin after 1,048,576 of them, a reach after 1,048,576 connections, and anything after 2^62 happenings that
+    /// applied.
+    ///
+    /// An `Err` is for want of memory alone, and the world then stands after the first `done` happenings of the list: none
+    /// applies by half, and the others can be run from there.
+    pub fn run(&mut self, alloc: Global, happenings: &[Happening]) -> Result<usize, Stopped>
+        ensures after { OnOk result (self.new ≡ run happenings.now self.old) }
+        ensures count { IfOk result (λ n. n ≡ count_applied happenings.now self.old) }
+        ensures stopped { IfErr result (λ s. (s.done < length happenings.now) × (self.new ≡ run (take s.done happenings.now) self.old)) }
+
+        // Of two attempts that cross at a node, the lesser name's never comes up there.
+        ensures decided { AllLives Decided self.new }
+
+        // Two running nodes that each count the other as up do so over one connection, with the flags that both announced
+        // and each other's creation, each bearing the digest of its own cookie and challenge.
+        ensures agree { NodesAgree self.new }
+    {
+        worlds_are_reached();
+        crossings_are_decided();
+        nodes_agree();
+        self.scene.run(alloc, happenings)
+    }
+
+    /// What nodes `a` and `b`, by their places among the setups, have in common where they are two different running nodes
+    /// and each has an end that is up and whose peer is the other. `None` otherwise, also where one of them is no node.
+    pub fn both_up(&self, a: usize, b: usize) -> Option<Agreement>
+        ensures found { FindsBoth self.now a b result }
+        ensures only { (c d : ℕ) (x : IsUp self.now a b c) (y : IsUp self.now b a d) → a ≢ b → result ≡ Some (agreed c x.kept y.kept) }
+        ensures counted { (x : Counts self.now a b) (y : Counts self.now b a) → a ≢ b → IsTold result x.kept y.kept }
+
+        // What is told is what they agree on.
+        ensures agree { FindsAgreed self.now a b result }
+    {
+        ups_are_linked();
+        nodes_agree();
+        self.scene.both_up(a, b)
+    }
+
+    /// What the nodes were set up with, in the order of their places. The creations in it are not used.
+    pub fn setups(&self) -> &[Setup]
+        ensures { result.now ≡ self.now.setups }
+    {
+        self.scene.setups()
+    }
+
+    /// The running incarnation of the node at this place. `None` where it does not run, or there is no such node.
+    pub fn node(&self, node: usize) -> Option<&Node>
+        ensures { option_copied result ≡ node_of self.now node }
+    {
+        self.scene.node(node)
+    }
+
+    /// The node, end and cause that the step of the last happening that applied closed: its own end, or another one. `None`
+    /// where it closed none or made no step (`Begin`, `Halt`, `Reach`, `Deliver`), or none applied yet.
+    pub fn last_closed(&self) -> Option<(usize, EndId, Why)>
+        ensures { result ≡ option_map closing self.now.last_closed }
+    {
+        self.scene.last_closed()
+    }
+
+    /// Whether what the other side said and is undelivered for this end of the node's running incarnation begins with these
+    /// bytes. `false` without a connection; with no bytes and a connection, true.
+    pub fn said_next(&self, node: usize, id: EndId, bytes: &[u8]) -> bool
+        ensures { SaidNext result (said_to self.now node id) bytes.now }
+    {
+        self.scene.said_next(node, id, bytes)
+    }
+}

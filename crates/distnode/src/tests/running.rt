@@ -1,0 +1,169 @@
+//! The command `run`, on sockets of this host. Each run ends by its number of turns.
+
+use super::*;
+use crate::run::{run_file, run_nodes};
+use dist_locked::{Gate, Moment, Open};
+use std::sync::atomic::{AtomicBool, Ordering};
+use std::time::{Clock, Duration};
+use std::{str, thread};
+
+const TWO_NODES: &str = "[[node]]
+name = \"a@127.0.0.1\"
+cookie = \"secret\"
+flags = \"401000004\"
+[[node]]
+name = \"b@127.0.0.1\"
+cookie = \"secret\"
+flags = \"101000104\"
+[[dial]]
+from = \"a@127.0.0.1\"
+to = \"b@127.0.0.1\"
+";
+
+const TWO_TABLES: &str = "node a@127.0.0.1 running 1
+b@127.0.0.1 up 0 common 0000000001000004 creation 2
+node b@127.0.0.1 running 2
+a@127.0.0.1 up 0 common 0000000001000004 creation 1
+agree a@127.0.0.1 b@127.0.0.1 conn 0 common 0000000001000004 creations 1 2
+audit holds
+";
+
+const NOBODY_IS_UP: &str = "order 0 NotThere
+node a@127.0.0.1 running 1
+no peers
+node b@127.0.0.1 running 2
+no peers
+audit holds
+";
+
+const BAD: &str = "distnode: bad nodes file\n";
+
+#[test]
+fn two_nodes_on_loopback(rt: HostRuntime) -> Result<(), Fail> {
+    let alloc = rt.alloc();
+    // A text of the file and what stands in its place, the status, what is printed, what is told.
+    let rows = [
+        ("turns", "turns", 0u8, TWO_TABLES, ""),
+        ("to = \"b@", "to = \"z@", 0, NOBODY_IS_UP, ""),
+        ("[[dial]]", "[[nodes]]\n[[dial]]", 2, "", BAD),
+        ("\"401000004\"", "\"xyz\"", 2, "", BAD),
+        (
+            "\"b@127.0.0.1\"\ncookie",
+            "\"a@127.0.0.2\"\ncookie",
+            2,
+            "",
+            BAD,
+        ),
+        ("from = \"a@", "from = \"q@", 2, "", BAD),
+    ];
+    for (old, new, status, printed, told) in rows {
+        let text = TWO_NODES.replacen(alloc, old, new, 1)?;
+        let (mut out, mut err) = (Vec::new(alloc), Vec::new(alloc));
+        let found = run_nodes(&rt, alloc, text.as_str(), &Open, &mut out, &mut err);
+        let ran = Ran {
+            status: found,
+            out,
+            err,
+        };
+        check_ran(&rt, &ran, (status, printed, told), new);
+    }
+    Ok(())
+}
+
+#[test]
+fn a_nodes_file_is_text_of_a_mebibyte_at_most(rt: HostRuntime) -> Result<(), Fail> {
+    let alloc = rt.alloc();
+    let long = "#".repeat(alloc, 1_048_577)?;
+    for bytes in [b"\xff".as_slice(), long.as_bytes()] {
+        let (mut out, mut err) = (Vec::new(alloc), Vec::new(alloc));
+        let mut file = bytes;
+        let status = run_file(&rt, alloc, &mut file, &mut out, &mut err);
+        check_ran(&rt, &Ran { status, out, err }, (2, "", BAD), "a file");
+    }
+    Ok(())
+}
+
+// Holds the second worker until the first has come to its step, and the first until the second has made its own.
+#[derive(Drop)]
+struct Held<'a, R: Clock> {
+    rt: &'a R,
+    first_came: AtomicBool,
+    second_passed: AtomicBool,
+}
+
+impl<'a, R: Clock> Held<'a, R> {
+    fn look(&self, flag: &AtomicBool) -> bool {
+        for _ in 0..1000 {
+            if flag.load(Ordering::SeqCst) {
+                return true;
+            }
+            thread::sleep(self.rt, Duration::from_millis(10));
+        }
+        false
+    }
+}
+
+impl<'a, R: Clock> Gate for Held<'a, R> {
+    fn at(&self, worker: u32, moment: Moment) -> bool {
+        match moment {
+            Moment::BeforeStep if worker == 0 => {
+                self.first_came.store(true, Ordering::SeqCst);
+                self.look(&self.second_passed)
+            }
+            Moment::BeforeStep => self.look(&self.first_came),
+            Moment::AfterStep => {
+                if worker == 1 {
+                    self.second_passed.store(true, Ordering::SeqCst);
+                }
+                true
+            }
+        }
+    }
+}
+
+const FOUR_NODES: &str = "turns = 2000
+node = [
+  { name = \"a@127.0.0.1\", cookie = \"secret\", flags = \"401000004\" },
+  { name = \"b@127.0.0.1\", cookie = \"secret\", flags = \"101000104\" },
+  { name = \"c@127.0.0.1\", cookie = \"secret\", flags = \"101000104\" },
+  { name = \"d@127.0.0.1\", cookie = \"secret\", flags = \"101000104\" },
+]
+dial = [
+  { from = \"a@127.0.0.1\", to = \"b@127.0.0.1\" },
+  { from = \"c@127.0.0.1\", to = \"d@127.0.0.1\" },
+]
+";
+
+const FOUR_TABLES: &str = "node a@127.0.0.1 running 1
+b@127.0.0.1 up 0 common 0000000001000004 creation 2
+node b@127.0.0.1 running 2
+a@127.0.0.1 up 0 common 0000000001000004 creation 1
+node c@127.0.0.1 running 3
+d@127.0.0.1 up 0 common 0000000101000104 creation 4
+node d@127.0.0.1 running 4
+c@127.0.0.1 up 0 common 0000000101000104 creation 3
+";
+
+#[test]
+fn gated_workers(rt: HostRuntime) -> Result<(), Fail> {
+    let alloc = rt.alloc();
+    let (mut out, mut err) = (Vec::new(alloc), Vec::new(alloc));
+    let gate = Held {
+        rt: &rt,
+        first_came: AtomicBool::new(false),
+        second_passed: AtomicBool::new(false),
+    };
+    let status = run_nodes(&rt, alloc, FOUR_NODES, &gate, &mut out, &mut err);
+    assert_eq!(rt; status, 0);
+    assert!(rt; err.is_empty());
+    // Which of the two connections is number 0 is the schedule's.
+    let printed = str::from_utf8(&out).unwrap_or("");
+    assert!(rt; printed.starts_with(FOUR_TABLES), "both orders: {printed}");
+    assert!(rt;
+        printed.ends_with("audit holds\n"),
+        "both orders: {printed}"
+    );
+    let agreed = printed.lines().filter(|line| line.starts_with("agree "));
+    assert_eq!(rt; agreed.count(), 2);
+    Ok(())
+}
