@@ -1,196 +1,30 @@
 -- THE AGREEMENT OF EVERY WORLD.
-use Rattle.std.proofs.Common.{◌≡◌, ◌≢◌, ℕ, true, false, not, List, Option, Some, None, inl, inr, refl, sym, ap, ◌∙◌, subst, is_some, slice_get}
-use Rattle.std.proofs.lemmas.Bool.{false≢true}
+use Rattle.std.proofs.Common.{◌≡◌, ◌≢◌, ℕ, true, List, Option, Some, inl, inr, refl, sym, ap, ◌∙◌, subst, slice_get}
 use Rattle.std.specs.Cmp.Lexicographic.{same_text}
-use Rattle.dist_names.specs.Flags.{announced, common}
+use Rattle.dist_names.specs.Flags.{common}
 use Rattle.dist_messages.specs.declared.message.Side.{Side}
-use Rattle.dist_messages.specs.declared.message.Side.TheVariants.{Dialler, Acceptor}
 use Rattle.dist_setup.specs.declared.setup.Setup.{Setup}
 use Rattle.dist_ends.specs.declared.known.UpRecord.{UpRecord}
 use Rattle.dist_ends.specs.declared.known.End.{End}
 use Rattle.dist_ends.specs.declared.known.End.TheVariants as ends
-use Rattle.dist_setup.specs.Rules.{announced_by, own_digest}
+use Rattle.dist_setup.specs.Rules.{own_digest}
 use Rattle.dist_agreement.specs.declared.happening.Happening.{Happening}
-use Rattle.dist_agreement.specs.Rows.{EndRow, past, is_dialler}
-use Rattle.dist_agreement.specs.World.{World, Life, Conn, runs, row_of_life, end_of_life, empty}
+use Rattle.dist_agreement.specs.Rows.{EndRow}
+use Rattle.dist_agreement.specs.World.{World, Life, Conn, runs, row_of_life, empty}
 use Rattle.dist_agreement.specs.Run.{run}
 use Rattle.dist_agreement.specs.Laws.{AllLives, OwnDigests}
 use Rattle.dist_agreement.specs.Agreement.{IsUp, IsAgreed, AreAgreed, Agreement, AreSetups, AllFit}
-use Rattle.dist_agreement.proofs.Acts.{is-running}
-use Rattle.dist_agreement.proofs.Stands.{Stand, Fits, Beside}
-use Rattle.dist_agreement.proofs.Ways.{on_way}
-use Rattle.dist_agreement.proofs.Wires.{IsWire, NotedAt, Noted, named_of, replied_of, rose_of, peer_of}
-use Rattle.dist_agreement.proofs.Lives.{open-row}
-use Rattle.dist_agreement.proofs.Spanning.{up-open}
+use Rattle.dist_agreement.proofs.Wires.{NotedAt, Noted, rose_of}
 use Rattle.dist_agreement.proofs.Keeping.{IsKept, kept}
-use Rattle.dist_agreement.proofs.Lookups.{row_in, end_in, setup_in, setup_of, far, life-there, setup-there, decide}
-use Rattle.dist_agreement.proofs.Linking.{RowOf, ConnOf, IsEndOf}
-use Rattle.dist_agreement.proofs.Orders.{Seat, Line, IsOpen, both-dialled, each-dialled, each-accepted}
-use Rattle.dist_agreement.proofs.Orders as orders
+use Rattle.dist_agreement.proofs.Lookups.{row_in, end_in, setup_in, setup_of, far, decide}
+use Rattle.dist_agreement.proofs.Seats.{Seat, IsOpen}
+use Rattle.dist_agreement.proofs.Orders.{both-dialled, each-dialled, each-accepted}
 use Rattle.dist_agreement.proofs.Digests.{digest_lives}
 use Rattle.dist_agreement.specs.NodeLaws.{NodeLaws}
-
-announced-is : (s : Setup) → announced_by s ≡ announced s.flags.0
-unfolding announced_by
-announced-is s = refl
-
-is-some : (o : Option ℕ) → is_some o ≡ true → (n : ℕ) × (o ≡ Some n)
-is-some None h = absurd (false≢true h)
-is-some (Some n) h = (n, refl)
-
-past-some : (t : ℕ) (o : Option ℕ) → past t o ≡ true → (n : ℕ) × (o ≡ Some n)
-past-some t None h = absurd (false≢true h)
-past-some t (Some n) h = (n, refl)
-
-one-some : (o : Option ℕ) (i j : ℕ) → o ≡ Some i → o ≡ Some j → i ≡ j
-one-some o i j a b = let z : Some i ≡ Some j = sym a ∙ b in cc
+use Rattle.dist_agreement.proofs.UpEnds.{LineOf, On_accepted, On_dialled, Sits, Stands_on, announced-is, conn-is, end-is, is-open, past-some, peer-is, rose-is, running-is, setup-is, sits-life, sits-row, stands-on}
 
 module _ (laws : NodeLaws) where
   module _ (w : World) (h : IsKept w) where
-    -- ---- the line of a connection on which a reply was said
-
-    record LineOf (c : ℕ) (k : Conn) : Type 0 where
-      line : Line w c
-      life_is : (let s = line in let x = s.dialled in x.place) ≡ k.life
-      id_is : (let s = line in let x = s.dialled in x.id) ≡ k.dialler
-      target_is : (let s = line in let y = s.accepted in y.place) ≡ k.target
-      accepted_is : k.accepted ≡ Some (let s = line in let y = s.accepted in y.id)
-
-    line-of : (c : ℕ) (k : Conn) → slice_get w.conns c ≡ Some k → (r : ℕ) → replied_of (row_in w.lives k.life k.dialler) ≡ Some r → LineOf c k
-    line-of c k ak r e = by k.accepted refl (wire.replies r e)
-      where
-        d : RowOf w.lives Dialler k.life k.dialler c
-        d = let l = h.linked in l.dialled c k ak
-
-        li : (l : Life) × (slice_get w.lives k.life ≡ Some l) × (slice_get l.rows k.dialler ≡ Some (let g = d in g.row))
-        li = let g = d in life-there w.lives k.life k.dialler g.row g.there
-
-        target : (m : Setup) × (setup_in w.lives k.target ≡ Some m)
-        target = let l = h.linked in l.target c k ak
-
-        lj : (l : Life) × (slice_get w.lives k.target ≡ Some l) × (l.node.setup ≡ (let g = target in g.0))
-        lj = let g = target in setup-there w.lives k.target g.0 g.1
-
-        sx : Setup
-        sx = let g = li in let l = g.0 in l.node.setup
-
-        sy : Setup
-        sy = let g = lj in let l = g.0 in l.node.setup
-
-        wire : IsWire (let g = li in let l = g.0 in l.node.setup) (let g = lj in let l = g.0 in l.node.setup) (on_way k.there) (on_way k.back) (row_in w.lives k.life k.dialler) (far (row_in w.lives k.target) k.accepted) (end_in w.lives k.life k.dialler) (far (end_in w.lives k.target) k.accepted)
-        wire = h.wires c k ak _ _ (let g = li in ap setup_of g.1) (let g = lj in ap setup_of g.1)
-
-        by : (o : Option ℕ) → k.accepted ≡ o → past r (named_of (far (row_in w.lives k.target) k.accepted)) ≡ true → LineOf c k
-        by None a p = absurd (false≢true (ap (λ o. past r (named_of (far (row_in w.lives k.target) o))) (sym a) ∙ p))
-        by (Some y) a p =
-            let q : RowOf w.lives Acceptor k.target y c = (let l = h.linked in l.accepted c y k ak a) in
-            let far-is : far (row_in w.lives k.target) k.accepted ≡ Some q.row = ap (far (row_in w.lives k.target)) a ∙ q.there in
-            let p' : past r (let z = q.row in z.named) ≡ true = ap (λ o. past r (named_of o)) (sym far-is) ∙ p in
-            let nm = past-some r (let z = q.row in z.named) p' in
-            let gi = li in let gj = lj in let gd = d in
-            let near : row_in w.lives k.life k.dialler ≡ Some gd.row = gd.there in
-            let wi = wire in
-            record {
-              line = record {
-                dialled = record { place = k.life; id = k.dialler; life = gi.0; row = gd.row; at_ = gi.1; there = gi.2; side_is = gd.side_is; conn = gd.conn };
-                accepted = record { place = k.target; id = y; life = gj.0; row = q.row; at_ = gj.1; there = ap (λ o. row_of_life o y) (sym gj.1) ∙ q.there; side_is = q.side_is; conn = q.conn };
-                named = nm.0;
-                replied = r;
-                named_is = nm.1;
-                replied_is = ap replied_of (sym near) ∙ e;
-                first = Rattle.dist_agreement.proofs.Orders.past-is r nm.0 (ap (past r) (sym nm.1) ∙ p');
-                rises = λ u ro. Rattle.dist_agreement.proofs.Orders.past-is u r (ap (past u) (sym e) ∙ wi.rises u (ap rose_of far-is ∙ ro));
-                peer_back = ap peer_of (sym near) ∙ wi.peer_back (ap is_some e);
-                peer_there = ap peer_of (sym far-is) ∙ wi.peer_there (ap (λ o. is_some (named_of o)) far-is ∙ ap is_some nm.1);
-              };
-              life_is = refl;
-              id_is = refl;
-              target_is = refl;
-              accepted_is = a;
-            }
-
-    -- ---- an end that is up
-
-    module _ {a b c : ℕ} (x : IsUp w a b c) where
-      abbrev own : Life
-      own = x.life
-
-      running-is : (own.who ≡ a) × (runs own ≡ true)
-      running-is = is-running w a x.place x.life x.runs x.lives
-
-      fits : Fits (ends.Up x.kept) x.row
-      fits =
-          let s = h.seen x.place x.life x.lives in let t = s.timed in let l = t.life in
-          let b : Beside (slice_get own.node.ends x.id) (slice_get own.rows x.id) = (let r = running-is in l.beside r.1 x.id) in
-          let P : Option End → Option EndRow → Type 0 = λ o q. Beside o q in
-          subst (P (Some (ends.Up x.kept))) x.beside (subst (λ o. P o (slice_get own.rows x.id)) x.is_up b)
-
-      is-open : IsOpen x.row
-      is-open = let g = up-open x.kept x.row fits in record { doomed = g.0; closed = g.1 }
-
-      stand-is : ◌≡◌ {A = Stand} (record { side = x.row.side; peer = Some x.kept.peer; named = not (is_dialler x.row.side); doomed = false; replied = is_dialler x.row.side; rose = true }) (record { side = x.row.side; peer = x.row.peer; named = is_some x.row.named; doomed = is_some x.row.doomed; replied = is_some x.row.replied; rose = is_some x.row.rose })
-      stand-is = let g = open-row _ x.row fits in g.1
-
-      peer-is : x.row.peer ≡ Some x.kept.peer
-      peer-is = sym (ap (λ (s : Stand). s.peer) stand-is)
-
-      rose-is : (u : ℕ) × (x.row.rose ≡ Some u)
-      rose-is = is-some x.row.rose (sym (ap (λ (s : Stand). s.rose) stand-is))
-
-      conn-is : ConnOf w.conns x.row.side x.place x.id c
-      conn-is = let l = h.linked in l.only x.place x.id c x.row (ap (λ o. row_of_life o x.id) x.lives ∙ x.beside) x.on
-
-      row-is : (j p : ℕ) → x.place ≡ j → x.id ≡ p → row_in w.lives j p ≡ Some x.row
-      row-is j p e q = (λ n. row_in w.lives (sym e n) (sym q n)) ∙ ap (λ o. row_of_life o x.id) x.lives ∙ x.beside
-
-      end-is : (j p : ℕ) → x.place ≡ j → x.id ≡ p → end_in w.lives j p ≡ Some (ends.Up x.kept)
-      end-is j p e q = (λ n. end_in w.lives (sym e n) (sym q n)) ∙ ap (λ o. end_of_life o x.id) x.lives ∙ x.is_up
-
-      setup-is : (j : ℕ) → x.place ≡ j → setup_in w.lives j ≡ Some own.node.setup
-      setup-is j e = ap (setup_in w.lives) (sym e) ∙ ap setup_of x.lives
-
-      -- the seat of this end
-      record Sits {side : Side} {d : ℕ} (s : Seat w side d) : Type 0 where
-        place_is : s.place ≡ x.place
-        id_is : s.id ≡ x.id
-
-      sits-life : {side : Side} {d : ℕ} (s : Seat w side d) → Sits s → s.life ≡ x.life
-      sits-life s g = let e : Some s.life ≡ Some x.life = sym s.at_ ∙ ap (slice_get w.lives) g.place_is ∙ x.lives in cc
-
-      sits-row : {side : Side} {d : ℕ} (s : Seat w side d) → Sits s → s.row ≡ x.row
-      sits-row s g = let e : Some s.row ≡ Some x.row = sym s.there ∙ (λ n. let l = sits-life s g n in slice_get l.rows (let i = g.id_is in i n)) ∙ x.beside in cc
-
-      -- WHERE THE END STANDS on its connection
-      data Stands_on (k : Conn) : Type 0 where
-        On_dialled : x.place ≡ k.life → x.id ≡ k.dialler → (g : LineOf c k) → (let l = g.line in Sits l.dialled) → Stands_on k
-        On_accepted : x.place ≡ k.target → k.accepted ≡ Some x.id → (g : LineOf c k) → (let l = g.line in Sits l.accepted) → Stands_on k
-
-      stand-dialled : (k : Conn) → x.place ≡ k.life → x.id ≡ k.dialler → LineOf c k → Stands_on k
-      stand-dialled k p i g = On_dialled p i g (record { place_is = g.life_is ∙ sym p; id_is = g.id_is ∙ sym i })
-
-      stand-accepted : (k : Conn) → x.place ≡ k.target → k.accepted ≡ Some x.id → LineOf c k → Stands_on k
-      stand-accepted k p a g = On_accepted p a g (record { place_is = g.target_is ∙ sym p; id_is = one-some k.accepted _ _ g.accepted_is a })
-
-      stands-on : (k : Conn) → slice_get w.conns c ≡ Some k → IsEndOf x.row.side k x.place x.id → Stands_on k
-      stands-on k ak e = by x.row.side refl e
-        where
-          by : (s : Side) → x.row.side ≡ s → IsEndOf s k x.place x.id → Stands_on k
-          by Dialler s e =
-              let rp : is_some x.row.replied ≡ true = sym (ap (λ (z : Stand). z.replied) stand-is) ∙ ap is_dialler s in
-              let r = is-some x.row.replied rp in
-              let g = line-of c k ak r.0 (ap replied_of (row-is k.life k.dialler e.0 e.1) ∙ r.1) in
-              stand-dialled k e.0 e.1 g
-          by Acceptor s e =
-              let d = (let l = h.linked in l.dialled c k ak) in
-              let li = life-there w.lives k.life k.dialler d.row d.there in
-              let wi = h.wires c k ak _ _ (ap setup_of li.1) (setup-is k.target e.0) in
-              let u = rose-is in
-              let far-is : far (row_in w.lives k.target) k.accepted ≡ Some x.row = ap (far (row_in w.lives k.target)) e.1 ∙ row-is k.target x.id e.0 refl in
-              let far-rose : rose_of (far (row_in w.lives k.target) k.accepted) ≡ Some u.0 = ap rose_of far-is ∙ u.1 in
-              let r = past-some u.0 (replied_of (row_in w.lives k.life k.dialler)) (wi.rises u.0 far-rose) in
-              let g = line-of c k ak r.0 r.1 in
-              stand-accepted k e.0 e.1 g
-
     -- ---- who stands at the other side
 
     name-of : (i j : ℕ) (l m : Life) → slice_get w.lives i ≡ Some l → slice_get w.lives j ≡ Some m → l.who ≡ m.who → l.node.setup.name ≡ m.node.setup.name
@@ -213,30 +47,30 @@ module _ (laws : NodeLaws) where
         o.is ∙ ap (λ (r : Setup). record r { creation = l.node.setup.creation }) q
 
     module _ {a b c : ℕ} (x : IsUp w a b c) where
-      sits-who : {side : Side} {d : ℕ} (s : Seat w side d) → Sits x s → (let l = s.life in l.who) ≡ a
-      sits-who s g = ap (λ (l : Life). l.who) (sits-life x s g) ∙ (let r = running-is x in r.0)
+      sits-who : {side : Side} {d : ℕ} (s : Seat w side d) → (Sits laws w h) x s → (let l = s.life in l.who) ≡ a
+      sits-who s g = ap (λ (l : Life). l.who) ((sits-life laws w h) x s g) ∙ (let r = (running-is laws w h) x in r.0)
 
-      sits-runs : {side : Side} {d : ℕ} (s : Seat w side d) → Sits x s → runs s.life ≡ true
-      sits-runs s g = ap runs (sits-life x s g) ∙ (let r = running-is x in r.1)
+      sits-runs : {side : Side} {d : ℕ} (s : Seat w side d) → (Sits laws w h) x s → runs s.life ≡ true
+      sits-runs s g = ap runs ((sits-life laws w h) x s g) ∙ (let r = (running-is laws w h) x in r.1)
 
-      sits-open : {side : Side} {d : ℕ} (s : Seat w side d) → Sits x s → IsOpen s.row
-      sits-open s g = let o = is-open x in let e = sits-row x s g in record { doomed = ap (λ (r : EndRow). r.doomed) e ∙ o.doomed; closed = ap (λ (r : EndRow). r.closed) e ∙ o.closed }
+      sits-open : {side : Side} {d : ℕ} (s : Seat w side d) → (Sits laws w h) x s → IsOpen s.row
+      sits-open s g = let o = (is-open laws w h) x in let e = (sits-row laws w h) x s g in record { doomed = ap (λ (r : EndRow). r.doomed) e ∙ o.doomed; closed = ap (λ (r : EndRow). r.closed) e ∙ o.closed }
 
-      sits-rose : {side : Side} {d : ℕ} (s : Seat w side d) → Sits x s → (u : ℕ) × ((let r = s.row in r.rose) ≡ Some u)
-      sits-rose s g = let u = rose-is x in (u.0, ap (λ (r : EndRow). r.rose) (sits-row x s g) ∙ u.1)
+      sits-rose : {side : Side} {d : ℕ} (s : Seat w side d) → (Sits laws w h) x s → (u : ℕ) × ((let r = s.row in r.rose) ≡ Some u)
+      sits-rose s g = let u = (rose-is laws w h) x in (u.0, ap (λ (r : EndRow). r.rose) ((sits-row laws w h) x s g) ∙ u.1)
 
-      sits-peer : {side : Side} {d : ℕ} (s : Seat w side d) → Sits x s → (let r = s.row in r.peer) ≡ Some (let o = x.other in o.name)
-      sits-peer s g = ap (λ (r : EndRow). r.peer) (sits-row x s g) ∙ peer-is x ∙ ap Some x.peer
+      sits-peer : {side : Side} {d : ℕ} (s : Seat w side d) → (Sits laws w h) x s → (let r = s.row in r.peer) ≡ Some (let o = x.other in o.name)
+      sits-peer s g = ap (λ (r : EndRow). r.peer) ((sits-row laws w h) x s g) ∙ (peer-is laws w h) x ∙ ap Some x.peer
 
       -- the other end belongs to node b
-      far-who : {sa sb : Side} {d : ℕ} (s : Seat w sa d) (t : Seat w sb d) → Sits x s → (let r = s.row in r.peer) ≡ Some (let l = t.life in l.node.setup.name) → (let l = t.life in l.who) ≡ b
+      far-who : {sa sb : Side} {d : ℕ} (s : Seat w sa d) (t : Seat w sb d) → (Sits laws w h) x s → (let r = s.row in r.peer) ≡ Some (let l = t.life in l.node.setup.name) → (let l = t.life in l.who) ≡ b
       far-who s t g e = let z : Some (let l = t.life in l.node.setup.name) ≡ Some (let o = x.other in o.name) = sym e ∙ sits-peer s g in who-by t.place b t.life x.other t.at_ x.named cc
 
     seat-name : {sa sb : Side} {c d : ℕ} (s : Seat w sa c) (t : Seat w sb d) → (let l = s.life in l.who) ≡ (let l = t.life in l.who) → (let l = s.life in l.node.setup.name) ≡ (let l = t.life in l.node.setup.name)
     seat-name s t e = name-of s.place t.place s.life t.life s.at_ t.at_ e
 
     -- an end that is up on a line came up after the accepted one
-    dialled-rose : {c : ℕ} (k : Conn) (ak : slice_get w.conns c ≡ Some k) (g : LineOf c k) (u : ℕ) → (let l = g.line in let s = l.dialled in let r = s.row in r.rose) ≡ Some u → (v : ℕ) × ((let l = g.line in let s = l.accepted in let r = s.row in r.rose) ≡ Some v)
+    dialled-rose : {c : ℕ} (k : Conn) (ak : slice_get w.conns c ≡ Some k) (g : (LineOf laws w h) c k) (u : ℕ) → (let l = g.line in let s = l.dialled in let r = s.row in r.rose) ≡ Some u → (v : ℕ) × ((let l = g.line in let s = l.accepted in let r = s.row in r.rose) ≡ Some v)
     dialled-rose {c} k ak g u e =
         let L = g.line in let X = L.dialled in let Y = L.accepted in
         let wi = h.wires c k ak _ _ (ap (setup_in w.lives) (sym g.life_is) ∙ ap setup_of X.at_) (ap (setup_in w.lives) (sym g.target_is) ∙ ap setup_of Y.at_) in
@@ -249,7 +83,7 @@ module _ (laws : NodeLaws) where
     -- ---- ONE CONNECTION
 
     module _ (a b c d : ℕ) (x : IsUp w a b c) (y : IsUp w b a d) where
-      one-conn : c ≢ d → (k m : Conn) → slice_get w.conns c ≡ Some k → slice_get w.conns d ≡ Some m → Stands_on x k → Stands_on y m → ⊥
+      one-conn : c ≢ d → (k m : Conn) → slice_get w.conns c ≡ Some k → slice_get w.conns d ≡ Some m → (Stands_on laws w h) x k → (Stands_on laws w h) y m → ⊥
       one-conn n k m ak am (On_dialled p i g s) (On_accepted q j f t) =
           let L = g.line in let M = f.line in
           let X = L.dialled in let Y = L.accepted in let Z = M.dialled in let V = M.accepted in
@@ -289,7 +123,7 @@ module _ (laws : NodeLaws) where
       same-place e =
           let z : Some x.life ≡ Some y.life = sym x.lives ∙ ap (slice_get w.lives) e ∙ y.lives in
           let l : x.life ≡ y.life = cc in
-          sym (let r = running-is x in r.0) ∙ ap (λ (l : Life). l.who) l ∙ (let r = running-is y in r.0)
+          sym (let r = (running-is laws w h) x in r.0) ∙ ap (λ (l : Life). l.who) l ∙ (let r = (running-is laws w h) y in r.0)
 
       module _ (digests : AllLives OwnDigests w) (other : a ≢ b) where
         digest-x : x.kept.digest_received ≡ own_digest x.life.node.setup x.kept.peer x.kept.challenge
@@ -308,34 +142,34 @@ module _ (laws : NodeLaws) where
         agreed-by own away kept n e = record { flags = n.0 ∙ (λ i. common (announced-is own i) (announced-is away i)); creation = n.1; digest = e }
 
         setup-x : x.life.node.setup ≡ record y.other { creation = x.life.node.setup.creation }
-        setup-x = setup-by x.place a x.life y.other x.lives y.named (let r = running-is x in r.0)
+        setup-x = setup-by x.place a x.life y.other x.lives y.named (let r = (running-is laws w h) x in r.0)
 
         setup-y : y.life.node.setup ≡ record x.other { creation = y.life.node.setup.creation }
-        setup-y = setup-by y.place b y.life x.other y.lives x.named (let r = running-is y in r.0)
+        setup-y = setup-by y.place b y.life x.other y.lives x.named (let r = (running-is laws w h) y in r.0)
 
         -- a dialled, and b accepted
         forth : c ≡ d → (k : Conn) → slice_get w.conns c ≡ Some k → x.place ≡ k.life → x.id ≡ k.dialler → y.place ≡ k.target → k.accepted ≡ Some y.id → AreAgreed w a b c d x y
         forth e k ak p i q j =
-            let wi = h.wires c k ak sx sy (setup-is x k.life p) (setup-is y k.target q) in
-            let nx : Noted sx sy (ends.Up x.kept) = (let P : Option End → Type 0 = λ o. NotedAt sx sy o in subst P (end-is x k.life k.dialler p i) wi.noted_back) in
-            let ny : Noted sy sx (ends.Up y.kept) = (let P : Option End → Type 0 = λ o. NotedAt sy sx o in subst P (ap (far (end_in w.lives k.target)) j ∙ end-is y k.target y.id q refl) wi.noted_there) in
+            let wi = h.wires c k ak sx sy ((setup-is laws w h) x k.life p) ((setup-is laws w h) y k.target q) in
+            let nx : Noted sx sy (ends.Up x.kept) = (let P : Option End → Type 0 = λ o. NotedAt sx sy o in subst P ((end-is laws w h) x k.life k.dialler p i) wi.noted_back) in
+            let ny : Noted sy sx (ends.Up y.kept) = (let P : Option End → Type 0 = λ o. NotedAt sy sx o in subst P (ap (far (end_in w.lives k.target)) j ∙ (end-is laws w h) y k.target y.id q refl) wi.noted_there) in
             record { same = e; conn = k; there = ak; joined = inl (record { life = sym p; dialler = sym i; target = sym q; accepted = j }); setup_a = setup-x; setup_b = setup-y; at_a = agreed-by sx sy x.kept nx digest-x; at_b = agreed-by sy sx y.kept ny digest-y }
 
         -- b dialled, and a accepted
         back : c ≡ d → (k : Conn) → slice_get w.conns c ≡ Some k → y.place ≡ k.life → y.id ≡ k.dialler → x.place ≡ k.target → k.accepted ≡ Some x.id → AreAgreed w a b c d x y
         back e k ak p i q j =
-            let wi = h.wires c k ak sy sx (setup-is y k.life p) (setup-is x k.target q) in
-            let ny : Noted sy sx (ends.Up y.kept) = (let P : Option End → Type 0 = λ o. NotedAt sy sx o in subst P (end-is y k.life k.dialler p i) wi.noted_back) in
-            let nx : Noted sx sy (ends.Up x.kept) = (let P : Option End → Type 0 = λ o. NotedAt sx sy o in subst P (ap (far (end_in w.lives k.target)) j ∙ end-is x k.target x.id q refl) wi.noted_there) in
+            let wi = h.wires c k ak sy sx ((setup-is laws w h) y k.life p) ((setup-is laws w h) x k.target q) in
+            let ny : Noted sy sx (ends.Up y.kept) = (let P : Option End → Type 0 = λ o. NotedAt sy sx o in subst P ((end-is laws w h) y k.life k.dialler p i) wi.noted_back) in
+            let nx : Noted sx sy (ends.Up x.kept) = (let P : Option End → Type 0 = λ o. NotedAt sx sy o in subst P (ap (far (end_in w.lives k.target)) j ∙ (end-is laws w h) x k.target x.id q refl) wi.noted_there) in
             record { same = e; conn = k; there = ak; joined = inr (record { life = sym p; dialler = sym i; target = sym q; accepted = j }); setup_a = setup-x; setup_b = setup-y; at_a = agreed-by sx sy x.kept nx digest-x; at_b = agreed-by sy sx y.kept ny digest-y }
 
-        on-one : c ≡ d → (k m : Conn) → slice_get w.conns c ≡ Some k → slice_get w.conns d ≡ Some m → Stands_on x k → Stands_on y m → AreAgreed w a b c d x y
+        on-one : c ≡ d → (k m : Conn) → slice_get w.conns c ≡ Some k → slice_get w.conns d ≡ Some m → (Stands_on laws w h) x k → (Stands_on laws w h) y m → AreAgreed w a b c d x y
         on-one e k m ak am s t = by (same k m (let z : Some k ≡ Some m = sym ak ∙ ap (slice_get w.conns) e ∙ am in cc)) s t
           where
             same : (k m : Conn) → k ≡ m → k ≡ m
             same k m e = e
 
-            by : k ≡ m → Stands_on x k → Stands_on y m → AreAgreed w a b c d x y
+            by : k ≡ m → (Stands_on laws w h) x k → (Stands_on laws w h) y m → AreAgreed w a b c d x y
             by z (On_dialled p i g s) (On_accepted q j f t) = forth e k ak p i (q ∙ ap (λ (k : Conn). k.target) (sym z)) (ap (λ (k : Conn). k.accepted) z ∙ j)
             by z (On_accepted p i g s) (On_dialled q j f t) = back e k ak (q ∙ ap (λ (k : Conn). k.life) (sym z)) (j ∙ ap (λ (k : Conn). k.dialler) (sym z)) p i
             by z (On_dialled p i g s) (On_dialled q j f t) = absurd (other (same-place (p ∙ ap (λ (k : Conn). k.life) z ∙ sym q)))
@@ -343,9 +177,9 @@ module _ (laws : NodeLaws) where
 
         agree : AreAgreed w a b c d x y
         agree =
-            let kx = conn-is x in let ky = conn-is y in
-            let sx' = stands-on x kx.conn kx.there kx.is_end in
-            let sy' = stands-on y ky.conn ky.there ky.is_end in
+            let kx = (conn-is laws w h) x in let ky = (conn-is laws w h) y in
+            let sx' = (stands-on laws w h) x kx.conn kx.there kx.is_end in
+            let sy' = (stands-on laws w h) y ky.conn ky.there ky.is_end in
             decide (AreAgreed w a b c d x y) c d (λ e. on-one e kx.conn ky.conn kx.there ky.there sx' sy') (λ n. absurd (one-conn n kx.conn ky.conn kx.there ky.there sx' sy'))
 
   -- THE AGREEMENT

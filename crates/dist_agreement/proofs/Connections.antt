@@ -14,7 +14,7 @@ use Rattle.dist_agreement.proofs.Wires.{IsWire, named_of, replied_of, rose_of, p
 use Rattle.dist_agreement.proofs.Spanning.{Since}
 use Rattle.dist_agreement.proofs.Keeping.{IsKept, IsTimely, kept, timely}
 use Rattle.dist_agreement.proofs.Lookups.{row_in, end_in, setup_of, far}
-use Rattle.dist_agreement.proofs.Orders.{past-is}
+use Rattle.dist_agreement.proofs.Pasts.{past-is}
 use Rattle.dist_agreement.specs.NodeLaws.{NodeLaws}
 
 past-some : (t : ℕ) (o : Option ℕ) → past t o ≡ true → (n : ℕ) × (o ≡ Some n) × (n < t)

@@ -26,13 +26,11 @@ use Rattle.dist_ends.specs.declared.phase.Kind.TheVariants.{Out, In}
 use Rattle.dist_ends.specs.Ends.{AreLegal, names, entry_in}
 use Rattle.dist_core.specs.Node.{NodeState, new_id}
 use Rattle.dist_core.specs.Step.{effect_of}
-use Rattle.dist_core.specs.Effects.{goes_on, shuts, comes_up, shuts_other, dooms_other, supersedes, superseded, superseded_in, fresh_attempt, held_back}
+use Rattle.dist_core.specs.Effects.{goes_on, shuts, comes_up, shuts_other, dooms_other, supersedes, superseded, superseded_in, fresh_attempt, held_back, reply_phase}
 use Rattle.dist_core.specs.Accepted.{named_attempt}
-use Rattle.dist_core.specs.Effects.{reply_phase}
 use Rattle.dist_core.specs.Rows as core
 use Rattle.dist_core.specs.Rows.{Row, Heard, Taken}
-use Rattle.dist_agreement.proofs.Stands.{stand_in, stand_of}
-use Rattle.dist_agreement.proofs.Stands.{named_stand, dialled_stand}
+use Rattle.dist_agreement.proofs.Stands.{stand_in, stand_of, named_stand, dialled_stand}
 use Rattle.dist_agreement.specs.Rows.{given_by}
 use Rattle.dist_agreement.proofs.Places.{eqb-self}
 use Rattle.dist_agreement.specs.NodeLaws.{NodeLaws}

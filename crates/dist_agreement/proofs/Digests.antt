@@ -11,18 +11,17 @@ use Rattle.dist_ends.specs.declared.known.End.TheVariants as ends
 use Rattle.dist_core.specs.declared.event.Event.{Event}
 use Rattle.dist_peers.specs.Table.{replaced_by}
 use Rattle.dist_setup.specs.Saying.{ack_text}
-use Rattle.dist_ends.specs.Ends.{entry_in}
-use Rattle.dist_core.specs.Node.{NodeState}
+use Rattle.dist_ends.specs.Ends.{entry_in, AreLegal}
+use Rattle.dist_core.specs.Node.{NodeState, ends_after}
 use Rattle.dist_core.specs.Step.{effect_of, after}
 use Rattle.dist_core.specs.Effects.{comes_up, supersedes, superseded, superseded_in, record_of}
 use Rattle.dist_core.specs.Accepted.{named_attempt}
 use Rattle.dist_setup.specs.Rules.{own_digest, same_bytes}
 use Rattle.dist_setup.specs.declared.setup.Setup.{Setup}
-use Rattle.dist_ends.specs.Ends.{AreLegal}
-use Rattle.dist_core.specs.Node.{ends_after}
 use Rattle.dist_agreement.specs.declared.happening.Happening.{Happening}
 use Rattle.dist_agreement.proofs.Turns.{Keeps, always}
-use Rattle.dist_agreement.proofs.Lives.{IsLife, life_keeps}
+use Rattle.dist_agreement.proofs.Lives.{IsLife}
+use Rattle.dist_agreement.proofs.Lifelong.{life_keeps}
 use Rattle.dist_core.specs.Rows as core
 use Rattle.dist_core.specs.Rows.{Row, Heard, Taken}
 use Rattle.dist_agreement.specs.World.{Life, empty}

@@ -28,14 +28,13 @@ use Rattle.dist_core.specs.Laws.{IsOther}
 use Rattle.dist_agreement.specs.Lists.{add_some}
 use Rattle.dist_agreement.specs.Rows.{EndRow, given_by, mark, written, once, rows_after, rises, takes_name, says_reply, peer_by, dooms, shuts_end, new_row}
 use Rattle.dist_agreement.proofs.Stands.{AreBeside, stand_in, dialled_stand, Stand}
-use Rattle.dist_agreement.proofs.Places.{get-more}
+use Rattle.dist_agreement.proofs.Places.{get-more, eqb-self, and-none}
 use Rattle.dist_agreement.proofs.Deeds.{Deed, is_given, deed_of, Dials, Comes_in, Shuts, Goes, Says, Rises, Takes, Takes_over, Refuses, Dooms, Drops}
-use Rattle.dist_agreement.proofs.Besides.{get-row}
+use Rattle.dist_agreement.proofs.Unmarked.{get-row}
 use Rattle.dist_agreement.proofs.Wires.{Noted, NotedIn, NotedAt, Quiet, Hushed, quiet-refl}
-use Rattle.dist_agreement.proofs.Acting.{once-false}
+use Rattle.dist_agreement.proofs.EndRows.{once-false}
 use Rattle.dist_agreement.proofs.Lookups.{eqb-not, decide}
 use Rattle.dist_ends.specs.Change.{other_view}
-use Rattle.dist_agreement.proofs.Places.{eqb-self}
 use Rattle.dist_agreement.specs.NodeLaws.{NodeLaws}
 
 -- nothing is noted in it
@@ -66,10 +65,6 @@ new-quiet t own doom shut r side p c a b d = record {
 
 and-false : (a b : Bool) → a ≡ false → (a && b) ≡ false
 and-false a b h = ap (λ k. k && b) h
-
-and-none : (a b : Bool) → b ≡ false → (a && b) ≡ false
-and-none true b h = h
-and-none false b h = refl
 
 pub given-not : (b : Bool) → b ≡ false → b ≡ true → ⊥
 given-not b h g = false≢true (sym h ∙ g)

@@ -15,7 +15,7 @@ use Rattle.dist_agreement.specs.Happenings.{new_life, ended, reached_life, lived
 use Rattle.dist_agreement.specs.Run.{run}
 use Rattle.dist_agreement.specs.Agreement.{AreSetups, Fits, AllFit}
 use Rattle.dist_agreement.specs.Laws.{AllLives}
-use Rattle.dist_agreement.proofs.Places.{at-one, at-more, get-more}
+use Rattle.dist_agreement.proofs.Places.{at-one, at-more, get-more, eqb-self}
 use Rattle.dist_agreement.proofs.Acts.{Act, Acted, Begins, Ends, Reaches, Comes, Tells}
 use Rattle.dist_agreement.proofs.Turns.{kept-by-all, one-step, alike, all-free}
 use Rattle.dist_agreement.proofs.Sayings.{IsFit}
@@ -23,9 +23,10 @@ use Rattle.dist_agreement.proofs.Lives.{IsLife}
 use Rattle.dist_agreement.proofs.Spanning.{IsSeen, seen_keeps}
 use Rattle.dist_agreement.proofs.Lookups.{eqb-not, decide}
 use Rattle.dist_agreement.proofs.Linking.{Linked}
-use Rattle.dist_agreement.proofs.WireSteps.{Wires, begun-linked, begun-wires, ended-linked, ended-wires, come-linked, come-wires, reached-linked, reached-wires}
-use Rattle.dist_agreement.proofs.TellSteps.{told-kept}
-use Rattle.dist_agreement.proofs.Places.{eqb-self}
+use Rattle.dist_agreement.proofs.AllWires.{Wires}
+use Rattle.dist_agreement.proofs.WireSteps.{begun-linked, begun-wires, ended-linked, ended-wires, come-linked, come-wires}
+use Rattle.dist_agreement.proofs.Reached.{reached-linked, reached-wires}
+use Rattle.dist_agreement.proofs.Accepting.{told-kept}
 use Rattle.dist_agreement.specs.NodeLaws.{NodeLaws}
 
 -- the incarnation has its node's setup, but for the creation
@@ -213,7 +214,7 @@ module _ (laws : NodeLaws) where
         subst (λ x. P x cs) (sym is) (subst (P _) (sym k) (by-heads w.lives _ (λ i l at. (l, at, head-refl w.clock l)) (come-linked side c n w.lives w.conns h.linked) (come-wires side c n w.lives w.conns h.linked h.wires)))
     rest ls cs (Tells i old v fresh f ds fits at live ok ready is k) =
         let P : List Life → List Conn → Type 0 = λ x y. Rest x y in
-        let g = told-kept laws w lives h.fits h.linked h.wires i old v fresh f (fits known) at live ok ds ready in
+        let g = told-kept laws (record { w = w; lives = lives; fit = h.fits; linked = h.linked; wires = h.wires; i = i; old = old; v = v; fresh = fresh; f = f; small = fits known; at = at; live = live; ok = ok }) ds ready in
         subst (λ x. P x cs) (sym is) (subst (P _) (sym k) (by-heads (at_place i (λ l. lived w.clock v f.reply (after old.node v f) old) w.lives) _
         (tells-heads w i old v f at)
         g.0 g.1))

@@ -1,5 +1,5 @@
 -- What a mark does to a row.
-use Rattle.std.proofs.Common.{◌≡◌, ℕ, ◌+◌, ◌<◌, ◌≤◌, Bool, true, false, cond, ltb, ◌&&◌, ◌||◌, Option, Some, None, refl, sym, ap, ◌∙◌, arith, is_some}
+use Rattle.std.proofs.Common.{◌≡◌, ℕ, ◌+◌, ◌<◌, ◌≤◌, Bool, true, false, cond, ltb, ◌&&◌, ◌||◌, Option, Some, None, refl, sym, ap, ◌∙◌, arith, is_some, subst, List, slice_get}
 use Rattle.std.proofs.lemmas.Bool.Decides.{nat_tests}
 use Rattle.std.specs.Option.{option_map}
 use Rattle.dist_names.specs.Order.{Name}
@@ -10,9 +10,9 @@ use Rattle.dist_ends.specs.declared.phase.Phase.TheVariants as phase
 use Rattle.dist_ends.specs.declared.known.End.{End}
 use Rattle.dist_ends.specs.declared.known.End.TheVariants as ends
 use Rattle.dist_core.specs.declared.reply.Reply.{Reply}
-use Rattle.dist_ends.specs.Ends.{Claim, claim_of}
+use Rattle.dist_ends.specs.Ends.{claim_of}
 use Rattle.dist_agreement.specs.Rows.{EndRow, claim_when, claim_before, entered, takes_name, says_reply, rises, peer_by, past, once, written, new_row}
-use Rattle.dist_agreement.proofs.Stands.{Stand, stand_in, stand_of, row_stand, stand_after, stand_claim, Fits, Below}
+use Rattle.dist_agreement.proofs.Stands.{Stand, stand_in, stand_of, row_stand, stand_after, stand_claim, Fits, Below, Beside, AreBeside}
 
 pub is-once : (b : Bool) (t : ℕ) (o : Option ℕ) → is_some (once b t o) ≡ (is_some o || b)
 is-once b t (Some n) = refl
@@ -79,11 +79,19 @@ shut-below t row b = let l = later-below t (t + 1) row (omega arith) b in record
 pub new-below : (t : ℕ) (side : Side) (p : Option Name) (c : Option ℕ) → Below (t + 1) (new_row side p c t)
 new-below t side p c = record { given = (let h : t < t + 1 = omega arith in grind (arith, nat_tests)); named = refl; doomed = refl; replied = refl; rose = refl; closed = refl }
 
-or-false : (b : Bool) → (b || false) ≡ b
+-- an end that stands in its place has a row that fits it
+pub fits-at : (es : List End) (rows : List EndRow) → AreBeside es rows → (i : ℕ) (e : End) (row : EndRow) → slice_get es i ≡ Some e → slice_get rows i ≡ Some row → Fits e row
+fits-at es rows h i e row a b = let P : Option End → Option EndRow → Type 0 = λ o q. Beside o q in subst (P (Some e)) b (subst (λ o. P o (slice_get rows i)) a (h i))
+
+pub once-some : (t : ℕ) (o : Option ℕ) → is_some (once true t o) ≡ true
+once-some t None = refl
+once-some t (Some n) = refl
+
+pub or-false : (b : Bool) → (b || false) ≡ b
 or-false true = refl
 or-false false = refl
 
-or-true : (b : Bool) → (b || true) ≡ true
+pub or-true : (b : Bool) → (b || true) ≡ true
 or-true true = refl
 or-true false = refl
 

@@ -9,6 +9,10 @@ pub both-true : (a b : Bool) → (a && b) ≡ true → (a ≡ true) × (b ≡ tr
 both-true true b h = (refl, h)
 both-true false b h = absurd cc
 
+pub and-none : (a b : Bool) → b ≡ false → (a && b) ≡ false
+and-none true b h = h
+and-none false b h = refl
+
 pub flip : {i j : ℕ} → i ≢ j → j ≢ i
 flip n e = n (sym e)
 

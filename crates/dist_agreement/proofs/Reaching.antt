@@ -1,5 +1,5 @@
 -- Worlds that can be.
-use Rattle.std.proofs.Common.{◌≡◌, List, [], ◌∷◌, ◌++◌, refl, sym, ap, ◌∙◌, subst}
+use Rattle.std.proofs.Common.{◌≡◌, List, [], ◌∷◌, ◌++◌, refl, sym, ap, ◌∙◌, subst, ℕ}
 use Rattle.std.specs.List.{AllByRecursion}
 use Rattle.dist_setup.specs.declared.setup.Setup.{Setup}
 use Rattle.dist_agreement.specs.declared.happening.Happening.{Happening}
@@ -8,7 +8,6 @@ use Rattle.dist_agreement.specs.Happenings.{happens}
 use Rattle.dist_agreement.specs.Run.{run}
 use Rattle.dist_agreement.specs.Agreement.{AreSetups, AllFit, Fits, IsReached, Agreement, Counts, IsUp}
 use Rattle.dist_agreement.proofs.Agreeing.{agreement_holds}
-use Rattle.std.proofs.Common.{ℕ}
 use Rattle.dist_agreement.specs.Laws.{AllLives, UpsAreLinked}
 use Rattle.dist_agreement.proofs.Acts.{is-running}
 use Rattle.dist_agreement.proofs.Conns.{linked_lives}

@@ -1,8 +1,6 @@
 -- What a node says is whole frames of messages that it may say.
 use Rattle.std.proofs.Common.{◌≡◌, ℕ, ◌/◌, ◌^◌, ◌<◌, true, List, [], ◌∷◌, ◌++◌, length, Option, Ok, refl, sym, ◌∙◌, subst, arith, is_some, length-append, lit<}
-use Rattle.std.proofs.lemmas.Nat.{and_le_r}
 use Rattle.std.specs.Int.{w32, to_le_bytes}
-use Rattle.std.specs.Int.Bits.{bit_or}
 use Rattle.md5.specs.Md5.{md5, digest_bytes, hash_after, padded_message}
 use Rattle.std.specs.Prelude.{slice_index}
 use Rattle.dist_names.specs.NodeName.{IsNodeName}
@@ -12,7 +10,6 @@ use Rattle.dist_messages.specs.Reading.{read}
 use Rattle.dist_messages.specs.declared.message.Side.{Side}
 use Rattle.dist_messages.specs.declared.message.Side.TheVariants.{Dialler, Acceptor}
 use Rattle.dist_messages.specs.declared.message.Status.{Status}
-use Rattle.dist_messages.specs.declared.message.Status.TheVariants as status
 use Rattle.dist_messages.specs.declared.message.Message.{Message}
 use Rattle.dist_messages.specs.declared.message.Message.TheVariants as message
 use Rattle.dist_setup.specs.declared.setup.Setup.{Setup}

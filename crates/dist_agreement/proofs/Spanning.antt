@@ -18,16 +18,18 @@ use Rattle.dist_core.specs.Step.{effect_of, after}
 use Rattle.dist_agreement.specs.Lists.{add_some}
 use Rattle.dist_agreement.specs.Rows.{EndRow, past, once, given_by, mark, written, rows_after, new_row, rises, dooms, shuts_end}
 use Rattle.dist_agreement.specs.World.{Life, runs}
-use Rattle.dist_agreement.specs.Happenings.{new_life, ended, shut_row, reached_life, lived}
+use Rattle.dist_agreement.specs.Happenings.{shut_row, lived}
 use Rattle.dist_agreement.specs.Stones.{left_before}
 use Rattle.dist_agreement.proofs.Places.{get-more, both-true}
 use Rattle.dist_agreement.proofs.Stands.{Stand, Fits, Beside, Below}
 use Rattle.dist_agreement.proofs.Turns.{Keeps}
 use Rattle.dist_agreement.proofs.Marks.{past-once, shut-below}
 use Rattle.dist_agreement.proofs.Deeds.{Deed, deed_of, Dials, Comes_in, Shuts, Goes, Says, Rises, Takes, Takes_over, Refuses, Dooms, Drops}
-use Rattle.dist_agreement.proofs.Besides.{get-row}
+use Rattle.dist_agreement.proofs.Unmarked.{get-row}
 use Rattle.dist_agreement.proofs.Hushing.{own-after}
-use Rattle.dist_agreement.proofs.Lives.{IsLife, before-map, get-shut, get-reached, reach, reach-any, open-row, none-of}
+use Rattle.dist_agreement.proofs.Lives.{IsLife, before-map}
+use Rattle.dist_agreement.proofs.Untold.{get-shut, get-reached, reach, reach-any}
+use Rattle.dist_agreement.proofs.Doers.{open-row, none-of}
 use Rattle.dist_agreement.proofs.Times.{IsTimed, timed_keeps}
 use Rattle.dist_agreement.specs.NodeLaws.{NodeLaws}
 
@@ -100,7 +102,7 @@ written-since b t own doom shut r row h s = record {
 new-since : (b t : ℕ) (own doom shut : Bool) (r : Reply) (side : Side) (q : Option Name) (c : Option ℕ) → b < t → Since b (written t own doom shut r (new_row side q c t))
 new-since b t own doom shut r side q c h = written-since b t own doom shut r (new_row side q c t) h (record { given = h; named = λ n e. absurd cc; replied = λ n e. absurd cc; rose = λ n e. absurd cc; doomed = λ n e. absurd cc; closed = λ n e. absurd cc })
 
-not-over : (l : Life) (n : ℕ) → runs l ≡ true → l.over ≡ Some n → ⊥
+pub not-over : (l : Life) (n : ℕ) → runs l ≡ true → l.over ≡ Some n → ⊥
 not-over l n live e = false≢true (ap (λ o. not (is_some o)) (sym e) ∙ live)
 
 module _ (laws : NodeLaws) (t : ℕ) (l : Life) (v : Event) (fresh : ℕ) (f : Effect) (live : runs l ≡ true) (ok : effect_of l.node v fresh ≡ Ok f) (h : IsSeen t l) where

@@ -1,40 +1,37 @@
--- At which moments replies are said and ends come up.
+-- When ends hold their peers: as a reply is said, and as they come up.
 use Rattle.std.proofs.Common.{◌≡◌, ℕ, ◌≤◌, Bool, true, false, cond, eqb, ltb, ◌&&◌, ◌||◌, List, length, Option, Some, None, refl, sym, ap, ◌∙◌, subst, arith, slice_get, is_some}
 use Rattle.std.proofs.lemmas.Bool.{false≢true, eqb-true}
 use Rattle.dist_names.specs.Order.{Name}
 use Rattle.dist_messages.specs.declared.message.Side.{Side}
 use Rattle.dist_messages.specs.declared.message.Side.TheVariants.{Dialler, Acceptor}
-use Rattle.dist_ends.specs.declared.known.Attempt.{Attempt}
-use Rattle.dist_ends.specs.declared.phase.Phase.{Phase}
-use Rattle.dist_ends.specs.declared.phase.Phase.TheVariants as phase
 use Rattle.dist_core.specs.declared.effect.Effect.{Effect}
-use Rattle.dist_ends.specs.declared.known.End.{End}
 use Rattle.dist_ends.specs.declared.known.End.TheVariants as ends
 use Rattle.dist_core.specs.declared.event.Event.{Event}
 use Rattle.dist_core.specs.declared.event.Event.TheVariants as event
 use Rattle.dist_core.specs.declared.reply.Reply.{Reply}
-use Rattle.dist_core.specs.Node.{NodeState}
 use Rattle.dist_agreement.specs.Lists.{add_some}
-use Rattle.dist_agreement.specs.Rows.{EndRow, mark, written, rows_after, given_by, dooms, shuts_end, takes_name, new_row}
-use Rattle.dist_agreement.proofs.Deeds.{Deed, is_given, rises_from, Dials, Comes_in, Shuts, Goes, Says, Rises, Takes, Takes_over, Refuses, Dooms, Drops}
+use Rattle.dist_agreement.specs.Rows.{EndRow, mark, written, rows_after, given_by, dooms, shuts_end, takes_name, new_row, says_reply, past, once, rises, entered}
+use Rattle.dist_agreement.proofs.Deeds.{Deed, deed_of}
 use Rattle.dist_agreement.proofs.Places.{get-more, both-true, flip}
 use Rattle.std.proofs.lemmas.Bool.Decides.{nat_tests}
 use Rattle.dist_setup.specs.declared.setup.Setup.{Setup}
-use Rattle.dist_agreement.proofs.Stands.{Stand, stand_in, Fits, Beside, dialled_stand, Below}
-use Rattle.dist_agreement.specs.Rows.{says_reply, past, once, rises, entered}
+use Rattle.dist_agreement.proofs.Stands.{Stand, Below}
 use Rattle.dist_agreement.specs.declared.happening.Happening.{Happening}
 use Rattle.dist_agreement.proofs.Turns.{Keeps, always}
-use Rattle.dist_agreement.proofs.Marks.{past-once}
-use Rattle.dist_agreement.proofs.Deeds.{deed_of}
-use Rattle.dist_agreement.proofs.Besides.{get-row, not-given}
+use Rattle.dist_agreement.proofs.Marks.{past-once, fits-at}
+use Rattle.dist_agreement.proofs.Unmarked.{get-row, not-given}
 use Rattle.dist_agreement.proofs.Alone.{out-alone, in-alone}
-use Rattle.dist_agreement.proofs.Lives.{IsLife, life_keeps, before-map, get-shut, reach, get-reached, reach-any, open-row}
+use Rattle.dist_agreement.proofs.Lives.{IsLife, before-map}
+use Rattle.dist_agreement.proofs.Lifelong.{life_keeps}
+use Rattle.dist_agreement.proofs.Untold.{get-shut, reach, get-reached, reach-any}
+use Rattle.dist_agreement.proofs.Doers.{open-row, climber, false-by, sayer}
 use Rattle.dist_agreement.specs.World.{Life, runs, empty}
 use Rattle.dist_agreement.specs.Happenings.{shut_row}
 use Rattle.dist_agreement.specs.Run.{run}
 use Rattle.dist_agreement.specs.Stones.{entered_before, left_before}
 use Rattle.dist_agreement.specs.Laws.{Alone, AllLives}
 use Rattle.dist_agreement.specs.NodeLaws.{NodeLaws}
+use Rattle.dist_agreement.proofs.Pasts.{not-past}
 
 -- when the reply is said the end holds its peer and is not up; when it comes up it holds its peer
 pub record Timed (row : EndRow) : Type 0 where
@@ -115,71 +112,25 @@ module _ (t : ℕ) (own doom shut : Bool) (r : Reply) (row : EndRow) (below : Be
                 old-left n le ∙ ap (λ k. left_before k row) (sym b.1) ∙ left-none h.1 h.2,
               )
 
--- ---- what a deed says of a reply said and of an end that comes up
-
-sayer : (n : NodeState) (v : Event) (f : Effect) → Deed n v f → says_reply f.reply.note ≡ true → (b : Attempt) × (slice_get n.ends f.reply.end_.0 ≡ Some (ends.Attempt b)) × (stand_in b.peer b.phase ≡ dialled_stand b.peer false false) × (is_given v ≡ false)
-sayer n v f (Dials p o is k) e = absurd (false≢true (ap (λ (f : Effect). says_reply f.reply.note) (sym k) ∙ e))
-sayer n v f (Comes_in link is k) e = absurd (false≢true (ap (λ (f : Effect). says_reply f.reply.note) (sym k) ∙ e))
-sayer n v f (Shuts id say w d g at k) e = absurd (false≢true (ap (λ (f : Effect). says_reply f.reply.note) (sym k) ∙ e))
-sayer n v f (Goes id say d b g at s k) e = absurd (false≢true (ap (λ (f : Effect). says_reply f.reply.note) (sym k) ∙ e))
-sayer n v f (Says id say b d g at ph q p k) e = (b, ap (λ (f : Effect). slice_get n.ends f.reply.end_.0) k ∙ at, ap (stand_in b.peer) ph, g)
-sayer n v f (Rises id say b r q side g at ph t rp k) e = absurd (false≢true (ap (λ (f : Effect). says_reply f.reply.note) (sym k) ∙ e))
-sayer n v f (Takes id say a g at s alone k) e = absurd (false≢true (ap (λ (f : Effect). says_reply f.reply.note) (sym k) ∙ e))
-sayer n v f (Takes_over id say a x g at s alone nm k) e = absurd (false≢true (ap (λ (f : Effect). says_reply f.reply.note) (sym k) ∙ e))
-sayer n v f (Refuses id say p x g at en gr k) e = absurd (false≢true (ap (λ (f : Effect). says_reply f.reply.note) (sym k) ∙ e))
-sayer n v f (Dooms id say a x b d g at s en gr atx sb sd k) e = absurd (false≢true (ap (λ (f : Effect). says_reply f.reply.note) (sym k) ∙ e))
-sayer n v f (Drops id say a x g at s en gr k) e = absurd (false≢true (ap (λ (f : Effect). says_reply f.reply.note) (sym k) ∙ e))
-
-rising-entered : (b : Attempt) (q : Phase) (side : Side) → rises_from q side → (let s = stand_in b.peer q in (entered s.side true s.named ≡ true) × (s.doomed ≡ false))
-rising-entered b phase.AwaitAck side t = (refl, refl)
-rising-entered b phase.AwaitReply side t = (refl, refl)
-rising-entered b phase.Dialing side t = absurd t
-rising-entered b phase.DoomedDialing side t = absurd t
-rising-entered b phase.AwaitStatus side t = absurd t
-rising-entered b phase.Doomed side t = absurd t
-rising-entered b phase.AwaitChallenge side t = absurd t
-rising-entered b phase.AwaitTrue side t = absurd t
-rising-entered b phase.AwaitComplement side t = absurd t
-
-pub climber : (n : NodeState) (v : Event) (f : Effect) → Deed n v f → rises f.reply.up ≡ true → (b : Attempt) × (slice_get n.ends f.reply.end_.0 ≡ Some (ends.Attempt b)) × (let s = stand_in b.peer b.phase in (entered s.side true s.named ≡ true) × (s.doomed ≡ false)) × (is_given v ≡ false)
-climber n v f (Dials p o is k) e = absurd (false≢true (ap (λ (f : Effect). rises f.reply.up) (sym k) ∙ e))
-climber n v f (Comes_in link is k) e = absurd (false≢true (ap (λ (f : Effect). rises f.reply.up) (sym k) ∙ e))
-climber n v f (Shuts id say w d g at k) e = absurd (false≢true (ap (λ (f : Effect). rises f.reply.up) (sym k) ∙ e))
-climber n v f (Goes id say d b g at s k) e = absurd (false≢true (ap (λ (f : Effect). rises f.reply.up) (sym k) ∙ e))
-climber n v f (Says id say b d g at ph q p k) e = absurd (false≢true (ap (λ (f : Effect). rises f.reply.up) (sym k) ∙ e))
-climber n v f (Rises id say b r q side g at ph t rp k) e = (b, ap (λ (f : Effect). slice_get n.ends f.reply.end_.0) k ∙ at, subst (λ (z : Phase). (let s = stand_in b.peer z in (entered s.side true s.named ≡ true) × (s.doomed ≡ false))) (sym ph) (rising-entered b q side t), g)
-climber n v f (Takes id say a g at s alone k) e = absurd (false≢true (ap (λ (f : Effect). rises f.reply.up) (sym k) ∙ e))
-climber n v f (Takes_over id say a x g at s alone nm k) e = absurd (false≢true (ap (λ (f : Effect). rises f.reply.up) (sym k) ∙ e))
-climber n v f (Refuses id say p x g at en gr k) e = absurd (false≢true (ap (λ (f : Effect). rises f.reply.up) (sym k) ∙ e))
-climber n v f (Dooms id say a x b d g at s en gr atx sb sd k) e = absurd (false≢true (ap (λ (f : Effect). rises f.reply.up) (sym k) ∙ e))
-climber n v f (Drops id say a x g at s en gr k) e = absurd (false≢true (ap (λ (f : Effect). rises f.reply.up) (sym k) ∙ e))
-
 fresh-timed : (t : ℕ) (side : Side) (p : Option Name) (c : Option ℕ) (own doom shut : Bool) (r : Reply) → (own && says_reply r.note) ≡ false → (own && rises r.up) ≡ false → Timed (written t own doom shut r (new_row side p c t))
 fresh-timed t side p c own doom shut r a b = record {
   said = λ n e. absurd (let h : None ≡ Some n = ap (λ k. once k t None) (sym a) ∙ e in cc);
   rose = λ n e. absurd (let h : None ≡ Some n = ap (λ k. once k t None) (sym b) ∙ e in cc);
 }
 
-pub false-by : (b : Bool) → (b ≡ true → ⊥) → b ≡ false
-false-by true h = absurd (h refl)
-false-by false h = refl
-
 module _ (t : ℕ) (l : Life) (live : runs l ≡ true) (h : IsTimed t l) (v : Event) (f : Effect) (deed : Deed l.node v f) where
-  fits-in : (i : ℕ) (e : End) (row : EndRow) → slice_get l.node.ends i ≡ Some e → slice_get l.rows i ≡ Some row → Fits e row
-  fits-in i e row a b = let Q : Option EndRow → Type 0 = λ q. Beside (Some e) q in let P : Option End → Type 0 = λ o. Beside o (slice_get l.rows i) in subst Q b (subst P a (h.life.beside live i))
-
   old-timed : (i : ℕ) (row : EndRow) → slice_get l.rows i ≡ Some row → Timed (mark t f.reply i row)
   old-timed i row is = written-timed t (eqb f.reply.end_.0 i) (dooms f.reply.note i) (shuts_end f.reply.closed i) f.reply row (h.life.below i row is) (h.timed i row is)
       (λ b o.
       let q = both-true (eqb f.reply.end_.0 i) (says_reply f.reply.note) b in
       let k = sayer l.node v f deed q.1 in
-      let w = open-row _ row (fits-in i (ends.Attempt k.0) row (ap (slice_get l.node.ends) (sym (eqb-true f.reply.end_.0 i q.0)) ∙ k.1) is) in
+      let w = open-row _ row (fits-at l.node.ends l.rows (h.life.beside live) i (ends.Attempt k.0) row (ap (slice_get l.node.ends) (sym (eqb-true f.reply.end_.0 i q.0)) ∙ k.1) is) in
       let s = sym w.1 ∙ k.2 in
       (ap (λ (z : Stand). z.side) s, ap (λ (z : Stand). z.doomed) s, w.0, ap (λ (z : Stand). z.rose) s))
       (λ b o.
       let q = both-true (eqb f.reply.end_.0 i) (rises f.reply.up) b in
       let k = climber l.node v f deed q.1 in
-      let w = open-row _ row (fits-in i (ends.Attempt k.0) row (ap (slice_get l.node.ends) (sym (eqb-true f.reply.end_.0 i q.0)) ∙ k.1) is) in
+      let w = open-row _ row (fits-at l.node.ends l.rows (h.life.beside live) i (ends.Attempt k.0) row (ap (slice_get l.node.ends) (sym (eqb-true f.reply.end_.0 i q.0)) ∙ k.1) is) in
       let g = k.2 in
       (ap (λ (z : Stand). entered z.side true z.named) (sym w.1) ∙ g.0, ap (λ (z : Stand). z.doomed) (sym w.1) ∙ g.1, w.0))
 
@@ -239,16 +190,13 @@ module _ (laws : NodeLaws) where
     lives = λ t l v fresh f live is h. record { life = (life_keeps laws).lives t l v fresh f live is h.life; timed = told-timed t l live h v f (deed_of laws l.node h.life.legal v fresh f is) };
   }
 
-no-past : (n : ℕ) → past n (Some n) ≡ false
-no-past n = grind (arith, nat_tests)
-
 module _ (laws : NodeLaws) where
   pub alone_lives : (ss : List Setup) (hs : List Happening) → AllLives Alone (run hs (empty ss))
   alone_lives ss hs k l at =
       let h = always IsTimed (timed_keeps laws) ss hs k l at in
       let apart = h.life.apart in (
         (λ i j x y p n d ax ay px py re ey. (let ti = h.timed i x ax in let s = ti.said n re in out-alone laws l.rows apart n p i j d x y ax ay px py s.0 s.1 s.2 s.3 ey)),
-        (λ i j x y p n d ax ay px py sx sy ro ey ry. (let ti = h.timed i x ax in let s = ti.rose n ro in in-alone laws l.rows apart n p i j d x y ax ay px py sx sy s.0 s.1 (ap (past n) ro ∙ no-past n) ey ry)),
+        (λ i j x y p n d ax ay px py sx sy ro ey ry. (let ti = h.timed i x ax in let s = ti.rose n ro in in-alone laws l.rows apart n p i j d x y ax ay px py sx sy s.0 s.1 (ap (past n) ro ∙ not-past n) ey ry)),
         (λ i j x y p n d ax ay px py ro sy ey ry. (let ti = h.timed i x ax in let s = ti.rose n ro in
             elim (left_before n y) as (λ b. left_before n y ≡ b → b ≡ true) [
               | true ↦ λ b. refl

@@ -1,5 +1,5 @@
 -- What lines tell of links.
-use Rattle.std.proofs.Common.{◌≡◌, ℕ, zero, suc, ◌+◌, ◌-◌, ◌<◌, ◌≤◌, Bool, true, false, cond, not, ◌||◌, eqb, List, [], ◌∷◌, Option, Some, None, is_some, refl, ap, sym, subst, ◌∙◌, length, get_or, drop, drop-cons, arith}
+use Rattle.std.proofs.Common.{◌≡◌, ℕ, zero, suc, ◌-◌, ◌<◌, ◌≤◌, Bool, true, false, cond, not, ◌||◌, eqb, List, [], ◌∷◌, Option, Some, None, is_some, refl, ap, sym, subst, ◌∙◌, length, get_or, drop, drop-cons, arith}
 use Rattle.std.specs.Ordering.{nat_cmp}
 use Rattle.std.specs.List.{list_any}
 use Rattle.std.specs.BTreeMap.{BTreeMap, get}
@@ -7,7 +7,7 @@ use Rattle.dist_peers.specs.declared.entry.EndId.{EndId}
 use Rattle.dist_core.specs.declared.event.Event.{Event}
 use Rattle.dist_core.specs.declared.event.Event.TheVariants as event
 use Rattle.dist_audit.specs.Lines.{Told}
-use Rattle.dist_audit.specs.Links.{opens, opens_in, comes, comes_in, dialled, dialled_in, or_else, dialler_of, acceptor_of}
+use Rattle.dist_audit.specs.Links.{opens, opens_in, comes_in, dialled, dialled_in, or_else, dialler_of, acceptor_of}
 use Rattle.dist_audit.specs.Faults.{repeats, links_repeat, unopened, comes_unopened}
 use Rattle.dist_audit.specs.Kept.{Knows, is_again, is_unknown}
 use Rattle.dist_audit.proofs.Either.{or-true, or-false, any-same}

@@ -17,6 +17,3 @@ mod walk;
 
 pub use audit_error::AuditError;
 pub use auditing::audit;
-
-#[cfg(test)]
-mod tests;

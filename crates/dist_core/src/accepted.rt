@@ -6,7 +6,7 @@ ghost use Rattle.dist_core.specs.Accepted.{in_await_true, in_await_complement, i
 use crate::effect::{
     Effect, attempt_in, closes, comes_up, goes_on, record_of, reply_phase, shuts, shuts_other,
 };
-use crate::reply::{Note, Reply};
+use crate::reply::Note;
 use dist_ends::{Attempt, End, Ends, Phase, Why};
 use dist_messages::{Message, Opening, Status};
 use dist_names::{ByteString, Flags};
@@ -62,20 +62,12 @@ fn supersedes(
             why,
             Note::NameTaken { peer, dooms: None },
         )),
-        doomed => Ok(Effect {
-            reply: Reply {
-                end_: id,
-                say,
-                closed: None,
-                up: None,
-                note: Note::NameTaken {
-                    peer,
-                    dooms: Some(x),
-                },
-            },
-            this,
-            other: Some((x, doomed)),
-        }),
+        doomed => {
+            let dooms = Some(x);
+            let mut effect = goes_on(id, say, this, Note::NameTaken { peer, dooms });
+            effect.other = Some((x, doomed));
+            Ok(effect)
+        }
     }
 }
 
@@ -90,6 +82,14 @@ fn held_back(attempt: Attempt) -> Attempt
     }
 }
 
+// What is noted of a name that passed all checks.
+fn taken(alloc: Global, attempt: &Attempt) -> Result<Note, AllocError>
+    ensures { IfOk result (λ n. n ≡ Note.NameTaken attempt.now.peer None) }
+{
+    let peer = attempt.peer.try_clone(alloc)?;
+    Ok(Note::NameTaken { peer, dooms: None })
+}
+
 // The effect of a verdict.
 pub fn name_taken(
     alloc: Global,
@@ -102,10 +102,7 @@ pub fn name_taken(
     ensures { IfOk result (λ f. f ≡ name_taken setup.now ends.now id attempt verdict) }
 {
     let fresh = attempt.challenge;
-    let note = Note::NameTaken {
-        peer: attempt.peer.try_clone(alloc)?,
-        dooms: None,
-    };
+    let note = taken(alloc, &attempt)?;
     match verdict {
         Verdict::Ok => {
             let say = greeting(alloc, setup, Status::Ok, fresh)?;
@@ -124,23 +121,13 @@ pub fn name_taken(
             let say = status_frame(alloc, Status::Alive)?;
             Ok(goes_on(id, say, End::Attempt(held_back(attempt)), note))
         }
-        Verdict::Replaces {
-            drops,
-            alive: false,
-        } => {
-            let say = greeting(alloc, setup, Status::Ok, fresh)?;
-            Ok(shuts_other(id, say, End::Attempt(attempt), drops, Why::Replaced, note))
-        }
-        Verdict::Replaces { drops, alive: true } => {
-            let say = status_frame(alloc, Status::Alive)?;
-            Ok(shuts_other(
-                id,
-                say,
-                End::Attempt(held_back(attempt)),
-                drops,
-                Why::Replaced,
-                note,
-            ))
+        Verdict::Replaces { drops, alive } => {
+            let (say, this) = if alive {
+                (status_frame(alloc, Status::Alive)?, held_back(attempt))
+            } else {
+                (greeting(alloc, setup, Status::Ok, fresh)?, attempt)
+            };
+            Ok(shuts_other(id, say, End::Attempt(this), drops, Why::Replaced, note))
         }
     }
 }
@@ -196,12 +183,8 @@ pub fn in_await_complement(
         creation: *creation,
         ..copy
     };
-    Ok(goes_on(
-        id,
-        ByteString::new(alloc),
-        End::Attempt(attempt),
-        Note::Nothing,
-    ))
+    let nothing = ByteString::new(alloc);
+    Ok(goes_on(id, nothing, End::Attempt(attempt), Note::Nothing))
 }
 
 // The end awaits the reply.

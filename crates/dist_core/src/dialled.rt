@@ -21,13 +21,8 @@ pub fn in_await_status(
 {
     match message {
         Message::Status(Status::Ok) | Message::Status(Status::OkSimultaneous) => {
-            moves(
-                alloc,
-                id,
-                ByteString::new(alloc),
-                attempt,
-                Phase::AwaitChallenge,
-            )
+            let nothing = ByteString::new(alloc);
+            moves(alloc, id, nothing, attempt, Phase::AwaitChallenge)
         }
         Message::Status(Status::Alive) => {
             let say = status_frame(alloc, Status::True)?;
@@ -79,14 +74,8 @@ pub fn in_await_challenge(
     if !flags.has(required_of(setup, Opening::New)) {
         return Ok(closes(alloc, id, Why::WrongFlags));
     }
-    let say = reply_frame(
-        alloc,
-        setup,
-        attempt.opening,
-        &attempt.peer,
-        fresh,
-        *challenge,
-    )?;
+    let (opening, peer) = (attempt.opening, &attempt.peer);
+    let say = reply_frame(alloc, setup, opening, peer, fresh, *challenge)?;
     let copy = attempt.try_clone(alloc)?;
     let attempt = Attempt {
         phase: Phase::AwaitAck,

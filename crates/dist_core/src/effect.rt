@@ -26,11 +26,7 @@ impl Effect {
     pub fn into_reply(self) -> Reply
         ensures { result ≡ self.reply }
     {
-        let Effect {
-            reply,
-            this: _,
-            other: _,
-        } = self;
+        let Effect { reply, .. } = self;
         reply
     }
 }
@@ -54,17 +50,9 @@ pub fn goes_on(id: EndId, say: ByteString, this: End, note: Note) -> Effect
 pub fn shuts(id: EndId, say: ByteString, why: Why, note: Note) -> Effect
     ensures { result ≡ shuts id say why note }
 {
-    Effect {
-        reply: Reply {
-            end_: id,
-            say,
-            closed: Some((id, why)),
-            up: None,
-            note,
-        },
-        this: End::Closed(why),
-        other: None,
-    }
+    let mut effect = goes_on(id, say, End::Closed(why), note);
+    effect.reply.closed = Some((id, why));
+    effect
 }
 
 pub fn closes(alloc: Global, id: EndId, why: Why) -> Effect
@@ -76,17 +64,10 @@ pub fn closes(alloc: Global, id: EndId, why: Why) -> Effect
 pub fn shuts_other(id: EndId, say: ByteString, this: End, x: EndId, why: Why, note: Note) -> Effect
     ensures { result ≡ shuts_other id say this x why note }
 {
-    Effect {
-        reply: Reply {
-            end_: id,
-            say,
-            closed: Some((x, why)),
-            up: None,
-            note,
-        },
-        this,
-        other: Some((x, End::Closed(why))),
-    }
+    let mut effect = goes_on(id, say, this, note);
+    effect.reply.closed = Some((x, why));
+    effect.other = Some((x, End::Closed(why)));
+    effect
 }
 
 pub fn comes_up(
@@ -99,24 +80,13 @@ pub fn comes_up(
     ensures { IfOk result (λ f. f ≡ comes_up id say came replaced) }
 {
     let copy = came.try_clone(alloc)?;
-    let (closed, other) = match replaced {
-        None => (None, None),
-        Some(x) => (
-            Some((x, Why::Replaced)),
-            Some((x, End::Closed(Why::Replaced))),
-        ),
+    let this = End::Up(came);
+    let mut effect = match replaced {
+        None => goes_on(id, say, this, Note::Nothing),
+        Some(x) => shuts_other(id, say, this, x, Why::Replaced, Note::Nothing),
     };
-    Ok(Effect {
-        reply: Reply {
-            end_: id,
-            say,
-            closed,
-            up: Some(copy),
-            note: Note::Nothing,
-        },
-        this: End::Up(came),
-        other,
-    })
+    effect.reply.up = Some(copy);
+    Ok(effect)
 }
 
 // ---- attempts

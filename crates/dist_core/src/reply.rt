@@ -5,7 +5,7 @@ use dist_names::{ByteString, NodeName};
 use dist_peers::EndId;
 
 /// What else a step did.
-#[derive(Debug, Drop)]
+#[derive(Debug, Drop, PartialEq, Eq)]
 pub enum Note {
     /// Nothing that is noted.
     Nothing,

@@ -2,7 +2,6 @@ pub mod Agreement
 pub mod Tables
 pub mod Changes
 pub mod Fitting
-pub mod Ups
 pub mod Opens
 pub mod Legal
 pub mod Keeping

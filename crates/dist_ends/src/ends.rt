@@ -6,7 +6,6 @@ ghost use Rattle.dist_peers.specs.Verdicts.{is_full};
 ghost use Rattle.dist_ends.specs.Ends.{AreLegal, FindsUp, record_in, up_from, up_pair, up_id, up_ids, claim_of, is_open, is_dialing, entry_in, table_of, still_of, end_id, verdict_of, Finds};
 ghost use Rattle.dist_ends.specs.Change.{Fits, changed};
 
-use crate::finding::up_in;
 use crate::known::{End, UpRecord};
 use crate::phase::{Absent, Phase, Still};
 use crate::slots::{Row, find};
@@ -142,7 +141,7 @@ impl Ends {
         self.peers.ups()
     }
 
-    /// The up end at this place, in the order of the peers' names.
+    /// The up end at this place, in the order of the peers' names. It walks the entries once, and they are 1,024 at most.
     pub fn up_at(&self, i: usize) -> Option<(EndId, &UpRecord)>
         ensures { option_map (λ r. (r.0, r.1.now)) result ≡ up_from self.now (slice_get (up_ids (map.entries (table_of self.now))) i) }
     {
@@ -153,7 +152,7 @@ impl Ends {
     fn up_id_at(&self, i: usize) -> Option<EndId>
         ensures { result ≡ slice_get (up_ids (map.entries (table_of self.now))) i }
     {
-        up_in(&self.peers, i)
+        self.peers.up_at(i)
     }
 
     /// The up end whose peer has this name, and its record. There is at most one.

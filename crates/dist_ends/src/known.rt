@@ -25,7 +25,7 @@ pub struct Attempt {
 }
 
 /// What is known of an end that came up.
-#[derive(Debug, Drop)]
+#[derive(Debug, Drop, PartialEq, Eq)]
 pub struct UpRecord {
     /// The other node's name.
     pub peer: NodeName,
@@ -86,22 +86,6 @@ impl UpRecord {
     pub fn is_same(&self, other: &UpRecord) -> bool
         ensures { IsTrue result ↔ (self.now ≡ other.now) }
     {
-        same_name(&self.peer, &other.peer)
-            && self.common == other.common
-            && self.creation == other.creation
-            && self.challenge == other.challenge
-            && self.digest_received == other.digest_received
+        self == other
     }
-}
-
-fn same_bytes(ours: &[u8], theirs: &[u8]) -> bool
-    ensures { IsTrue result ↔ (ours.now ≡ theirs.now) }
-{
-    ours == theirs
-}
-
-fn same_name(ours: &NodeName, theirs: &NodeName) -> bool
-    ensures { IsTrue result ↔ (ours.now ≡ theirs.now) }
-{
-    same_bytes(ours.bytes(), theirs.bytes())
 }

@@ -5,7 +5,6 @@
 #![tactic(auto)]
 
 mod ends;
-mod finding;
 mod known;
 mod laws;
 mod phase;

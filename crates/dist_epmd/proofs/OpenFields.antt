@@ -1,15 +1,16 @@
 -- A field that ends too early can be made whole by more bytes.
-use Rattle.std.proofs.Common.{◌≡◌, ℕ, zero, suc, ◌+◌, ◌-◌, ◌^◌, ◌<◌, ◌≤◌, Bool, true, false, cond, ltb, eqb, List, [], ◌∷◌, ◌++◌, length, get_or, take, drop, Some, None, Result, Ok, Err, refl, sym, ap, subst, ◌∙◌, append_assoc, arith, inl, inr}
+use Rattle.std.proofs.Common.{◌≡◌, ℕ, zero, suc, ◌-◌, ◌^◌, ◌<◌, Bool, true, false, cond, ltb, eqb, List, [], ◌∷◌, ◌++◌, length, take, drop, Some, None, Result, Ok, Err, refl, sym, ap, subst, ◌∙◌, append_assoc, arith, inl, inr}
 use mathlib.Core.Logic.{◌⊎◌}
-use Rattle.std.specs.Int.{Width, w16, w32, byte_len, from_be_bytes, to_be_bytes}
+use Rattle.std.specs.Int.{Width, w16, byte_len, from_be_bytes, to_be_bytes}
 use Rattle.std.proofs.lemmas.Bool.{ltb-true}
 use Rattle.std.proofs.lemmas.List.{append-nil, length-append}
+use Rattle.dist_names.specs.Bytes.{IsBytes}
+use Rattle.dist_names.proofs.Bytes.{IsBytes-append}
 use Rattle.dist_epmd.specs.declared.epmd_error.EpmdError.{EpmdError}
 use Rattle.dist_epmd.specs.declared.epmd_error.EpmdError.TheVariants.{Short, Trailing}
-use Rattle.dist_epmd.specs.declared.message.NodeInfo.{NodeInfo}
 use Rattle.dist_epmd.specs.Layout.{sized, info_text}
 use Rattle.dist_epmd.specs.Reading.{Taken, byte_at, number_at, bytes_at, counted, sized_at, with_second, followed, both_at, made, info_of, info_at, whole}
-use Rattle.dist_epmd.proofs.FieldLaws.{IsBytes, IsWide, wide16, wide32, number_takes, IsField, number_field, byte_field, sized_field, both_field, parts_of, fields16, one, Any, Short16}
+use Rattle.dist_epmd.proofs.FieldLaws.{IsWide, wide16, number_takes, IsField, number_field, byte_field, sized_field, parts_of, fields16, one, Any, Short16}
 
 -- ---- bytes behind bytes
 
@@ -25,11 +26,6 @@ zeros-bytes : (n : ℕ) → IsBytes (zeros n)
 zeros-bytes zero i = omega arith
 zeros-bytes (suc n) zero = omega arith
 zeros-bytes (suc n) (suc i) = zeros-bytes n i
-
-IsBytes-append : (xs ys : List ℕ) → IsBytes xs → IsBytes ys → IsBytes (xs ++ ys)
-IsBytes-append [] ys f g i = g i
-IsBytes-append (x ∷ xs) ys f g zero = f zero
-IsBytes-append (x ∷ xs) ys f g (suc i) = IsBytes-append xs ys (λ j. f (suc j)) g i
 
 -- ---- what is missing
 

@@ -13,12 +13,14 @@ use Rattle.dist_epmd.specs.declared.message.Asked.{Asked}
 use Rattle.dist_epmd.specs.declared.message.Asked.TheVariants as asked
 use Rattle.dist_epmd.specs.declared.epmd_error.EpmdError.{EpmdError}
 use Rattle.dist_epmd.specs.declared.epmd_error.EpmdError.TheVariants as errors
+use Rattle.dist_names.specs.Bytes.{IsBytes}
+use Rattle.dist_names.proofs.Bytes.{IsBytes-rest}
 use Rattle.dist_epmd.specs.Answering.{Answers}
-use Rattle.dist_epmd.specs.Layout.{info_text, Sized, InfoFits, SpellsRequest, SpellsAnswer}
+use Rattle.dist_epmd.specs.Layout.{info_text, Sized, InfoFits}
 use Rattle.dist_epmd.specs.Reading.{Taken, byte_at, number_at, both_at, made, info_at, whole, whole_info, as_message, read_request, alive_x, alive, looked_up, with_text, read_answer}
 use Rattle.dist_epmd.specs.Refusing.{LacksRequest, ExceedsRequest, BeginsNoRequest, RefusesRequest, LacksAnswer, ExceedsAnswer, BeginsNoAnswer, RefusesAnswer}
-use Rattle.dist_epmd.proofs.FieldLaws.{IsBytes, IsBytes-rest, IsField, wide16, wide32, number_field, byte_field, both_field, info_field, some_same}
-use Rattle.dist_epmd.proofs.OpenFields.{IsOpen, Lacks, LacksSome, Exceeds, number_open, byte_open, both_open, info_open, lacks_more, whole_short, whole_lacks, whole_trailing, whole_exceeds}
+use Rattle.dist_epmd.proofs.FieldLaws.{IsField, wide16, wide32, number_field, byte_field, both_field, info_field, some_same}
+use Rattle.dist_epmd.proofs.OpenFields.{IsOpen, number_open, byte_open, both_open, info_open, lacks_more, whole_short, whole_lacks, whole_trailing, whole_exceeds}
 
 abbrev wrong : {A : Type 0} → EpmdError → Result A EpmdError
 wrong d = Err d

@@ -1,19 +1,19 @@
 -- What a call answers that may lack memory.
-use Rattle.std.specs.Prelude.{◌≡◌, ℕ, List, codes, Result, Ok, Err, IsOk}
+use Rattle.std.specs.Prelude.{ℕ, Bool, true, false, List, codes, Result, Ok, Err}
+use Rattle.dist_names.specs.Answer.{AnswersBut}
 use Rattle.dist_epmd.specs.declared.message.Answer.{Answer}
 use Rattle.dist_epmd.specs.declared.message.Answer.TheVariants as answer
 use Rattle.dist_epmd.specs.declared.epmd_error.EpmdError.{EpmdError}
 use Rattle.dist_epmd.specs.declared.epmd_error.EpmdError.TheVariants.{Malformed, Short, Trailing, NoMemory}
 
--- A refusal is the one expected. Want of memory comes only where none is.
-abbrev pub RefusedAs : {Y : Type 0} → EpmdError → Result Y EpmdError → Type 0
-RefusedAs NoMemory expected = IsOk expected
-RefusedAs error expected = expected ≡ Err error
+-- memory ran out
+abbrev pub is_want : EpmdError → Bool
+is_want NoMemory = true
+is_want _ = false
 
 -- The answer, seen by view, is the one expected, but for want of memory.
 abbrev pub Answers : {X Y : Type 0} → (X → Y) → Result X EpmdError → Result Y EpmdError → Type 0
-Answers view (Ok value) expected = expected ≡ Ok (view value)
-Answers view (Err error) expected = RefusedAs error expected
+Answers view result expected = AnswersBut is_want view result expected
 
 -- an answer was read that bears a name or a text
 abbrev pub BearsText : Result Answer EpmdError → Type 0

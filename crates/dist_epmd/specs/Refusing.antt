@@ -1,5 +1,5 @@
 -- Why bytes are refused, in the words of the layouts.
-use Rattle.std.specs.Prelude.{◌≡◌, ℕ, ◌<◌, List, ◌++◌, length, get_or, Result, Ok, Err}
+use Rattle.std.specs.Prelude.{◌≡◌, ℕ, ◌<◌, List, ◌++◌, length}
 use Rattle.dist_epmd.specs.declared.message.Request.{Request}
 use Rattle.dist_epmd.specs.declared.message.Answer.{Answer}
 use Rattle.dist_epmd.specs.declared.message.Asked.{Asked}
@@ -44,7 +44,3 @@ RefusesAnswer asked bytes Malformed = BeginsNoAnswer asked bytes
 RefusesAnswer asked bytes Short = LacksAnswer asked bytes
 RefusesAnswer asked bytes Trailing = ExceedsAnswer asked bytes
 RefusesAnswer asked bytes NoMemory = Unit {0}
-
--- the numbers are bytes
-abbrev pub AreBytes : List ℕ → Type 0
-AreBytes bytes = (i : ℕ) → get_or bytes i 0 < 256

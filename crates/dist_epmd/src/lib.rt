@@ -24,6 +24,3 @@ pub use message::{AliveReq, Answer, Asked, NodeInfo, PortInfo, Request};
 pub use reading::{decode_answer, decode_request};
 pub use registry::Registry;
 pub use row::Row;
-
-#[cfg(test)]
-mod tests;

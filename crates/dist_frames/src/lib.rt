@@ -22,6 +22,3 @@ pub use laws::{
 };
 pub use partial::tick;
 pub use short::write_short;
-
-#[cfg(test)]
-mod tests;

@@ -13,12 +13,12 @@ use Rattle.dist_epmd.specs.Reading.{read_answer}
 use Rattle.dist_streams.specs.declared.turn_error.TurnError.{TurnError}
 use Rattle.dist_streams.specs.declared.turn_error.TurnError.TheVariants as fault
 use Rattle.dist_streams.specs.Stream.{StreamState}
-use Rattle.dist_streams.specs.Turns.{Spends, Says, Hears, SaysFront, IsWriteFault}
+use Rattle.dist_streams.specs.Turns.{Says, Hears, SaysFront, IsWriteFault}
 use Rattle.dist_streams.proofs.Talks.{prepend_known-none, append_known-none, Spends-none, Spends-trans}
 use Rattle.dist_mapper.specs.declared.lookup_error.LookupError.{LookupError}
 use Rattle.dist_mapper.specs.declared.lookup_error.LookupError.TheVariants as error
 use Rattle.dist_mapper.specs.Refusals.{lookup_error}
-use Rattle.dist_mapper.specs.Asking.{Talks, TellsBy, Settles, Asks, AsksWritten}
+use Rattle.dist_mapper.specs.Asking.{Talks, TellsBy, Settles, AsksWritten}
 use Rattle.dist_mapper.specs.Steps.{IsFrameOf, HearsAll, Exchanges, ExchangesWritten}
 
 -- what an exit by `?` answers

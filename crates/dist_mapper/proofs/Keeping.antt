@@ -1,8 +1,6 @@
 -- What is kept of the registrations that were lent.
-use Rattle.std.proofs.Common.{◌≡◌, ℕ, ◌<◌, ◌≤◌, Bool, true, false, not, ◌&&◌, cond, eqb, ltb, leb, List, Result, Ok, Err, refl, sym, ap, subst, ◌∙◌, arith, inl, inr}
-use mathlib.Core.Logic.{◌⊎◌}
-use Rattle.std.specs.Prelude.{filter, insert}
-use Rattle.std.specs.List.{list_all, list_any, position_or_len}
+use Rattle.std.proofs.Common.{◌≡◌, ℕ, Bool, true, false, not, ◌&&◌, cond, ltb, Result, Ok, Err, refl, sym, ap, subst, ◌∙◌, inl, inr}
+use Rattle.std.specs.List.{list_any, position_or_len}
 use Rattle.std.proofs.lemmas.Bool.{eq-eqb, leb-true, le-ltb}
 use Rattle.dist_epmd.specs.declared.message.NodeInfo.{NodeInfo}
 use Rattle.dist_epmd.specs.declared.message.Request.{Request}
@@ -19,7 +17,7 @@ use Rattle.dist_mapper.specs.declared.lookup_error.LookupError.{LookupError}
 use Rattle.dist_mapper.specs.declared.serve.Served.{Served}
 use Rattle.dist_mapper.specs.declared.serve.Served.TheVariants as served
 use Rattle.dist_mapper.specs.Mapping.{Allows, Leaves}
-use Rattle.dist_mapper.specs.Serving.{AfterCut, Serves, Replies, served_as}
+use Rattle.dist_mapper.specs.Serving.{AfterCut, Serves, served_as}
 
 -- ---- the invariant
 

@@ -1,5 +1,5 @@
 -- A registration, put together from what was said and what was heard.
-use Rattle.std.proofs.Common.{◌≡◌, ℕ, suc, ◌+◌, ◌-◌, ◌<◌, ◌≤◌, Bool, true, false, cond, eqb, List, [], ◌∷◌, ◌++◌, length, get_or, take, drop, Option, Some, None, Result, Ok, Err, refl, sym, ap, subst, ◌∙◌, arith, length-append, length-drop, take_all, le_refl, inl, inr}
+use Rattle.std.proofs.Common.{◌≡◌, ℕ, suc, ◌+◌, ◌-◌, ◌<◌, ◌≤◌, Bool, true, false, cond, eqb, List, [], ◌∷◌, ◌++◌, length, get_or, take, drop, Some, None, Result, Ok, Err, refl, sym, ap, subst, ◌∙◌, arith, length-append, length-drop, take_all, le_refl, inl, inr}
 use Rattle.std.proofs.lemmas.List.{take_at, length-take, length-take-le}
 use Rattle.std.specs.Prelude.{IsOk}
 use Rattle.dist_names.specs.declared.creation.Creation.{Creation}

@@ -1,6 +1,6 @@
 -- One request served, put together from what was heard and what was said.
-use Rattle.std.proofs.Common.{◌≡◌, ℕ, ◌^◌, ◌<◌, ◌≤◌, List, [], ◌∷◌, ◌++◌, length, get_or, take, drop, Option, Some, None, Result, Ok, Err, refl, sym, ap, subst, ◌∙◌, arith, inl, inr, length-drop}
-use Rattle.std.proofs.lemmas.List.{append-nil, take-append-drop, length-take-le}
+use Rattle.std.proofs.Common.{◌≡◌, ℕ, ◌^◌, ◌<◌, List, [], ◌++◌, length, get_or, take, drop, Option, Some, None, Result, Ok, Err, refl, sym, ap, subst, ◌∙◌, arith, inl, inr, length-drop}
+use Rattle.std.proofs.lemmas.List.{take-append-drop, length-take-le}
 use Rattle.std.proofs.lemmas.Nat.{be_bytes_2}
 use Rattle.std.specs.Prelude.{◌≢◌, IsOk, IsErr}
 use Rattle.std.specs.Int.{w16, to_be_bytes, from_be_bytes}
@@ -12,7 +12,8 @@ use Rattle.dist_epmd.specs.declared.message.Request.{Request}
 use Rattle.dist_epmd.specs.declared.message.Answer.{Answer}
 use Rattle.dist_epmd.specs.Layout.{written_answer}
 use Rattle.dist_epmd.specs.Reading.{read_request}
-use Rattle.dist_epmd.specs.Answering.{RefusedAs}
+use Rattle.dist_names.specs.Answer.{RefusedBut}
+use Rattle.dist_epmd.specs.Answering.{is_want}
 use Rattle.dist_streams.specs.declared.turn_error.TurnError.{TurnError}
 use Rattle.dist_streams.specs.Stream.{StreamState}
 use Rattle.dist_streams.specs.Turns.{Spends, SaysFront, HearsFront}
@@ -21,7 +22,7 @@ use Rattle.dist_mapper.specs.declared.lookup_error.LookupError.{LookupError}
 use Rattle.dist_mapper.specs.declared.lookup_error.LookupError.TheVariants as error
 use Rattle.dist_mapper.specs.declared.serve.Served.{Served}
 use Rattle.dist_mapper.specs.Refusals.{lookup_error, whole_refusal}
-use Rattle.dist_mapper.specs.Serving.{BringsRequest, Came, IsSaid, SaysPart, served_as, AfterCut, Serves}
+use Rattle.dist_mapper.specs.Serving.{BringsRequest, Came, IsSaid, served_as, AfterCut, Serves}
 use Rattle.dist_mapper.specs.Steps.{FrameCame, HearsLen, HearsBody, HearsRequest, SaysAnswer, SaysReply}
 use Rattle.dist_mapper.proofs.Asks.{all_said}
 use Rattle.dist_mapper.proofs.Registering.{all_heard}
@@ -109,13 +110,13 @@ lacking_request : (stop : Option TurnError) (body text heard : List ℕ) → tex
 lacking_request (Some f) body text heard same e h = let no : bytes_of body ≡ bad (lookup_error f) = h.0 in absurd cc
 lacking_request None body text heard same e h = inr (body, h, subst (λ (l : List ℕ). IsOk (read_request l)) same e)
 
-came_wrong : (stop : Option TurnError) (body text heard : List ℕ) (why : EpmdError) → text ≡ body → RefusedAs why (read_request text) → FrameCame stop (bytes_of body) heard → Came stop (Err (whole_refusal why)) heard
+came_wrong : (stop : Option TurnError) (body text heard : List ℕ) (why : EpmdError) → text ≡ body → RefusedBut (is_want why) why (read_request text) → FrameCame stop (bytes_of body) heard → Came stop (Err (whole_refusal why)) heard
 came_wrong stop body text heard epmd.Malformed same e h = wrong stop body text heard epmd.Malformed same e h
 came_wrong stop body text heard epmd.Short same e h = wrong stop body text heard epmd.Short same e h
 came_wrong stop body text heard epmd.Trailing same e h = wrong stop body text heard epmd.Trailing same e h
 came_wrong stop body text heard epmd.NoMemory same e h = lacking_request stop body text heard same e h
 
-pub request_wrong : {old new : StreamState} {turns left : ℕ} (body text : List ℕ) (why : EpmdError) → text ≡ body → RefusedAs why (read_request text) → HearsBody old new turns left (Ok body) → HearsRequest old new turns left (Err (whole_refusal why))
+pub request_wrong : {old new : StreamState} {turns left : ℕ} (body text : List ℕ) (why : EpmdError) → text ≡ body → RefusedBut (is_want why) why (read_request text) → HearsBody old new turns left (Ok body) → HearsRequest old new turns left (Err (whole_refusal why))
 request_wrong body text why same e p = record { heard = p.heard; stop = p.stop; hears = p.hears; came = came_wrong p.stop body text p.heard why same e p.came }
 
 -- ---- the answer goes
@@ -147,7 +148,7 @@ none_written (Err y) why e = refl
 unsaid : (s : StreamState) (turns : ℕ) (answer : Answer) (why : LookupError) → IsSaid None (written_answer answer) (Err why) [] → SaysAnswer s s turns turns (Err why) answer
 unsaid s turns answer why h = record { said = []; stop = None; says = Says-none s turns; is_said = h }
 
-pub answer_unsaid : (s : StreamState) (turns : ℕ) (answer : Answer) (why : EpmdError) → RefusedAs why (written_answer answer) → SaysAnswer s s turns turns (Err (whole_refusal why)) answer
+pub answer_unsaid : (s : StreamState) (turns : ℕ) (answer : Answer) (why : EpmdError) → RefusedBut (is_want why) why (written_answer answer) → SaysAnswer s s turns turns (Err (whole_refusal why)) answer
 answer_unsaid s turns answer epmd.Malformed e = unsaid s turns answer error.Malformed (none_written (written_answer answer) epmd.Malformed e, refl)
 answer_unsaid s turns answer epmd.Short e = unsaid s turns answer error.Malformed (none_written (written_answer answer) epmd.Short e, refl)
 answer_unsaid s turns answer epmd.Trailing e = unsaid s turns answer error.Malformed (none_written (written_answer answer) epmd.Trailing e, refl)

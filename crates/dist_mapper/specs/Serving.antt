@@ -1,6 +1,7 @@
 -- What is heard and said where one request is served, and what becomes of the mapper.
 use Rattle.std.specs.Prelude.{◌≡◌, ◌≢◌, ℕ, ◌^◌, ◌<◌, ◌⊎◌, List, [], ◌++◌, length, Option, Some, None, Result, Ok, Err, IsOk, IsErr, ◌==◌, if◌then◌else◌}
-use Rattle.std.specs.Int.{w16, to_be_bytes}
+use Rattle.std.specs.Int.{w16}
+use Rattle.dist_names.specs.Bytes.{number}
 use Rattle.std.specs.Io.KnownBytes.{prepend_known, append_known}
 use Rattle.dist_frames.specs.Stream.{framed}
 use Rattle.dist_epmd.specs.declared.epmd_error.EpmdError.{EpmdError}
@@ -35,11 +36,11 @@ pub record BringsNone (heard : List ℕ) : Type 0 where
 
 -- The bytes end inside a frame: in its length, or before as many bytes came as that says.
 abbrev pub IsInside : List ℕ → Type 0
-IsInside heard = (length heard < 2) ⊎ ((len : ℕ) × (rest : List ℕ) × (len < 2 ^ 16) × (heard ≡ to_be_bytes w16 len ++ rest) × (length rest < len))
+IsInside heard = (length heard < 2) ⊎ ((len : ℕ) × (rest : List ℕ) × (len < 2 ^ 16) × (heard ≡ number w16 len ++ rest) × (length rest < len))
 
 -- The bytes are the length of a frame alone.
 abbrev pub IsLength : List ℕ → Type 0
-IsLength heard = (len : ℕ) × (len < 2 ^ 16) × (heard ≡ to_be_bytes w16 len)
+IsLength heard = (len : ℕ) × (len < 2 ^ 16) × (heard ≡ number w16 len)
 
 -- The bytes are the length of a frame alone, or the frame of a request.
 abbrev pub IsLengthOrFrame : List ℕ → Type 0

@@ -1,11 +1,12 @@
 -- What the steps on the way do. Who reads what the public calls promise needs none of it.
 use Rattle.std.specs.Prelude.{◌≡◌, ℕ, ◌^◌, ◌<◌, ◌≤◌, List, ◌++◌, length, take, Option, Some, None, Result, Ok, Err, IsOk, IfOk, OnErr}
-use Rattle.std.specs.Int.{w16, to_be_bytes}
+use Rattle.std.specs.Int.{w16}
+use Rattle.dist_names.specs.Bytes.{number}
 use Rattle.dist_frames.specs.Stream.{framed}
 use Rattle.dist_epmd.specs.declared.epmd_error.EpmdError.{EpmdError}
 use Rattle.dist_epmd.specs.declared.message.Request.{Request}
 use Rattle.dist_epmd.specs.declared.message.Answer.{Answer}
-use Rattle.dist_epmd.specs.Layout.{written_answer, written_request}
+use Rattle.dist_epmd.specs.Layout.{written_answer}
 use Rattle.dist_streams.specs.declared.turn_error.TurnError.{TurnError}
 use Rattle.dist_streams.specs.Stream.{StreamState}
 use Rattle.dist_streams.specs.Turns.{Says, Hears, fault_of}
@@ -59,7 +60,7 @@ pub record HearsAnswer (old new : StreamState) (turns left : ℕ) (result : Resu
 pub record HearsLen (old new : StreamState) (turns left : ℕ) (result : Result ℕ TurnError) : Type 0 where
   pub heard : List ℕ
   pub hears : Hears old new turns left (fault_of result) heard
-  pub whole : IfOk result (λ len. (heard ≡ to_be_bytes w16 len) × (len < 2 ^ 16))
+  pub whole : IfOk result (λ len. (heard ≡ number w16 len) × (len < 2 ^ 16))
   pub cut : OnErr result (length heard < 2)
 
 -- a frame came, or why none did

@@ -19,6 +19,3 @@ pub use lookup_error::LookupError;
 pub use mapper::Mapper;
 pub use registration::register;
 pub use serve::{Served, serve_registry};
-
-#[cfg(test)]
-mod tests;

@@ -20,6 +20,3 @@ pub use message_error::MessageError;
 pub use opening::Opening;
 pub use reading::decode;
 pub use writing::encode;
-
-#[cfg(test)]
-mod tests;

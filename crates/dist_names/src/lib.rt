@@ -17,6 +17,3 @@ pub use flags::Flags;
 pub use laws::{order_of_names, parts_of_names, values_of_flags};
 pub use name::NodeName;
 pub use name_error::NameError;
-
-#[cfg(test)]
-mod tests;

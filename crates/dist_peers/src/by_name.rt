@@ -6,7 +6,7 @@ ghost use Rattle.std.specs.BTreeMap.{get, Updates, IsUnchanged, IsOrdered, btree
 ghost use Rattle.dist_names.specs.Order.{name_cmp};
 ghost use Rattle.dist_peers.specs.Table.{up_ids};
 
-use crate::entry::Entry;
+use crate::entry::{EndId, Entry};
 use dist_names::NodeName;
 use std::alloc::{AllocError, Global};
 use std::collections::BTreeMap;
@@ -33,6 +33,13 @@ pub fn up_count(entries: &BTreeMap<NodeName, Entry>) -> usize
     ensures { result ≡ length (up_ids entries.now.entries) }
 {
     entries.iter().filter_map(|(_, entry)| entry.up()).count()
+}
+
+/// The end at this place among those that are up, in the order of the names.
+pub fn up_in(entries: &BTreeMap<NodeName, Entry>, i: usize) -> Option<EndId>
+    ensures { result ≡ slice_get (up_ids entries.now.entries) i }
+{
+    entries.iter().filter_map(|(_, entry)| entry.up()).nth(i)
 }
 
 /// Gives a name an entry.

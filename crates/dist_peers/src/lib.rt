@@ -15,6 +15,3 @@ mod verdict;
 pub use entry::{EndId, Entry, PeersError, Ruling, Verdict};
 pub use peers::Peers;
 pub use verdict::replaced;
-
-#[cfg(test)]
-mod tests;

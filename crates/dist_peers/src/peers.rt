@@ -5,7 +5,7 @@ ghost use Rattle.dist_names.specs.Order.{same_name};
 ghost use Rattle.dist_peers.specs.Table.{entry_of, is_waiting, replaced_by, left_by, with_entry, up_ids, OthersStay};
 ghost use Rattle.dist_peers.specs.Verdicts.{is_full, is_greater, dialled, named, verdict_on, Does};
 
-use crate::by_name::{drop_row, entry_in, put_row, row_at, set_row, up_count};
+use crate::by_name::{drop_row, entry_in, put_row, row_at, set_row, up_count, up_in};
 use crate::entry::{EndId, Entry, PeersError, Verdict};
 use crate::verdict::{left_over, replaced, ruling_of, waits_for};
 use dist_names::NodeName;
@@ -80,6 +80,13 @@ impl Peers {
         ensures { result ≡ length (up_ids (map.entries self.now)) }
     {
         up_count(&self.by_name)
+    }
+
+    /// The end at this place, from 0, among those that are up, in the order of the peers' names. It walks the entries once.
+    pub fn up_at(&self, i: usize) -> Option<EndId>
+        ensures { result ≡ slice_get (up_ids (map.entries self.now)) i }
+    {
+        up_in(&self.by_name, i)
     }
 
     /// Whether a further entry would be needed for this peer, and 1,024 are there.

@@ -14,6 +14,3 @@ pub use lists::{DialList, NodeList};
 pub use plan::{DialPlan, NodePlan, Plan};
 pub use plan_error::PlanError;
 pub use reading::plan_of;
-
-#[cfg(test)]
-mod tests;

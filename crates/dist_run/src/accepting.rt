@@ -3,13 +3,14 @@
 use crate::challenges::Challenges;
 use crate::crew::{Crew, Rest};
 use crate::host::Host;
+use crate::run_error::RunError;
 use crate::seats::Pool;
 use crate::sockets::{Connection, accepted, link_of};
 use dist_core::Event;
 use dist_names::ByteString;
 use std::alloc::Global;
 use std::sync::Wait;
-use std::sync::atomic::AtomicUsize;
+use std::sync::atomic::{AtomicBool, AtomicUsize, Ordering};
 use std::thread;
 use std::thread::{Scope, Threads};
 use std::time::Clock;
@@ -51,19 +52,20 @@ fn take_turn<'s, 'a: 's, E, R: Threads + Wait + Clock + Sync>(
     true
 }
 
-// Accepts until that many turns in a row were quiet.
+// Accepts until that many turns in a row were quiet, or until it is told to stop.
 fn accept_into<'s, 'a: 's, E, R: Threads + Wait + Clock + Sync>(
     scope: &'s Scope<'s, E>,
     rt: &'s R,
     alloc: Global,
     refused: &'s AtomicUsize,
     turns: usize,
+    stop: &AtomicBool,
     crew: &mut Crew<'a>,
 ) {
     let mut number = 0usize;
     let mut quiet = 0usize;
     for _ in rt.forever() {
-        if quiet >= turns {
+        if quiet >= turns || stop.load(Ordering::SeqCst) {
             break;
         }
         if take_turn(scope, rt, alloc, refused, number, crew) {
@@ -75,7 +77,8 @@ fn accept_into<'s, 'a: 's, E, R: Threads + Wait + Clock + Sync>(
     }
 }
 
-/// Accepts connections until that many turns in a row were quiet, and drives each in a thread of its own.
+/// Accepts connections until that many turns in a row were quiet, or until it is told to stop, and drives each in a thread
+/// of its own. NoMemory where something could not be kept.
 pub fn accept_all<R: Threads + Wait + Clock + Sync>(
     rt: &R,
     alloc: Global,
@@ -83,12 +86,13 @@ pub fn accept_all<R: Threads + Wait + Clock + Sync>(
     pool: Pool,
     challenges: Challenges,
     turns: usize,
-) -> Rest {
+    stop: &AtomicBool,
+) -> Result<Rest, RunError> {
     let refused = AtomicUsize::new(usize::MAX);
     let refused = &refused;
     thread::scope(thread::scope_env(), rt, move |scope| {
         let mut crew = Crew::new(alloc, host, pool, challenges, turns);
-        accept_into(scope, rt, alloc, refused, turns, &mut crew);
+        accept_into(scope, rt, alloc, refused, turns, stop, &mut crew);
         crew.joined(rt)
     })
 }

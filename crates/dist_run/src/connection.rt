@@ -5,11 +5,10 @@ use crate::host::Host;
 use crate::sockets::say_goodbye;
 use dist_core::{Event, Still, Why};
 use dist_drive::{Outcome, SocketStream};
-use dist_locked::{LockedNode, Seat, drive_end};
+use dist_locked::{Driven, LockedNode, Seat, drive_end};
 use dist_names::ByteString;
 use dist_peers::EndId;
-use std::alloc::Global;
-use std::net::TcpStream;
+use std::alloc::{AllocError, Global};
 use std::sync::Wait;
 use std::sync::atomic::{AtomicUsize, Ordering};
 
@@ -26,8 +25,6 @@ pub struct Job<'a> {
     pub seat: Seat,
     /// The connection.
     pub stream: SocketStream,
-    /// Another handle of its socket.
-    pub handle: TcpStream,
     /// What the end said when it was opened.
     pub first: ByteString,
     /// Where its challenges come from.
@@ -57,6 +54,26 @@ fn give_up<R: Wait>(rt: &R, node: &LockedNode, seat: &mut Seat, end_: EndId) -> 
     true
 }
 
+// Loses an end that its driver left open and that is not up. The seat comes back, and whether the end is over now.
+fn settled<R: Wait>(
+    rt: &R,
+    node: &LockedNode,
+    end_: EndId,
+    driven: Result<Driven, (AllocError, Seat)>,
+) -> (Seat, bool) {
+    match driven {
+        Ok(driven) => {
+            let mut seat = driven.seat;
+            let is_over = driven.outcome != Outcome::Limit || give_up(rt, node, &mut seat, end_);
+            (seat, is_over)
+        }
+        Err((_, mut seat)) => {
+            lose(rt, node, &mut seat, end_, Why::NoMemory);
+            (seat, true)
+        }
+    }
+}
+
 impl<'a> Job<'a> {
     /// Drives the end. The job whose number is `refused` is the one for which no thread could be made: its end is lost.
     pub fn run<R: Wait>(self, rt: &R, alloc: Global, refused: &AtomicUsize) -> Left {
@@ -69,38 +86,16 @@ impl<'a> Job<'a> {
 
     // Loses the end before anything is read or written.
     fn give_away<R: Wait>(self, rt: &R) -> Left {
-        let Job {
-            number: _,
-            host,
-            end_,
-            seat,
-            stream,
-            handle,
-            first: _,
-            challenges: _,
-            turns: _,
-        } = self;
-        let mut seat = seat;
-        lose(rt, &host.node, &mut seat, end_, Why::GaveUp);
-        say_goodbye(&handle);
+        let (mut seat, stream) = (self.seat, self.stream);
+        lose(rt, &self.host.node, &mut seat, self.end_, Why::GaveUp);
+        say_goodbye(&stream);
         Left { seat, stream }
     }
 
     fn drive<R: Wait>(self, rt: &R, alloc: Global) -> Left {
-        let Job {
-            number: _,
-            host,
-            end_,
-            seat,
-            stream,
-            handle,
-            first,
-            challenges,
-            turns,
-        } = self;
-        let (mut stream, mut challenges) = (stream, challenges);
-        let first = first.as_slice();
-        let node = &host.node;
+        let (node, end_, turns) = (&self.host.node, self.end_, self.turns);
+        let (seat, mut stream, mut challenges) = (self.seat, self.stream, self.challenges);
+        let first = self.first.as_slice();
         let driven = drive_end(
             rt,
             alloc,
@@ -112,24 +107,10 @@ impl<'a> Job<'a> {
             first,
             turns,
         );
-        match driven {
-            Ok(driven) => {
-                let mut seat = driven.seat;
-                let mut is_over = true;
-                if driven.outcome == Outcome::Limit {
-                    is_over = give_up(rt, node, &mut seat, end_);
-                }
-                if is_over {
-                    say_goodbye(&handle);
-                }
-                Left { seat, stream }
-            }
-            Err((_, seat)) => {
-                let mut seat = seat;
-                lose(rt, node, &mut seat, end_, Why::NoMemory);
-                say_goodbye(&handle);
-                Left { seat, stream }
-            }
+        let (seat, is_over) = settled(rt, node, end_, driven);
+        if is_over {
+            say_goodbye(&stream);
         }
+        Left { seat, stream }
     }
 }

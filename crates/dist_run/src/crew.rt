@@ -3,6 +3,7 @@
 use crate::challenges::Challenges;
 use crate::connection::{Job, Left, lose};
 use crate::host::Host;
+use crate::run_error::RunError;
 use crate::seats::Pool;
 use crate::sockets::{Connection, say_goodbye};
 use dist_core::{Event, StepError, Why};
@@ -11,6 +12,7 @@ use dist_locked::{Receipt, Seat};
 use dist_names::ByteString;
 use dist_peers::EndId;
 use std::alloc::Global;
+use std::mem;
 use std::sync::Wait;
 use std::sync::atomic::{AtomicUsize, Ordering};
 use std::thread::{JoinHandle, Scope, Threads};
@@ -25,6 +27,7 @@ pub struct Crew<'a> {
     turns: usize,
     handles: Vec<JoinHandle<Left>>,
     streams: Vec<SocketStream>,
+    is_short: bool,
 }
 
 /// What a crew leaves: its seats, and its streams.
@@ -51,6 +54,7 @@ impl<'a> Crew<'a> {
             turns,
             handles: Vec::new(alloc),
             streams: Vec::new(alloc),
+            is_short: false,
         }
     }
 
@@ -69,35 +73,33 @@ impl<'a> Crew<'a> {
         lose(rt, &self.host.node, &mut self.pool.own, end_, why);
     }
 
-    // Keeps a stream to the end of the run. Where memory is short it is closed now, which its peer is told.
+    // Keeps a stream to the end of the run. Where memory is short it is closed now, and the run ends with NoMemory.
     fn keep(&mut self, stream: SocketStream) {
-        let _ = self.streams.push(stream);
+        if self.streams.push(stream).is_err() {
+            self.is_short = true;
+        }
     }
 
     /// Keeps a connection that has no open end to the end of the run.
     pub fn keep_closed(&mut self, connection: Connection) {
-        let Connection {
-            stream,
-            handle,
-            dialler_port: _,
-        } = connection;
-        say_goodbye(&handle);
-        self.keep(stream);
+        say_goodbye(&connection.stream);
+        self.keep(connection.stream);
     }
 
     // Keeps what is left of a job. The seat comes back to its place.
     fn keep_left(&mut self, left: Left) {
-        let Left { seat, stream } = left;
-        let _ = self.pool.free.push(seat);
-        self.keep(stream);
+        if self.pool.free.push(left.seat).is_err() {
+            self.is_short = true;
+        }
+        self.keep(left.stream);
     }
 
-    // A seat and room for a thread.
-    fn seat(&mut self) -> Option<Seat> {
+    // A seat and room for a thread, or why an end gets none.
+    fn seat(&mut self) -> Result<Seat, Why> {
         if self.handles.reserve(1).is_err() {
-            return None;
+            return Err(Why::NoMemory);
         }
-        self.pool.free.pop()
+        self.pool.free.pop().ok_or(Why::GaveUp)
     }
 
     /// Starts a thread that drives an end. Where no seat is left, or no thread can be made, the end is lost.
@@ -114,23 +116,20 @@ impl<'a> Crew<'a> {
     where
         'a: 's,
     {
-        let Some(seat) = self.seat() else {
-            self.lose(rt, end_, Why::GaveUp);
-            self.keep_closed(connection);
-            return;
+        let seat = match self.seat() {
+            Ok(seat) => seat,
+            Err(why) => {
+                self.lose(rt, end_, why);
+                self.keep_closed(connection);
+                return;
+            }
         };
-        let Connection {
-            stream,
-            handle,
-            dialler_port: _,
-        } = connection;
         let job = Job {
             number,
             host: self.host,
             end_,
             seat,
-            stream,
-            handle,
+            stream: connection.stream,
             first,
             challenges: self.challenges.fork(),
             turns: self.turns,
@@ -161,24 +160,23 @@ impl<'a> Crew<'a> {
         }
     }
 
-    /// Joins all threads.
-    pub fn joined<R: Threads>(self, rt: &R) -> Rest {
-        let Crew {
-            alloc: _,
-            host: _,
-            pool,
-            challenges: _,
-            turns: _,
-            handles,
-            streams,
-        } = self;
-        let mut pool = pool;
-        let mut streams = streams;
+    // Joins all threads.
+    fn join_all<R: Threads>(&mut self, rt: &R) {
+        let handles = mem::replace(&mut self.handles, Vec::new(self.alloc));
         for handle in handles {
-            let Left { seat, stream } = handle.join(rt);
-            let _ = pool.free.push(seat);
-            let _ = streams.push(stream);
+            self.keep_left(handle.join(rt));
         }
-        Rest { pool, streams }
+    }
+
+    /// Joins all threads. NoMemory where something could not be kept.
+    pub fn joined<R: Threads>(mut self, rt: &R) -> Result<Rest, RunError> {
+        self.join_all(rt);
+        if self.is_short {
+            return Err(RunError::NoMemory);
+        }
+        Ok(Rest {
+            pool: self.pool,
+            streams: self.streams,
+        })
     }
 }

@@ -5,6 +5,7 @@ ghost use Rattle.std.specs.Prelude.{◌≡◌};
 use crate::challenges::Challenges;
 use crate::crew::{Crew, Rest};
 use crate::dispatching::LAST;
+use crate::gathering::added;
 use crate::host::{Host, opening_for};
 use crate::order_fault::{OrderFault, OrderRefusal};
 use crate::run_error::RunError;
@@ -53,6 +54,9 @@ pub struct Worked {
     pub rests: Vec<Rest>,
     pub faults: Vec<OrderFault>,
 }
+
+// The orders of a worker that made no `Dial` step so far, where memory was left to keep them.
+type Faults = Result<Vec<OrderFault>, RunError>;
 
 // Asks the port mapper where a peer listens.
 fn looked_up<R: Net<Listener = TcpListener, Stream = TcpStream>>(
@@ -198,12 +202,12 @@ fn take_all<'s, 'a: 's, E, R, G: Gate>(
     site: &Site<'_, G>,
     mut pass: TakePass,
     crews: &mut [Crew<'a>],
-    faults: &mut Vec<OrderFault>,
-) -> TakePass
+    mut faults: Faults,
+) -> (TakePass, Faults)
 where
     R: Net<Listener = TcpListener, Stream = TcpStream> + Threads + Wait + Sync,
     requires { pass.table ≡ orders.now.table }
-    ensures { (result.table ≡ pass.table) × (result.second ≡ pass.second) }
+    ensures { (result.0.table ≡ pass.table) × (result.0.second ≡ pass.second) }
 {
     for _ in rt.forever() {
         match orders.take(rt, &mut pass) {
@@ -213,13 +217,13 @@ where
                 }
                 let number = order.0;
                 if let Err(refusal) = obey(scope, rt, alloc, refused, worker, site, number, crews) {
-                    let _ = faults.push(OrderFault { number, refusal });
+                    faults = added(faults, Ok(OrderFault { number, refusal }));
                 }
             }
             None => thread::yield_now(),
         }
     }
-    pass
+    (pass, faults)
 }
 
 /// Takes orders up to the last, and does what they say. Then joins the threads that were started.
@@ -241,12 +245,12 @@ where
     requires { pass.table ≡ orders.now.table }
     ensures { (result.0.table ≡ pass.table) × (result.0.second ≡ pass.second) }
 {
-    let made = ready(alloc, site, pools, challenges);
-    let (mut crews, mut faults) = match made {
-        Ok(made) => made,
+    let mut crews = match crews_of(alloc, site.hosts, pools, challenges, site.turns) {
+        Ok(crews) => crews,
         Err(error) => return (pass, Err(error)),
     };
-    let pass = take_all(
+    let faults = Ok(Vec::new(alloc));
+    let (pass, faults) = take_all(
         scope,
         rt,
         alloc,
@@ -256,24 +260,17 @@ where
         site,
         pass,
         crews.as_mut_slice(),
-        &mut faults,
+        faults,
     );
-    match rests_of(rt, alloc, crews) {
-        Ok(rests) => (pass, Ok(Worked { rests, faults })),
-        Err(error) => (pass, Err(error)),
-    }
+    (pass, all_kept(rests_of(rt, alloc, crews), faults))
 }
 
-// The crews of a worker, and room for a fault of each order.
-fn ready<'a, G>(
-    alloc: Global,
-    site: &Site<'a, G>,
-    pools: Vec<Pool>,
-    challenges: Challenges,
-) -> Result<(Vec<Crew<'a>>, Vec<OrderFault>), RunError> {
-    let faults = Vec::with_capacity(alloc, site.dials.len())?;
-    let crews = crews_of(alloc, site.hosts, pools, challenges, site.turns)?;
-    Ok((crews, faults))
+// What a worker leaves, where nothing was lost.
+fn all_kept(rests: Result<Vec<Rest>, RunError>, faults: Faults) -> Result<Worked, RunError> {
+    Ok(Worked {
+        rests: rests?,
+        faults: faults?,
+    })
 }
 
 // A crew for each node, that has started nothing.
@@ -297,9 +294,9 @@ fn rests_of<R: Threads>(
     alloc: Global,
     crews: Vec<Crew<'_>>,
 ) -> Result<Vec<Rest>, RunError> {
-    let mut rests = Vec::new(alloc);
+    let mut rests = Ok(Vec::new(alloc));
     for crew in crews {
-        rests.push(crew.joined(rt))?;
+        rests = added(rests, crew.joined(rt));
     }
-    Ok(rests)
+    rests
 }

@@ -12,6 +12,7 @@ mod connection;
 mod crew;
 mod dialling;
 mod dispatching;
+mod gathering;
 mod host;
 mod mapping;
 mod order_fault;
@@ -26,6 +27,3 @@ pub use host::opening_for;
 pub use order_fault::{OrderFault, OrderRefusal};
 pub use run_error::RunError;
 pub use running::{Ran, run_plan};
-
-#[cfg(test)]
-mod tests;

@@ -13,7 +13,8 @@ use std::time::Clock;
 /// holds the others up for this long: half a second at most.
 const MOST_TURNS: usize = 50;
 
-// Serves a connection. One that keeps a node registered is kept, any other is closed.
+// Serves a connection. One that keeps a node registered is kept, any other is closed. It is closed unserved where no room
+// is left to keep it.
 fn serve<M: Mapper>(
     alloc: Global,
     mut stream: SocketStream,
@@ -22,6 +23,9 @@ fn serve<M: Mapper>(
     turns: usize,
     kept: &mut Vec<SocketStream>,
 ) {
+    if kept.reserve(1).is_err() {
+        return;
+    }
     if let Ok(Served::Registered) = serve_registry(alloc, &mut stream, mapper, conn, turns)
         && kept.push(stream).is_err()
     {

@@ -12,17 +12,16 @@ fn one_turn() -> Duration {
     Duration::from_millis(TURN_IN_MILLISECONDS)
 }
 
-/// A connection, another handle of its socket, and the port at its dialling end.
+/// A connection, and the port at its dialling end.
 #[derive(Drop)]
 pub struct Connection {
     pub stream: SocketStream,
-    pub handle: TcpStream,
     pub dialler_port: u16,
 }
 
 /// Lets the other side see that nothing more will be said. The socket stays open, so its port is not used again.
-pub fn say_goodbye(handle: &TcpStream) {
-    let _ = handle.shutdown(Shutdown::Write);
+pub fn say_goodbye(stream: &SocketStream) {
+    let _ = stream.get_ref().shutdown(Shutdown::Write);
 }
 
 fn port_of(address: SocketAddr) -> u16 {
@@ -32,10 +31,8 @@ fn port_of(address: SocketAddr) -> u16 {
 fn timed(socket: TcpStream, dialler_port: u16) -> io::Result<Connection> {
     socket.set_read_timeout(Some(one_turn()))?;
     socket.set_write_timeout(Some(one_turn()))?;
-    let handle = socket.try_clone()?;
     Ok(Connection {
         stream: SocketStream::new(socket),
-        handle,
         dialler_port,
     })
 }

@@ -7,13 +7,14 @@ use crate::challenges::Challenges;
 use crate::crew::Rest;
 use crate::dialling::{Dial, Site, Worked, work_on};
 use crate::dispatching::{CAPACITY, MOST_ORDERS, dispatch};
+use crate::gathering::added;
 use crate::run_error::RunError;
 use crate::seats::Pool;
 use dist_locked::{Gate, Orders, TakePass};
 use std::alloc::Global;
 use std::net::{Net, TcpListener, TcpStream};
 use std::sync::Wait;
-use std::sync::atomic::AtomicUsize;
+use std::sync::atomic::{AtomicBool, AtomicUsize, Ordering};
 use std::thread;
 use std::thread::{JoinHandle, Scope, Threads};
 use std::time::Clock;
@@ -134,13 +135,26 @@ where
 fn rests_of<R: Threads>(
     rt: &R,
     alloc: Global,
-    handles: Vec<JoinHandle<Rest>>,
+    handles: Vec<JoinHandle<Result<Rest, RunError>>>,
 ) -> Result<Vec<Rest>, RunError> {
-    let mut rests = Vec::new(alloc);
+    let mut rests = Ok(Vec::new(alloc));
     for handle in handles {
-        rests.push(handle.join(rt))?;
+        rests = added(rests, handle.join(rt));
     }
-    Ok(rests)
+    rests
+}
+
+// What the threads leave, where nothing was lost.
+fn all_kept(
+    accepting: Result<Vec<Rest>, RunError>,
+    worked: Result<(Worked, Worked), RunError>,
+) -> Result<Ended, RunError> {
+    let (first, second) = worked?;
+    Ok(Ended {
+        accepting: accepting?,
+        first,
+        second,
+    })
 }
 
 /// Starts all threads of the nodes, and answers once they have ended. ThreadFailed comes where a node gets none.
@@ -160,23 +174,25 @@ where
         first,
         second,
     } = pools;
+    let stop = AtomicBool::new(false);
+    let stop = &stop;
     thread::scope(thread::scope_env(), rt, move |scope| {
         let turns = site.turns;
         let mut handles = Vec::with_capacity(alloc, site.hosts.len())?;
         for (host, pool) in site.hosts.iter().zip(accepting) {
             let mine = challenges.fork();
-            match scope.spawn(move || accept_all(rt, alloc, host, pool, mine, turns)) {
-                Ok(handle) => handles.push(handle)?,
-                Err(_) => return Err(RunError::ThreadFailed),
+            if let Ok(handle) = scope.spawn(move || accept_all(
+                rt, alloc, host, pool, mine, turns, stop,
+            )) {
+                handles.push(handle)?;
             }
         }
-        let worked = work_all(rt, alloc, site, first, second, challenges);
-        let accepting = rests_of(rt, alloc, handles);
-        let (first, second) = worked?;
-        Ok(Ended {
-            accepting: accepting?,
-            first,
-            second,
-        })
+        let worked = if handles.len() == site.hosts.len() {
+            work_all(rt, alloc, site, first, second, challenges)
+        } else {
+            Err(RunError::ThreadFailed)
+        };
+        stop.store(worked.is_err(), Ordering::SeqCst);
+        all_kept(rests_of(rt, alloc, handles), worked)
     })
 }

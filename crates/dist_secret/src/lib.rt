@@ -14,6 +14,3 @@ pub use cookie_error::CookieError;
 pub use digesting::digest;
 pub use laws::length_of_digest;
 pub use reading::read_cookie;
-
-#[cfg(test)]
-mod tests;

@@ -14,6 +14,3 @@ pub use checks::{announced_by, good_name, is_refused, own_digest, required_of};
 pub use laws::{announced_flags_fit, messages_can_be_said, what_is_said_is_read};
 pub use saying::{ack_frame, challenge_frame, greeting, name_frame, reply_frame, status_frame};
 pub use setup::{NameList, Setup};
-
-#[cfg(test)]
-mod tests;

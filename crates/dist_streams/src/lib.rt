@@ -17,6 +17,3 @@ pub use socket::SocketStream;
 pub use stream::{Heard, Stream, Took};
 pub use turn_error::TurnError;
 pub use turns::{read_exact, read_turn, write_all};
-
-#[cfg(test)]
-mod tests;

@@ -4,7 +4,6 @@ pub mod Told
 pub mod Marked
 pub mod Runs
 pub mod UpLinks
-pub mod Directions
 pub mod Wired
 pub mod Naming
 pub mod Agreed

@@ -1,8 +1,6 @@
 -- An event that is told while a connection changes too: what is said and what changes there do not meet.
-use Rattle.std.proofs.Common.{◌≡◌, ℕ, zero, suc, ◌==◌, Bool, true, false, cond, List, [], ◌∷◌, Option, Some, None, is_some, Ok, slice_get, refl, ap, sym, ◌∙◌}
+use Rattle.std.proofs.Common.{◌≡◌, ℕ, zero, suc, true, false, cond, List, [], ◌∷◌, Option, Some, None, is_some, Ok, slice_get, refl, ap, sym, ◌∙◌}
 use Rattle.std.specs.Option.{option_map}
-use Rattle.std.specs.Int.{w16}
-use Rattle.dist_frames.specs.Stream.{first_body}
 use Rattle.dist_messages.specs.declared.message.Side.{Side}
 use Rattle.dist_messages.specs.declared.message.Side.TheVariants.{Dialler, Acceptor}
 use Rattle.dist_peers.specs.declared.entry.EndId.{EndId}
@@ -14,13 +12,12 @@ use Rattle.dist_core.specs.Step.{step}
 use Rattle.dist_agreement.specs.Lists.{at_place}
 use Rattle.dist_agreement.specs.Rows.{EndRow, rows_after}
 use Rattle.dist_agreement.specs.World.{World, Life, Conn, runs, row_of_life}
-use Rattle.dist_agreement.specs.Delivery.{says, spoken, text_to, change_to, body_taken}
+use Rattle.dist_agreement.specs.Delivery.{says, spoken, change_to, body_taken}
 use Rattle.dist_agreement.specs.Happenings.{lived, told, told_in, answered, unclosed, accepted, accepted_by, next_end, taken_by, taken_on, taken_from, taken_body, take_next}
-use Rattle.dist_world.specs.Hearing.{wire_of}
-use Rattle.dist_world.specs.Telling.{wire_at, said_at, HasTold}
-use Rattle.dist_world.specs.Doing.{unaccepted, front_at}
+use Rattle.dist_world.specs.Hearing.{wire_of, said_at}
+use Rattle.dist_world.specs.Telling.{wire_at, HasTold}
+use Rattle.dist_wires.specs.Wires.{unaccepted, front_at}
 use Rattle.dist_world.specs.declared.hearing.Heard.{Heard}
-use Rattle.dist_world.proofs.Edits.{changed_if, get_at}
 use Rattle.dist_world.proofs.Wired.{AreOwn, as_wired}
 
 told_is : (w : World) (i : ℕ) (v : Event) (fresh : ℕ) (l : Life) (r : Reply) (n : NodeState) → slice_get w.lives i ≡ Some l → runs l ≡ true → step l.node v fresh ≡ Ok (r, n)
@@ -46,19 +43,6 @@ module _ (are : AreOwn) (w : World) (c i fresh : ℕ) (side : Side) (v : Event) 
       let shut : option_map (λ y. (let l = k.life in l.who, y)) r.closed ≡ option_map (λ y. (who, y)) h.closed = λ j. option_map (λ y. (sym k.whose j, y)) (let x : Heard = sym k.heard j in x.closed) in
       told_is (record (unclosed w) { conns = at_place c g w.conns }) i v fresh k.life r k.node k.there k.running k.stepped
       ∙ (λ j. Some (record { setups = w.setups; lives = sym k.lived_ j; conns = there j; clock = w.clock; last_closed = shut j }))
-
-  front_in : (b : Bool) (s : List ℕ) (o : Option Conn) → front_at (option_map (changed_if b (says side s)) o) side ≡ front_at o side
-  front_in b s None = refl
-  front_in false s (Some x) = refl
-  front_in true s (Some x) = on side
-    where
-      on : (side : Side) → first_body w16 (let t = text_to side (says side s x) in t.come) ≡ first_body w16 (let t = text_to side x in t.come)
-      on Dialler = refl
-      on Acceptor = refl
-
-  -- what the end said changed nothing of what comes to it
-  pub front_stays : front_at (slice_get said c) side ≡ front_at (slice_get w.conns c) side
-  front_stays = ap (λ cs. front_at (slice_get cs c) side) said_there ∙ (ap (λ o. front_at o side) (get_at (says side k.reply.say) w.conns c c) ∙ front_in (c == c) k.reply.say (slice_get w.conns c))
 
 -- ---- a connection that is accepted
 
@@ -112,6 +96,3 @@ module _ (are : AreOwn) (w : World) (place c fresh : ℕ) (id : EndId) (side : S
 
   pub taken_is : take_next (unclosed w) id fresh (Some place) ≡ Some (record { setups = w.setups; lives = new; conns = at_place c (change_to side body_taken) said; clock = w.clock; last_closed = option_map (λ y. (who, y)) h.closed })
   taken_is = taking w place c fresh id side body placed first ∙ told_marked are w c place fresh side (event.Frame id body) who h new said k wired (change_to side body_taken) (takes_apart side)
-
-  pub front_left : front_at (slice_get said c) side ≡ Some body
-  front_left = front_stays are w c place fresh side (event.Frame id body) who h new said k wired ∙ first

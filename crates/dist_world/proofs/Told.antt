@@ -10,11 +10,10 @@ use Rattle.dist_core.specs.declared.step_error.StepError.TheVariants as error
 use Rattle.dist_core.specs.Node.{NodeState}
 use Rattle.dist_core.specs.Step.{step}
 use Rattle.dist_core.specs.Answers.{Refuses}
-use Rattle.dist_agreement.specs.World.{World, Life, Conn, Text, runs}
-use Rattle.dist_agreement.specs.Delivery.{says}
+use Rattle.dist_agreement.specs.World.{World, Life, Conn, runs}
 use Rattle.dist_agreement.specs.Happenings.{lived, told_in, answered}
-use Rattle.dist_world.specs.Hearing.{IsHeard, IsHeardOn}
-use Rattle.dist_world.specs.Telling.{wire_at, said_at, IsHeardAt, HasTold, Declines, is_short}
+use Rattle.dist_world.specs.Hearing.{IsHeard, said_at}
+use Rattle.dist_world.specs.Telling.{wire_at, HasTold, Declines, is_short}
 use Rattle.dist_world.specs.declared.hearing.Heard.{Heard}
 use Rattle.dist_world.proofs.Edits.{at_set}
 use Rattle.dist_world.proofs.Wired.{AreOwn, as_wired}
@@ -28,20 +27,6 @@ pub get_none : {A : Type 0} (xs : List A) (i : ℕ) → length xs ≤ i → slic
 get_none [] i past = refl
 get_none (x ∷ xs) zero past = absurd (omega arith)
 get_none (x ∷ xs) (suc i) past = get_none xs i (omega arith)
-
-module _ (s : Result (Reply × NodeState) StepError) (t : ℕ) (v : Event) (l m : Life) where
-  pub at_nowhere : (h : Result Heard StepError) (x y : Text) → IsHeard h s t v l m x y → IsHeardAt h s t v l m None [] []
-  at_nowhere (Ok h) x y k = (k.0, k.1, k.2, k.3, k.4, refl)
-  at_nowhere (Err e) x y k = (k.0, k.1, refl)
-
-  -- an event of an end without a connection is one of an end whose connection is not there
-  pub at_none : (h : Result Heard StepError) (wire : Option (Side × ℕ)) (cs : List Conn) → ((say : List ℕ) → cs ≡ said_at cs wire say) → IsHeardAt h s t v l m None [] [] → IsHeardAt h s t v l m wire cs cs
-  at_none (Ok h) wire cs there k = (k.0, k.1, k.2, k.3, k.4, there (let r = k.0 in r.say))
-  at_none (Err e) wire cs there k = (k.0, k.1, refl)
-
-  pub at_one : (h : Result Heard StepError) (side : Side) (x y : Conn) (cs : List Conn) (i : ℕ) → i < length cs → x ≡ get_or cs i x → IsHeardOn h s t v l m side x y → IsHeardAt h s t v l m (Some (side, i)) cs (set cs i y)
-  at_one (Ok h) side x y cs i few is k = (k.0, k.1, k.2, k.3, k.4, ap (set cs i) k.5 ∙ at_set (says side (let r = k.0 in r.say)) cs i x few is)
-  at_one (Err e) side x y cs i few is k = (k.0, k.1, ap (set cs i) (k.2 ∙ is) ∙ set-get_or cs i x)
 
 pub refused : (e : StepError) (s : Result (Reply × NodeState) StepError) → is_short e ≡ false → Refuses e s → s ≡ Err e
 refused (error.Busy x) s h r = r
@@ -76,7 +61,7 @@ module _ (lives : List Life) (i : ℕ) (l : Life) (few : i < length lives) (is :
   pub put_back : (m : Life) → m ≡ l → set lives i m ≡ lives
   put_back m same = ap (set lives i) (same ∙ is) ∙ set-get_or lives i l
 
-  pub has_told : AreOwn → (t : ℕ) (v : Event) (fresh : ℕ) (conns said : List Conn) (m : Life) (h : Heard) (who : ℕ) (wire : Option (Side × ℕ)) → runs l ≡ true → who ≡ m.who → wire ≡ wire_at l.rows v → IsHeardAt (Ok h) (step l.node v fresh) t v l m wire conns said → HasTold who h i t v fresh lives (set lives i m) conns said
+  pub has_told : AreOwn → (t : ℕ) (v : Event) (fresh : ℕ) (conns said : List Conn) (m : Life) (h : Heard) (who : ℕ) (wire : Option (Side × ℕ)) → runs l ≡ true → who ≡ m.who → wire ≡ wire_at l.rows v → IsHeard (Ok h) (step l.node v fresh) t v l m wire conns said → HasTold who h i t v fresh lives (set lives i m) conns said
   has_told are t v fresh conns said m h who wire run whose placed k =
       let r = k.0 in
       record {

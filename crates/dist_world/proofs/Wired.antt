@@ -15,8 +15,8 @@ use Rattle.dist_agreement.specs.Lists.{at_place}
 use Rattle.dist_agreement.specs.Rows.{EndRow, rows_after, mark}
 use Rattle.dist_agreement.specs.World.{Conn}
 use Rattle.dist_agreement.specs.Delivery.{says, spoken, spoken_on}
-use Rattle.dist_world.specs.Hearing.{wire_of}
-use Rattle.dist_world.specs.Telling.{wire_at, said_at}
+use Rattle.dist_world.specs.Hearing.{wire_of, said_at}
+use Rattle.dist_world.specs.Telling.{wire_at}
 use Rattle.dist_world.proofs.Edits.{get_each}
 
 -- each reply is of the end that its event names (a_reply_is_of_its_end)

@@ -13,8 +13,8 @@ use Rattle.dist_core.specs.Node.{NodeState}
 use Rattle.dist_core.specs.Answers.{Refuses}
 use Rattle.dist_agreement.specs.Lists.{at_place}
 use Rattle.dist_agreement.specs.Rows.{EndRow, peer_by, once, takes_name, says_reply, rows_after}
-use Rattle.dist_agreement.specs.World.{Life, Text, Conn}
-use Rattle.dist_agreement.specs.Delivery.{more_said, says}
+use Rattle.dist_agreement.specs.World.{Life, Conn}
+use Rattle.dist_agreement.specs.Delivery.{says}
 use Rattle.dist_agreement.specs.Happenings.{lived, shut_row}
 use Rattle.dist_world.specs.declared.hearing.Heard.{Heard}
 
@@ -57,21 +57,21 @@ abbrev pub Says : List ℕ → Result (Reply × NodeState) StepError → Type 0
 Says say (Ok x) = let r = x.0 in say ≡ r.say
 Says say (Err e) = ⊥
 
--- the step was made, its reply written down, and what it says is on its way
-abbrev pub HasHeard : Heard → Result (Reply × NodeState) StepError → ℕ → Event → NodeState → List EndRow → List EndRow → Text → Text → Type 0
-HasHeard h s t v n rows new x y = (r : Reply) × (s ≡ Ok (r, n)) × (h ≡ heard_of r) × (new ≡ rows_after t v r rows) × (y ≡ more_said r.say x)
-
--- THE STEP WAS MADE, and what the reply says is on its way, or the event was refused and nothing changed
-abbrev pub IsHeard : Result Heard StepError → Result (Reply × NodeState) StepError → ℕ → Event → Life → Life → Text → Text → Type 0
-IsHeard (Ok h) s t v l m x y = (r : Reply) × (n : NodeState) × (s ≡ Ok (r, n)) × (h ≡ heard_of r) × (m ≡ lived t v r n l) × (y ≡ more_said r.say x)
-IsHeard (Err e) s t v l m x y = Refuses e s × (m ≡ l) × (y ≡ x)
-
 -- which side of which connection the end of this row is
 abbrev pub wire_of : Option EndRow → Option (Side × ℕ)
 wire_of None = None
 wire_of (Some row) = option_map (λ c. (row.side, c)) row.conn
 
--- the same, where what the reply says is said on this side of a connection
-abbrev pub IsHeardOn : Result Heard StepError → Result (Reply × NodeState) StepError → ℕ → Event → Life → Life → Side → Conn → Conn → Type 0
-IsHeardOn (Ok h) s t v l m side x y = (r : Reply) × (n : NodeState) × (s ≡ Ok (r, n)) × (h ≡ heard_of r) × (m ≡ lived t v r n l) × (y ≡ says side r.say x)
-IsHeardOn (Err e) s t v l m side x y = Refuses e s × (m ≡ l) × (y ≡ x)
+-- the connections once this was said there
+abbrev pub said_at : List Conn → Option (Side × ℕ) → List ℕ → List Conn
+said_at cs None s = cs
+said_at cs (Some x) s = at_place x.1 (says x.0 s) cs
+
+-- the step was made, its reply written down, and what it says is on its way
+abbrev pub HasHeard : Heard → Result (Reply × NodeState) StepError → ℕ → Event → NodeState → List EndRow → List EndRow → Option (Side × ℕ) → List Conn → List Conn → Type 0
+HasHeard h s t v n rows new wire x y = (r : Reply) × (s ≡ Ok (r, n)) × (h ≡ heard_of r) × (new ≡ rows_after t v r rows) × (y ≡ said_at x wire r.say)
+
+-- THE STEP WAS MADE, and what the reply says is said on this side of a connection, or the event was refused and nothing changed
+abbrev pub IsHeard : Result Heard StepError → Result (Reply × NodeState) StepError → ℕ → Event → Life → Life → Option (Side × ℕ) → List Conn → List Conn → Type 0
+IsHeard (Ok h) s t v l m wire x y = (r : Reply) × (n : NodeState) × (s ≡ Ok (r, n)) × (h ≡ heard_of r) × (m ≡ lived t v r n l) × (y ≡ said_at x wire r.say)
+IsHeard (Err e) s t v l m wire x y = Refuses e s × (m ≡ l) × (y ≡ x)

@@ -1,5 +1,5 @@
 -- What telling an incarnation an event makes of the lists of incarnations and connections.
-use Rattle.std.specs.Prelude.{◌≡◌, ℕ, Bool, true, false, List, Option, Some, None, Result, Ok, Err, slice_get}
+use Rattle.std.specs.Prelude.{◌≡◌, ℕ, Bool, true, false, List, Option, Some, None, Ok, slice_get}
 use Rattle.dist_messages.specs.declared.message.Side.{Side}
 use Rattle.dist_messages.specs.declared.message.Side.TheVariants.{Acceptor}
 use Rattle.dist_core.specs.declared.event.Event.{Event}
@@ -9,11 +9,10 @@ use Rattle.dist_core.specs.declared.step_error.StepError.{StepError}
 use Rattle.dist_core.specs.declared.step_error.StepError.TheVariants as error
 use Rattle.dist_core.specs.Node.{NodeState}
 use Rattle.dist_core.specs.Step.{step}
-use Rattle.dist_core.specs.Answers.{Refuses}
 use Rattle.dist_agreement.specs.Lists.{at_place}
 use Rattle.dist_agreement.specs.Rows.{EndRow, rows_after}
 use Rattle.dist_agreement.specs.World.{World, Life, Conn, runs}
-use Rattle.dist_agreement.specs.Delivery.{says, spoken}
+use Rattle.dist_agreement.specs.Delivery.{spoken}
 use Rattle.dist_agreement.specs.Happenings.{lived, told_in}
 use Rattle.dist_world.specs.Hearing.{heard_of, wire_of}
 use Rattle.dist_world.specs.declared.hearing.Heard.{Heard}
@@ -26,15 +25,6 @@ wire_at rows (event.Incoming link) = Some (Acceptor, link)
 wire_at rows (event.Frame id body) = wire_of (slice_get rows id.0)
 wire_at rows (event.Lost id w) = wire_of (slice_get rows id.0)
 wire_at rows (event.Tick id) = wire_of (slice_get rows id.0)
-
--- the connections once this was said there
-abbrev pub said_at : List Conn → Option (Side × ℕ) → List ℕ → List Conn
-said_at cs None s = cs
-said_at cs (Some x) s = at_place x.1 (says x.0 s) cs
-
-abbrev pub IsHeardAt : Result Heard StepError → Result (Reply × NodeState) StepError → ℕ → Event → Life → Life → Option (Side × ℕ) → List Conn → List Conn → Type 0
-IsHeardAt (Ok h) s t v l m wire x y = (r : Reply) × (n : NodeState) × (s ≡ Ok (r, n)) × (h ≡ heard_of r) × (m ≡ lived t v r n l) × (y ≡ said_at x wire r.say)
-IsHeardAt (Err e) s t v l m wire x y = Refuses e s × (m ≡ l) × (y ≡ x)
 
 -- incarnation i ran, and was told the event
 pub record HasTold (who : ℕ) (h : Heard) (i t : ℕ) (v : Event) (fresh : ℕ) (lives new : List Life) (conns said : List Conn) : Type 0 where

@@ -1,14 +1,12 @@
 //! An event that an incarnation is told, among all incarnations and connections.
-ghost use Rattle.std.specs.Prelude.{◌≡◌, [], None, IfOk, OnErr, MatchOption};
-ghost use Rattle.dist_core.specs.Step.{step};
-ghost use Rattle.dist_world.specs.Telling.{wire_at, IsHeardAt, HasTold, Declines, is_short};
+ghost use Rattle.std.specs.Prelude.{◌≡◌, IfOk, OnErr, MatchOption};
+ghost use Rattle.dist_world.specs.Telling.{wire_at, HasTold, Declines, is_short};
 
-use crate::connection::Connection;
-use crate::direction::Direction;
 use crate::hearing::Heard;
 use crate::life::Life;
 use dist_core::{Event, StepError, a_reply_is_of_its_end};
 use dist_messages::Side;
+use dist_wires::Connections;
 use std::alloc::{AllocError, Global};
 
 // Which side of which connection the end of an event is.
@@ -28,42 +26,6 @@ fn wire(life: &Life, event: &Event) -> Option<(Side, usize)>
     }
 }
 
-// An incarnation is told an event on whose end there is no connection.
-fn hear_nowhere(
-    life: &mut Life,
-    alloc: Global,
-    clock: u64,
-    event: &Event,
-    fresh: u32,
-) -> Result<Heard, StepError>
-    ensures { IsHeardAt result (step life.old.node event.now fresh) clock event.now life.old life.new None [] [] }
-{
-    let mut nowhere = Direction::new(alloc);
-    life.hear(&mut nowhere, alloc, clock, event, fresh)
-}
-
-// An incarnation is told an event, and what the reply says is said on this side of a connection.
-fn hear_on(
-    life: &mut Life,
-    conns: &mut Vec<Connection>,
-    wire: Option<(Side, usize)>,
-    alloc: Global,
-    clock: u64,
-    event: &Event,
-    fresh: u32,
-) -> Result<Heard, StepError>
-    ensures { IsHeardAt result (step life.old.node event.now fresh) clock event.now life.old life.new wire conns.old.items conns.new.items }
-{
-    let Some((side, place)) = wire else {
-        return hear_nowhere(life, alloc, clock, event, fresh);
-    };
-    if place >= conns.len() {
-        return hear_nowhere(life, alloc, clock, event, fresh);
-    }
-    let conn = &mut conns[place];
-    conn.hear(side, life, alloc, clock, event, fresh)
-}
-
 // Want of memory, and no refusal of the event.
 fn is_short(refusal: StepError) -> bool
     ensures { result ≡ is_short refusal }
@@ -74,15 +36,15 @@ fn is_short(refusal: StepError) -> bool
 /// An incarnation is told an event. `None` where it does not run or refuses the event, which changes nothing.
 pub fn tell(
     lives: &mut Vec<Life>,
-    conns: &mut Vec<Connection>,
+    conns: &mut Connections,
     place: usize,
     alloc: Global,
     clock: u64,
     event: &Event,
     fresh: u32,
 ) -> Result<Option<(usize, Heard)>, AllocError>
-    ensures ok { IfOk result (λ told. MatchOption told (Declines lives.old.items place event.now fresh × (lives.new.items ≡ lives.old.items) × (conns.new.items ≡ conns.old.items)) (λ x. HasTold x.0 x.1 place clock event.now fresh lives.old.items lives.new.items conns.old.items conns.new.items)) }
-    ensures err { OnErr result ((lives.new.items ≡ lives.old.items) × (conns.new.items ≡ conns.old.items)) }
+    ensures ok { IfOk result (λ told. MatchOption told (Declines lives.old.items place event.now fresh × (lives.new.items ≡ lives.old.items) × (conns.new ≡ conns.old)) (λ x. HasTold x.0 x.1 place clock event.now fresh lives.old.items lives.new.items conns.old conns.new)) }
+    ensures err { OnErr result ((lives.new.items ≡ lives.old.items) × (conns.new ≡ conns.old)) }
 {
     a_reply_is_of_its_end();
     if place >= lives.len() {
@@ -93,7 +55,7 @@ pub fn tell(
         return Ok(None);
     }
     let wire = wire(life, event);
-    match hear_on(life, conns, wire, alloc, clock, event, fresh) {
+    match life.hear(conns, wire, alloc, clock, event, fresh) {
         Ok(heard) => Ok(Some((life.who(), heard))),
         Err(refusal) => {
             if is_short(refusal) {

@@ -1,18 +1,18 @@
 //! An event that an incarnation is told.
-ghost use Rattle.std.specs.Prelude.{◌≡◌, IfOk, IfErr, OnErr, Ok};
+ghost use Rattle.std.specs.Prelude.{◌≡◌, ℕ, List, length, IfOk, IfErr, OnOk, OnErr, Ok};
 ghost use Rattle.dist_core.specs.Answers.{Refuses};
 ghost use Rattle.dist_core.specs.Step.{step};
 ghost use Rattle.dist_agreement.specs.Lists.{at_each, at_place};
 ghost use Rattle.dist_agreement.specs.Rows.{mark, given_by};
-ghost use Rattle.dist_agreement.specs.Delivery.{more_said};
-ghost use Rattle.dist_world.specs.Hearing.{heard_of, Says, HasHeard, own_row, shut_by, doomed_by, doomed_of};
+ghost use Rattle.dist_agreement.specs.World.{Conn};
+ghost use Rattle.dist_world.specs.Hearing.{heard_of, said_at, Says, HasHeard, own_row, shut_by, doomed_by, doomed_of};
 
-use crate::direction::Direction;
 use crate::row::EndRow;
 use dist_core::{Event, Node, Note, Reply, StepError, Why};
 use dist_messages::Side;
 use dist_names::ByteString;
 use dist_peers::EndId;
+use dist_wires::Connections;
 use std::alloc::{AllocError, Global};
 
 /// What is left of a reply once its words are on their way and the rows have what it writes.
@@ -60,24 +60,49 @@ fn saying(node: &Node, alloc: Global, event: &Event, fresh: u32) -> Result<ByteS
     Ok(say)
 }
 
+// This side of a connection says these bytes, where there is one. An `Err` changes nothing.
+fn say_on(
+    conns: &mut Connections,
+    wire: Option<(Side, usize)>,
+    bytes: &[u8],
+) -> Result<(), AllocError>
+    ensures ok { OnOk result (conns.new ≡ said_at conns.old wire bytes.now) }
+    ensures err { OnErr result (conns.new ≡ conns.old) }
+{
+    match wire {
+        Some((side, place)) => conns.say(place, side, bytes),
+        None => Ok(()),
+    }
+}
+
+// All is as it was before so many bytes were said.
+fn unsay_on(conns: &mut Connections, wire: Option<(Side, usize)>, count: usize)
+    ensures { (before : List Conn) (bytes : List ℕ) → conns.old ≡ said_at before wire bytes → length bytes ≡ count → conns.new ≡ before }
+{
+    if let Some((side, place)) = wire {
+        conns.unsay(place, side, count);
+    }
+}
+
 // A node makes the step that was foreseen, and what it says is on its way.
 fn speak(
     node: &mut Node,
-    text: &mut Direction,
+    conns: &mut Connections,
+    wire: Option<(Side, usize)>,
     alloc: Global,
     event: &Event,
     fresh: u32,
     say: &[u8],
 ) -> Result<Reply, AllocError>
     requires { Says say.now (step node.old event.now fresh) }
-    ensures ok { IfOk result (λ r. (step node.old event.now fresh ≡ Ok (r, node.new)) × (text.new ≡ more_said r.say text.old)) }
-    ensures err { OnErr result ((node.new ≡ node.old) × (text.new ≡ text.old)) }
+    ensures ok { IfOk result (λ r. (step node.old event.now fresh ≡ Ok (r, node.new)) × (conns.new ≡ said_at conns.old wire r.say)) }
+    ensures err { OnErr result ((node.new ≡ node.old) × (conns.new ≡ conns.old)) }
 {
-    text.say(say)?;
+    say_on(conns, wire, say)?;
     match node.step(alloc, event, fresh) {
         Ok(reply) => Ok(reply),
         Err(_) => {
-            text.unsay(say.len());
+            unsay_on(conns, wire, say.len());
             Err(AllocError)
         }
     }
@@ -151,14 +176,15 @@ fn write(rows: &mut Vec<EndRow>, clock: u64, reply: Reply) -> Heard
 pub fn hear(
     node: &mut Node,
     rows: &mut Vec<EndRow>,
-    text: &mut Direction,
+    conns: &mut Connections,
+    wire: Option<(Side, usize)>,
     alloc: Global,
     clock: u64,
     event: &Event,
     fresh: u32,
 ) -> Result<Heard, StepError>
-    ensures ok { IfOk result (λ h. HasHeard h (step node.old event.now fresh) clock event.now node.new rows.old.items rows.new.items text.old text.new) }
-    ensures err { IfErr result (λ e. Refuses e (step node.old event.now fresh) × (node.new ≡ node.old) × (rows.new.items ≡ rows.old.items) × (text.new ≡ text.old)) }
+    ensures ok { IfOk result (λ h. HasHeard h (step node.old event.now fresh) clock event.now node.new rows.old.items rows.new.items wire conns.old conns.new) }
+    ensures err { IfErr result (λ e. Refuses e (step node.old event.now fresh) × (node.new ≡ node.old) × (rows.new.items ≡ rows.old.items) × (conns.new ≡ conns.old)) }
 {
     let say = saying(node, alloc, event, fresh)?;
     let Ok(row) = given(alloc, clock, event) else {
@@ -167,7 +193,7 @@ pub fn hear(
     if rows.reserve(1).is_err() {
         return Err(StepError::NoMemory);
     }
-    let Ok(reply) = speak(node, text, alloc, event, fresh, say.as_slice()) else {
+    let Ok(reply) = speak(node, conns, wire, alloc, event, fresh, say.as_slice()) else {
         return Err(StepError::NoMemory);
     };
     if let Some(row) = row {

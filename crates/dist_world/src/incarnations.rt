@@ -9,7 +9,6 @@ ghost use Rattle.dist_world.specs.Doing.{is_unreached};
 ghost use Rattle.dist_world.specs.Index.{index_at};
 ghost use Rattle.dist_world.specs.Telling.{HasTold, Declines};
 
-use crate::connection::Connection;
 use crate::events::tell;
 use crate::hearing::Heard;
 use crate::life::{Life, is_open};
@@ -17,6 +16,7 @@ use dist_core::{Event, Node, Setup};
 use dist_messages::Side;
 use dist_names::Creation;
 use dist_peers::EndId;
+use dist_wires::Connections;
 use std::alloc::{AllocError, Global};
 use std::marker::Model;
 
@@ -173,15 +173,15 @@ impl Lives {
     /// An incarnation is told an event. `None` where it does not run or refuses the event, which changes nothing.
     pub fn tell(
         &mut self,
-        conns: &mut Vec<Connection>,
+        conns: &mut Connections,
         place: usize,
         alloc: Global,
         clock: u64,
         event: &Event,
         fresh: u32,
     ) -> Result<Option<(usize, Heard)>, AllocError>
-        ensures ok { IfOk result (λ told. MatchOption told (Declines self.old place event.now fresh × (self.new ≡ self.old) × (conns.new.items ≡ conns.old.items)) (λ x. HasTold x.0 x.1 place clock event.now fresh self.old self.new conns.old.items conns.new.items)) }
-        ensures err { OnErr result ((self.new ≡ self.old) × (conns.new.items ≡ conns.old.items)) }
+        ensures ok { IfOk result (λ told. MatchOption told (Declines self.old place event.now fresh × (self.new ≡ self.old) × (conns.new ≡ conns.old)) (λ x. HasTold x.0 x.1 place clock event.now fresh self.old self.new conns.old conns.new)) }
+        ensures err { OnErr result ((self.new ≡ self.old) × (conns.new ≡ conns.old)) }
     {
         tell(&mut self.lives, conns, place, alloc, clock, event, fresh)
     }

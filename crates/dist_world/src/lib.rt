@@ -5,13 +5,10 @@
 #![tactic(auto)]
 
 mod agreement;
-mod connection;
-mod direction;
 mod events;
 mod hearing;
 mod incarnations;
 mod life;
-mod links;
 mod row;
 mod run;
 mod scene;
@@ -24,6 +21,3 @@ pub use dist_agreement::Happening;
 pub use run::Stopped;
 pub use world::World;
 pub use world_error::WorldError;
-
-#[cfg(test)]
-mod tests;

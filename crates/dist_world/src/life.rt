@@ -12,13 +12,13 @@ ghost use Rattle.dist_world.specs.Ups.{FindsLink, up_on};
 ghost use Rattle.std.specs.Option.{option_map};
 
 use crate::agreement::linked;
-use crate::direction::Direction;
 use crate::hearing::{Heard, hear};
 use crate::row::EndRow;
 use dist_core::{Event, Node, Setup, StepError, Still, UpRecord};
 use dist_messages::Side;
 use dist_names::{Creation, NodeName};
 use dist_peers::EndId;
+use dist_wires::Connections;
 use std::alloc::{AllocError, Global};
 use std::marker::Model;
 
@@ -107,21 +107,23 @@ impl Life {
         linked(&self.rows, self.node.up_of(peer))
     }
 
-    /// It is told an event. A refusal changes nothing.
+    /// It is told an event, and what the reply says is said on this side of a connection. A refusal changes nothing.
     pub fn hear(
         &mut self,
-        text: &mut Direction,
+        conns: &mut Connections,
+        wire: Option<(Side, usize)>,
         alloc: Global,
         clock: u64,
         event: &Event,
         fresh: u32,
     ) -> Result<Heard, StepError>
-        ensures { IsHeard result (step self.old.node event.now fresh) clock event.now self.old self.new text.old text.new }
+        ensures { IsHeard result (step self.old.node event.now fresh) clock event.now self.old self.new wire conns.old conns.new }
     {
         hear(
             &mut self.node,
             &mut self.rows,
-            text,
+            conns,
+            wire,
             alloc,
             clock,
             event,

@@ -1,5 +1,5 @@
 //! All that a world has, and one happening.
-ghost use Rattle.std.specs.Prelude.{◌≡◌, ◌↔◌, IsTrue, IsErrOf, ℕ, Ok, slice_get, option_copied, IfOk, OnOk};
+ghost use Rattle.std.specs.Prelude.{◌≡◌, ◌↔◌, ◌++◌, IsTrue, List, IsErrOf, ℕ, Ok, slice_get, option_copied, IfOk, OnOk};
 ghost use Rattle.std.specs.Option.{option_map};
 ghost use Rattle.dist_agreement.specs.World.{empty, running};
 ghost use Rattle.dist_world.specs.Setups.{names_repeat};
@@ -7,13 +7,12 @@ ghost use Rattle.dist_world.specs.Asking.{node_of, said_to, SaidNext, closing};
 ghost use Rattle.dist_world.specs.Ups.{FindsPeer, up_on};
 ghost use Rattle.dist_agreement.specs.Agreement.{AreSetups, IsUp};
 
-use crate::connection::Connection;
 use crate::incarnations::Lives;
-use crate::links::{begins_with, undelivered};
 use crate::setups::are_good;
 use crate::world_error::WorldError;
 use dist_core::{Node, Setup, UpRecord, Why};
 use dist_peers::EndId;
+use dist_wires::Connections;
 use std::alloc::Global;
 use std::marker::Model;
 
@@ -24,7 +23,7 @@ mod moves;
 pub struct Scene {
     setups: Vec<Setup>,
     lives: Lives,
-    conns: Vec<Connection>,
+    conns: Connections,
     /// How many happenings applied.
     clock: u64,
     /// What the step of the last of them closed, and at which node.
@@ -36,13 +35,25 @@ impl Model for Scene {
 
     ghost Value = { world.World };
 
-    ghost view = { λ w. record { setups = w.setups.items; lives = w.lives; conns = w.conns.items; clock = w.clock; last_closed = w.last_closed } };
+    ghost view = { λ w. record { setups = w.setups.items; lives = w.lives; conns = w.conns; clock = w.clock; last_closed = w.last_closed } };
 }
 
 fn setup_at(setups: &[Setup], node: usize) -> Option<&Setup>
     ensures { option_copied result ≡ slice_get setups.now node }
 {
     setups.get(node)
+}
+
+fn same_bytes(ours: &[u8], theirs: &[u8]) -> bool
+    ensures { IsTrue result ↔ (ours.now ≡ theirs.now) }
+{
+    ours == theirs
+}
+
+fn begins_with(text: &[u8], bytes: &[u8]) -> bool
+    ensures { IsTrue result ↔ ((rest : List ℕ) × (bytes.now ++ rest ≡ text.now)) }
+{
+    text.len() >= bytes.len() && same_bytes(&text[..bytes.len()], bytes)
 }
 
 impl Scene {
@@ -58,7 +69,7 @@ impl Scene {
         Ok(Scene {
             setups,
             lives: Lives::new(alloc),
-            conns: Vec::new(alloc),
+            conns: Connections::new(alloc),
             clock: 0,
             last_closed: None,
         })
@@ -100,7 +111,7 @@ impl Scene {
         let Some((side, conn)) = self.lives.wire(place, id) else {
             return false;
         };
-        match undelivered(&self.conns, conn, side) {
+        match self.conns.undelivered(conn, side) {
             Some(text) => begins_with(text, bytes),
             None => false,
         }

@@ -1,15 +1,11 @@
 -- How a fault ends the program.
 use Rattle.std.specs.Prelude.{ℕ}
 use Rattle.distnode.specs.declared.fault.Fault.{Fault}
-use Rattle.distnode.specs.declared.fault.Fault.TheVariants.{BadCommandLine, ScriptTooLong, BadLine, NoNode, SameName, BadNodesFile, RunEnded, ReadFailed, WriteFailed, OpenFailed, NoCookie, ConnectFailed, NoAnswer, NoMemory}
+use Rattle.distnode.specs.declared.fault.Fault.TheVariants.{BadCommandLine, BadNodesFile, RunEnded, ReadFailed, WriteFailed, OpenFailed, NoCookie, ConnectFailed, NoAnswer, NoMemory}
 
 -- the exit status: 2 where what the user wrote is at fault, else 1
 abbrev pub status_of : Fault → ℕ
 status_of BadCommandLine = 2
-status_of ScriptTooLong = 2
-status_of (BadLine number) = 2
-status_of NoNode = 2
-status_of SameName = 2
 status_of BadNodesFile = 2
 status_of (RunEnded error) = 1
 status_of ReadFailed = 1

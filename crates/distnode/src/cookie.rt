@@ -4,7 +4,7 @@ ghost use Rattle.std.specs.Prelude.{◌≡◌, ◌≤◌, IfErr};
 ghost use Rattle.distnode.specs.Fault.{status_of};
 
 use crate::fault::Fault;
-use crate::print::lower_hex;
+use dist_script::print::lower_hex;
 use dist_secret::{Cookie, digest, read_cookie};
 use std::alloc::Global;
 use std::io;

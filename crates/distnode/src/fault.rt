@@ -3,9 +3,10 @@
 ghost use Rattle.std.specs.Prelude.{◌≡◌};
 ghost use Rattle.distnode.specs.Fault.{status_of};
 
-use crate::order::OrderError;
+use dist_commands::OrderError;
 use dist_mapper::LookupError;
 use dist_run::RunError;
+use dist_script::ScriptFault;
 use dist_secret::CookieError;
 use std::io::Write;
 use std::{fmt, io};
@@ -15,14 +16,6 @@ use std::{fmt, io};
 pub enum Fault {
     /// The words of the command line are no command of this program, help and version among them.
     BadCommandLine,
-    /// The script has more than 1,048,576 bytes.
-    ScriptTooLong,
-    /// The line of this number, counted from 1 over all lines, is no line of a script.
-    BadLine(usize),
-    /// The script has no line that sets a node up.
-    NoNode,
-    /// Two lines of the script set up nodes of one name.
-    SameName,
     /// The file is no nodes file: it is above 1,048,576 bytes, no UTF-8, or breaks a rule.
     BadNodesFile,
     /// The run of the nodes ended before its work was done.
@@ -47,10 +40,6 @@ impl fmt::Display for Fault {
     fn fmt<W: fmt::Write>(&self, f: &mut fmt::Formatter<W>) -> fmt::Result {
         match self {
             Fault::BadCommandLine => write!(f, "bad command line"),
-            Fault::ScriptTooLong => write!(f, "script too long"),
-            Fault::BadLine(number) => write!(f, "bad line {number}"),
-            Fault::NoNode => write!(f, "no node"),
-            Fault::SameName => write!(f, "same name"),
             Fault::BadNodesFile => write!(f, "bad nodes file"),
             Fault::RunEnded(error) => f.write_str(error.name()),
             Fault::ReadFailed => write!(f, "ReadFailed"),
@@ -73,18 +62,28 @@ impl From<OrderError> for Fault {
     }
 }
 
+// How reading and printing fail that scripts share with nodes files: a text that is at fault is a nodes file.
+impl From<ScriptFault> for Fault {
+    fn from(fault: ScriptFault) -> Fault {
+        match fault {
+            ScriptFault::ReadFailed => Fault::ReadFailed,
+            ScriptFault::WriteFailed => Fault::WriteFailed,
+            ScriptFault::NoMemory => Fault::NoMemory,
+            ScriptFault::TooLong
+            | ScriptFault::BadLine(_)
+            | ScriptFault::NoNode
+            | ScriptFault::SameName => Fault::BadNodesFile,
+        }
+    }
+}
+
 impl Fault {
     /// The exit status: 2 where what the user wrote is at fault, else 1.
     pub fn status(self) -> u8
         ensures { result ≡ status_of self }
     {
         match self {
-            Fault::BadCommandLine
-            | Fault::ScriptTooLong
-            | Fault::BadLine(_)
-            | Fault::NoNode
-            | Fault::SameName
-            | Fault::BadNodesFile => 2,
+            Fault::BadCommandLine | Fault::BadNodesFile => 2,
             _ => 1,
         }
     }

@@ -5,27 +5,16 @@
 #![tactic(auto)]
 
 mod cookie;
-mod digits;
-mod enact;
 mod fault;
-mod happenings;
-mod lines;
 mod names;
-mod node_line;
-mod numbers;
-mod order;
-mod print;
 mod run;
-mod scene;
-mod script;
-mod stage;
 #[cfg(test)]
 mod tests;
-mod words;
 
+use dist_commands::{Order, order_of};
+use dist_script::enact;
 use dist_streams::SocketStream;
 use fault::Fault;
-use order::{Order, order_of};
 use std::alloc::{AllocError, Global};
 use std::fs::File;
 use std::io::{ErrorKind, Write};
@@ -107,7 +96,7 @@ where
 {
     let alloc = rt.alloc();
     match order {
-        Order::Enact => enact::enact(alloc, &mut rt.stdin(), out, err),
+        Order::Enact => enact(alloc, &mut rt.stdin(), out, err),
         Order::Cookie { file, challenge } => match File::open(rt, file) {
             Ok(mut file) => cookie::cookie(alloc, &mut file, challenge, out, err),
             Err(_) => Fault::OpenFailed.tell(err),

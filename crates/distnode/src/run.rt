@@ -2,14 +2,12 @@
 
 ghost use Rattle.std.specs.Prelude.{◌≤◌, IfOk};
 
-use crate::enact::read_text;
 use crate::fault::{Fault, written};
-use crate::print;
-use crate::stage::{print_agreements, print_nodes};
 use dist_audit::{AuditError, audit};
 use dist_locked::{Closed, Gate, Open};
 use dist_plan::{Plan, PlanError, plan_of};
 use dist_run::{OrderFault, Ran, run_plan};
+use dist_script::{print, print_agreements, print_nodes, read_text};
 use dist_world::World;
 use std::alloc::Global;
 use std::io::{BufWriter, Read, Write};
@@ -125,15 +123,6 @@ where
     }
 }
 
-// The bytes of a nodes file, which is as long as a script at most.
-fn read_file<F: Read>(alloc: Global, file: &mut F) -> Result<Vec<u8>, Fault> {
-    match read_text(alloc, file) {
-        Ok(bytes) => Ok(bytes),
-        Err(Fault::ScriptTooLong) => Err(Fault::BadNodesFile),
-        Err(fault) => Err(fault),
-    }
-}
-
 /// Runs the nodes of a nodes file that is read here. One above 1,048,576 bytes, or that isn't UTF-8, is a bad one.
 pub fn run_file<R, F: Read, W: Write, E: Write>(
     rt: &R,
@@ -151,9 +140,9 @@ where
         + Sync,
     ensures { result ≤ 2 }
 {
-    let bytes = match read_file(alloc, file) {
+    let bytes = match read_text(alloc, file) {
         Ok(bytes) => bytes,
-        Err(fault) => return fault.tell(err),
+        Err(fault) => return Fault::from(fault).tell(err),
     };
     match str::from_utf8(bytes.as_slice()) {
         Ok(text) => run_nodes(rt, alloc, text, &Open, out, err),

@@ -1,4 +1,3 @@
-use crate::fault::Fault;
 use std::alloc::{AllocError, Global};
 use std::io;
 use std::io::{ErrorKind, Read, Write};
@@ -87,7 +86,7 @@ struct Ran {
 fn enacted(alloc: Global, script: &[u8]) -> Ran {
     let (mut out, mut err) = (Vec::new(alloc), Vec::new(alloc));
     let mut input = script;
-    let status = crate::enact::enact(alloc, &mut input, &mut out, &mut err);
+    let status = dist_script::enact(alloc, &mut input, &mut out, &mut err);
     Ran { status, out, err }
 }
 

@@ -5,12 +5,10 @@ ghost use Rattle.dist_agreement.specs.World.{running};
 ghost use Rattle.dist_agreement.specs.Happenings.{told, told_of, unclosed, begun, halted, reached, opened, accepted, deliver, take_next, applied, applied_at};
 ghost use Rattle.dist_world.specs.Doing.{Did, Happened};
 
-use crate::connection::Connection;
-use crate::links::{accept_at, deliver_at, front_at, take_at, unaccepted};
 use crate::scene::{Scene, setup_at};
 use dist_agreement::Happening;
 use dist_core::{Event, Opening, Why, a_reply_is_of_its_end};
-use dist_names::{Creation, NodeName};
+use dist_names::{ByteString, Creation, NodeName};
 use dist_peers::EndId;
 use std::alloc::{AllocError, Global};
 
@@ -124,7 +122,7 @@ impl Scene {
         if number >= MOST_CONNECTIONS {
             return Ok(false);
         }
-        self.conns.push(Connection::new(alloc, place, id, target))?;
+        self.conns.connect(alloc, place, id, target)?;
         self.lives.reach(place, id, number);
         self.last_closed = None;
         Ok(true)
@@ -154,7 +152,7 @@ impl Scene {
         ensures { Did result (accepted (unclosed self.old) conn (slice_get self.old.conns conn)) self.old self.new }
     {
         a_reply_is_of_its_end();
-        let Some(target) = unaccepted(&self.conns, conn) else {
+        let Some(target) = self.conns.unaccepted(conn) else {
             return Ok(false);
         };
         let event = Event::Incoming { link: conn as u64 };
@@ -164,7 +162,7 @@ impl Scene {
         {
             None => Ok(false),
             Some((who, heard)) => {
-                accept_at(&mut self.conns, conn, heard.end_);
+                self.conns.accept(conn, heard.end_);
                 self.last_closed = closed_at(who, heard.closed);
                 Ok(true)
             }
@@ -172,23 +170,23 @@ impl Scene {
     }
 
     // Some of what the other side said comes to an open end.
-    fn deliver(&mut self, node: usize, id: EndId, count: usize) -> bool
-        ensures { Did (Ok result) (deliver (unclosed self.old) id.0 count (running self.old node)) self.old self.new }
+    fn deliver(&mut self, node: usize, id: EndId, count: usize) -> Result<bool, AllocError>
+        ensures { Did result (deliver (unclosed self.old) id.0 count (running self.old node)) self.old self.new }
     {
         let Some(place) = self.running(node) else {
-            return false;
+            return Ok(false);
         };
         if !self.lives.is_open(place, id) {
-            return false;
+            return Ok(false);
         }
         let Some((side, conn)) = self.lives.wire(place, id) else {
-            return false;
+            return Ok(false);
         };
-        if !deliver_at(&mut self.conns, conn, side, count) {
-            return false;
+        if !self.conns.deliver(conn, side, count)? {
+            return Ok(false);
         }
         self.last_closed = None;
-        true
+        Ok(true)
     }
 
     // An end takes the first frame that came to it.
@@ -208,10 +206,10 @@ impl Scene {
         let Some((side, conn)) = self.lives.wire(place, id) else {
             return Ok(false);
         };
-        let Some(body) = front_at(&self.conns, conn, side, alloc)? else {
+        let Some(front) = self.conns.front(conn, side) else {
             return Ok(false);
         };
-        let count = body.len();
+        let body = ByteString::from_slice(alloc, front)?;
         let event = Event::Frame { end_: id, body };
         match self
             .lives
@@ -219,7 +217,7 @@ impl Scene {
         {
             None => Ok(false),
             Some((who, heard)) => {
-                take_at(&mut self.conns, conn, side, count);
+                self.conns.take(conn, side);
                 self.last_closed = closed_at(who, heard.closed);
                 Ok(true)
             }
@@ -261,7 +259,7 @@ impl Scene {
             Happening::Reach { node, end_, target } => self.reach(alloc, *node, *end_, *target),
             Happening::Opened { node, end_ } => self.open(alloc, *node, *end_),
             Happening::Accept { conn } => self.accept(alloc, *conn),
-            Happening::Deliver { node, end_, bytes } => Ok(self.deliver(*node, *end_, *bytes)),
+            Happening::Deliver { node, end_, bytes } => self.deliver(*node, *end_, *bytes),
             Happening::Take { node, end_, fresh } => self.take(alloc, *node, *end_, *fresh),
             Happening::Lose { node, end_, why } => {
                 let event = Event::Lost {

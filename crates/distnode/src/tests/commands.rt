@@ -1,9 +1,11 @@
 //! The other commands, the command line, and how faults are told.
 
 use super::*;
-use crate::order::order_of;
+use crate::fault::Fault;
+use dist_commands::order_of;
 use dist_mapper::LookupError;
 use dist_run::RunError;
+use dist_script::ScriptFault;
 use dist_secret::CookieError;
 use dist_streams::FaultStream;
 
@@ -102,7 +104,7 @@ fn order_told(alloc: Global, line: &str) -> Result<String, Fail> {
 }
 
 #[test]
-fn a_command_line_is_an_order_or_bad(rt: HostRuntime) -> Result<(), Fail> {
+fn command_lines(rt: HostRuntime) -> Result<(), Fail> {
     let alloc = rt.alloc();
     for row in ORDERS.lines().skip(1) {
         let (line, wanted) = row.split_once(" => ").ok_or("a row without an order")?;
@@ -114,34 +116,68 @@ fn a_command_line_is_an_order_or_bad(rt: HostRuntime) -> Result<(), Fail> {
     Ok(())
 }
 
+// How a fault is told, and which status it ends with.
+fn check_told<A: Abort>(rt: &A, alloc: Global, fault: Fault, status: u8, name: &str) {
+    let mut told = Vec::new(alloc);
+    assert_eq!(rt; fault.tell(&mut told), status, "{name}");
+    let told = text_of(&told).trim_end();
+    assert_eq!(rt; told.strip_prefix("distnode: "), Some(name));
+}
+
 #[test]
 fn faults_are_told_by_their_names(rt: HostRuntime) {
-    for (fault, status, name) in [
-        (Fault::BadCommandLine, 2u8, "bad command line"),
-        (Fault::ScriptTooLong, 2, "script too long"),
-        (Fault::BadLine(1048576), 2, "bad line 1048576"),
-        (Fault::NoNode, 2, "no node"),
-        (Fault::SameName, 2, "same name"),
-        (Fault::BadNodesFile, 2, "bad nodes file"),
-        (Fault::RunEnded(RunError::ListenFailed), 1, "ListenFailed"),
-        (
-            Fault::RunEnded(RunError::NotRegistered(LookupError::Ended)),
-            1,
-            "Ended",
-        ),
-        (Fault::ReadFailed, 1, "ReadFailed"),
-        (Fault::WriteFailed, 1, "WriteFailed"),
-        (Fault::OpenFailed, 1, "OpenFailed"),
-        (Fault::NoCookie(CookieError::BadByte), 1, "BadByte"),
-        (Fault::ConnectFailed, 1, "ConnectFailed"),
-        (Fault::NoAnswer(LookupError::Limit), 1, "Limit"),
-        (Fault::NoMemory, 1, "NoMemory"),
-    ] {
-        let mut told = Vec::new(rt.alloc());
-        assert_eq!(rt; fault.tell(&mut told), status, "{name}");
-        let told = text_of(&told).trim_end();
-        assert_eq!(rt; told.strip_prefix("distnode: "), Some(name));
-    }
+    let alloc = rt.alloc();
+    check_told(&rt, alloc, Fault::BadCommandLine, 2, "bad command line");
+    check_told(
+        &rt,
+        alloc,
+        Fault::from(ScriptFault::TooLong),
+        2,
+        "bad nodes file",
+    );
+    check_told(
+        &rt,
+        alloc,
+        Fault::RunEnded(RunError::ListenFailed),
+        1,
+        "ListenFailed",
+    );
+    check_told(
+        &rt,
+        alloc,
+        Fault::from(ScriptFault::ReadFailed),
+        1,
+        "ReadFailed",
+    );
+    check_told(
+        &rt,
+        alloc,
+        Fault::from(ScriptFault::WriteFailed),
+        1,
+        "WriteFailed",
+    );
+    check_told(&rt, alloc, Fault::OpenFailed, 1, "OpenFailed");
+    check_told(
+        &rt,
+        alloc,
+        Fault::NoCookie(CookieError::BadByte),
+        1,
+        "BadByte",
+    );
+    check_told(&rt, alloc, Fault::ConnectFailed, 1, "ConnectFailed");
+    check_told(&rt, alloc, Fault::NoAnswer(LookupError::Limit), 1, "Limit");
+    check_told(
+        &rt,
+        alloc,
+        Fault::from(ScriptFault::NoMemory),
+        1,
+        "NoMemory",
+    );
+    let unregistered = RunError::NotRegistered(LookupError::Ended);
+    check_told(&rt, alloc, Fault::RunEnded(unregistered), 1, "Ended");
+    let mut told = Vec::new(alloc);
+    assert_eq!(rt; ScriptFault::BadLine(1048576).tell(&mut told), 2);
+    assert_eq!(rt; text_of(&told), "distnode: bad line 1048576\n");
 }
 
 // A port mapper that says these bytes.
@@ -157,16 +193,15 @@ fn asked(alloc: Global, stream: &mut FaultStream) -> Ran {
     Ran { status, out, err }
 }
 
+// Answers of a port mapper, the first of no bytes.
+const ANSWERS: &str = "|name a at port 9001\n|name b at port 1\nname a at port 2";
+
 #[test]
 fn the_answer_of_a_port_mapper_is_printed_as_it_came(rt: HostRuntime) -> Result<(), Fail> {
     let alloc = rt.alloc();
-    for text in [
-        "",
-        "name a at port 9001\n",
-        "name b at port 1\nname a at port 2",
-    ] {
-        let mut stream = over(alloc, text)?;
-        check_ran(&rt, &asked(alloc, &mut stream), (0, text, ""), text);
+    for row in ANSWERS.split('|') {
+        let mut stream = over(alloc, row)?;
+        check_ran(&rt, &asked(alloc, &mut stream), (0, row, ""), row);
         assert_eq!(rt; stream.written(), b"\x00\x01n".as_slice());
     }
 
@@ -182,20 +217,34 @@ fn the_answer_of_a_port_mapper_is_printed_as_it_came(rt: HostRuntime) -> Result<
     Ok(())
 }
 
+// Which read fails, which write fails, how much each read gives, and what is told.
+const FAILING: &str = "\
+2 0 5: ReadFailed
+0 1 5: WriteFailed
+0 0 0: Limit
+";
+
+fn number(word: Option<&str>) -> Result<usize, Fail> {
+    Ok(word.ok_or("a row without a number")?.parse::<usize>()?)
+}
+
 #[test]
 fn a_port_mapper_that_fails_is_told(rt: HostRuntime) -> Result<(), Fail> {
     let alloc = rt.alloc();
-    // Which read fails, which write fails, how much each read gives, and what is told.
-    for (fail_read, fail_write, size, told) in [
-        (2, 0, 5, "distnode: ReadFailed\n"),
-        (0, 1, 5, "distnode: WriteFailed\n"),
-        (0, 0, 0, "distnode: Limit\n"),
-    ] {
+    for row in FAILING.lines() {
+        let (numbers, name) = row.split_once(": ").ok_or("a row without a name")?;
+        let mut numbers = numbers.split_whitespace();
         let mut stream = over(alloc, "name a at port 9001\n")?;
-        stream.fail_read = fail_read;
-        stream.fail_write = fail_write;
-        stream.read_sizes.push(size)?;
-        check_ran(&rt, &asked(alloc, &mut stream), (1, "", told), told);
+        stream.fail_read = number(numbers.next())? as u64;
+        stream.fail_write = number(numbers.next())? as u64;
+        stream.read_sizes.push(number(numbers.next())?)?;
+        let told = format!(in alloc; "distnode: {name}\n")?;
+        check_ran(
+            &rt,
+            &asked(alloc, &mut stream),
+            (1, "", told.as_str()),
+            name,
+        );
     }
     let mut stream = FaultStream::new(alloc, vec![in alloc; 0, 0, 0x11]?);
     let ran = asked(alloc, &mut stream);

@@ -1,11 +1,10 @@
 //! The node's limits, and that it answers beforehand what a step then gives.
 
 use super::*;
-use crate::scene::Scene;
-use crate::script::{Line, Script, script_of};
 use dist_core::{Event, Node, Reply, Setup, StepError};
 use dist_frames::Frames;
 use dist_names::ByteString;
+use dist_script::{Line, Scene, Script, script_of};
 
 // The node of a script, and what it is told.
 fn told(alloc: Global, text: &str) -> Result<(Setup, Vec<Line>), Fail> {
@@ -127,12 +126,40 @@ fn a_node_has_room_for_1024_peers_and_4096_open_ends(rt: HostRuntime) -> Result<
 
 // ---- `answer` gives what `step` then gives
 
-const ANSWERED: [&str; 4] = [
-    "{b}\nincoming 1\nbytes 0 {NA} {X}\nbytes 0 {R} 0\nincoming 2\nbytes 1 {NA} {X}\nbytes 1 {TRUE} {X}\nbytes 1 {WRONG} 0\n",
-    "{b}\nincoming 1\nbytes 0 {NA} {X}\nbytes 0 {WRONG} 0\nbytes 0 {R} 0\n",
-    "{a}\ndial b@127.0.0.1 new\nopened 0 1\nbytes 0 {OK} 0\nbytes 0 {CB} {X}\nbytes 0 {ACK} 0\ntick 0\ndial b@127.0.0.1 new\n",
-    "{a}\ndial b@127.0.0.1 old\nopened 0 1\nbytes 0 {OK} 0\nbytes 0 {CB} {X}\nlost 0 Ended\nlost 0 Ended\n",
-];
+// A script a paragraph.
+const ANSWERED: &str = "\
+{b}
+incoming 1
+bytes 0 {NA} {X}
+bytes 0 {R} 0
+incoming 2
+bytes 1 {NA} {X}
+bytes 1 {TRUE} {X}
+bytes 1 {WRONG} 0
+
+{b}
+incoming 1
+bytes 0 {NA} {X}
+bytes 0 {WRONG} 0
+bytes 0 {R} 0
+
+{a}
+dial b@127.0.0.1 new
+opened 0 1
+bytes 0 {OK} 0
+bytes 0 {CB} {X}
+bytes 0 {ACK} 0
+tick 0
+dial b@127.0.0.1 new
+
+{a}
+dial b@127.0.0.1 old
+opened 0 1
+bytes 0 {OK} 0
+bytes 0 {CB} {X}
+lost 0 Ended
+lost 0 Ended
+";
 
 fn is_one(one: &Result<Reply, StepError>, other: &Result<Reply, StepError>) -> bool {
     match (one, other) {
@@ -167,7 +194,7 @@ fn is_line_answered(alloc: Global, node: &mut Node, line: &Line) -> Result<bool,
 #[test]
 fn a_node_answers_beforehand_what_a_step_then_gives(rt: HostRuntime) -> Result<(), Fail> {
     let alloc = rt.alloc();
-    for text in ANSWERED {
+    for text in ANSWERED.split("\n\n") {
         let (node, lines) = told(alloc, text)?;
         let mut node = Node::new(alloc, node.try_clone(alloc)?);
         for (place, line) in lines.iter().enumerate() {

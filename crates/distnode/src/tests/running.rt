@@ -38,34 +38,42 @@ audit holds
 
 const BAD: &str = "distnode: bad nodes file\n";
 
+// A text of the file, what stands in its place, and what comes of it; `;` stands for the end of a line.
+const RUNS: &str = r#"
+turns -> turns -> both
+to = "b@ -> to = "z@ -> nobody
+[[dial]] -> [[nodes]];[[dial]] -> bad
+"401000004" -> "xyz" -> bad
+"b@127.0.0.1";cookie -> "a@127.0.0.2";cookie -> bad
+from = "a@ -> from = "q@ -> bad
+"#;
+
+// The status, what is printed and what is told.
+fn wanted_of(kind: &str) -> (u8, &'static str, &'static str) {
+    match kind {
+        "both" => (0, TWO_TABLES, ""),
+        "nobody" => (0, NOBODY_IS_UP, ""),
+        _ => (2, "", BAD),
+    }
+}
+
+// The nodes file with another text in the place of one.
+fn changed(alloc: Global, old: &str, new: &str) -> Result<String, AllocError> {
+    let old = old.replace(alloc, ';', "\n")?;
+    let new = new.replace(alloc, ';', "\n")?;
+    TWO_NODES.replacen(alloc, old.as_str(), new.as_str(), 1)
+}
+
 #[test]
 fn two_nodes_on_loopback(rt: HostRuntime) -> Result<(), Fail> {
     let alloc = rt.alloc();
-    // A text of the file and what stands in its place, the status, what is printed, what is told.
-    let rows = [
-        ("turns", "turns", 0u8, TWO_TABLES, ""),
-        ("to = \"b@", "to = \"z@", 0, NOBODY_IS_UP, ""),
-        ("[[dial]]", "[[nodes]]\n[[dial]]", 2, "", BAD),
-        ("\"401000004\"", "\"xyz\"", 2, "", BAD),
-        (
-            "\"b@127.0.0.1\"\ncookie",
-            "\"a@127.0.0.2\"\ncookie",
-            2,
-            "",
-            BAD,
-        ),
-        ("from = \"a@", "from = \"q@", 2, "", BAD),
-    ];
-    for (old, new, status, printed, told) in rows {
-        let text = TWO_NODES.replacen(alloc, old, new, 1)?;
+    for row in RUNS.lines().skip(1) {
+        let (front, kind) = row.rsplit_once(" -> ").ok_or("a row without an end")?;
+        let (old, new) = front.split_once(" -> ").ok_or("a row without a text")?;
+        let text = changed(alloc, old, new)?;
         let (mut out, mut err) = (Vec::new(alloc), Vec::new(alloc));
-        let found = run_nodes(&rt, alloc, text.as_str(), &Open, &mut out, &mut err);
-        let ran = Ran {
-            status: found,
-            out,
-            err,
-        };
-        check_ran(&rt, &ran, (status, printed, told), new);
+        let status = run_nodes(&rt, alloc, text.as_str(), &Open, &mut out, &mut err);
+        check_ran(&rt, &Ran { status, out, err }, wanted_of(kind), new);
     }
     Ok(())
 }

@@ -2,7 +2,7 @@
 
 use super::*;
 use crate::follow;
-use crate::order::Order;
+use dist_commands::Order;
 use std::fs;
 use std::net::{Net, TcpListener, TcpStream};
 use std::random::RandomSource;

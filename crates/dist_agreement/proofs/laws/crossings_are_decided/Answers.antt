@@ -1,4 +1,4 @@
-use Rattle.dist_agreement.proofs.Lives.{decided_lives}
+use Rattle.dist_agreement.proofs.Lifelong.{decided_lives}
 use Rattle.dist_agreement.proofs.laws.crossings_are_decided.Goals as goal
 
 pub returns : goal.returns

@@ -1,4 +1,4 @@
-use Rattle.dist_agreement.proofs.Stoning.{in_turn_lives}
+use Rattle.dist_agreement.proofs.InTurn.{in_turn_lives}
 use Rattle.dist_agreement.proofs.laws.ends_are_in_turn.Goals as goal
 
 pub returns : goal.returns

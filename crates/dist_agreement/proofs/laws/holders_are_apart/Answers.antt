@@ -1,4 +1,4 @@
-use Rattle.dist_agreement.proofs.Lives.{apart_lives}
+use Rattle.dist_agreement.proofs.Lifelong.{apart_lives}
 use Rattle.dist_agreement.proofs.laws.holders_are_apart.Goals as goal
 
 pub returns : goal.returns

@@ -14,11 +14,11 @@ pub returns-in-Ok-clause-ok : goal.returns-in-Ok-clause-ok
 returns-in-Ok-clause-ok c =
     let l = c.index_mut-life.result.now in
     let run : runs l ≡ true = sym c.runs.ensures ∙ c.if-not-runs.false in
-    has_told c.args.lives.now.items c.args.place l (omega arith) c.index_mut-life.ensures.value c.a_reply_is_of_its_end.ensures.step c.args.clock c.args.event.now c.args.fresh c.args.conns.now.items c.hear_on.new.conns.items c.hear_on.new.life c.in-Ok.heard c.who.result c.wire-wire.result run c.who.ensures c.wire-wire.ensures c.in-Ok.ensures
+    has_told c.args.lives.now.items c.args.place l (omega arith) c.index_mut-life.ensures.value c.a_reply_is_of_its_end.ensures.step c.args.clock c.args.event.now c.args.fresh c.args.conns.now c.hear.new.conns c.hear.new.self c.in-Ok.heard c.who.result c.wire-wire.result run c.who.ensures c.wire-wire.ensures c.in-Ok.ensures
 
 pub returns-else-is_short-clause-ok : goal.returns-else-is_short-clause-ok
 returns-else-is_short-clause-ok c =
     let l = c.index_mut-life.result.now in
     let at = stands c.args.lives.now.items c.args.place l (omega arith) c.index_mut-life.ensures.value in
     let k = c.in-Err.ensures in
-    (declines_refused c.args.lives.now.items c.args.place c.args.event.now c.args.fresh l c.in-Err.refusal at (refused c.in-Err.refusal (step l.node c.args.event.now c.args.fresh) (sym c.is_short.ensures ∙ c.if-is_short.false) k.0), put_back c.args.lives.now.items c.args.place l (omega arith) c.index_mut-life.ensures.value c.hear_on.new.life k.1, k.2)
+    (declines_refused c.args.lives.now.items c.args.place c.args.event.now c.args.fresh l c.in-Err.refusal at (refused c.in-Err.refusal (step l.node c.args.event.now c.args.fresh) (sym c.is_short.ensures ∙ c.if-is_short.false) k.0), put_back c.args.lives.now.items c.args.place l (omega arith) c.index_mut-life.ensures.value c.hear.new.self k.1, k.2)

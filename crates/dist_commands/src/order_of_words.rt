@@ -1,0 +1,66 @@
+//! The order that the words of the command line give.
+
+ghost use Rattle.std.specs.Prelude.{◌≡◌, IfOk, map};
+ghost use Rattle.clap.specs.Words.{kind_of};
+ghost use Rattle.dist_commands.specs.declared.order_of_words.OrderError.TheVariants.{NoMemory};
+ghost use Rattle.dist_commands.specs.declared.order_of_words.Order.{Order};
+ghost use Rattle.dist_commands.specs.CommandLine.{Asks};
+
+use crate::matched::order_in;
+use crate::program::program;
+use clap::Error;
+use clap::error::ErrorKind;
+use std::alloc::{AllocError, Global};
+
+/// What the program is asked to do.
+#[derive(Clone, Copy, Debug, PartialEq, Eq)]
+pub enum Order<'a> {
+    /// Enact the script on standard input.
+    Enact,
+    /// Print the digest of the cookie in this file and the challenge.
+    Cookie { file: &'a str, challenge: u32 },
+    /// Print the names that the port mapper at this port knows.
+    Names { port: u16 },
+    /// Run the nodes of the nodes file at this path.
+    Run { file: &'a str },
+}
+
+/// Why the words ask for nothing.
+#[derive(Clone, Copy, Debug, PartialEq, Eq)]
+pub enum OrderError {
+    /// They are no command of this program. Asking for help or the version is none.
+    Bad,
+    /// No memory was left to read them.
+    NoMemory,
+}
+
+impl From<AllocError> for OrderError {
+    ghost from_gives = { λ _ error. error ≡ NoMemory };
+
+    fn from(_error: AllocError) -> OrderError {
+        OrderError::NoMemory
+    }
+}
+
+// Why the parser refuses the words.
+fn refusal(error: &Error) -> OrderError
+    ensures { kind_of error.now ≡ ErrorKind.OutOfMemory → result ≡ OrderError.NoMemory }
+{
+    match error.kind() {
+        ErrorKind::OutOfMemory => OrderError::NoMemory,
+        _ => OrderError::Bad,
+    }
+}
+
+/// The order that the words after the program's name give: that of the command which the parser of command lines matches
+/// in them, with the file and the number that it matches. They are `Bad` where it matches none.
+pub fn order_of<'a>(alloc: Global, words: &'a [&'a str]) -> Result<Order<'a>, OrderError>
+    ensures ok { IfOk result (Asks (map (λ word. word.now) words.now)) }
+    ensures bad { result ≡ Err OrderError.Bad → (order : Order) → Asks (map (λ word. word.now) words.now) order → ⊥ }
+{
+    let matches = match program(alloc)?.try_get_matches_from(words) {
+        Ok(matches) => matches,
+        Err(error) => return Err(refusal(&error)),
+    };
+    order_in(&matches).ok_or(OrderError::Bad)
+}

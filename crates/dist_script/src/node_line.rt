@@ -1,0 +1,79 @@
+//! The line of a script that sets the node up.
+
+ghost use Rattle.std.specs.Prelude.{◌≡◌};
+ghost use Rattle.dist_script.specs.Words.{ReadsNext};
+ghost use Rattle.dist_script.specs.Digits.{AreFlags, flags_of};
+
+use crate::digits::flags_value;
+use crate::lines::{name_word, number_word};
+use crate::words::{LineFault, Words};
+use dist_core::{NameList, Setup};
+use dist_names::{Creation, Flags};
+use dist_secret::{Cookie, CookieError};
+use std::alloc::Global;
+
+fn flags_word(words: &mut Words<'_>) -> Result<Flags, LineFault>
+    ensures { ReadsNext result words.old AreFlags flags_of }
+{
+    let value = flags_value(words.word()?).ok_or(LineFault::Bad)?;
+    Ok(Flags(value))
+}
+
+fn are_cookie_bytes(word: &[u8]) -> bool {
+    word.iter().all(|byte| 0x21 <= *byte && *byte <= 0x7E)
+}
+
+fn cookie_word(alloc: Global, words: &mut Words<'_>) -> Result<Cookie, LineFault> {
+    let word = words.word()?;
+    if !are_cookie_bytes(word) {
+        return Err(LineFault::Bad);
+    }
+    match Cookie::from_bytes(alloc, word) {
+        Ok(cookie) => Ok(cookie),
+        Err(CookieError::NoMemory) => Err(LineFault::NoMemory),
+        Err(_) => Err(LineFault::Bad),
+    }
+}
+
+// The names that are allowed, each behind `allow`. Without one of them all are.
+fn allowed(alloc: Global, words: &mut Words<'_>) -> Result<Option<NameList>, LineFault> {
+    if words.is_done() {
+        return Ok(None);
+    }
+    let mut names = Vec::new(alloc);
+    'names: while words.skip(b"allow") {
+        names.push(name_word(alloc, words)?)?;
+    }
+    if words.is_done() {
+        Ok(Some(NameList::from_vec(names)))
+    } else {
+        Err(LineFault::Bad)
+    }
+}
+
+// The flags that are required, behind `require`. Without it none are.
+fn required(words: &mut Words<'_>) -> Result<Flags, LineFault> {
+    if words.skip(b"require") {
+        flags_word(words)
+    } else {
+        Ok(Flags(0))
+    }
+}
+
+/// What a node is set up with, from the words behind `node`.
+pub fn setup_of(alloc: Global, words: &mut Words<'_>) -> Result<Setup, LineFault> {
+    let name = name_word(alloc, words)?;
+    let cookie = cookie_word(alloc, words)?;
+    let flags = flags_word(words)?;
+    let creation = Creation(number_word(words)?);
+    let required = required(words)?;
+    let allow = allowed(alloc, words)?;
+    Ok(Setup {
+        name,
+        cookie,
+        flags,
+        required,
+        creation,
+        allow,
+    })
+}

@@ -1,0 +1,144 @@
+//! A script: the lines that set nodes up, and the lines of what happens to them.
+
+ghost use Rattle.std.specs.Prelude.{◌≡◌};
+ghost use Rattle.dist_script.specs.Words.{is_skipped};
+
+use crate::fault::ScriptFault;
+use crate::happenings::happening_of;
+use crate::lines::line_of;
+use crate::node_line::setup_of;
+use crate::words::{LineFault, Words};
+use dist_core::{Event, Setup};
+use dist_names::ByteString;
+use dist_peers::EndId;
+use dist_world::Happening;
+use std::alloc::Global;
+
+/// What a line tells the one node of a script.
+#[derive(Drop)]
+pub enum Line {
+    /// An event as it stands.
+    Event(Event),
+    /// Bytes that came for an end. They make an event for each frame that they end, each with this fresh number.
+    Bytes {
+        end_: EndId,
+        bytes: ByteString,
+        fresh: u32,
+    },
+}
+
+/// A script that was read and checked whole. The number of its nodes decides what its lines say.
+#[derive(Drop)]
+pub enum Script {
+    /// One node, and what it is told.
+    Events {
+        node: Setup,
+        lines: Vec<Line>,
+    },
+    /// Two nodes or more, and what happens in their world.
+    Happenings {
+        nodes: Vec<Setup>,
+        lines: Vec<Happening>,
+    },
+}
+
+// What was read of a script so far.
+#[derive(Drop)]
+struct Draft {
+    nodes: Vec<Setup>,
+    has_lines: bool,
+    events: Vec<Line>,
+    happenings: Vec<Happening>,
+}
+
+impl Draft {
+    fn new(alloc: Global) -> Draft {
+        Draft {
+            nodes: Vec::new(alloc),
+            has_lines: false,
+            events: Vec::new(alloc),
+            happenings: Vec::new(alloc),
+        }
+    }
+
+    // Takes a line that is not skipped. The lines of the nodes stand before all others.
+    fn take(&mut self, alloc: Global, text: &[u8]) -> Result<(), LineFault> {
+        let mut words = Words::new(text);
+        if words.skip(b"node") {
+            return self.set_up(alloc, &mut words);
+        }
+        self.has_lines = true;
+        match self.nodes.len() {
+            0 => is_line(alloc, text)?,
+            1 => self.events.push(line_of(alloc, text)?)?,
+            _ => self.happenings.push(happening_of(alloc, text)?)?,
+        }
+        Ok(())
+    }
+
+    fn set_up(&mut self, alloc: Global, words: &mut Words<'_>) -> Result<(), LineFault> {
+        if self.has_lines {
+            return Err(LineFault::Bad);
+        }
+        self.nodes.push(setup_of(alloc, words)?)?;
+        Ok(())
+    }
+}
+
+// A line behind no node, which may be of either language. Nothing is kept of it, since such a script has no node.
+fn is_line(alloc: Global, text: &[u8]) -> Result<(), LineFault> {
+    match line_of(alloc, text) {
+        Ok(_) => Ok(()),
+        Err(LineFault::Bad) => happening_of(alloc, text).map(|_| ()),
+        Err(LineFault::NoMemory) => Err(LineFault::NoMemory),
+    }
+}
+
+// Whether a line is empty or a comment.
+fn is_skipped(line: &[u8]) -> bool
+    ensures { result ≡ is_skipped line.now }
+{
+    match line {
+        [] => true,
+        [first, ..] => *first == b'#',
+    }
+}
+
+fn draft_of(alloc: Global, text: &[u8]) -> Result<Draft, ScriptFault> {
+    let mut draft = Draft::new(alloc);
+    let mut number = 0usize;
+    for line in text.split(|byte| *byte == b'\n') {
+        number = number.saturating_add(1);
+        if is_skipped(line) {
+            continue;
+        }
+        match draft.take(alloc, line) {
+            Ok(()) => {}
+            Err(LineFault::Bad) => return Err(ScriptFault::BadLine(number)),
+            Err(LineFault::NoMemory) => return Err(ScriptFault::NoMemory),
+        }
+    }
+    Ok(draft)
+}
+
+/// The script that a text is. The first line that is no line of a script is told before a missing node.
+pub fn script_of(alloc: Global, text: &[u8]) -> Result<Script, ScriptFault> {
+    let Draft {
+        mut nodes,
+        has_lines: _,
+        events,
+        happenings,
+    } = draft_of(alloc, text)?;
+    let last = nodes.pop().ok_or(ScriptFault::NoNode)?;
+    if nodes.is_empty() {
+        return Ok(Script::Events {
+            node: last,
+            lines: events,
+        });
+    }
+    nodes.push(last).map_err(|_| ScriptFault::NoMemory)?;
+    Ok(Script::Happenings {
+        nodes,
+        lines: happenings,
+    })
+}

@@ -1,0 +1,38 @@
+-- What is read off a connection, and how a side's last words are taken back.
+use Rattle.std.specs.Prelude.{ℕ, ◌-◌, Bool, false, ◌&&◌, nat_lt, if◌then◌else◌, List, length, take, Option, Some, None, is_some}
+use Rattle.std.specs.Option.{option_map}
+use Rattle.std.specs.Int.{w16}
+use Rattle.dist_messages.specs.declared.message.Side.{Side}
+use Rattle.dist_messages.specs.declared.message.Side.TheVariants.{Dialler, Acceptor}
+use Rattle.dist_frames.specs.Stream.{first_body}
+use Rattle.dist_agreement.specs.World.{Text, Conn}
+use Rattle.dist_agreement.specs.Delivery.{text_to}
+use Rattle.dist_agreement.specs.Happenings.{is_nonempty}
+
+-- where a connection leads to that was not accepted yet
+abbrev pub unaccepted : Option Conn → Option ℕ
+unaccepted None = None
+unaccepted (Some x) = if is_some x.accepted then None else Some x.target
+
+-- what was said to this side of a connection and is undelivered
+abbrev pub undelivered_to : Side → Option Conn → Option (List ℕ)
+undelivered_to side o = option_map (λ c. (let t = text_to side c in t.said)) o
+
+-- so many bytes can come to this side of a connection
+abbrev pub comes : Option Conn → Side → ℕ → Bool
+comes None side k = false
+comes (Some x) side k = nat_lt 0 k && is_nonempty (let t = text_to side x in t.said)
+
+-- the first body that came to this side of a connection
+abbrev pub front_at : Option Conn → Side → Option (List ℕ)
+front_at None side = None
+front_at (Some x) side = first_body w16 (let t = text_to side x in t.come)
+
+-- the last k bytes were not said
+abbrev pub unsaid : ℕ → Text → Text
+unsaid k x = record x { said = take (length x.said - k) x.said }
+
+-- this side did not say the last k bytes
+abbrev pub unsays : Side → ℕ → Conn → Conn
+unsays Dialler k c = record c { there = unsaid k c.there }
+unsays Acceptor k c = record c { back = unsaid k c.back }

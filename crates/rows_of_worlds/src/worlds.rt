@@ -1,0 +1,107 @@
+//! Worlds and happenings from text. `None`: memory was refused, or the text is wrong.
+use dist_core::{Opening, Setup, Why};
+use dist_names::{Creation, Flags, NodeName};
+use dist_peers::EndId;
+use dist_secret::Cookie;
+use dist_world::{Happening, World};
+use std::alloc::Global;
+
+const COOKIE: &str = "ABCDEFGHIJKLMNOPQRSTUVWXYZabcdefghijklmnopqrstuvwxyz0";
+
+/// The names of the nodes of a world, in their order.
+pub const NAMES: &str = "a@127.0.0.1 b@127.0.0.1 c@127.0.0.1";
+
+/// The setup of a node. The first of the names has flags of its own.
+fn setup(alloc: Global, name: &str, flags: u64) -> Option<Setup> {
+    Some(Setup {
+        name: NodeName::new(alloc, name.as_bytes()).ok()?,
+        cookie: Cookie::from_bytes(alloc, COOKIE.as_bytes()).ok()?,
+        flags: Flags(flags),
+        required: Flags(0),
+        creation: Creation(0),
+        allow: None,
+    })
+}
+
+/// Setups of nodes of these names.
+pub fn setups(alloc: Global, names: &str) -> Option<Vec<Setup>> {
+    let mut all = Vec::new(alloc);
+    for name in names.split(' ') {
+        let flags = if name.starts_with('a') {
+            0x401000004
+        } else {
+            0x101000104
+        };
+        all.push(setup(alloc, name, flags)?).ok()?;
+    }
+    Some(all)
+}
+
+/// A world of three nodes.
+pub fn world(alloc: Global) -> Option<World> {
+    World::new(alloc, setups(alloc, NAMES)?).ok()
+}
+
+// A number, or one that names nothing.
+fn number(word: Option<&str>) -> u32 {
+    word.unwrap_or("").parse::<u32>().unwrap_or(99)
+}
+
+/// A happening in the words of a script, of which at most so many bytes are delivered.
+pub fn happening(alloc: Global, line: &str, most: usize) -> Option<Happening> {
+    let mut words = line.split(' ');
+    let verb = words.next()?;
+    let node = number(words.next()) as usize;
+    let second = words.next();
+    let third = words.next();
+    let end_ = EndId(number(second));
+    let creation = Creation(end_.0);
+    let last = number(third);
+    Some(match verb {
+        "begin" => Happening::Begin { node, creation },
+        "halt" => Happening::Halt { node },
+        "dial" => Happening::Dial {
+            node,
+            peer: NodeName::new(alloc, second?.as_bytes()).ok()?,
+            opening: Opening::New,
+        },
+        "tick" => Happening::Tick { node, end_ },
+        "reach" => Happening::Reach {
+            node,
+            end_,
+            target: last as usize,
+        },
+        "opened" => Happening::Opened { node, end_ },
+        "accept" => Happening::Accept { conn: node },
+        "deliver" => Happening::Deliver {
+            node,
+            end_,
+            bytes: most.min(last as usize),
+        },
+        "take" => Happening::Take {
+            node,
+            end_,
+            fresh: last,
+        },
+        "ended" => Happening::Lose {
+            node,
+            end_,
+            why: Why::Ended,
+        },
+        "gave_up" => Happening::Lose {
+            node,
+            end_,
+            why: Why::GaveUp,
+        },
+        _ => return None,
+    })
+}
+
+/// All happenings of a script, one between two commas.
+pub fn happenings(alloc: Global, script: &str) -> Option<Vec<Happening>> {
+    let mut list = Vec::new(alloc);
+    for line in script.split(", ") {
+        list.push(happening(alloc, line, 999)?).ok()?;
+    }
+    Some(list)
+}
