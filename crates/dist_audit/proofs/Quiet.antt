@@ -23,7 +23,7 @@ use Rattle.dist_agreement.specs.Lists.{at_place}
 use Rattle.dist_agreement.specs.Rows.{EndRow}
 use Rattle.dist_agreement.specs.World.{World, Life, Conn, Text, empty, runs, running, row_at, end_at}
 use Rattle.dist_agreement.specs.Delivery.{says, spoken, spoken_on, text_to, change_to, delivered, body_taken}
-use Rattle.dist_world.specs.Hearing.{wire_of}
+use Rattle.dist_lives.specs.Hearing.{wire_of}
 use Rattle.dist_world.specs.Asking.{said_to, undelivered}
 use Rattle.dist_agreement.specs.Happenings.{answered, told_in, told, told_of, new_life, new_conn, reached, reached_life, conn_of, opened, opened_on, accepted, accepted_by, next_end, begun, is_open_end, is_nonempty, came, came_on, came_to, deliver, taken_body, taken_from, taken_on, taken_by, take_next, applied, unclosed, ticked_on, applied_at, happens}
 use Rattle.dist_agreement.specs.Run.{run, one_where}

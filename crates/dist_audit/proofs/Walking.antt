@@ -1,5 +1,5 @@
 -- Lines that are followed, one on.
-use Rattle.std.proofs.Common.{◌≡◌, ℕ, suc, ◌+◌, ◌<◌, List, [], ◌∷◌, ◌++◌, option_to_list, refl, ap, sym, subst, ◌∙◌, length, get_or, drop, drop-cons, add-one, add_assoc, length-append, arith}
+use Rattle.std.proofs.Common.{◌≡◌, ℕ, suc, ◌+◌, ◌<◌, List, [], ◌∷◌, ◌++◌, option_to_list, refl, ap, sym, subst, inl, inr, ◌∙◌, length, get_or, drop, drop-cons, add-one, add_assoc, length-append, arith}
 use Rattle.dist_agreement.specs.declared.happening.Happening.{Happening}
 use Rattle.dist_locked.specs.declared.closing.Closed.{Closed}
 use Rattle.dist_agreement.specs.World.{World, empty}
@@ -9,7 +9,7 @@ use Rattle.dist_audit.specs.declared.audit_error.AuditError.{AuditError}
 use Rattle.dist_audit.specs.declared.audit_error.AuditError.TheVariants as error
 use Rattle.dist_audit.specs.Lines.{Told, lines_of}
 use Rattle.dist_audit.specs.Happenings.{setups_of, begins, happenings, of_lines, ahead, itself, mentioned}
-use Rattle.dist_audit.specs.Audit.{AllApply, IsFollowed, AreFollowed, AreOfOneWorld, after, begun, Refutes}
+use Rattle.dist_audit.specs.Audit.{AllApply, IsFollowed, AreFollowed, AreOfOneWorld, after, begun, Refutes, RefusesLine, StopsAt, UnlessShort}
 
 pub run-append : (xs ys : List Happening) (w : World) → run (xs ++ ys) w ≡ run ys (run xs w)
 run-append [] ys w = refl
@@ -24,11 +24,21 @@ refutes-whole error.TicketFalls P Q f r = absurd r
 refutes-whole error.TicketTwice P Q f r = absurd r
 refutes-whole error.Unpaired P Q f r = absurd r
 
+-- what is shown of a refusal shows more
+pub unless-more : (e : AuditError) (P Q : Type 0) → (P → Q) → UnlessShort e P → UnlessShort e Q
+unless-more error.NoMemory P Q f p = tt
+unless-more error.NotSent P Q f p = f p
+unless-more error.OtherReply P Q f p = f p
+unless-more error.TicketFalls P Q f p = f p
+unless-more error.TicketTwice P Q f p = f p
+unless-more error.Unpaired P Q f p = f p
+
 -- what is left of the lines decides
 pub record Decides (all : List Told) (count : ℕ) (ks : List ℕ) (w : World) (rest : List Told) (begun : World) : Type 0 where
   pub whole : AreFollowed all count ks w rest → AreFollowed all count [] begun all
   pub part : AreFollowed all count [] begun all → AreFollowed all count ks w rest
   pub runs : run (of_lines all count ks rest) w ≡ run (of_lines all count [] all) begun
+  pub stops : (e : AuditError) → StopsAt e all count ks w rest → StopsAt e all count [] begun all
 
 module _ (all : List Told) (count : ℕ) (ks : List ℕ) (w begun : World) (i : ℕ) (t : Told) (few : i < length all) (is : t ≡ get_or all i t) where
   split : drop i all ≡ t ∷ drop (i + 1) all
@@ -38,12 +48,17 @@ module _ (all : List Told) (count : ℕ) (ks : List ℕ) (w begun : World) (i : 
   pub first_of_rest : Decides all count ks w (drop i all) begun → AreFollowed all count [] begun all → IsFollowed all count ks w t
   first_of_rest d f = (subst (AreFollowed all count ks w) split (d.part f)).0
 
+  -- it is refused, and so are all lines
+  pub stops-here : (e : AuditError) → Decides all count ks w (drop i all) begun → UnlessShort e (RefusesLine e all count ks w t) → UnlessShort e (StopsAt e all count [] begun all)
+  stops-here e d r = unless-more e (RefusesLine e all count ks w t) (StopsAt e all count [] begun all) (λ p. d.stops e (subst (StopsAt e all count ks w) (sym split) (inl p))) r
+
   pub goes_on : (new : World) (js : List ℕ) → Decides all count ks w (drop i all) begun → IsFollowed all count ks w t → new ≡ after all count ks w t → js ≡ mentioned ks t → Decides all count js new (drop (i + 1) all) begun
   goes_on new js d f did named =
       let Q : List ℕ → World → Type 0 = λ ls v. Decides all count ls v (drop (i + 1) all) begun in
       let at : Q (mentioned ks t) (after all count ks w t) = record {
         whole = λ g. d.whole (subst (AreFollowed all count ks w) (sym split) (f, g));
         part = λ g. (subst (AreFollowed all count ks w) split (d.part g)).1;
+        stops = λ e r. d.stops e (subst (StopsAt e all count ks w) (sym split) (inr (f, r)));
         runs = sym (run-append (option_to_list (ahead all count ks t)) (itself ks t ∷ of_lines all count (mentioned ks t) (drop (i + 1) all)) w) ∙ (sym (ap (λ (rest : List Told). run (of_lines all count ks rest) w) split) ∙ d.runs);
       } in
       subst (λ v. Q js v) (sym did) (subst (λ ls. Q ls (after all count ks w t)) (sym named) at)

@@ -1,5 +1,5 @@
 -- HISTORIES THAT ARE THOSE OF ONE WORLD.
-use Rattle.std.specs.Prelude.{◌≡◌, ℕ, ◌<◌, ◌^◌, List, [], ◌∷◌, ◌++◌, length, Option, Some, None, Ok, slice_get, option_to_list}
+use Rattle.std.specs.Prelude.{◌≡◌, ◌⊎◌, ℕ, ◌<◌, ◌^◌, List, [], ◌∷◌, ◌++◌, length, Option, Some, None, Ok, slice_get, option_to_list}
 use Rattle.std.specs.Option.{option_map, option_and_then}
 use Rattle.std.specs.Int.{w16}
 use Rattle.std.specs.FinMap as map
@@ -20,7 +20,7 @@ use Rattle.dist_locked.specs.declared.closing.Closed.{Closed}
 use Rattle.dist_agreement.specs.declared.happening.Happening.{Happening}
 use Rattle.dist_agreement.specs.World.{World, empty, running, row_at}
 use Rattle.dist_agreement.specs.Delivery.{text_to}
-use Rattle.dist_world.specs.Hearing.{wire_of}
+use Rattle.dist_lives.specs.Hearing.{wire_of}
 use Rattle.dist_world.specs.Asking.{node_of, said_to}
 use Rattle.dist_agreement.specs.Run.{run, count_applied}
 use Rattle.dist_audit.specs.declared.audit_error.AuditError.{AuditError}
@@ -127,6 +127,40 @@ Tells error.NoMemory cs = Unit {0}
 Tells error.NotSent cs = (fault_of cs ≡ None) × (AreOfOneWorld cs → ⊥)
 Tells error.OtherReply cs = (fault_of cs ≡ None) × (AreOfOneWorld cs → ⊥)
 Tells e cs = fault_of cs ≡ Some e
+
+-- ---- which refusal
+
+-- this is so, unless memory was short
+abbrev pub UnlessShort : AuditError → Type 0 → Type 0
+UnlessShort error.NoMemory P = Unit {0}
+UnlessShort e P = P
+
+-- A line is refused so: NotSent, where a frame's body is not the next one said; OtherReply, where nothing is wrong with a
+-- frame's body, and the line is not followed all the same.
+abbrev pub RefusesLine : AuditError → List Told → ℕ → List ℕ → World → Told → Type 0
+RefusesLine error.NotSent all count ks w t = IsNext w t.node (let l = t.line in l.event) → ⊥
+RefusesLine error.OtherReply all count ks w t = IsNext w t.node (let l = t.line in l.event) × (IsFollowed all count ks w t → ⊥)
+RefusesLine e all count ks w t = ⊥
+
+-- THE FIRST OF THESE LINES THAT IS NOT FOLLOWED is refused so
+abbrev pub StopsAt : AuditError → List Told → ℕ → List ℕ → World → List Told → Type 0
+StopsAt e all count ks w [] = ⊥
+StopsAt e all count ks w (t ∷ ts) = RefusesLine e all count ks w t ⊎ (IsFollowed all count ks w t × StopsAt e all count (mentioned ks t) (after all count ks w t) ts)
+
+-- each line is followed, and a closed node has other entries or records than its node in the world
+abbrev pub HasOtherTables : AuditError → List Closed → Type 0
+HasOtherTables error.OtherReply cs = AreFollowed (lines_of cs) (length cs) [] (begun cs) (lines_of cs) × (HasTables (world_of cs) cs → ⊥)
+HasOtherTables e cs = ⊥
+
+-- the first line that is not followed is refused so, or all are followed and the tables are
+abbrev pub IsRefused : AuditError → List Closed → Type 0
+IsRefused e cs = StopsAt e (lines_of cs) (length cs) [] (begun cs) (lines_of cs) ⊎ HasOtherTables e cs
+
+-- WHICH OF THE TWO IT IS where the histories have no fault by themselves
+abbrev pub TellsFirst : AuditError → List Closed → Type 0
+TellsFirst error.NotSent cs = IsRefused error.NotSent cs
+TellsFirst error.OtherReply cs = IsRefused error.OtherReply cs
+TellsFirst e cs = Unit {0}
 
 -- ---- what each line takes
 

@@ -5,7 +5,7 @@ ghost use Rattle.dist_agreement.specs.Run.{run};
 ghost use Rattle.dist_audit.specs.Lines.{lines_of};
 ghost use Rattle.dist_audit.specs.Happenings.{setups_of, begins, happenings};
 ghost use Rattle.dist_audit.specs.Faults.{fault_of, nodes_unpaired, Unpairs, IsFault};
-ghost use Rattle.dist_audit.specs.Audit.{AllApply, AreOfOneWorld, EachLinkComesHome, EachTakesItsBody, Refutes, Tells, world_of};
+ghost use Rattle.dist_audit.specs.Audit.{AllApply, AreOfOneWorld, EachLinkComesHome, EachTakesItsBody, IsRefused, Refutes, Tells, TellsFirst, UnlessShort, world_of};
 
 use crate::audit_error::AuditError;
 use crate::checks::{falls, twice};
@@ -76,6 +76,7 @@ fn play(
     ensures world { OnOk result (world.new ≡ world_of closed.now) }
     ensures one_world { OnOk result (AreOfOneWorld closed.now) }
     ensures err { IfErr result (λ e. Refutes e (AreOfOneWorld closed.now)) }
+    ensures first { IfErr result (λ e. UnlessShort e (IsRefused e closed.now)) }
 {
     if !begin(alloc, world)? {
         return Err(AuditError::OtherReply);
@@ -104,6 +105,9 @@ pub fn audit(alloc: Global, closed: &[Closed]) -> Result<World, AuditError>
 
     // A refusal tells the first fault, or that the histories are not those of one world.
     ensures err { IfErr result (λ e. Tells e closed.now) }
+
+    // NotSent and OtherReply are told of the first line that is not followed, and OtherReply of tables where all are.
+    ensures first { IfErr result (λ e. TellsFirst e closed.now) }
 {
     frame_in_front();
     let (mut world, lines) = checked(alloc, closed)?;

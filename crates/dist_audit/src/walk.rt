@@ -4,7 +4,7 @@ ghost use Rattle.dist_agreement.specs.Run.{run};
 ghost use Rattle.dist_world.specs.Asking.{node_of};
 ghost use Rattle.dist_audit.specs.Happenings.{mentioned, own_of, of_lines};
 ghost use Rattle.dist_audit.specs.Links.{mention, link_in};
-ghost use Rattle.dist_audit.specs.Audit.{AllApply, Says, IsNext, Gives, Replies, IsFollowed, AreFollowed, after, Refutes};
+ghost use Rattle.dist_audit.specs.Audit.{AllApply, Says, IsNext, Gives, Replies, IsFollowed, AreFollowed, after, Refutes, RefusesLine, StopsAt, UnlessShort};
 
 use crate::audit_error::AuditError;
 use crate::happenings::{before, own};
@@ -126,6 +126,7 @@ fn follow(
     ensures after { OnOk result (world.new ≡ after lines.now count links.old world.old told.now) }
     ensures links { OnOk result (links.new ≡ mentioned links.old told.now) }
     ensures err { IfErr result (λ e. Refutes e (IsFollowed lines.now count links.old world.old told.now)) }
+    ensures which { IfErr result (λ e. UnlessShort e (RefusesLine e lines.now count links.old world.old told.now)) }
 {
     let node = told.node();
     let line = told.line();
@@ -155,6 +156,7 @@ pub fn follow_all(
     ensures followed { OnOk result (AreFollowed lines.now count [] world.old lines.now) }
     ensures after { OnOk result (world.new ≡ run (of_lines lines.now count [] lines.now) world.old) }
     ensures err { IfErr result (λ e. Refutes e (AreFollowed lines.now count [] world.old lines.now)) }
+    ensures first { IfErr result (λ e. UnlessShort e (StopsAt e lines.now count [] world.old lines.now)) }
 {
     let mut links = Mentioned::new(alloc);
     let told = lines.told();

@@ -26,12 +26,12 @@ use Rattle.dist_drive.specs.declared.outcome.Ending.TheVariants as ending
 use Rattle.dist_drive.specs.Desks.{Step, event_of, number_of, last_reply}
 use Rattle.dist_core.specs.Losses.{IsGone}
 use Rattle.dist_drive.specs.Numbers.{DrawsAll}
-use Rattle.dist_drive.specs.Driven.{IsFront, frames_of, events_of, text_of, HandsOnAll, WritesAll, HasCause, TellsLoss, Carries}
+use Rattle.dist_drive.specs.Driven.{IsFront, frames_of, next_frame, events_of, text_of, HandsOnAll, WritesAll, HasCause, TellsLoss, Carries}
 use Rattle.std.specs.Prelude.{IsErrAnd, IfErr, OnOk, OnErr}
 use Rattle.dist_drive.specs.Running.{RunsOn, EndsSo, Start, Runs, Keeps, MakesStep, SaysReply, after_reply, own_why, ending_of_refusal, ending_of_stream, HandsOn, HearsPiece}
 use Rattle.dist_drive.proofs.Steps.{last_pushed}
 use Rattle.dist_drive.proofs.Texts.{append_known-append, prepend_known-append, prepend_known-none, Rises-trans, IsFront-refl, IsFront-more, text_front, text_none, text_one, text_before}
-use Rattle.dist_drive.proofs.Keeping.{frames_are, keeps_next, keeps_fed, keeps_told, after_step, FrameLaws}
+use Rattle.dist_drive.proofs.Keeping.{frames_are, next_is, next_none, keeps_next, keeps_fed, keeps_told, after_step, FrameLaws}
 use Rattle.dist_drive.proofs.Shown.{says_as, same_length, draws_push, pieces_on, pieces_one, Spent, spent, events_one, numbers_one, list_one, whole_reply, goes_on, ShowsEnd, own_is, shows_shut, failed, shows_failed, shows_whole, shows_limit, shows, ends_as, endings_are, not_refused, at_err, at_end, ShowsUnheard, unheard_shows, ends_whole, endings_same, ShowsFirst, first_shows, first_cut, begins_so, tells, ok_maps, ok_so, err_maps}
 
 module _ (laws : FrameLaws) where
@@ -49,7 +49,7 @@ module _ (laws : FrameLaws) where
 
   -- where the call stops once all was said
   pub carries : {D W : Type 0} (lists : D → List Step) (stands : D → EndId → Still → Type 0) (refuses : D → Event → ℕ → StepError → Type 0) (gives : W → ℕ → W → Type 0) (start : Start W) (new : StreamState) (left : ℕ) (desk : D) (draws : W) (r : Reader) (e : Ending) (p : Runs gives start new left (lists desk) draws r)
-      → HasCause stands refuses start.end_ p.steps desk new left e
+      → HasCause stands refuses start.end_ p.steps (next_frame p.heard p.steps) desk new left e
       → HandsOnAll e (map event_of p.steps ≡ events_of start.end_ (frames_of p.heard p.steps))
       → WritesAll e new (text_of start.first p.steps ≡ text_of start.first p.steps)
       → Carries lists stands refuses gives start.end_ start.first start.limit start.stream new start.list desk start.draws e
@@ -82,15 +82,15 @@ module _ (laws : FrameLaws) where
 
   -- the desk refused a frame
   pub refused : {D W : Type 0} (lists : D → List Step) (stands : D → EndId → Still → Type 0) (refuses : D → Event → ℕ → StepError → Type 0) (gives : W → ℕ → W → Type 0) (start : Start W) (new : StreamState) (left : ℕ) (desk : D) (draws : W) (r : Reader) (body : List ℕ) (n : ℕ) (why : StepError)
-      → Runs gives start new left (lists desk) draws r → refuses desk (event.Frame start.end_ body) n why
+      → (p : Runs gives start new left (lists desk) draws r) → next_frame p.heard p.steps ≡ Some body → refuses desk (event.Frame start.end_ body) n why
       → Carries lists stands refuses gives start.end_ start.first start.limit start.stream new start.list desk start.draws (ending_of_refusal why)
-  refused lists stands refuses gives start new left desk draws r body n (error.Gone w) p h = carries lists stands refuses gives start new left desk draws r (ending.Gone w) p (inr (body, n, h)) tt refl
-  refused lists stands refuses gives start new left desk draws r body n error.NoMemory p h = lacks lists stands refuses gives start new left desk draws r p
-  refused lists stands refuses gives start new left desk draws r body n (error.Busy entry) p h = carries lists stands refuses gives start new left desk draws r (ending.Fault why.GaveUp) p (body, n, error.Busy entry, h, tt) tt refl
-  refused lists stands refuses gives start new left desk draws r body n error.Full p h = carries lists stands refuses gives start new left desk draws r (ending.Fault why.GaveUp) p (body, n, error.Full, h, tt) tt refl
-  refused lists stands refuses gives start new left desk draws r body n error.NoSuchEnd p h = carries lists stands refuses gives start new left desk draws r (ending.Fault why.GaveUp) p (body, n, error.NoSuchEnd, h, tt) tt refl
-  refused lists stands refuses gives start new left desk draws r body n error.WrongPhase p h = carries lists stands refuses gives start new left desk draws r (ending.Fault why.GaveUp) p (body, n, error.WrongPhase, h, tt) tt refl
-  refused lists stands refuses gives start new left desk draws r body n error.Spent p h = carries lists stands refuses gives start new left desk draws r (ending.Fault why.GaveUp) p (body, n, error.Spent, h, tt) tt refl
+  refused lists stands refuses gives start new left desk draws r body n (error.Gone w) p next h = carries lists stands refuses gives start new left desk draws r (ending.Gone w) p (inr (body, n, next, h)) tt refl
+  refused lists stands refuses gives start new left desk draws r body n error.NoMemory p next h = lacks lists stands refuses gives start new left desk draws r p
+  refused lists stands refuses gives start new left desk draws r body n (error.Busy entry) p next h = carries lists stands refuses gives start new left desk draws r (ending.Fault why.GaveUp) p (body, n, error.Busy entry, next, h, tt) tt refl
+  refused lists stands refuses gives start new left desk draws r body n error.Full p next h = carries lists stands refuses gives start new left desk draws r (ending.Fault why.GaveUp) p (body, n, error.Full, next, h, tt) tt refl
+  refused lists stands refuses gives start new left desk draws r body n error.NoSuchEnd p next h = carries lists stands refuses gives start new left desk draws r (ending.Fault why.GaveUp) p (body, n, error.NoSuchEnd, next, h, tt) tt refl
+  refused lists stands refuses gives start new left desk draws r body n error.WrongPhase p next h = carries lists stands refuses gives start new left desk draws r (ending.Fault why.GaveUp) p (body, n, error.WrongPhase, next, h, tt) tt refl
+  refused lists stands refuses gives start new left desk draws r body n error.Spent p next h = carries lists stands refuses gives start new left desk draws r (ending.Fault why.GaveUp) p (body, n, error.Spent, next, h, tt) tt refl
 
   -- it was said whole, and the call goes on
   pub runs_on : {W : Type 0} (gives : W → ℕ → W → Type 0) (start : Start W) (old new : StreamState) (turns left : ℕ) (before after : List Step) (draws drawn : W) (r : Reader) (body : List ℕ) (up : Bool) (m : MakesStep gives start.end_ body draws drawn before after)
@@ -138,7 +138,7 @@ module _ (laws : FrameLaws) where
         frames = frames_front start.end_ p.heard (p.handed ++ body ∷ []) (p.steps ++ s ∷ []) _ events keeps;
         all_frames = shown.all;
         numbers = numbers_one gives start.draws p.steps draws drawn s p.numbers m.drawn_is;
-        cause = shown.cause (last_pushed p.steps s);
+        cause = shown.cause (next_frame p.heard (p.steps ++ s ∷ [])) (last_pushed p.steps s);
         text = (drop says.says.count m.reply.say, all ∙ ap (λ l. text_of start.first p.steps ++ l) (sym (take-append-drop says.says.count m.reply.say)) ∙ sym (append_assoc (text_of start.first p.steps) part (drop says.says.count m.reply.say)));
         all_text = subst (λ (l : List ℕ). WritesAll e new (text_of start.first p.steps ++ part ≡ l)) (sym all) shown.whole;
         in_turn = λ i h. text_before start.first p.steps s (text_of start.first p.steps ++ part) i h (IsFront-more _ _);
@@ -153,7 +153,8 @@ module _ (laws : FrameLaws) where
       → Carries lists stands refuses gives start.end_ start.first start.limit start.stream new start.list desk start.draws e
   stops {D = D} lists stands refuses gives start old new turns left before desk draws drawn r body e p next (inl h) =
       let same = endings_are e (ending_of_refusal h.error) h.ends in
-      let here = refused lists stands refuses gives start old turns before draws r body h.number h.error p h.refused in
+      let named = next_is laws p.heard p.handed p.steps r body (same_length start.end_ p.steps p.handed p.events) next p.keeps in
+      let here = refused lists stands refuses gives start old turns before draws r body h.number h.error p named h.refused in
       let P = λ (x : StreamState × D × Ending). Carries lists stands refuses gives start.end_ start.first start.limit start.stream x.0 start.list x.1 start.draws x.2 in
       subst P (λ i. (sym h.stream_is i, sym h.desk_is i, same i)) here
   stops lists stands refuses gives start old new turns left before desk draws drawn r body e p next (inr h) =
@@ -185,9 +186,11 @@ module _ (laws : FrameLaws) where
 
   -- the desk tells that the end is gone
   pub gone : {D W : Type 0} (lists : D → List Step) (stands : D → EndId → Still → Type 0) (refuses : D → Event → ℕ → StepError → Type 0) (gives : W → ℕ → W → Type 0) (start : Start W) (new : StreamState) (left : ℕ) (desk : D) (draws : W) (r : Reader) (w : Why)
-      → Runs gives start new left (lists desk) draws r → stands desk start.end_ (still.Gone w)
+      → Runs gives start new left (lists desk) draws r → to_come r ≡ [] → stands desk start.end_ (still.Gone w)
       → Carries lists stands refuses gives start.end_ start.first start.limit start.stream new start.list desk start.draws (ending.Gone w)
-  gone lists stands refuses gives start new left desk draws r w p h = carries lists stands refuses gives start new left desk draws r (ending.Gone w) p (inl h) tt refl
+  gone lists stands refuses gives start new left desk draws r w p none h =
+      let last = next_none laws p.heard p.handed p.steps r (same_length start.end_ p.steps p.handed p.events) none p.keeps in
+      carries lists stands refuses gives start new left desk draws r (ending.Gone w) p (inl (h, last)) tt refl
 
   -- a piece came to the reader
   pub hears_on : {W : Type 0} (gives : W → ℕ → W → Type 0) (start : Start W) (old new : StreamState) (turns left : ℕ) (list : List Step) (draws : W) (r : Reader) (piece : List ℕ)
@@ -228,7 +231,7 @@ module _ (laws : FrameLaws) where
         frames = frames_front start.end_ p.heard p.handed p.steps r p.events p.keeps;
         all_frames = shown.all;
         numbers = p.numbers;
-        cause = shown.cause;
+        cause = shown.cause (next_frame p.heard p.steps);
         text = IsFront-refl _;
         all_text = shown.whole;
         in_turn = λ i h. text_front start.first p.steps i;

@@ -1,5 +1,5 @@
 -- What the reader of a call holds, and which frames of the call were handed on.
-use Rattle.std.proofs.Common.{◌≡◌, ℕ, suc, ◌+◌, Bool, true, false, cond, nat_lt, eqb, List, [], ◌∷◌, ◌++◌, length, take, Option, Some, None, refl, sym, ap, ◌∙◌, arith, length-append}
+use Rattle.std.proofs.Common.{◌≡◌, ℕ, suc, ◌+◌, Bool, true, false, cond, nat_lt, eqb, List, [], ◌∷◌, ◌++◌, length, take, Option, Some, None, slice_get, refl, sym, ap, ◌∙◌, arith, length-append}
 use Rattle.std.specs.Prelude.{position, if◌then◌else◌}
 use Rattle.std.specs.Int.{w16}
 use Rattle.std.specs.List.{position_or_len}
@@ -11,7 +11,7 @@ use Rattle.dist_frames.specs.Stream.{first_body, after_first, bodies}
 use Rattle.dist_frames.specs.Reader.{Reader, Short, Linked, fed, next_body, without_next, linked, told, to_come}
 use Rattle.dist_frames.specs.History.{Accounts, IsBytes}
 use Rattle.dist_drive.specs.Desks.{Step}
-use Rattle.dist_drive.specs.Driven.{is_up, through, frames_of}
+use Rattle.dist_drive.specs.Driven.{is_up, through, frames_of, next_frame}
 use Rattle.dist_drive.specs.Running.{Keeps}
 
 -- what is known of bytes that are fed and bodies that are moved out
@@ -49,6 +49,33 @@ frames_are laws heard handed steps (Linked ended rest) len (more, k) =
     ∙ ap (λ n. take n (handed ++ bodies more)) count
     ∙ take-append_seam handed (bodies more)
     ∙ sym (append-nil handed)
+
+-- ---- the next frame of the call is the one that the reader shows
+
+get_seam : (xs : List (List ℕ)) (x : List ℕ) (ys : List (List ℕ)) → slice_get ((xs ++ x ∷ []) ++ ys) (length xs) ≡ Some x
+get_seam [] x ys = refl
+get_seam (y ∷ xs) x ys = get_seam xs x ys
+
+pub next_is : FrameLaws → (heard : List ℕ) (handed : List (List ℕ)) (steps : List Step) (r : Reader) (body : List ℕ) → length handed ≡ length steps → next_body r ≡ Some body → Keeps heard handed steps r → next_frame heard steps ≡ Some body
+next_is laws heard handed steps (Short pending) body len e k =
+    let rest = after_first w16 pending in
+    let are : frames_of heard steps ≡ (handed ++ body ∷ []) ++ bodies rest =
+    ap (λ place. through place (bodies heard)) (place_none steps k.none_up)
+    ∙ laws.bodies_are heard (handed ++ body ∷ []) rest (laws.moved_on heard handed pending body k.accounts e) in
+    ap (λ (l : List (List ℕ)). slice_get l (length steps)) are
+    ∙ ap (λ (n : ℕ). slice_get ((handed ++ body ∷ []) ++ bodies rest) n) (sym len)
+    ∙ get_seam handed body (bodies rest)
+next_is laws heard handed steps (Linked ended rest) body len e k = absurd cc
+
+get_end : (xs : List (List ℕ)) → slice_get xs (length xs) ≡ None
+get_end [] = refl
+get_end (x ∷ xs) = get_end xs
+
+-- where no frame waits in the reader, the call has no next one
+pub next_none : FrameLaws → (heard : List ℕ) (handed : List (List ℕ)) (steps : List Step) (r : Reader) → length handed ≡ length steps → to_come r ≡ [] → Keeps heard handed steps r → next_frame heard steps ≡ None
+next_none laws heard handed steps r len none k =
+    let are : frames_of heard steps ≡ handed = frames_are laws heard handed steps r len k ∙ ap (λ l. handed ++ l) none ∙ append-nil handed in
+    ap (λ (l : List (List ℕ)). slice_get l (length steps)) are ∙ ap (λ (n : ℕ). slice_get handed n) (sym len) ∙ get_end handed
 
 -- ---- one frame more
 

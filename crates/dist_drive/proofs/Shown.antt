@@ -26,7 +26,7 @@ use Rattle.dist_drive.specs.declared.outcome.Ending.TheVariants as ending
 use Rattle.dist_drive.specs.Desks.{Step, event_of, number_of, last_reply}
 use Rattle.dist_core.specs.Losses.{IsGone}
 use Rattle.dist_drive.specs.Numbers.{DrawsAll}
-use Rattle.dist_drive.specs.Driven.{IsFront, frames_of, events_of, text_of, HandsOnAll, WritesAll, HasCause, TellsLoss, Carries}
+use Rattle.dist_drive.specs.Driven.{IsFront, frames_of, next_frame, events_of, text_of, HandsOnAll, WritesAll, HasCause, TellsLoss, Carries}
 use Rattle.std.specs.Prelude.{IsErrAnd, IfErr, OnOk, OnErr}
 use Rattle.dist_drive.specs.Running.{RunsOn, EndsSo, Start, Runs, Keeps, MakesStep, SaysReply, after_reply, own_why, ending_of_refusal, ending_of_stream, HandsOn, HearsPiece}
 use Rattle.dist_drive.proofs.Steps.{last_pushed}
@@ -96,7 +96,7 @@ goes_on None (Some fault.Ended) text e p = absurd cc
 pub record ShowsEnd {D : Type 0} (stands : D → EndId → Still → Type 0) (refuses : D → Event → ℕ → StepError → Type 0) (desk : D) (end_ : EndId) (reply : Reply) (new : StreamState) (left : ℕ) (part : List ℕ) (Handed : Type 0) (steps : List Step) (before : List ℕ) (e : Ending) : Type 0 where
   pub all : HandsOnAll e Handed
   pub whole : WritesAll e new (before ++ part ≡ before ++ reply.say)
-  pub cause : last_reply steps ≡ Some reply → HasCause stands refuses end_ steps desk new left e
+  pub cause : (next : Option (List ℕ)) → last_reply steps ≡ Some reply → HasCause stands refuses end_ steps next desk new left e
 
 pub own_is : (end_ : EndId) (closed : Option (EndId × Why)) (w : Why) → own_why end_ closed ≡ Some w → closed ≡ Some (end_, w)
 own_is end_ None w e = absurd cc
@@ -113,7 +113,7 @@ pub shows_shut : {D : Type 0} (stands : D → EndId → Still → Type 0) (refus
 shows_shut stands refuses desk end_ reply Handed steps before w part own whole = record {
   all = tt;
   whole = ⊎_elim (λ h. inl h) (λ h. inr (ap (λ l. before ++ l) h)) whole;
-  cause = λ newest. (reply, newest, own_is end_ reply.closed w own);
+  cause = λ next newest. (reply, newest, own_is end_ reply.closed w own);
 }
 
 pub failed : {old new : StreamState} {turns left : ℕ} (text : List ℕ) → SaysFront old new turns left (Some fault.WriteFailed) text → new.write_failed ≡ true
@@ -125,7 +125,7 @@ shows_failed stands refuses desk end_ reply {new = new} {left = left} Handed ste
     subst (λ (x : Ending). ShowsEnd stands refuses desk end_ reply new left (take p.count reply.say) Handed steps before x) same (shows_shut stands refuses desk end_ reply Handed steps before w (take p.count reply.say) is (inl (failed reply.say p)))
 shows_failed stands refuses desk end_ reply {new = new} {left = left} Handed steps before None e is p h =
     let same : ending.Fault why.WriteFailed ≡ e = cc in
-    subst (λ (x : Ending). ShowsEnd stands refuses desk end_ reply new left (take p.count reply.say) Handed steps before x) same (record { all = tt; whole = tt; cause = λ newest. failed reply.say p })
+    subst (λ (x : Ending). ShowsEnd stands refuses desk end_ reply new left (take p.count reply.say) Handed steps before x) same (record { all = tt; whole = tt; cause = λ next newest. failed reply.say p })
 
 pub shows_whole : {D : Type 0} (stands : D → EndId → Still → Type 0) (refuses : D → Event → ℕ → StepError → Type 0) (desk : D) (end_ : EndId) (reply : Reply) {old new : StreamState} {turns left : ℕ} (Handed : Type 0) (steps : List Step) (before : List ℕ) (own : Option Why) (e : Ending) → own_why end_ reply.closed ≡ own → (p : SaysFront old new turns left None reply.say) → after_reply own None ≡ Err e → ShowsEnd stands refuses desk end_ reply new left (take p.count reply.say) Handed steps before e
 shows_whole stands refuses desk end_ reply {new = new} {left = left} Handed steps before (Some w) e is p h =
@@ -137,7 +137,7 @@ shows_whole stands refuses desk end_ reply Handed steps before None e is p h = a
 pub shows_limit : {D : Type 0} (stands : D → EndId → Still → Type 0) (refuses : D → Event → ℕ → StepError → Type 0) (desk : D) (end_ : EndId) (reply : Reply) {old new : StreamState} {turns left : ℕ} (Handed : Type 0) (steps : List Step) (before : List ℕ) (own : Option Why) (e : Ending) → (p : SaysFront old new turns left (Some fault.Limit) reply.say) → after_reply own (Some fault.Limit) ≡ Err e → ShowsEnd stands refuses desk end_ reply new left (take p.count reply.say) Handed steps before e
 shows_limit stands refuses desk end_ reply {new = new} {left = left} Handed steps before own e p h =
     let same : ending.Limit ≡ e = cc in
-    subst (λ (x : Ending). ShowsEnd stands refuses desk end_ reply new left (take p.count reply.say) Handed steps before x) same (record { all = tt; whole = tt; cause = λ newest. p.says.spends.cause })
+    subst (λ (x : Ending). ShowsEnd stands refuses desk end_ reply new left (take p.count reply.say) Handed steps before x) same (record { all = tt; whole = tt; cause = λ next newest. p.says.spends.cause })
 
 pub shows : {D : Type 0} (stands : D → EndId → Still → Type 0) (refuses : D → Event → ℕ → StepError → Type 0) (desk : D) (end_ : EndId) (reply : Reply) {old new : StreamState} {turns left : ℕ} (Handed : Type 0) (steps : List Step) (before : List ℕ) (told : Option TurnError) (e : Ending) → (p : SaysFront old new turns left told reply.say) → after_reply (own_why end_ reply.closed) told ≡ Err e → ShowsEnd stands refuses desk end_ reply new left (take p.count reply.say) Handed steps before e
 shows stands refuses desk end_ reply Handed steps before None e p h = shows_whole stands refuses desk end_ reply Handed steps before (own_why end_ reply.closed) e refl p h
@@ -166,13 +166,13 @@ at_end lists refuses gives end_ other body draws drawn before after old new turn
 -- what the ending shows then
 pub record ShowsUnheard {D : Type 0} (stands : D → EndId → Still → Type 0) (refuses : D → Event → ℕ → StepError → Type 0) (end_ : EndId) (steps : List Step) (desk : D) (new : StreamState) (left : ℕ) (All : Type 0) (text : List ℕ) (e : Ending) : Type 0 where
   pub all : HandsOnAll e All
-  pub cause : HasCause stands refuses end_ steps desk new left e
+  pub cause : (next : Option (List ℕ)) → HasCause stands refuses end_ steps next desk new left e
   pub whole : WritesAll e new (text ≡ text)
 
 pub unheard_shows : {D : Type 0} (stands : D → EndId → Still → Type 0) (refuses : D → Event → ℕ → StepError → Type 0) (end_ : EndId) (steps : List Step) (desk : D) {old new : StreamState} {turns left : ℕ} (error : TurnError) (All : Type 0) (text : List ℕ) → All → Hears old new turns left (Some error) [] → ShowsUnheard stands refuses end_ steps desk new left All text (ending_of_stream error)
-unheard_shows stands refuses end_ steps desk fault.Limit All text all hears = record { all = tt; cause = hears.spends.cause; whole = tt }
-unheard_shows stands refuses end_ steps desk fault.Ended All text all hears = record { all = all; cause = (hears.spends.ended, hears.spends.cause); whole = refl }
-unheard_shows stands refuses end_ steps desk fault.ReadFailed All text all hears = record { all = all; cause = hears.spends.read_failed; whole = refl }
+unheard_shows stands refuses end_ steps desk fault.Limit All text all hears = record { all = tt; cause = λ next. hears.spends.cause; whole = tt }
+unheard_shows stands refuses end_ steps desk fault.Ended All text all hears = record { all = all; cause = λ next. (hears.spends.ended, hears.spends.cause); whole = refl }
+unheard_shows stands refuses end_ steps desk fault.ReadFailed All text all hears = record { all = all; cause = λ next. hears.spends.read_failed; whole = refl }
 unheard_shows stands refuses end_ steps desk fault.WriteFailed All text all hears = absurd hears.fault_is
 
 abbrev pub ends_whole : Ending → Result (Unit {0}) Ending
@@ -184,12 +184,12 @@ endings_same e f h = cc
 -- what the ending shows where the first words were not written whole
 pub record ShowsFirst {D : Type 0} (stands : D → EndId → Still → Type 0) (refuses : D → Event → ℕ → StepError → Type 0) (end_ : EndId) (desk : D) (new : StreamState) (left : ℕ) (All Said : Type 0) (e : Ending) : Type 0 where
   pub all : HandsOnAll e All
-  pub cause : HasCause stands refuses end_ [] desk new left e
+  pub cause : (next : Option (List ℕ)) → HasCause stands refuses end_ [] next desk new left e
   pub whole : WritesAll e new Said
 
 pub first_shows : {D : Type 0} (stands : D → EndId → Still → Type 0) (refuses : D → Event → ℕ → StepError → Type 0) (end_ : EndId) (desk : D) {old new : StreamState} {limit left : ℕ} {All Said : Type 0} (error : TurnError) (first : List ℕ) → SaysFront old new limit left (Some error) first → ShowsFirst stands refuses end_ desk new left All Said (ending_of_stream error)
-first_shows stands refuses end_ desk fault.Limit first p = record { all = tt; cause = p.says.spends.cause; whole = tt }
-first_shows stands refuses end_ desk fault.WriteFailed first p = record { all = tt; cause = failed first p; whole = tt }
+first_shows stands refuses end_ desk fault.Limit first p = record { all = tt; cause = λ next. p.says.spends.cause; whole = tt }
+first_shows stands refuses end_ desk fault.WriteFailed first p = record { all = tt; cause = λ next. failed first p; whole = tt }
 first_shows stands refuses end_ desk fault.ReadFailed first p = absurd p.says.fault_is
 first_shows stands refuses end_ desk fault.Ended first p = absurd p.says.fault_is
 
@@ -211,7 +211,7 @@ first_cut lists stands refuses gives end_ first limit left old new desk draws er
       frames = (events_of end_ (frames_of [] []), refl);
       all_frames = shown.all;
       numbers = refl;
-      cause = shown.cause;
+      cause = shown.cause (next_frame [] []);
       text = (drop p.count first, text_none first ∙ sym (take-append-drop p.count first));
       all_text = shown.whole;
       in_turn = λ i h. absurd (omega (arith, h));

@@ -1,5 +1,5 @@
 -- ONE DRIVEN CALL: what it read, what it handed on, what it said, and how it ended.
-use Rattle.std.specs.Prelude.{◌≡◌, ℕ, ◌+◌, ◌-◌, ◌*◌, ◌<◌, ◌≤◌, ◌⊎◌, Bool, true, List, [], ◌∷◌, ◌++◌, length, take, map, Option, Some, None, is_some, position}
+use Rattle.std.specs.Prelude.{◌≡◌, ℕ, ◌+◌, ◌-◌, ◌*◌, ◌<◌, ◌≤◌, ◌⊎◌, Bool, true, List, [], ◌∷◌, ◌++◌, length, take, map, Option, Some, None, is_some, slice_get, position}
 use Rattle.std.specs.List.{flat_map}
 use Rattle.std.specs.Io.KnownBytes.{prepend_known, append_known, IsAtEnd}
 use Rattle.dist_frames.specs.Stream.{bodies}
@@ -42,6 +42,10 @@ through (Some place) xs = take (place + 1) xs
 abbrev pub frames_of : List ℕ → List Step → List (List ℕ)
 frames_of heard steps = through (position is_up steps) (bodies heard)
 
+-- the next frame of a call, behind those that were handed on
+abbrev pub next_frame : List ℕ → List Step → Option (List ℕ)
+next_frame heard steps = slice_get (frames_of heard steps) (length steps)
+
 -- the events by which they are handed on
 abbrev pub events_of : EndId → List (List ℕ) → List Event
 events_of end_ frames = map (event.Frame end_) frames
@@ -73,17 +77,17 @@ WritesAll (ending.Shut w) new All = (new.write_failed ≡ true) ⊎ All
 WritesAll other new All = All
 
 -- What the ending shows. A desk that tells that the end is gone, or refuses a frame, is the one after the last frame that
--- was handed on.
-abbrev pub HasCause : {D : Type 0} → (D → EndId → Still → Type 0) → (D → Event → ℕ → StepError → Type 0) → EndId → List Step → D → StreamState → ℕ → Ending → Type 0
-HasCause stands refuses end_ steps desk new left ending.Limit = left ≡ 0
-HasCause stands refuses end_ steps desk new left (ending.Shut w) = (reply : Reply) × (last_reply steps ≡ Some reply) × (reply.closed ≡ Some (end_, w))
-HasCause stands refuses end_ steps desk new left (ending.Gone w) = stands desk end_ (still.Gone w) ⊎ ((body : List ℕ) × (n : ℕ) × refuses desk (event.Frame end_ body) n (error.Gone w))
-HasCause stands refuses end_ steps desk new left (ending.Fault why.Ended) = (new.ended ≡ true) × IsAtEnd new.unread
-HasCause stands refuses end_ steps desk new left (ending.Fault why.ReadFailed) = new.read_failed ≡ true
-HasCause stands refuses end_ steps desk new left (ending.Fault why.WriteFailed) = new.write_failed ≡ true
-HasCause stands refuses end_ steps desk new left (ending.Fault why.NoMemory) = Unit {0}
-HasCause stands refuses end_ steps desk new left (ending.Fault why.GaveUp) = (body : List ℕ) × (n : ℕ) × (e : StepError) × refuses desk (event.Frame end_ body) n e × IsOther e
-HasCause stands refuses end_ steps desk new left (ending.Fault other) = ⊥
+-- was handed on. The frame that it refuses is the next; where it tells that the end is gone, there is no next one.
+abbrev pub HasCause : {D : Type 0} → (D → EndId → Still → Type 0) → (D → Event → ℕ → StepError → Type 0) → EndId → List Step → Option (List ℕ) → D → StreamState → ℕ → Ending → Type 0
+HasCause stands refuses end_ steps next desk new left ending.Limit = left ≡ 0
+HasCause stands refuses end_ steps next desk new left (ending.Shut w) = (reply : Reply) × (last_reply steps ≡ Some reply) × (reply.closed ≡ Some (end_, w))
+HasCause stands refuses end_ steps next desk new left (ending.Gone w) = (stands desk end_ (still.Gone w) × (next ≡ None)) ⊎ ((body : List ℕ) × (n : ℕ) × (next ≡ Some body) × refuses desk (event.Frame end_ body) n (error.Gone w))
+HasCause stands refuses end_ steps next desk new left (ending.Fault why.Ended) = (new.ended ≡ true) × IsAtEnd new.unread
+HasCause stands refuses end_ steps next desk new left (ending.Fault why.ReadFailed) = new.read_failed ≡ true
+HasCause stands refuses end_ steps next desk new left (ending.Fault why.WriteFailed) = new.write_failed ≡ true
+HasCause stands refuses end_ steps next desk new left (ending.Fault why.NoMemory) = Unit {0}
+HasCause stands refuses end_ steps next desk new left (ending.Fault why.GaveUp) = (body : List ℕ) × (n : ℕ) × (e : StepError) × (next ≡ Some body) × refuses desk (event.Frame end_ body) n e × IsOther e
+HasCause stands refuses end_ steps next desk new left (ending.Fault other) = ⊥
 
 -- A fault of the call's own is told as one loss with that cause, unless the end is gone or unknown by then. Nothing else
 -- is told.
@@ -116,7 +120,7 @@ pub record Carries {D W : Type 0} (lists : D → List Step) (stands : D → EndI
   -- each frame with a number of its own, as they are drawn
   pub numbers : DrawsAll gives draws (map number_of steps) drawn
   -- why it ended
-  pub cause : HasCause stands refuses end_ steps desk new left ending
+  pub cause : HasCause stands refuses end_ steps (next_frame heard steps) desk new left ending
   -- a front of the text was written; and all that was to be said before a frame was handed on
   pub text : IsFront said (text_of first steps)
   pub all_text : WritesAll ending new (said ≡ text_of first steps)

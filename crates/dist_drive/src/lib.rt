@@ -10,6 +10,7 @@ mod desk;
 mod draws;
 mod driving;
 mod memory;
+mod opening;
 mod outcome;
 
 pub use desk::Desk;
@@ -18,7 +19,5 @@ pub use dist_streams::{FaultStream, Heard, SocketStream, Stream, Took};
 pub use draws::Draws;
 pub use driving::drive;
 pub use memory::MemoryDesk;
+pub use opening::opening_for;
 pub use outcome::Outcome;
-
-#[cfg(test)]
-mod tests;

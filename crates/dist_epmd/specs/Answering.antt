@@ -3,6 +3,8 @@ use Rattle.std.specs.Prelude.{ℕ, Bool, true, false, List, codes, Result, Ok, E
 use Rattle.dist_names.specs.Answer.{AnswersBut}
 use Rattle.dist_epmd.specs.declared.message.Answer.{Answer}
 use Rattle.dist_epmd.specs.declared.message.Answer.TheVariants as answer
+use Rattle.dist_epmd.specs.declared.message.Request.{Request}
+use Rattle.dist_epmd.specs.declared.message.Request.TheVariants as request
 use Rattle.dist_epmd.specs.declared.epmd_error.EpmdError.{EpmdError}
 use Rattle.dist_epmd.specs.declared.epmd_error.EpmdError.TheVariants.{Malformed, Short, Trailing, NoMemory}
 
@@ -25,6 +27,17 @@ BearsText other = ⊥
 abbrev pub LacksText : {X : Type 0} → Result X EpmdError → Result Answer EpmdError → Type 0
 LacksText (Err NoMemory) expected = BearsText expected
 LacksText result expected = Unit {0}
+
+-- a request was read that bears a name
+abbrev pub BearsName : Result Request EpmdError → Type 0
+BearsName (Ok (request.Alive info)) = Unit {0}
+BearsName (Ok (request.PortPlease name)) = Unit {0}
+BearsName other = ⊥
+
+-- Memory lacks only for a request that bears a name.
+abbrev pub LacksName : {X : Type 0} → Result X EpmdError → Result Request EpmdError → Type 0
+LacksName (Err NoMemory) expected = BearsName expected
+LacksName result expected = Unit {0}
 
 -- the word that a program prints for a refusal
 abbrev pub error_name : EpmdError → List ℕ

@@ -4,7 +4,7 @@ ghost use Rattle.std.specs.Prelude.{◌≡◌, IfOk, IfErr};
 ghost use Rattle.dist_epmd.specs.declared.message.Answer.{Answer};
 ghost use Rattle.dist_epmd.specs.declared.message.Request.{Request};
 ghost use Rattle.dist_epmd.specs.Layout.{SpellsRequest, SpellsAnswer, RequestFits, AnswerFits};
-ghost use Rattle.dist_epmd.specs.Answering.{Answers, LacksText};
+ghost use Rattle.dist_epmd.specs.Answering.{Answers, LacksName, LacksText};
 ghost use Rattle.dist_epmd.specs.Refusing.{RefusesRequest, RefusesAnswer};
 ghost use Rattle.dist_epmd.specs.Reading.{whole_info, alive_x, alive, looked_up, read_request, read_answer};
 
@@ -43,7 +43,8 @@ fn whole_info(alloc: Global, bytes: &[u8]) -> Result<NodeInfo, EpmdError>
 
 #[tactic(auto, unfolding(crate::specs::Reading::read_request))]
 fn read_request(alloc: Global, body: &[u8]) -> Result<Request, EpmdError>
-    ensures { Answers (λ r. r) result (read_request body.now) }
+    ensures exact { Answers (λ r. r) result (read_request body.now) }
+    ensures lacks { LacksName result (read_request body.now) }
 {
     let [tag, rest @ ..] = body else {
         return Err(EpmdError::Short);
@@ -134,7 +135,8 @@ fn read_answer(alloc: Global, asked: Asked, bytes: &[u8]) -> Result<Answer, Epmd
 /// The request that a body spells (see [`Request`]).
 ///
 /// Refusals, the first that holds: Malformed where the first byte is none of 0x78, 0x7a and 0x6e; Short where there is no
-/// byte, or the body ends inside a field; Trailing where bytes stand after the last field; NoMemory.
+/// byte, or the body ends inside a field; Trailing where bytes stand after the last field; NoMemory, which comes only for a
+/// request that bears a name.
 pub fn decode_request(alloc: Global, body: &[u8]) -> Result<Request, EpmdError>
     // What is read is spelled so.
     ensures found { IfOk result (λ m. SpellsRequest m body.now) }
@@ -147,6 +149,9 @@ pub fn decode_request(alloc: Global, body: &[u8]) -> Result<Request, EpmdError>
 
     // Which refusal it is.
     ensures exact { Answers (λ r. r) result (read_request body.now) }
+
+    // Memory lacks only for a request that bears a name.
+    ensures lacks { LacksName result (read_request body.now) }
 {
     read_request(alloc, body)
 }

@@ -1,11 +1,16 @@
 -- The desk of a seat.
-use Rattle.std.specs.Prelude.{ℕ, List}
+use Rattle.std.specs.Prelude.{◌≡◌, ◌≢◌, ◌⊎◌, ℕ, List, [], ◌∷◌, Option, Some, None}
 use Rattle.dist_peers.specs.declared.entry.EndId.{EndId}
 use Rattle.dist_core.specs.declared.event.Event.{Event}
 use Rattle.dist_ends.specs.declared.phase.Still.{Still}
+use Rattle.dist_ends.specs.declared.why.Why.{Why}
 use Rattle.dist_core.specs.declared.step_error.StepError.{StepError}
+use Rattle.dist_core.specs.declared.step_error.StepError.TheVariants as error
+use Rattle.dist_core.specs.Laws.{end_of}
+use Rattle.dist_core.specs.Losses.{loss_of}
 use Rattle.dist_drive.specs.Desks.{Step}
 use Rattle.dist_locked.specs.declared.line.Receipt.{Receipt}
+use Rattle.dist_locked.specs.History.{IsRefused}
 
 -- the step of a receipt
 abbrev pub entry_of : Receipt → Step
@@ -21,9 +26,17 @@ pub record DeskState : Type 0 where
 abbrev pub list_of : DeskState → List Step
 list_of d = d.list
 
--- Nothing is known of what the node under the lock tells, nor of why it refuses.
+-- Nothing is known of what the node under the lock tells.
 abbrev pub tells_all : DeskState → EndId → Still → Type 0
 tells_all d end_ told = Unit {0}
 
+-- the cause that the last step tells, where it is of a loss
+abbrev pub last_loss : List Step → Option Why
+last_loss [] = None
+last_loss (s ∷ []) = loss_of s.0
+last_loss (s ∷ t ∷ ss) = last_loss (t ∷ ss)
+
+-- An event that doesn't name the end is refused as unknown, one behind a loss with the cause of that loss, and any other as
+-- some node with a legal history refuses it.
 abbrev pub refuses_all : DeskState → Event → ℕ → StepError → Type 0
-refuses_all d v n e = Unit {0}
+refuses_all d v n e = ((end_of v ≢ Some d.end_) × (e ≡ error.NoSuchEnd)) ⊎ (((w : Why) × (last_loss d.list ≡ Some w) × (e ≡ error.Gone w)) ⊎ IsRefused v n e)

@@ -9,7 +9,7 @@ ghost use Rattle.dist_core.specs.Runs.{opening};
 ghost use Rattle.dist_core.specs.Step.{step};
 ghost use Rattle.dist_core.specs.Answers.{Refuses, reply_of};
 ghost use Rattle.dist_ends.specs.Ends.{is_open};
-ghost use Rattle.dist_locked.specs.History.{IsLegal, IsReplay, ends_in_loss};
+ghost use Rattle.dist_locked.specs.History.{IsAnswered, IsLegal, IsReplay, ends_in_loss};
 
 use super::line::{Line, Receipt};
 use super::seat::Seat;
@@ -147,6 +147,8 @@ pub fn step_on(
     ensures history { IfOk result (λ r. (r.at_ ≡ length book.old.history) × (book.new.history ≡ book.old.history ++ r.line ∷ [])) }
     ensures receipt { IfOk result (λ r. seat.new.list ≡ seat.old.list ++ r ∷ []) }
     ensures seats { (book.new.seats ≡ book.old.seats) × (seat.new.number ≡ seat.old.number) }
+    ensures legal { IsLegal book.old }
+    ensures answered { IfOk result IsAnswered }
 
     // A refusal is that of the node, and changes neither the book nor the seat's list.
     ensures refused { IfErr result (λ e. Refuses e (step book.old.node event.now fresh)) }

@@ -28,6 +28,3 @@ pub use locked_node::{LockedNode, Tickets};
 pub use seat::Seat;
 pub use seat_desk::SeatDesk;
 pub use shared::{LockedRegistry, SharedMapper};
-
-#[cfg(test)]
-mod tests;

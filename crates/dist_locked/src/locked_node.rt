@@ -1,7 +1,7 @@
 ghost use Rattle.std.specs.Prelude.{◌≡◌, ◌≢◌, ◌<◌, ◌≤◌, ◌∷◌, [], ◌++◌, vec_len, false, Ok, Err, IfOk, IfErr, OnOk, OnErr};
 ghost use Rattle.dist_core.specs.Losses.{is_loss, IsGone};
 ghost use Rattle.dist_core.specs.Answers.{IsLoss};
-ghost use Rattle.dist_locked.specs.History.{AreFresh, IsLegal};
+ghost use Rattle.dist_locked.specs.History.{AreFresh, IsAnswered, IsLegal, IsRefused};
 
 use super::book::{Book, step_on};
 use super::line::Receipt;
@@ -71,8 +71,8 @@ impl LockedNode {
         ))
     }
 
-    /// Makes a step under the lock, with a ticket that is drawn there. What the node was at that moment, and so which reply it
-    /// gave, no clause of a caller can say: the line's reply is the node's by the book's own type, and `close` compares.
+    /// Makes a step under the lock, with a ticket that is drawn there. What the node was at that moment no clause of a caller
+    /// can say: only that some node with a legal history gives this reply, or refuses so. `close` compares.
     ///
     /// It is refused as the node refuses the step, want of memory last, and changes nothing then. Source: our own choice.
     pub fn step<R: Wait>(
@@ -89,6 +89,10 @@ impl LockedNode {
         ensures gone { IsLoss event.now → 0 < seat.old.spare → IfErr result IsGone }
         ensures room { OnOk result (is_loss event.now ≡ false → 0 < seat.new.spare) }
         ensures room_kept { OnErr result (seat.old.spare ≤ seat.new.spare) }
+
+        // Some node with a legal history gives this reply, or refuses so.
+        ensures answered { IfOk result IsAnswered }
+        ensures refused { IfErr result (IsRefused event.now fresh) }
     {
         let mut book = self.book.lock(rt);
         let ticket = self.tickets.draw();
@@ -96,7 +100,9 @@ impl LockedNode {
     }
 
     // Why a step is refused for which there is no room: want of memory is the last of its refusals.
-    pub(crate) fn lacks<R: Wait>(&self, rt: &R, event: &Event, fresh: u32) -> StepError {
+    pub(crate) fn lacks<R: Wait>(&self, rt: &R, event: &Event, fresh: u32) -> StepError
+        ensures { IsRefused event.now fresh result }
+    {
         let book = self.book.lock(rt);
         match book.node().answer(self.alloc, event, fresh) {
             Ok(_) => StepError::NoMemory,

@@ -32,13 +32,13 @@ pub struct SeatDesk<'a, R: Wait> {
 
 impl<'a, R: Wait> Model for SeatDesk<'a, R> {
     ghost use Rattle.std.specs.Prelude.{◌≡◌, ◌<◌, ◌≤◌, take, drop, map, None, vec_len, vec_capacity, length};
-    ghost use Rattle.dist_locked.specs.Desks.{DeskState, entry_of};
+    ghost use Rattle.dist_locked.specs.Desks.{DeskState, entry_of, last_loss};
 
     ghost Value = { DeskState };
 
     ghost view = { λ d. record { end_ = d.end_; number = d.seat.number; start = take d.before d.seat.list; list = d.steps.items } };
 
-    ghost invariant = { λ d. (d.before ≤ length d.seat.list) × (map entry_of (drop d.before d.seat.list) ≡ d.steps.items) × (d.lost ≡ None → vec_len d.steps < vec_capacity d.steps) × (d.lost ≡ None → 0 < d.seat.spare) };
+    ghost invariant = { λ d. (d.before ≤ length d.seat.list) × (map entry_of (drop d.before d.seat.list) ≡ d.steps.items) × (d.lost ≡ None → vec_len d.steps < vec_capacity d.steps) × (d.lost ≡ None → 0 < d.seat.spare) × (d.lost ≡ last_loss d.steps.items) };
 }
 
 impl<'a, R: Wait> SeatDesk<'a, R> {

@@ -37,13 +37,19 @@ impl<'a, R: Wait> SharedMapper<'a, R> {
 }
 
 impl<'a, R: Wait> Mapper for SharedMapper<'a, R> {
-    // other threads may have changed it before and after
-    ghost allows = { λ before conn request answer after. Unit {0} };
+    ghost use Rattle.dist_epmd.specs.Book.{Book, IsLegal};
 
+    // Other threads may have changed it before and after: some legal registry gives this answer.
+    ghost allows = { λ before conn request answer after. (b : Book) × (c : Book) × IsLegal b × ⟦<Registry as Mapper>⟧.allows b conn request answer c };
+
+    // No answer tells what a closed connection left.
     ghost leaves = { λ before conn after. Unit {0} };
 
     fn ask(&mut self, alloc: Global, conn: u64, request: &Request) -> Result<Answer, AllocError> {
-        self.shared.registry.lock(self.rt).ask(alloc, conn, request)
+        let mut registry = self.shared.registry.lock(self.rt);
+        // that shows what the registry keeps
+        let _none = registry.port_please(&[]);
+        registry.ask(alloc, conn, request)
     }
 
     fn closed(&mut self, conn: u64) {

@@ -4,11 +4,10 @@
 //! a number and nothing more: nobody dials here, and no thread is started.
 #![tactic(auto)]
 
+mod dispatching;
 mod queue;
 mod rule;
 
+pub use dispatching::{CAPACITY, LAST_ORDER, MOST_ORDERS, dispatch};
 pub use queue::{Orders, PutPass, TakePass};
 pub use rule::DialOrder;
-
-#[cfg(test)]
-mod tests;

@@ -6,3 +6,7 @@ use Rattle.dist_plan.specs.declared.plan_error.PlanError.TheVariants.{Bad}
 -- The answer is what is there. Bad comes just where nothing is, want of memory apart.
 abbrev pub Reads : {T : Type 0} → Result T PlanError → Option T → Type 0
 Reads result there = MatchResult result (λ value. there ≡ Some value) (λ error. error ≡ Bad → there ≡ None)
+
+-- The same of a call that takes no memory: Bad is its one refusal.
+abbrev pub ReadsPlainly : {T : Type 0} → Result T PlanError → Option T → Type 0
+ReadsPlainly result there = MatchResult result (λ value. there ≡ Some value) (λ error. (error ≡ Bad) × (there ≡ None))

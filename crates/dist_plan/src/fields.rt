@@ -8,7 +8,7 @@ ghost use Rattle.toml.specs.View.{view, table_view};
 ghost use Rattle.std.specs.Result.{result_ok};
 ghost use Rattle.dist_secret.specs.Cookie.{is_cookie_byte, cookie_of};
 ghost use Rattle.dist_plan.specs.declared.plan_error.PlanError.TheVariants.{Bad, NoMemory};
-ghost use Rattle.dist_plan.specs.Answer.{Reads};
+ghost use Rattle.dist_plan.specs.Answer.{Reads, ReadsPlainly};
 ghost use Rattle.dist_plan.specs.Values.{number_in, name_in, cookie_in, is_digit, are_flags, flags_written, flags_in, names_in, array_in, all_some};
 
 use crate::plan_error::PlanError;
@@ -23,7 +23,7 @@ const MOST_DIGITS: usize = 16;
 
 // The text of a string.
 fn text_of(value: &Value) -> Result<&str, PlanError>
-    ensures { MatchResult result (λ text. as_str (view value.now) ≡ Some text.now) (λ error. as_str (view value.now) ≡ None) }
+    ensures { MatchResult result (λ text. as_str (view value.now) ≡ Some text.now) (λ error. (error ≡ Bad) × (as_str (view value.now) ≡ None)) }
 {
     value.as_str().ok_or(PlanError::Bad)
 }
@@ -31,7 +31,7 @@ fn text_of(value: &Value) -> Result<&str, PlanError>
 /// The values of an array, in order.
 #[tactic(auto, using(crate::proofs::Found::list_of_view))]
 pub fn array_of(value: &Value) -> Result<&[Value], PlanError>
-    ensures { MatchResult result (λ values. array_in (view value.now) ≡ Some (map view values.now)) (λ error. array_in (view value.now) ≡ None) }
+    ensures { MatchResult result (λ values. array_in (view value.now) ≡ Some (map view values.now)) (λ error. (error ≡ Bad) × (array_in (view value.now) ≡ None)) }
 {
     match value.as_array() {
         Some(values) => Ok(values.as_slice()),
@@ -41,14 +41,14 @@ pub fn array_of(value: &Value) -> Result<&[Value], PlanError>
 
 /// The members of a table.
 pub fn table_of(value: &Value) -> Result<&Table, PlanError>
-    ensures { MatchResult result (λ table. as_table (view value.now) ≡ Some (table_view table.now)) (λ error. as_table (view value.now) ≡ None) }
+    ensures { MatchResult result (λ table. as_table (view value.now) ≡ Some (table_view table.now)) (λ error. (error ≡ Bad) × (as_table (view value.now) ≡ None)) }
 {
     value.as_table().ok_or(PlanError::Bad)
 }
 
 /// A port, 0 to 65,535.
 pub fn port_of(value: &Value) -> Result<u16, PlanError>
-    ensures { Reads result (number_in 0 65535 (view value.now)) }
+    ensures { ReadsPlainly result (number_in 0 65535 (view value.now)) }
 {
     match value.as_integer() {
         Some(number) if 0 <= number && number <= 65535 => Ok(number as u16),
@@ -58,7 +58,7 @@ pub fn port_of(value: &Value) -> Result<u16, PlanError>
 
 /// How many turns a connection has, 1 to 1,000,000.
 pub fn turns_of(value: &Value) -> Result<u32, PlanError>
-    ensures { Reads result (number_in 1 1000000 (view value.now)) }
+    ensures { ReadsPlainly result (number_in 1 1000000 (view value.now)) }
 {
     match value.as_integer() {
         Some(number) if 1 <= number && number <= 1_000_000 => Ok(number as u32),
@@ -144,7 +144,7 @@ fn flags_value(text: &str) -> Option<u64>
 
 /// Flags, in 1 to 16 hexadecimal digits of either case.
 pub fn flags_of(value: &Value) -> Result<Flags, PlanError>
-    ensures { Reads result (flags_in (view value.now)) }
+    ensures { ReadsPlainly result (flags_in (view value.now)) }
 {
     let text = text_of(value)?;
     match flags_value(text) {

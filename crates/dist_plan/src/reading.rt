@@ -8,7 +8,7 @@ ghost use Rattle.std.specs.List.{list_all, list_any};
 ghost use Rattle.dist_names.specs.Order.{same_name};
 ghost use Rattle.dist_names.specs.NodeName.{short_of};
 ghost use Rattle.dist_plan.specs.declared.plan_error.PlanError.TheVariants.{Bad};
-ghost use Rattle.dist_plan.specs.Answer.{Reads};
+ghost use Rattle.dist_plan.specs.Answer.{Reads, ReadsPlainly};
 ghost use Rattle.dist_plan.specs.Values.{number_in, names_in, flags_in, name_in, cookie_in, all_some};
 ghost use Rattle.dist_plan.specs.Plans.{or_usual, needed, port_in, node_of, node_in, dial_of, dial_in, are_within, nodes_in, dials_in, are_apart, are_made_by, parts_of, whole, plan_in, plan_of};
 
@@ -35,7 +35,7 @@ const MOST_DIALS: usize = 64;
 
 // The value at a key that must be there.
 fn value_of<'a>(table: &'a Table, key: &str) -> Result<&'a Value, PlanError>
-    ensures { MatchResult result (λ v. get_member key.now (table_view table.now) ≡ Some (view v.now)) (λ error. get_member key.now (table_view table.now) ≡ None) }
+    ensures { MatchResult result (λ v. get_member key.now (table_view table.now) ≡ Some (view v.now)) (λ error. (error ≡ Bad) × (get_member key.now (table_view table.now) ≡ None)) }
 {
     match value_at(table, key) {
         Some(value) => Ok(value),
@@ -45,7 +45,7 @@ fn value_of<'a>(table: &'a Table, key: &str) -> Result<&'a Value, PlanError>
 
 // A port, or 0 for any.
 fn port_or_any(value: Option<&Value>) -> Result<u16, PlanError>
-    ensures { Reads result (or_usual port_in 0 (option_map (λ v. view v.now) value.entry)) }
+    ensures { ReadsPlainly result (or_usual port_in 0 (option_map (λ v. view v.now) value.entry)) }
 {
     match value {
         Some(value) => port_of(value),
@@ -55,7 +55,7 @@ fn port_or_any(value: Option<&Value>) -> Result<u16, PlanError>
 
 // A number of turns, or the usual one.
 fn turns_or_usual(value: Option<&Value>) -> Result<u32, PlanError>
-    ensures { Reads result (or_usual (number_in 1 1000000) 200 (option_map (λ v. view v.now) value.entry)) }
+    ensures { ReadsPlainly result (or_usual (number_in 1 1000000) 200 (option_map (λ v. view v.now) value.entry)) }
 {
     match value {
         Some(value) => turns_of(value),
@@ -65,7 +65,7 @@ fn turns_or_usual(value: Option<&Value>) -> Result<u32, PlanError>
 
 // Flags, or no flag.
 fn flags_or_none(value: Option<&Value>) -> Result<Flags, PlanError>
-    ensures { Reads result (or_usual flags_in (record { 0 = 0 }) (option_map (λ v. view v.now) value.entry)) }
+    ensures { ReadsPlainly result (or_usual flags_in (record { 0 = 0 }) (option_map (λ v. view v.now) value.entry)) }
 {
     match value {
         Some(value) => flags_of(value),

@@ -1,12 +1,8 @@
 //! The thread of a node that accepts connections.
 
-use crate::challenges::Challenges;
 use crate::crew::{Crew, Rest};
-use crate::host::Host;
-use crate::run_error::RunError;
-use crate::seats::Pool;
-use crate::sockets::{Connection, accepted, link_of};
 use dist_core::Event;
+use dist_hosts::{Challenges, Connection, Host, Pool, RunError, accepted, link_of};
 use dist_names::ByteString;
 use std::alloc::Global;
 use std::sync::Wait;

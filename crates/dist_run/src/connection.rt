@@ -1,10 +1,8 @@
 //! The thread of a connection.
 
-use crate::challenges::Challenges;
-use crate::host::Host;
-use crate::sockets::say_goodbye;
 use dist_core::{Event, Still, Why};
 use dist_drive::{Outcome, SocketStream};
+use dist_hosts::{Challenges, Host, say_goodbye};
 use dist_locked::{Driven, LockedNode, Seat, drive_end};
 use dist_names::ByteString;
 use dist_peers::EndId;

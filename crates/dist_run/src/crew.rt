@@ -1,13 +1,9 @@
 //! The threads for connections that one thread starts at one node.
 
-use crate::challenges::Challenges;
 use crate::connection::{Job, Left, lose};
-use crate::host::Host;
-use crate::run_error::RunError;
-use crate::seats::Pool;
-use crate::sockets::{Connection, say_goodbye};
 use dist_core::{Event, StepError, Why};
 use dist_drive::SocketStream;
+use dist_hosts::{Challenges, Connection, Host, Pool, RunError, say_goodbye};
 use dist_locked::{Receipt, Seat};
 use dist_names::ByteString;
 use dist_peers::EndId;

@@ -2,20 +2,17 @@
 
 ghost use Rattle.std.specs.Prelude.{◌≡◌};
 
-use crate::challenges::Challenges;
 use crate::crew::{Crew, Rest};
-use crate::dispatching::LAST;
 use crate::gathering::added;
-use crate::host::{Host, opening_for};
-use crate::order_fault::{OrderFault, OrderRefusal};
-use crate::run_error::RunError;
-use crate::seats::Pool;
-use crate::sockets::{Connection, connected, link_of};
 use dist_core::{Event, StepError, Why};
-use dist_drive::lookup;
+use dist_drive::{lookup, opening_for};
 use dist_epmd::PortInfo;
+use dist_hosts::{
+    Challenges, Connection, Host, OrderFault, OrderRefusal, Pool, RunError, connected, link_of,
+};
 use dist_locked::{Gate, Moment, Orders, Receipt, TakePass};
 use dist_names::{ByteString, NodeName};
+use dist_orders::LAST_ORDER;
 use dist_peers::EndId;
 use std::alloc::Global;
 use std::net::{Net, TcpListener, TcpStream};
@@ -212,7 +209,7 @@ where
     for _ in rt.forever() {
         match orders.take(rt, &mut pass) {
             Some(order) => {
-                if order == LAST {
+                if order == LAST_ORDER {
                     break;
                 }
                 let number = order.0;

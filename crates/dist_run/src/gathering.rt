@@ -1,6 +1,6 @@
 //! Lists that are filled while threads end.
 
-use crate::run_error::RunError;
+use dist_hosts::RunError;
 
 /// The list with one more, where nothing was lost so far. So each thread is joined, whatever another one lost.
 pub fn added<T: Drop>(

@@ -7,23 +7,13 @@
 #![tactic(auto)]
 
 mod accepting;
-mod challenges;
 mod connection;
 mod crew;
 mod dialling;
-mod dispatching;
 mod gathering;
-mod host;
-mod mapping;
-mod order_fault;
-mod run_error;
 mod running;
-mod seats;
-mod sockets;
 mod threads;
 
-pub use challenges::Challenges;
-pub use host::opening_for;
-pub use order_fault::{OrderFault, OrderRefusal};
-pub use run_error::RunError;
+pub use dist_drive::opening_for;
+pub use dist_hosts::{Challenges, OrderFault, OrderRefusal, RunError};
 pub use running::{Ran, run_plan};

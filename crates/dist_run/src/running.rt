@@ -1,17 +1,13 @@
 //! A run, from its plan to its closed nodes.
 
-use crate::challenges::Challenges;
 use crate::crew::Rest;
 use crate::dialling::{Dial, Site};
-use crate::host::{Host, started};
-use crate::mapping::serve_all;
-use crate::order_fault::OrderFault;
-use crate::run_error::RunError;
-use crate::seats::{Pool, SharedOut};
-use crate::sockets::listening;
 use crate::threads::{Ended, Pools, run_threads};
 use dist_drive::SocketStream;
 use dist_epmd::Registry;
+use dist_hosts::{
+    Challenges, Host, OrderFault, Pool, RunError, SharedOut, listening, serve_all, started,
+};
 use dist_locked::{Closed, Gate, LockedRegistry, Seat, Tickets, close};
 use dist_plan::{DialPlan, NodePlan, Plan};
 use rand::make_rng;

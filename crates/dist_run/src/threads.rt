@@ -3,14 +3,12 @@
 ghost use Rattle.std.specs.Prelude.{◌≡◌, ◌≤◌};
 
 use crate::accepting::accept_all;
-use crate::challenges::Challenges;
 use crate::crew::Rest;
 use crate::dialling::{Dial, Site, Worked, work_on};
-use crate::dispatching::{CAPACITY, MOST_ORDERS, dispatch};
 use crate::gathering::added;
-use crate::run_error::RunError;
-use crate::seats::Pool;
+use dist_hosts::{Challenges, Pool, RunError};
 use dist_locked::{Gate, Orders, TakePass};
+use dist_orders::{CAPACITY, MOST_ORDERS, dispatch};
 use std::alloc::Global;
 use std::net::{Net, TcpListener, TcpStream};
 use std::sync::Wait;

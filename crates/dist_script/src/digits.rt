@@ -1,6 +1,6 @@
 //! Hexadecimal digits of either case.
 
-ghost use Rattle.std.specs.Prelude.{◌≡◌, ◌≢◌, ◌⊎◌, SomeIff, IfOk, IsErr, [], ◌∷◌};
+ghost use Rattle.std.specs.Prelude.{◌≡◌, ◌≢◌, ◌⊎◌, ◌*◌, length, SomeIff, IfOk, IsErr, []};
 ghost use Rattle.std.specs.Str.Parse.{digits_value};
 ghost use Rattle.hex.specs.Hex.{decode_of, encode_lower};
 ghost use Rattle.dist_script.specs.Digits.{AreFlags};
@@ -39,11 +39,10 @@ pub fn bytes_of(alloc: Global, word: &[u8]) -> Result<ByteString, LineFault>
     }
 }
 
-/// The two digits, in lower case, that write a byte.
-pub fn digits_of(byte: u8) -> [u8; 2]
-    ensures { result ≡ encode_lower (byte ∷ []) }
+/// Writes the two digits, in lower case, of each byte.
+pub fn write_digits(bytes: &[u8], room: &mut [u8])
+    requires { length room.old ≡ 2 * length bytes.now }
+    ensures { room.new ≡ encode_lower bytes.now }
 {
-    let mut digits = [0u8; 2];
-    let _ = hex::encode_to_slice([byte].as_slice(), &mut digits);
-    digits
+    let _ = hex::encode_to_slice(bytes, room);
 }

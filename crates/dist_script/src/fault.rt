@@ -2,7 +2,9 @@
 
 ghost use Rattle.std.specs.Prelude.{◌≡◌};
 ghost use Rattle.dist_script.specs.Fault.{status_of};
+ghost use Rattle.dist_script.specs.declared.fault.ScriptFault.TheVariants.{NoMemory};
 
+use std::alloc::AllocError;
 use std::io;
 use std::io::Write;
 use thiserror::Error;
@@ -53,6 +55,14 @@ impl ScriptFault {
     {
         let _ = writeln!(err, "distnode: {self}");
         self.status()
+    }
+}
+
+impl From<AllocError> for ScriptFault {
+    ghost from_gives = { λ _ fault. fault ≡ NoMemory };
+
+    fn from(_error: AllocError) -> ScriptFault {
+        ScriptFault::NoMemory
     }
 }
 

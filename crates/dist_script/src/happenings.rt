@@ -79,8 +79,8 @@ fn tick(words: &mut Words<'_>) -> Result<Happening, LineFault> {
     })
 }
 
-fn happening(alloc: Global, words: &mut Words<'_>) -> Result<Happening, LineFault> {
-    match words.word()? {
+fn happening(alloc: Global, kind: &[u8], words: &mut Words<'_>) -> Result<Happening, LineFault> {
+    match kind {
         b"begin" => begin(words),
         b"halt" => Ok(Happening::Halt {
             node: place_word(words)?,
@@ -99,10 +99,13 @@ fn happening(alloc: Global, words: &mut Words<'_>) -> Result<Happening, LineFaul
     }
 }
 
-/// What a line says that happens.
-pub fn happening_of(alloc: Global, line: &[u8]) -> Result<Happening, LineFault> {
-    let mut words = Words::new(line);
-    let happening = happening(alloc, &mut words)?;
+/// What a line says that happens, from its first word and those behind it.
+pub fn happening_of(
+    alloc: Global,
+    kind: &[u8],
+    words: &mut Words<'_>,
+) -> Result<Happening, LineFault> {
+    let happening = happening(alloc, kind, words)?;
     if words.is_done() {
         Ok(happening)
     } else {

@@ -9,7 +9,7 @@ use std::io::Read;
 /// The most bytes of a script, our own choice.
 const MOST_BYTES: usize = 1048576;
 
-const PIECE: usize = 4096;
+const PIECE: usize = 16384;
 
 // One read of the next piece, whose bytes are put behind the text. Answers how many there were.
 fn read_piece<R: Read>(input: &mut R, text: &mut Vec<u8>) -> Result<usize, ScriptFault>

@@ -88,8 +88,8 @@ fn lost(words: &mut Words<'_>) -> Result<Event, LineFault> {
     })
 }
 
-fn told(alloc: Global, words: &mut Words<'_>) -> Result<Line, LineFault> {
-    let event = match words.word()? {
+fn told(alloc: Global, kind: &[u8], words: &mut Words<'_>) -> Result<Line, LineFault> {
+    let event = match kind {
         b"bytes" => return bytes_line(alloc, words),
         b"incoming" => Event::Incoming {
             link: link_word(words)?,
@@ -105,10 +105,9 @@ fn told(alloc: Global, words: &mut Words<'_>) -> Result<Line, LineFault> {
     Ok(Line::Event(event))
 }
 
-/// What a line tells the node.
-pub fn line_of(alloc: Global, line: &[u8]) -> Result<Line, LineFault> {
-    let mut words = Words::new(line);
-    let told = told(alloc, &mut words)?;
+/// What a line tells the node, from its first word and those behind it.
+pub fn line_of(alloc: Global, kind: &[u8], words: &mut Words<'_>) -> Result<Line, LineFault> {
+    let told = told(alloc, kind, words)?;
     if words.is_done() {
         Ok(told)
     } else {

@@ -1,6 +1,6 @@
 //! A script: the lines that set nodes up, and the lines of what happens to them.
 
-ghost use Rattle.std.specs.Prelude.{◌≡◌};
+ghost use Rattle.std.specs.Prelude.{◌≡◌, ◌++◌, ◌∷◌, MatchOption};
 ghost use Rattle.dist_script.specs.Words.{is_skipped};
 
 use crate::fault::ScriptFault;
@@ -12,6 +12,7 @@ use dist_core::{Event, Setup};
 use dist_names::ByteString;
 use dist_peers::EndId;
 use dist_world::Happening;
+use memchr::memchr;
 use std::alloc::Global;
 
 /// What a line tells the one node of a script.
@@ -64,16 +65,30 @@ impl Draft {
     // Takes a line that is not skipped. The lines of the nodes stand before all others.
     fn take(&mut self, alloc: Global, text: &[u8]) -> Result<(), LineFault> {
         let mut words = Words::new(text);
-        if words.skip(b"node") {
+        let kind = words.word()?;
+        if kind == b"node".as_slice() {
             return self.set_up(alloc, &mut words);
         }
         self.has_lines = true;
         match self.nodes.len() {
             0 => is_line(alloc, text)?,
-            1 => self.events.push(line_of(alloc, text)?)?,
-            _ => self.happenings.push(happening_of(alloc, text)?)?,
+            1 => self.events.push(line_of(alloc, kind, &mut words)?)?,
+            _ => self
+                .happenings
+                .push(happening_of(alloc, kind, &mut words)?)?,
         }
         Ok(())
+    }
+
+    // Takes a line of this number, unless it is skipped.
+    fn take_line(&mut self, alloc: Global, text: &[u8], number: usize) -> Result<(), ScriptFault> {
+        if is_skipped(text) {
+            return Ok(());
+        }
+        self.take(alloc, text).map_err(|fault| match fault {
+            LineFault::Bad => ScriptFault::BadLine(number),
+            LineFault::NoMemory => ScriptFault::NoMemory,
+        })
     }
 
     fn set_up(&mut self, alloc: Global, words: &mut Words<'_>) -> Result<(), LineFault> {
@@ -87,11 +102,17 @@ impl Draft {
 
 // A line behind no node, which may be of either language. Nothing is kept of it, since such a script has no node.
 fn is_line(alloc: Global, text: &[u8]) -> Result<(), LineFault> {
-    match line_of(alloc, text) {
+    let mut words = Words::new(text);
+    match line_of(alloc, words.word()?, &mut words) {
         Ok(_) => Ok(()),
-        Err(LineFault::Bad) => happening_of(alloc, text).map(|_| ()),
+        Err(LineFault::Bad) => is_happening(alloc, text),
         Err(LineFault::NoMemory) => Err(LineFault::NoMemory),
     }
+}
+
+fn is_happening(alloc: Global, text: &[u8]) -> Result<(), LineFault> {
+    let mut words = Words::new(text);
+    happening_of(alloc, words.word()?, &mut words).map(|_| ())
 }
 
 // Whether a line is empty or a comment.
@@ -104,19 +125,25 @@ fn is_skipped(line: &[u8]) -> bool
     }
 }
 
+// The first line of a text, and what stands behind the line feed that ends it.
+fn first_line(text: &[u8]) -> (&[u8], Option<&[u8]>)
+    ensures { MatchOption result.1 (result.0.now ≡ text.now) (λ rest. result.0.now ++ 10 ∷ rest.now ≡ text.now) }
+{
+    match memchr(b'\n', text) {
+        Some(place) => (&text[..place], Some(&text[place + 1..])),
+        None => (text, None),
+    }
+}
+
 fn draft_of(alloc: Global, text: &[u8]) -> Result<Draft, ScriptFault> {
     let mut draft = Draft::new(alloc);
     let mut number = 0usize;
-    for line in text.split(|byte| *byte == b'\n') {
+    let mut rest = Some(text);
+    while let Some(text) = rest {
+        let (line, behind) = first_line(text);
         number = number.saturating_add(1);
-        if is_skipped(line) {
-            continue;
-        }
-        match draft.take(alloc, line) {
-            Ok(()) => {}
-            Err(LineFault::Bad) => return Err(ScriptFault::BadLine(number)),
-            Err(LineFault::NoMemory) => return Err(ScriptFault::NoMemory),
-        }
+        draft.take_line(alloc, line, number)?;
+        rest = behind;
     }
     Ok(draft)
 }

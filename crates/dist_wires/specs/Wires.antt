@@ -1,5 +1,5 @@
 -- What is read off a connection, and how a side's last words are taken back.
-use Rattle.std.specs.Prelude.{ℕ, ◌-◌, Bool, false, ◌&&◌, nat_lt, if◌then◌else◌, List, length, take, Option, Some, None, is_some}
+use Rattle.std.specs.Prelude.{ℕ, ◌-◌, Bool, true, false, nat_eq, ◌&&◌, nat_lt, if◌then◌else◌, List, length, take, Option, Some, None, is_some}
 use Rattle.std.specs.Option.{option_map}
 use Rattle.std.specs.Int.{w16}
 use Rattle.dist_messages.specs.declared.message.Side.{Side}
@@ -36,3 +36,13 @@ unsaid k x = record x { said = take (length x.said - k) x.said }
 abbrev pub unsays : Side → ℕ → Conn → Conn
 unsays Dialler k c = record c { there = unsaid k c.there }
 unsays Acceptor k c = record c { back = unsaid k c.back }
+
+-- all that this side said is delivered
+abbrev pub is_quiet : Side → Conn → Bool
+is_quiet Dialler c = nat_eq (length c.there.said) 0
+is_quiet Acceptor c = nat_eq (length c.back.said) 0
+
+-- the same of a connection, if there is one
+abbrev pub is_quiet_at : Option Conn → Side → Bool
+is_quiet_at None side = true
+is_quiet_at (Some c) side = is_quiet side c

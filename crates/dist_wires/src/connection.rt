@@ -1,11 +1,12 @@
 //! One connection.
-ghost use Rattle.std.specs.Prelude.{◌≡◌, is_some, OnOk, OnErr};
+ghost use Rattle.std.specs.Prelude.{◌≡◌, is_some, OnOk, OnErr, true};
 ghost use Rattle.dist_agreement.specs.Delivery.{says, text_to, change_to, delivered, body_taken};
 ghost use Rattle.dist_agreement.specs.Happenings.{new_conn, accepted_by};
-ghost use Rattle.dist_wires.specs.Wires.{unsays};
+ghost use Rattle.dist_wires.specs.Wires.{unsays, is_quiet};
 
 use crate::direction::Direction;
 use dist_messages::Side;
+use dist_names::ByteString;
 use dist_peers::EndId;
 use std::alloc::{AllocError, Global};
 use std::marker::Model;
@@ -90,6 +91,27 @@ impl Connection {
         match side {
             Side::Dialler => self.there.say(bytes),
             Side::Acceptor => self.back.say(bytes),
+        }
+    }
+
+    /// All that this side said is delivered.
+    pub fn is_quiet(&self, side: Side) -> bool
+        ensures { result ≡ is_quiet side self.now }
+    {
+        match side {
+            Side::Dialler => self.there.said().is_empty(),
+            Side::Acceptor => self.back.said().is_empty(),
+        }
+    }
+
+    /// This side says these bytes, where all that it said is delivered. It takes no memory.
+    pub fn say_first(&mut self, side: Side, bytes: ByteString)
+        requires { is_quiet side self.old ≡ true }
+        ensures { self.new ≡ says side bytes self.old }
+    {
+        match side {
+            Side::Dialler => self.there.say_first(bytes),
+            Side::Acceptor => self.back.say_first(bytes),
         }
     }
 

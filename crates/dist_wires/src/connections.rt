@@ -1,13 +1,14 @@
 //! All connections, and what happens to one of them.
-ghost use Rattle.std.specs.Prelude.{◌≡◌, ◌==◌, ◌++◌, ◌∷◌, ℕ, List, [], if◌then◌else◌, length, slice_get, option_copied, IfOk, OnOk, OnErr};
+ghost use Rattle.std.specs.Prelude.{◌≡◌, ◌==◌, ◌++◌, ◌∷◌, ℕ, List, [], if◌then◌else◌, true, length, slice_get, option_copied, IfOk, OnOk, OnErr};
 ghost use Rattle.dist_agreement.specs.Lists.{at_place};
 ghost use Rattle.dist_agreement.specs.World.{Conn};
 ghost use Rattle.dist_agreement.specs.Happenings.{new_conn, accepted_by};
 ghost use Rattle.dist_agreement.specs.Delivery.{says, change_to, delivered, body_taken};
-ghost use Rattle.dist_wires.specs.Wires.{unaccepted, undelivered_to, comes, front_at, unsays};
+ghost use Rattle.dist_wires.specs.Wires.{unaccepted, undelivered_to, comes, front_at, unsays, is_quiet_at};
 
 use crate::connection::Connection;
 use dist_messages::Side;
+use dist_names::ByteString;
 use dist_peers::EndId;
 use std::alloc::{AllocError, Global};
 use std::marker::Model;
@@ -109,6 +110,24 @@ impl Connections {
         say_at(&mut self.all, place, side, bytes)
     }
 
+    /// All that this side of a connection said is delivered; so too where there is no such connection.
+    pub fn is_quiet(&self, place: usize, side: Side) -> bool
+        ensures { result ≡ is_quiet_at (slice_get self.now place) side }
+    {
+        match self.all.get(place) {
+            Some(conn) => conn.is_quiet(side),
+            None => true,
+        }
+    }
+
+    /// This side of a connection says these bytes, where all that it said is delivered. It takes no memory.
+    pub fn say_first(&mut self, place: usize, side: Side, bytes: ByteString)
+        requires { is_quiet_at (slice_get self.old place) side ≡ true }
+        ensures { self.new ≡ at_place place (says side bytes) self.old }
+    {
+        say_first_at(&mut self.all, place, side, bytes);
+    }
+
     /// This side of a connection did not say the last so many bytes: all is as it was before it said them.
     pub fn unsay(&mut self, place: usize, side: Side, count: usize)
         ensures { (before : List Conn) (bytes : List ℕ) → self.old ≡ at_place place (says side bytes) before → length bytes ≡ count → self.new ≡ before }
@@ -159,6 +178,16 @@ fn say_at(
     let conn = &mut conns[place];
     conn.say(side, bytes)?;
     Ok(())
+}
+
+fn say_first_at(conns: &mut Vec<Connection>, place: usize, side: Side, bytes: ByteString)
+    requires { is_quiet_at (slice_get conns.old.items place) side ≡ true }
+    ensures { conns.new.items ≡ at_place place (says side bytes) conns.old.items }
+{
+    if place < conns.len() {
+        let conn = &mut conns[place];
+        conn.say_first(side, bytes);
+    }
 }
 
 fn unsay_at(conns: &mut Vec<Connection>, place: usize, side: Side, count: usize)

@@ -1,5 +1,5 @@
 //! One direction of a connection.
-ghost use Rattle.std.specs.Prelude.{◌≡◌, option_copied, OnOk, OnErr};
+ghost use Rattle.std.specs.Prelude.{◌≡◌, [], option_copied, OnOk, OnErr};
 ghost use Rattle.std.specs.Int.{w16};
 ghost use Rattle.dist_frames.specs.Stream.{first_body};
 ghost use Rattle.dist_agreement.specs.Delivery.{empty_text, more_said, delivered, body_taken};
@@ -7,6 +7,7 @@ ghost use Rattle.dist_wires.specs.Wires.{unsaid};
 
 use crate::queue::Queue;
 use dist_frames::Frames;
+use dist_names::ByteString;
 use std::alloc::{AllocError, Global};
 use std::marker::Model;
 
@@ -54,6 +55,14 @@ impl Direction {
         ensures err { OnErr result (self.new ≡ self.old) }
     {
         self.said.extend(bytes)
+    }
+
+    /// These bytes are said, where all that was said is delivered. It takes no memory.
+    pub fn say_first(&mut self, bytes: ByteString)
+        requires { self.old.said ≡ [] }
+        ensures { self.new ≡ more_said bytes self.old }
+    {
+        self.said.fill(bytes.into_vec());
     }
 
     /// The last so many bytes were not said.

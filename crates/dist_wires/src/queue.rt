@@ -61,6 +61,15 @@ impl Queue {
         Ok(())
     }
 
+    /// These bytes come, where none wait. It takes no memory.
+    pub fn fill(&mut self, bytes: Vec<u8>)
+        requires { self.old ≡ [] }
+        ensures { self.new ≡ bytes.items }
+    {
+        self.bytes = bytes;
+        self.start = 0;
+    }
+
     /// The first so many go, or all.
     pub fn drop_front(&mut self, count: usize)
         ensures { self.new ≡ drop count self.old }

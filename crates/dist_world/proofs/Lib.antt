@@ -1,10 +1,5 @@
-pub mod Edits
-pub mod Writing
-pub mod Told
 pub mod Marked
 pub mod Runs
 pub mod UpLinks
-pub mod Wired
 pub mod Naming
 pub mod Agreed
-pub mod Indexes

@@ -14,11 +14,11 @@ use Rattle.dist_agreement.specs.Rows.{EndRow, rows_after}
 use Rattle.dist_agreement.specs.World.{World, Life, Conn, runs, row_of_life}
 use Rattle.dist_agreement.specs.Delivery.{says, spoken, change_to, body_taken}
 use Rattle.dist_agreement.specs.Happenings.{lived, told, told_in, answered, unclosed, accepted, accepted_by, next_end, taken_by, taken_on, taken_from, taken_body, take_next}
-use Rattle.dist_world.specs.Hearing.{wire_of, said_at}
-use Rattle.dist_world.specs.Telling.{wire_at, HasTold}
+use Rattle.dist_lives.specs.Hearing.{wire_of, said_at}
+use Rattle.dist_lives.specs.Telling.{wire_at, HasTold}
 use Rattle.dist_wires.specs.Wires.{unaccepted, front_at}
-use Rattle.dist_world.specs.declared.hearing.Heard.{Heard}
-use Rattle.dist_world.proofs.Wired.{AreOwn, as_wired}
+use Rattle.dist_lives.specs.declared.hearing.Heard.{Heard}
+use Rattle.dist_lives.proofs.Wired.{AreOwn, as_wired}
 
 told_is : (w : World) (i : ℕ) (v : Event) (fresh : ℕ) (l : Life) (r : Reply) (n : NodeState) → slice_get w.lives i ≡ Some l → runs l ≡ true → step l.node v fresh ≡ Ok (r, n)
     → told w i v fresh ≡ Some (record w { lives = at_place i (λ old. lived w.clock v r n l) w.lives; conns = spoken w.conns (slice_get (rows_after w.clock v r l.rows) r.end_.0) r.say; last_closed = option_map (λ y. (l.who, y)) r.closed })

@@ -1,10 +1,10 @@
 -- The names of setups.
-use Rattle.std.proofs.Common.{◌≡◌, ℕ, zero, suc, ◌+◌, ◌<◌, Bool, true, false, not, ◌||◌, List, [], ◌∷◌, length, get_or, Some, slice_get, sym, ◌∙◌, ap, subst, refl, below_more, arith}
+use Rattle.std.proofs.Common.{◌≡◌, ℕ, zero, suc, ◌+◌, ◌<◌, Bool, true, false, not, ◌||◌, List, [], ◌∷◌, length, drop, get_or, Some, slice_get, sym, ◌∙◌, ap, subst, refl, below_more, arith}
 use Rattle.dist_names.specs.Order.{Name, same_name}
 use Rattle.dist_setup.specs.declared.setup.Setup.{Setup}
 use Rattle.dist_agreement.specs.Agreement.{IsSetup}
 use Rattle.dist_world.specs.Setups.{is_named, names_repeat}
-use Rattle.dist_world.proofs.Told.{get_some}
+use Rattle.dist_lives.proofs.Told.{get_some}
 
 pub within : {A : Type 0} (xs : List A) (i : ℕ) (x : A) → slice_get xs i ≡ Some x → i < length xs
 within [] i x e = absurd cc
@@ -48,3 +48,15 @@ distinct itself (x ∷ ss) un (suc i) (suc j) s r a b e = ap suc (distinct itsel
 pub not_true : (b : Bool) → not b ≡ true → b ≡ false
 not_true true e = absurd cc
 not_true false e = refl
+
+or_true : (a b : Bool) → b ≡ true → (a || b) ≡ true
+or_true true b e = refl
+or_true false b e = e
+
+-- one of those behind has the name of this one
+pub named_behind : (ss : List Setup) (i : ℕ) (d : Setup) → i < length ss → is_named (drop (suc i) ss) (get_or ss i d).name ≡ true → names_repeat ss ≡ true
+named_behind [] i d few e = absurd (omega arith)
+named_behind (x ∷ ss) zero d few e = ap (λ b. b || names_repeat ss) e
+named_behind (x ∷ ss) (suc i) d few e =
+    let fewer : i < length ss = omega arith in
+    or_true (is_named ss x.name) (names_repeat ss) (named_behind ss i d fewer e)

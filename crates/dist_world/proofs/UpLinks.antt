@@ -11,15 +11,8 @@ use Rattle.dist_agreement.specs.Rows.{EndRow}
 use Rattle.dist_agreement.specs.World.{World, Life, running}
 use Rattle.dist_agreement.specs.Happenings.{conn_of}
 use Rattle.dist_agreement.specs.Agreement.{IsUp}
-use Rattle.dist_world.specs.Ups.{linked, up_on, FindsLink, FindsPeer, FindsBoth, agreed, agreed_of}
-
-pub link_found : (l : Life) (p : Name) (o : Option (EndId × UpRecord)) → FindsUp l.node.ends p o → FindsLink l p (linked l.rows o)
-link_found l p None k = tt
-link_found l p (Some x) k = by (conn_of (slice_get l.rows (let y = x.0 in y.0))) refl
-  where
-    by : (o : Option ℕ) → conn_of (slice_get l.rows (let y = x.0 in y.0)) ≡ o → FindsLink l p (option_map {U = ℕ × UpRecord} (λ c. (c, x.1)) o)
-    by None e = tt
-    by (Some c) e = (x.0, k, e)
+use Rattle.dist_lives.specs.Links.{up_on, FindsLink}
+use Rattle.dist_world.specs.Ups.{FindsPeer, FindsBoth, agreed, agreed_of}
 
 -- an end with a connection has a row
 row_there : (o : Option EndRow) (c : ℕ) → conn_of o ≡ Some c → (row : EndRow) × (o ≡ Some row) × (row.conn ≡ Some c)

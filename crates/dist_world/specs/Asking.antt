@@ -7,7 +7,7 @@ use Rattle.dist_ends.specs.declared.why.Why.{Why}
 use Rattle.dist_core.specs.Node.{NodeState}
 use Rattle.dist_agreement.specs.World.{World, Life, running, row_at}
 use Rattle.dist_agreement.specs.Delivery.{text_to}
-use Rattle.dist_world.specs.Hearing.{wire_of}
+use Rattle.dist_lives.specs.Hearing.{wire_of}
 
 -- the running incarnation of a node, itself
 abbrev pub running_life : World → ℕ → Option Life

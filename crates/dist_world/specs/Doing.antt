@@ -15,7 +15,3 @@ Did (Err e) o old new = new ≡ old
 abbrev pub Happened : Result Bool AllocError → Option World → World → World → Type 0
 Happened (Ok b) o old new = (b ≡ is_some o) × (new ≡ ticked_on old o)
 Happened (Err e) o old new = new ≡ old
-
--- the end waits for a connection, and was not led to one yet
-abbrev pub is_unreached : Option Life → ℕ → Bool
-is_unreached l id = is_dialing (end_of_life l id) && not (is_some (conn_of (row_of_life l id)))

@@ -1,7 +1,5 @@
-pub mod Hearing
-pub mod Telling
 pub mod Doing
 pub mod Setups
 pub mod Asking
 pub mod Ups
-pub mod Index
+pub mod Words

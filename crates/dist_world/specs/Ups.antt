@@ -13,20 +13,6 @@ use Rattle.dist_names.specs.declared.creation.Creation.{Creation}
 use Rattle.dist_agreement.specs.Agreement.{IsUp, AreAgreed}
 use Rattle.dist_world.specs.declared.agreement.Agreement.{Agreement}
 
--- the connection of an end beside its record
-abbrev pub linked : List EndRow → Option (EndId × UpRecord) → Option (ℕ × UpRecord)
-linked rows None = None
-linked rows (Some x) = option_map (λ c. (c, x.1)) (conn_of (slice_get rows (let y = x.0 in y.0)))
-
--- a connection and the record of an end on it
-abbrev pub up_on : ℕ → UpRecord → Option (ℕ × UpRecord)
-up_on c r = Some (c, r)
-
--- what was found is the connection of an end of this incarnation that is up with this peer, and its record
-abbrev pub FindsLink : Life → Name → Option (ℕ × UpRecord) → Type 0
-FindsLink l p None = Unit {0}
-FindsLink l p (Some x) = (id : EndId) × IsUpWith l.node.ends p id x.1 × (conn_of (slice_get l.rows id.0) ≡ Some x.0)
-
 -- what was found is a connection on which node a counts node b as up, and the record there
 abbrev pub FindsPeer : World → ℕ → ℕ → Option (ℕ × UpRecord) → Type 0
 FindsPeer w a b None = Unit {0}

@@ -1,14 +1,12 @@
 //! Two nodes that each count the other as up.
 ghost use Rattle.std.specs.Prelude.{◌≡◌, ◌≢◌, ℕ, Some};
 ghost use Rattle.std.specs.Option.{option_map};
-ghost use Rattle.dist_world.specs.Ups.{linked, agreed, agreed_of, FindsBoth};
+ghost use Rattle.dist_world.specs.Ups.{agreed, agreed_of, FindsBoth};
 ghost use Rattle.dist_agreement.specs.Agreement.{IsUp};
 
-use crate::row::EndRow;
 use crate::scene::Scene;
 use dist_core::UpRecord;
 use dist_names::{Creation, Flags};
-use dist_peers::EndId;
 
 /// What two running nodes have in common that each count the other as up.
 #[derive(Clone, Copy, Debug, PartialEq, Eq)]
@@ -21,18 +19,6 @@ pub struct Agreement {
     pub creation_a: Creation,
     /// The creation of the other one's, as the first one has it.
     pub creation_b: Creation,
-}
-
-// The connection of an end, beside its record.
-pub fn linked<'a>(
-    rows: &[EndRow],
-    up: Option<(EndId, &'a UpRecord)>,
-) -> Option<(usize, &'a UpRecord)>
-    ensures { option_map (λ r. (r.0, r.1.now)) result ≡ linked rows.now (option_map (λ r. (r.0, r.1.now)) up.entry) }
-{
-    let (id, kept) = up?;
-    let row = rows.get(id.0 as usize)?;
-    Some((row.conn()?, kept))
 }
 
 fn agreed_of(

@@ -5,11 +5,6 @@
 #![tactic(auto)]
 
 mod agreement;
-mod events;
-mod hearing;
-mod incarnations;
-mod life;
-mod row;
 mod run;
 mod scene;
 mod setups;

@@ -4,13 +4,14 @@ ghost use Rattle.std.specs.Option.{option_map};
 ghost use Rattle.dist_agreement.specs.World.{empty, running};
 ghost use Rattle.dist_world.specs.Setups.{names_repeat};
 ghost use Rattle.dist_world.specs.Asking.{node_of, said_to, SaidNext, closing};
-ghost use Rattle.dist_world.specs.Ups.{FindsPeer, up_on};
+ghost use Rattle.dist_lives.specs.Links.{up_on};
+ghost use Rattle.dist_world.specs.Ups.{FindsPeer};
 ghost use Rattle.dist_agreement.specs.Agreement.{AreSetups, IsUp};
 
-use crate::incarnations::Lives;
 use crate::setups::are_good;
 use crate::world_error::WorldError;
 use dist_core::{Node, Setup, UpRecord, Why};
+use dist_lives::Lives;
 use dist_peers::EndId;
 use dist_wires::Connections;
 use std::alloc::Global;
@@ -61,9 +62,10 @@ impl Scene {
     pub fn new(alloc: Global, setups: Vec<Setup>) -> Result<Scene, WorldError>
         ensures ok { IfOk result (λ w. w ≡ empty setups.items) }
         ensures same { IsErrOf result WorldError.SameName ↔ IsTrue (names_repeat setups.items) }
+        ensures memory { ¬ (IsErrOf result WorldError.NoMemory) }
         ensures good { OnOk result (AreSetups setups.items) }
     {
-        if !are_good(&setups) {
+        if !are_good(alloc, &setups) {
             return Err(WorldError::SameName);
         }
         Ok(Scene {

@@ -44,10 +44,12 @@ impl Model for World {
 impl World {
     /// A world of nodes with these setups, none of which runs yet. The creations of the setups are not used.
     ///
-    /// `SameName` where two setups have one name. It takes no memory.
+    /// `SameName` where two setups have one name, and never `NoMemory`: it takes memory for a set of the names while it looks
+    /// for these; where none is left for it, it compares each two in place.
     pub fn new(alloc: Global, setups: Vec<Setup>) -> Result<World, WorldError>
         ensures ok { IfOk result (λ w. w ≡ empty setups.items) }
         ensures same { IsErrOf result WorldError.SameName ↔ IsTrue (names_repeat setups.items) }
+        ensures memory { ¬ (IsErrOf result WorldError.NoMemory) }
     {
         worlds_are_reached();
         let scene = Scene::new(alloc, setups)?;

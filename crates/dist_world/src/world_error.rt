@@ -1,4 +1,6 @@
 //! Why there is no world.
+ghost use Rattle.std.specs.Prelude.{◌≡◌};
+ghost use Rattle.dist_world.specs.Words.{refusal_name};
 
 use thiserror::Error;
 
@@ -15,7 +17,9 @@ pub enum WorldError {
 
 impl WorldError {
     /// The variant's name, as a program prints it.
-    pub fn name(self) -> &'static str {
+    pub fn name(self) -> &'static str
+        ensures { result.now ≡ refusal_name self }
+    {
         match self {
             WorldError::SameName => "SameName",
             WorldError::NoMemory => "NoMemory",

@@ -1,23 +1,23 @@
 //! The command `cookie`: the length of a file's cookie, and the digest that is made with it.
 
 ghost use Rattle.std.specs.Prelude.{◌≡◌, ◌≤◌, IfErr};
-ghost use Rattle.distnode.specs.Fault.{status_of};
+ghost use Rattle.dist_faults.specs.Fault.{status_of};
 
-use crate::fault::Fault;
-use dist_script::print::lower_hex;
+use dist_faults::Fault;
+use dist_play::print::{lower_hex, number};
 use dist_secret::{Cookie, digest, read_cookie};
 use std::alloc::Global;
 use std::io;
 use std::io::{BufWriter, Read, Write};
 
 fn print<W: Write>(out: &mut W, cookie: &Cookie, challenge: u32) -> io::Result<()> {
-    write!(
-        out,
-        "cookie of {} bytes, digest of {challenge} is ",
-        cookie.len()
-    )?;
+    out.write_all(b"cookie of ")?;
+    number(out, cookie.len() as u64)?;
+    out.write_all(b" bytes, digest of ")?;
+    number(out, u64::from(challenge))?;
+    out.write_all(b" is ")?;
     lower_hex(out, &digest(cookie, challenge))?;
-    writeln!(out)?;
+    out.write_all(b"\n")?;
     out.flush()
 }
 

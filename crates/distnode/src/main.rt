@@ -5,16 +5,15 @@
 #![tactic(auto)]
 
 mod cookie;
-mod fault;
 mod names;
 mod run;
 #[cfg(test)]
 mod tests;
 
 use dist_commands::{Order, order_of};
-use dist_script::enact;
+use dist_faults::Fault;
+use dist_play::enact;
 use dist_streams::SocketStream;
-use fault::Fault;
 use std::alloc::{AllocError, Global};
 use std::fs::File;
 use std::io::{ErrorKind, Write};
@@ -61,16 +60,24 @@ where
 {
     let words = own_words(rt, alloc)?;
     let words = texts(alloc, &words).map_err(|_| Fault::NoMemory)?;
-    let order = order_of(alloc, &words)?;
+    let order = order_of(alloc, behind_the_first(&words))?;
     Ok(follow(rt, host, order, &mut rt.stdout(), &mut rt.stderr()))
 }
 
-// The words after the program's name. One that is no UTF-8 is no word of a command.
+// The program's name and the words behind it. One that is no UTF-8 is no word of a command.
 fn own_words(rt: &HostRuntime, alloc: Global) -> Result<Vec<String>, Fault> {
     match env::args(rt) {
-        Ok(words) => words.skip(1).collect(alloc).map_err(|_| Fault::NoMemory),
+        Ok(words) => words.collect(alloc).map_err(|_| Fault::NoMemory),
         Err(error) if error.kind() == ErrorKind::OutOfMemory => Err(Fault::NoMemory),
         Err(_) => Err(Fault::BadCommandLine),
+    }
+}
+
+// The words behind the program's name.
+fn behind_the_first<'w, 's>(words: &'w [&'s str]) -> &'w [&'s str] {
+    match words {
+        [_, rest @ ..] => rest,
+        [] => words,
     }
 }
 

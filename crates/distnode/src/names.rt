@@ -1,9 +1,9 @@
 //! The command `names`: what a port mapper answers about the nodes that it knows.
 
 ghost use Rattle.std.specs.Prelude.{◌≡◌, ◌≤◌, IfErr};
-ghost use Rattle.distnode.specs.Fault.{status_of};
+ghost use Rattle.dist_faults.specs.Fault.{status_of};
 
-use crate::fault::Fault;
+use dist_faults::Fault;
 use dist_mapper::ask_names;
 use dist_streams::Stream;
 use std::alloc::Global;

@@ -2,12 +2,13 @@
 
 ghost use Rattle.std.specs.Prelude.{◌≤◌, IfOk};
 
-use crate::fault::{Fault, written};
 use dist_audit::{AuditError, audit};
+use dist_faults::{Fault, written};
 use dist_locked::{Closed, Gate, Open};
 use dist_plan::{Plan, PlanError, plan_of};
+use dist_play::{print, print_agreements, print_nodes};
 use dist_run::{OrderFault, Ran, run_plan};
-use dist_script::{print, print_agreements, print_nodes, read_text};
+use dist_script::read_text;
 use dist_world::World;
 use std::alloc::Global;
 use std::io::{BufWriter, Read, Write};
@@ -29,7 +30,11 @@ fn plan_in(alloc: Global, text: &str) -> Result<Plan, Fault> {
 // The orders that made no dial.
 fn print_faults<W: Write>(out: &mut W, faults: &[OrderFault]) -> io::Result<()> {
     for fault in faults {
-        writeln!(out, "order {} {}", fault.number, fault.refusal.name())?;
+        out.write_all(b"order ")?;
+        print::number(out, u64::from(fault.number))?;
+        out.write_all(b" ")?;
+        out.write_all(fault.refusal.name().as_bytes())?;
+        out.write_all(b"\n")?;
     }
     Ok(())
 }

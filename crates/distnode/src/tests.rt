@@ -86,7 +86,7 @@ struct Ran {
 fn enacted(alloc: Global, script: &[u8]) -> Ran {
     let (mut out, mut err) = (Vec::new(alloc), Vec::new(alloc));
     let mut input = script;
-    let status = dist_script::enact(alloc, &mut input, &mut out, &mut err);
+    let status = dist_play::enact(alloc, &mut input, &mut out, &mut err);
     Ran { status, out, err }
 }
 

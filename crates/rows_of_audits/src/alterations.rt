@@ -5,7 +5,6 @@ use dist_locked::{Closed, Line};
 use dist_names::ByteString;
 use dist_peers::EndId;
 use std::alloc::Global;
-use std::test::*;
 
 /// What is altered in a line. The same alteration once more undoes it.
 #[derive(Clone, Copy)]
@@ -23,23 +22,25 @@ pub enum Change {
     Note,
 }
 
-fn flip(text: &mut ByteString, alloc: Global, place: usize) -> Result<(), Fail> {
-    let mut bytes = Vec::from_slice(alloc, text.as_slice())?;
-    if let Some(byte) = bytes.get_mut(place) {
-        *byte ^= 1;
-    }
+fn flip(text: &mut ByteString, alloc: Global, place: usize) -> Option<()> {
+    let mut bytes = Vec::from_slice(alloc, text.as_slice()).ok()?;
+    *bytes.get_mut(place)? ^= 1;
     *text = ByteString::from_vec(bytes);
-    Ok(())
+    Some(())
 }
 
-fn alter_event(event: &mut Event, alloc: Global, change: Change) -> Result<(), Fail> {
-    match (event, change) {
-        (Event::Opened { link, .. }, Change::Link) => *link ^= 1024,
-        (Event::Incoming { link }, Change::Link) => *link ^= 1024,
-        (Event::Frame { body, .. }, Change::Body(place)) => flip(body, alloc, place)?,
+fn alter_link(event: &mut Event) {
+    match event {
+        Event::Opened { link, .. } | Event::Incoming { link } => *link ^= 1024,
         _ => {}
     }
-    Ok(())
+}
+
+fn alter_body(event: &mut Event, alloc: Global, place: usize) -> Option<()> {
+    match event {
+        Event::Frame { body, .. } => flip(body, alloc, place),
+        _ => None,
+    }
 }
 
 fn alter_note(note: &mut Note) {
@@ -72,32 +73,32 @@ fn alter_up(up: &mut Option<UpRecord>, change: Change) {
     }
 }
 
-fn alter(line: &mut Line, alloc: Global, change: Change) -> Result<(), Fail> {
+fn alter(line: &mut Line, alloc: Global, change: Change) -> Option<()> {
     match change {
         Change::Ticket(mask) => line.ticket ^= mask,
         Change::Seat => line.seat ^= 1,
+        Change::Link => alter_link(&mut line.event),
         Change::Fresh => line.fresh ^= 1,
         Change::ReplyEnd => line.reply.end_.0 ^= 1024,
-        Change::Say(place) => flip(&mut line.reply.say, alloc, place)?,
         Change::ClosedEnd => alter_closed(&mut line.reply.closed),
         Change::UpCreation | Change::UpFlags => alter_up(&mut line.reply.up, change),
         Change::Note => alter_note(&mut line.reply.note),
-        Change::Link | Change::Body(_) => alter_event(&mut line.event, alloc, change)?,
+        Change::Say(place) => return flip(&mut line.reply.say, alloc, place),
+        Change::Body(place) => return alter_body(&mut line.event, alloc, place),
     }
-    Ok(())
+    Some(())
 }
 
-/// Alters this line of a node's history.
+/// Alters this line of a node's history. `None`: memory was refused, or there is no such line.
 pub fn alter_at(
     alloc: Global,
     all: &mut [Closed],
     node: usize,
     place: usize,
     change: Change,
-) -> Result<(), Fail> {
-    let one = all.get_mut(node).ok_or("no node")?;
-    let line = one.history.get_mut(place).ok_or("no line")?;
-    alter(line, alloc, change)
+) -> Option<()> {
+    let one = all.get_mut(node)?;
+    alter(one.history.get_mut(place)?, alloc, change)
 }
 
 fn body_len(event: &Event) -> usize {
@@ -107,26 +108,35 @@ fn body_len(event: &Event) -> usize {
     }
 }
 
-/// Every single alteration of this line: of its ticket, its seat, its link, its number, each part of its reply, and each
-/// byte of its body and of what was said.
-pub fn changes_of(alloc: Global, line: &Line) -> Result<Vec<Change>, Fail> {
-    let mut changes = Vec::new(alloc);
-    changes.push(Change::Ticket(line.ticket ^ line.ticket.saturating_add(1)))?;
-    changes.push(Change::Seat)?;
-    changes.push(Change::Link)?;
-    changes.push(Change::Fresh)?;
-    changes.push(Change::ReplyEnd)?;
-    changes.push(Change::ClosedEnd)?;
-    changes.push(Change::UpCreation)?;
-    changes.push(Change::UpFlags)?;
-    changes.push(Change::Note)?;
-    for place in 0..body_len(&line.event) {
-        changes.push(Change::Body(place))?;
+// Which byte is altered: of the body, or behind that of what was said.
+fn byte_change(line: &Line, place: usize) -> Option<Change> {
+    let len = body_len(&line.event);
+    if place < len {
+        return Some(Change::Body(place));
     }
-    for place in 0..line.reply.say.len() {
-        changes.push(Change::Say(place))?;
+    let place = place - len;
+    if place < line.reply.say.len() {
+        Some(Change::Say(place))
+    } else {
+        None
     }
-    Ok(changes)
+}
+
+/// Every single alteration of this line, by its number: of its ticket, its seat, its link, its number, each part of its reply,
+/// and each byte of its body and of what was said.
+pub fn change_at(line: &Line, number: usize) -> Option<Change> {
+    match number {
+        0 => Some(Change::Ticket(line.ticket ^ line.ticket.saturating_add(1))),
+        1 => Some(Change::Seat),
+        2 => Some(Change::Link),
+        3 => Some(Change::Fresh),
+        4 => Some(Change::ReplyEnd),
+        5 => Some(Change::ClosedEnd),
+        6 => Some(Change::UpCreation),
+        7 => Some(Change::UpFlags),
+        8 => Some(Change::Note),
+        more => byte_change(line, more.saturating_sub(9)),
+    }
 }
 
 // That a line has the next ticket of all: its own next line may have it, or the other node's, or none.

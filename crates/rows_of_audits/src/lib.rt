@@ -7,6 +7,10 @@
 #[cfg(test)]
 mod alterations;
 #[cfg(test)]
+mod forty_lines;
+#[cfg(test)]
 mod histories;
+#[cfg(test)]
+mod pairs;
 #[cfg(test)]
 mod rows;

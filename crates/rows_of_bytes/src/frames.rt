@@ -1,47 +1,52 @@
-//! Short frames, the switch to packets, and a stream that is cut.
+//! Short frames and packets as they are fed, and a stream that is cut.
 
 use crate::hexadecimal::{bytes_of, digits_of};
-use dist_frames::{FrameError, Frames, tick, write_short};
+use dist_frames::{Frames, write_short};
 use std::alloc::Global;
 use std::test::*;
 
-fn digits_of_next(alloc: Global, frames: &mut Frames) -> Result<String, Fail> {
-    match frames.next_short()? {
-        Some(body) => digits_of(alloc, body.as_slice()),
-        None => Ok(String::from_str(alloc, "none")?),
+// Whether these are the digits of a body, or the word for none.
+fn is_body(alloc: Global, body: Option<&[u8]>, wanted: &str) -> Option<bool> {
+    match body {
+        Some(bytes) => Some(digits_of(alloc, bytes)?.as_str() == wanted),
+        None => Some(wanted == "none"),
     }
 }
 
-fn digits_of_front(alloc: Global, frames: &Frames) -> Result<String, Fail> {
-    match frames.front() {
-        Some(body) => digits_of(alloc, body),
-        None => Ok(String::from_str(alloc, "none")?),
-    }
+/// Whether the next body has these digits, or there is none.
+pub fn is_next(alloc: Global, frames: &mut Frames, wanted: &str) -> Option<bool> {
+    let body = frames.next_short().ok()?;
+    is_body(alloc, body.as_deref(), wanted)
 }
 
-// What a reader answers where it is fed these bytes or asked this; nothing where there is nothing to answer.
-fn answered(alloc: Global, frames: &mut Frames, ask: &str) -> Result<String, Fail> {
+fn feed(alloc: Global, frames: &mut Frames, digits: &str) -> Option<()> {
+    let bytes = bytes_of(alloc, digits)?;
+    frames.feed(&bytes).ok()
+}
+
+// Whether a reader answers so where it is fed these bytes or asked this; nothing where there is nothing to answer.
+fn is_answered(alloc: Global, frames: &mut Frames, ask: &str, wanted: &str) -> Option<bool> {
     match ask {
-        "next" => return digits_of_next(alloc, frames),
-        "front" => return digits_of_front(alloc, frames),
-        "skip" => return Ok(format!(in alloc; "{}", frames.skip_long())?),
+        "next" => return is_next(alloc, frames, wanted),
+        "front" => return is_body(alloc, frames.front(), wanted),
+        "skip" => return Some(wanted.parse::<usize>().ok() == Some(frames.skip_long())),
         "drop" => frames.drop_front(),
         "link" => frames.to_linked(),
-        bytes => frames.feed(&bytes_of(alloc, bytes)?)?,
+        digits => feed(alloc, frames, digits)?,
     }
-    Ok(String::new(alloc))
+    Some(wanted.is_empty())
 }
 
 // A new reader answers so: each ask stands before `=` and its answer behind it.
-fn first_wrong<'r>(alloc: Global, row: &'r str) -> Result<Option<&'r str>, Fail> {
+fn first_wrong<'r>(alloc: Global, row: &'r str) -> Option<&'r str> {
     let mut frames = Frames::new(alloc);
     for word in row.split(' ') {
         let (ask, wanted) = word.split_once('=').unwrap_or((word, ""));
-        if answered(alloc, &mut frames, ask)?.as_str() != wanted {
-            return Ok(Some(word));
+        if is_answered(alloc, &mut frames, ask, wanted) != Some(true) {
+            return Some(word);
         }
     }
-    Ok(None)
+    None
 }
 
 // What is fed and asked. A second switch, and a skip before the first one, change nothing; what is in front is shown until
@@ -53,23 +58,36 @@ drop 0002616200 front=6162 front=6162 drop front=none next=none drop 01630000 fr
 0003736f6b0002616200000002 next=736f6b next=6162 link skip=0 0102 skip=1
 ";
 
-#[test]
-fn a_reader_answers_what_was_fed(rt: HostRuntime) -> Result<(), Fail> {
-    for row in ROWS.lines() {
-        assert_eq!(rt; first_wrong(rt.alloc(), row)?, None, "{row}");
-    }
-    let longest = vec![in rt.alloc(); 7u8; 65535]?;
-    let frame = write_short(rt.alloc(), &longest)?;
-    assert!(rt; frame.starts_with(b"\xff\xff\x07") && frame.len() == 65537);
-    let mut frames = Frames::new(rt.alloc());
-    frames.feed(&frame)?;
-    let body = frames.next_short()?.ok_or("a body")?;
-    assert!(rt; body.as_slice() == longest.as_slice());
+// The longest frame is written and read whole.
+fn is_longest_read(alloc: Global, frames: &mut Frames, longest: &[u8]) -> Option<bool> {
+    let frame = write_short(alloc, longest).ok()?;
+    frames.feed(&frame).ok()?;
+    let body = frames.next_short().ok()?;
+    let is_written = frame.starts_with(b"\xff\xff\x07") && frame.len() == 65537;
+    Some(is_written && body.as_deref() == Some(longest))
+}
+
+// A packet of 4,294,967,295 bytes does not end within so many.
+fn is_endless(frames: &mut Frames, longest: &[u8]) -> Option<bool> {
     frames.to_linked();
-    frames.feed(b"\xff\xff\xff\xff\x00\x00\x00\x00")?;
-    frames.feed(&longest)?;
-    assert_eq!(rt; frames.skip_long(), 0);
-    Ok(())
+    frames.feed(b"\xff\xff\xff\xff\x00\x00\x00\x00").ok()?;
+    frames.feed(longest).ok()?;
+    Some(frames.skip_long() == 0)
+}
+
+fn are_longest_read(alloc: Global) -> Option<bool> {
+    let longest = vec![in alloc; 7u8; 65535].ok()?;
+    let mut frames = Frames::new(alloc);
+    let is_read = is_longest_read(alloc, &mut frames, &longest)?;
+    Some(is_read && is_endless(&mut frames, &longest)?)
+}
+
+#[test]
+fn a_reader_answers_what_was_fed(rt: HostRuntime) {
+    for row in ROWS.lines() {
+        assert_eq!(rt; first_wrong(rt.alloc(), row), None, "{row}");
+    }
+    assert!(rt; are_longest_read(rt.alloc()) == Some(true));
 }
 
 // A stream, and the bodies of its whole frames.
@@ -83,85 +101,57 @@ const STREAMS: &str = "\
 001a4e000000040100000400000005000b61403132372e302e302e310001 4e000000040100000400000005000b61403132372e302e302e31,
 ";
 
-fn push_bodies(alloc: Global, frames: &mut Frames, told: &mut String) -> Result<(), Fail> {
+fn put_body(alloc: Global, frames: &mut Frames, told: &mut String) -> Option<()> {
+    let body = frames.next_short().ok()??;
+    let digits = digits_of(alloc, body.as_slice())?;
+    told.push_str(&digits).ok()?;
+    told.push_str(",").ok()
+}
+
+fn put_bodies(alloc: Global, frames: &mut Frames, told: &mut String) -> Option<()> {
     for _ in 0..4 {
         if frames.front().is_some() {
-            told.push_str(digits_of_next(alloc, frames)?.as_str())?;
-            told.push_str(",")?;
+            put_body(alloc, frames, told)?;
         }
     }
-    Ok(())
+    Some(())
 }
 
 // The bodies of a stream that comes in pieces of so many bytes.
-fn bodies_in_pieces(alloc: Global, stream: &[u8], size: usize) -> Result<String, Fail> {
-    let (mut frames, mut told) = (Frames::new(alloc), String::new(alloc));
+fn put_pieces(
+    alloc: Global,
+    frames: &mut Frames,
+    stream: &[u8],
+    size: usize,
+    told: &mut String,
+) -> Option<()> {
     for piece in stream.chunks(size.max(1)) {
-        frames.feed(piece)?;
-        push_bodies(alloc, &mut frames, &mut told)?;
+        frames.feed(piece).ok()?;
+        put_bodies(alloc, frames, told)?;
     }
-    Ok(told)
+    Some(())
 }
 
-#[test]
-fn bodies_are_the_same_whatever_the_pieces(rt: HostRuntime) -> Result<(), Fail> {
-    for row in STREAMS.lines() {
-        let (stream, wanted) = row.split_once(' ').ok_or("a space")?;
-        let stream = bytes_of(rt.alloc(), stream)?;
-        for size in 0..stream.len() + 1 {
-            let bodies = bodies_in_pieces(rt.alloc(), &stream, size)?;
-            assert_eq!(rt; bodies.as_str(), wanted, "{row} in pieces of {size}");
+fn are_bodies(alloc: Global, stream: &[u8], size: usize, wanted: &str) -> Option<bool> {
+    let (mut frames, mut told) = (Frames::new(alloc), String::new(alloc));
+    put_pieces(alloc, &mut frames, stream, size, &mut told)?;
+    Some(told.as_str() == wanted)
+}
+
+fn is_stream_so(alloc: Global, row: &str) -> Option<bool> {
+    let (stream, wanted) = row.split_once(' ')?;
+    let stream = bytes_of(alloc, stream)?;
+    for size in 0..=stream.len() {
+        if !are_bodies(alloc, &stream, size, wanted)? {
+            return Some(false);
         }
     }
-    Ok(())
-}
-
-// Two short frames, then packets of which this many bytes come before the switch, and so many end in them.
-fn at_the_switch(alloc: Global, cut: usize, ended: usize) -> Result<Option<usize>, Fail> {
-    let packets = b"\x00\x00\x00\x02\x01\x02\x00\x00\x00\x00\x00\x00\x00\x03\x03\x04\x05\x00";
-    let (first, second) = packets.split_at(cut.min(packets.len()));
-    let mut frames = Frames::new(alloc);
-    frames.feed(b"\x00\x03sok\x00\x02ab")?;
-    frames.feed(first)?;
-    if digits_of_next(alloc, &mut frames)?.as_str() != "736f6b" {
-        return Ok(None);
-    }
-    if digits_of_next(alloc, &mut frames)?.as_str() != "6162" {
-        return Ok(None);
-    }
-    frames.to_linked();
-    let told = frames.skip_long();
-    frames.feed(second)?;
-    let more = frames.skip_long();
-    let is_quiet = frames.front().is_none() && frames.skip_long() == 0;
-    Ok((is_quiet && told == ended).then_some(more))
+    Some(true)
 }
 
 #[test]
-fn packets_are_counted_wherever_the_switch_cuts_them(rt: HostRuntime) -> Result<(), Fail> {
-    for cut in 0..9 {
-        let ended = cut / 6;
-        assert_eq!(rt;
-            at_the_switch(rt.alloc(), cut, ended)?,
-            Some(3 - ended),
-            "{cut}"
-        );
+fn bodies_are_the_same_whatever_the_pieces(rt: HostRuntime) {
+    for row in STREAMS.lines() {
+        assert!(rt; is_stream_so(rt.alloc(), row) == Some(true), "{row}");
     }
-    Ok(())
-}
-
-#[test]
-fn a_body_is_written_behind_its_length_of_two_bytes(rt: HostRuntime) -> Result<(), Fail> {
-    for row in "- 0000,736f6b 0003736f6b,736e6f745f616c6c6f776564 000c736e6f745f616c6c6f776564".split(
-        ',',
-    ) {
-        let (body, wanted) = row.split_once(' ').ok_or("a space")?;
-        let frame = write_short(rt.alloc(), &bytes_of(rt.alloc(), body)?)?;
-        assert_eq!(rt; digits_of(rt.alloc(), &frame)?.as_str(), wanted, "{row}");
-    }
-    let too_long = vec![in rt.alloc(); 7u8; 65536]?;
-    let refusal = write_short(rt.alloc(), &too_long).err();
-    assert_eq!(rt; refusal, Some(FrameError::TooLong));
-    assert_eq!(rt; tick(), [0; 4]);
-    Ok(())
 }

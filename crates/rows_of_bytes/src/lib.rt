@@ -7,6 +7,8 @@
 #[cfg(test)]
 mod cookies;
 #[cfg(test)]
+mod digests;
+#[cfg(test)]
 mod frames;
 #[cfg(test)]
 mod hexadecimal;
@@ -15,4 +17,12 @@ mod messages;
 #[cfg(test)]
 mod names;
 #[cfg(test)]
+mod readers;
+#[cfg(test)]
+mod refusals;
+#[cfg(test)]
 mod sentences;
+#[cfg(test)]
+mod switches;
+#[cfg(test)]
+mod words;

@@ -1,13 +1,14 @@
 //! Bodies of recorded handshakes and of the standard's layouts, in hexadecimal. None of them comes from `encode`.
 
-use crate::hexadecimal::{bytes_of, digits_of, parts_of};
-use dist_messages::{Message, MessageError, Side, decode, encode};
+use crate::hexadecimal::{bytes_of, digits_of};
+use crate::words::{in_words, name_of};
+use dist_messages::{Message, Side, decode, encode};
 use std::alloc::Global;
 use std::test::*;
 
-// The side, a body, how many bytes of it are the shortest front that is a message of that tag, what is written for the
-// message (`same`: the body; or other bytes, or the refusal), and the message.
-const SPELLED: &str = "\
+/// The side, a body, how many bytes of it are the shortest front that is a message of that tag, what is written for the
+/// message (`same`: the body; or other bytes, or the refusal), and the message.
+pub const SPELLED: &str = "\
 D 4e000000040100000400000005000b61403132372e302e302e31 26 same name 401000004 creation 5 61403132372e302e302e31
 D 4e000000010100010400000006000b62403132372e302e302e31 26 same name 101000104 creation 6 62403132372e302e302e31
 D 4e0000000401000004000000000003616263 18 same name 401000004 creation 0 616263
@@ -42,200 +43,76 @@ A 6e000501000104075bcd15+78*256 11 BadName challenge 123456789 1000104 of 256 by
 A 61d174ab98d277d9f5a5611c2c9f419d9f 17 same ack d174ab98d277d9f5a5611c2c9f419d9f
 ";
 
-fn name_in_words(alloc: Global, name: &[u8]) -> Result<String, Fail> {
-    if name.len() > 100 {
-        return Ok(format!(in alloc; "of {} bytes", name.len())?);
-    }
-    digits_of(alloc, name)
-}
-
-fn in_words(alloc: Global, message: &Message) -> Result<String, Fail> {
-    Ok(match message {
-        Message::OldName { flags, name } => {
-            let name = name_in_words(alloc, name.as_slice())?;
-            format!(in alloc; "name {flags:x} {name}")?
-        }
-        Message::NewName {
-            flags,
-            creation,
-            name,
-        } => {
-            let name = name_in_words(alloc, name.as_slice())?;
-            format!(in alloc; "name {:x} creation {} {name}", flags.0, creation.0)?
-        }
-        Message::OldChallenge {
-            flags,
-            challenge,
-            name,
-        } => {
-            let name = name_in_words(alloc, name.as_slice())?;
-            format!(in alloc; "challenge {challenge} {flags:x} {name}")?
-        }
-        Message::NewChallenge {
-            flags,
-            challenge,
-            creation,
-            name,
-        } => {
-            let name = name_in_words(alloc, name.as_slice())?;
-            let creation = creation.0;
-            format!(in alloc;
-                "challenge {challenge} {:x} creation {creation} {name}",
-                flags.0
-            )?
-        }
-        Message::Complement { high, creation } => {
-            format!(in alloc; "complement {high} creation {}", creation.0)?
-        }
-        Message::Reply { challenge, digest } => {
-            format!(in alloc; "reply {challenge} {}", digits_of(alloc, digest)?)?
-        }
-        Message::Ack { digest } => format!(in alloc; "ack {}", digits_of(alloc, digest)?)?,
-        Message::Status(status) => format!(in alloc; "status {status:?}")?,
-    })
-}
-
-// Where memory was refused, the same call is made again.
-fn read(alloc: Global, side: Side, body: &[u8]) -> Result<Message, MessageError> {
-    match decode(alloc, side, body) {
-        Err(MessageError::NoMemory) => decode(alloc, side, body),
-        read => read,
-    }
-}
-
-fn written(alloc: Global, side: Side, message: &Message) -> Result<String, Fail> {
-    let written = match encode(alloc, side, message) {
-        Err(MessageError::NoMemory) => encode(alloc, side, message),
-        written => written,
-    };
-    match written {
-        Ok(body) => digits_of(alloc, &body),
-        Err(why) => Ok(format!(in alloc; "{why:?}")?),
-    }
-}
-
-fn read_in_words(alloc: Global, side: Side, body: &[u8]) -> Result<String, Fail> {
-    match read(alloc, side, body) {
-        Ok(message) => in_words(alloc, &message),
-        Err(why) => Ok(format!(in alloc; "{why:?}")?),
-    }
-}
-
-fn sides_of(word: &str) -> (Side, Side) {
+/// The side of a letter: the dialler's, or the acceptor's.
+pub fn side_of(word: &str) -> Side {
     if word == "D" {
-        (Side::Dialler, Side::Acceptor)
+        Side::Dialler
     } else {
-        (Side::Acceptor, Side::Dialler)
+        Side::Acceptor
     }
 }
 
-// What the other side would get for a message of this body.
-fn refusal_of_the_other(body: &[u8]) -> &'static str {
-    if body.starts_with(b"s") {
+fn other_than(side: Side) -> Side {
+    match side {
+        Side::Dialler => Side::Acceptor,
+        Side::Acceptor => Side::Dialler,
+    }
+}
+
+// Whether the other side is refused the message of this body, and why.
+fn is_of_one_side(alloc: Global, side: Side, message: &Message, body: &[u8]) -> bool {
+    let wanted = if body.starts_with(b"s") {
         "UnknownStatus"
     } else {
         "UnknownTag"
+    };
+    match encode(alloc, other_than(side), message) {
+        Ok(_) => false,
+        Err(why) => name_of(why) == wanted,
     }
 }
 
+// Whether a message is written as a row says: as this body, in these digits, or with this refusal.
+fn is_written(
+    alloc: Global,
+    side: Side,
+    message: &Message,
+    body: &[u8],
+    wanted: &str,
+) -> Option<bool> {
+    match encode(alloc, side, message) {
+        Ok(bytes) if wanted == "same" => Some(bytes.as_slice() == body),
+        Ok(bytes) => Some(digits_of(alloc, &bytes)?.as_str() == wanted),
+        Err(why) => Some(name_of(why) == wanted),
+    }
+}
+
+// Whether a body is read so, and its message is written so by this side, and refused to the other.
+fn is_body_so(
+    alloc: Global,
+    side: Side,
+    body: &[u8],
+    canonical: &str,
+    wanted: &str,
+) -> Option<bool> {
+    let message = decode(alloc, side, body).ok()?;
+    let is_written = is_written(alloc, side, &message, body, canonical)?;
+    let is_read = in_words(alloc, &message)?.as_str() == wanted;
+    Some(is_read && is_written && is_of_one_side(alloc, side, &message, body))
+}
+
+fn is_spelled(alloc: Global, row: &str) -> Option<bool> {
+    let (side, rest) = row.split_once(' ')?;
+    let (text, rest) = rest.split_once(' ')?;
+    let (_, rest) = rest.split_once(' ')?;
+    let (canonical, wanted) = rest.split_once(' ')?;
+    let body = bytes_of(alloc, text)?;
+    is_body_so(alloc, side_of(side), &body, canonical, wanted)
+}
+
 #[test]
-fn bodies_are_read_and_written_as_nodes_send_them(rt: HostRuntime) -> Result<(), Fail> {
-    let alloc = rt.alloc();
+fn bodies_are_read_and_written_as_nodes_send_them(rt: HostRuntime) {
     for row in SPELLED.lines() {
-        let (side, row) = parts_of(row)?;
-        let (text, row) = parts_of(row)?;
-        let (_, row) = parts_of(row)?;
-        let (canonical, wanted) = parts_of(row)?;
-        let (side, other) = sides_of(side);
-        let body = bytes_of(alloc, text)?;
-        let message = read(alloc, side, &body)?;
-        assert_eq!(rt; in_words(alloc, &message)?.as_str(), wanted, "{text}");
-        let found = written(alloc, side, &message)?;
-        if canonical == "same" {
-            assert_eq!(rt; found.as_str(), digits_of(alloc, &body)?.as_str(), "{text}");
-        } else {
-            assert_eq!(rt; found.as_str(), canonical, "{text}");
-        }
-        let refused = written(alloc, other, &message)?;
-        assert_eq!(rt; refused.as_str(), refusal_of_the_other(&body), "{text}");
+        assert!(rt; is_spelled(rt.alloc(), row) == Some(true), "{row}");
     }
-    Ok(())
-}
-
-// What the front of a body is told to be, of which a front of `whole` bytes and each longer one is a message.
-fn refusal_of_front(len: usize, whole: usize) -> &'static str {
-    if len == 0 {
-        "Empty"
-    } else if len < whole {
-        "Short"
-    } else {
-        ""
-    }
-}
-
-fn refusal(alloc: Global, side: Side, body: &[u8]) -> Result<String, Fail> {
-    Ok(match read(alloc, side, body) {
-        Ok(_) => String::new(alloc),
-        Err(why) => format!(in alloc; "{why:?}")?,
-    })
-}
-
-#[test]
-fn a_body_that_is_cut_is_short_up_to_its_last_field(rt: HostRuntime) -> Result<(), Fail> {
-    let alloc = rt.alloc();
-    for row in SPELLED
-        .lines()
-        .filter(|row| !row.contains('*') && !row.contains("status"))
-    {
-        let (side, row) = parts_of(row)?;
-        let (text, row) = parts_of(row)?;
-        let (whole, _) = parts_of(row)?;
-        let (body, whole) = (bytes_of(alloc, text)?, whole.parse::<usize>()?);
-        for len in 0..=body.len() {
-            let told = refusal(alloc, sides_of(side).0, &body[..len])?;
-            assert_eq!(rt;
-                told.as_str(),
-                refusal_of_front(len, whole),
-                "{len} of {text}"
-            );
-        }
-    }
-    Ok(())
-}
-
-// The side, a body, and its refusal.
-const REFUSED: &str = "\
-D 6300000004000000 Short
-D 63000000040000000700 Long
-A 736f6b20 UnknownStatus
-A 73 UnknownStatus
-A 736f UnknownStatus
-A 734f4b UnknownStatus
-A 7374727565 UnknownStatus
-D 736f6b UnknownStatus
-D 7374727565ff UnknownStatus
-D 61d174ab98d277d9f5a5611c2c9f419d9f UnknownTag
-A 630000000400000007 UnknownTag
-A 72075bcd15d174ab98d277d9f5a5611c2c9f419d9f UnknownTag
-A 00 UnknownTag
-D 53 UnknownTag
-D 4e00000000000000000000000000036162 Short
-D 4e000000040100000400000005+0100+78*255 Short
-D 4e000000040100000400000005+fff0+78*65519 Short
-D 72075bcd15d174ab98d277d9f5a5611c2c9f419d9f00 Long
-A 61d174ab98d277d9f5a5611c2c9f419d9f00 Long
-D - Empty
-A - Empty
-";
-
-#[test]
-fn each_refusal_has_its_bodies(rt: HostRuntime) -> Result<(), Fail> {
-    for row in REFUSED.lines() {
-        let (side, rest) = parts_of(row)?;
-        let (text, wanted) = parts_of(rest)?;
-        let body = bytes_of(rt.alloc(), text)?;
-        let told = read_in_words(rt.alloc(), sides_of(side).0, &body)?;
-        assert_eq!(rt; told.as_str(), wanted, "{row}");
-    }
-    Ok(())
 }

@@ -1,7 +1,7 @@
 //! Names, their order, flags, and rows of bytes.
 
-use crate::hexadecimal::{bytes_of, parts_of};
-use dist_names::{ByteString, Flags, NodeName};
+use crate::hexadecimal::bytes_of;
+use dist_names::{ByteString, Flags, NameError, NodeName};
 use std::alloc::Global;
 use std::cmp::Ordering;
 use std::test::*;
@@ -27,34 +27,51 @@ const NAMES: &str = "\
 616240 BadAt
 ";
 
-fn name_in_words(alloc: Global, bytes: &[u8]) -> Result<String, Fail> {
-    Ok(match NodeName::new(alloc, bytes) {
-        Ok(name) => {
-            let short = std::str::from_utf8(name.short())?;
-            format!(in alloc; "{short} {}", name.bytes().len())?
-        }
-        Err(why) => format!(in alloc; "{why:?}")?,
-    })
+fn word_of(why: NameError) -> &'static str {
+    match why {
+        NameError::TooShort => "TooShort",
+        NameError::TooLong => "TooLong",
+        NameError::BadByte => "BadByte",
+        NameError::BadAt => "BadAt",
+        NameError::NoMemory => "NoMemory",
+    }
+}
+
+// Whether a name has this short name and this length.
+fn is_named(name: &NodeName, wanted: &str) -> Option<bool> {
+    let (short, len) = wanted.split_once(' ')?;
+    let len = len.parse::<usize>().ok()?;
+    Some(name.short() == short.as_bytes() && name.bytes().len() == len)
+}
+
+fn is_name_so(alloc: Global, row: &str) -> Option<bool> {
+    let (text, wanted) = row.split_once(' ')?;
+    let bytes = bytes_of(alloc, text)?;
+    match NodeName::new(alloc, &bytes) {
+        Ok(name) => is_named(&name, wanted),
+        Err(why) => Some(word_of(why) == wanted),
+    }
+}
+
+// Whether the name of these bytes, which is the longest, is like its copy.
+fn is_longest_so(alloc: Global, bytes: &[u8]) -> Option<bool> {
+    let name = NodeName::new(alloc, bytes).ok()?;
+    let copy = name.try_clone(alloc).ok()?;
+    let is_alike = copy == name && copy.is_same(&name) && copy.has_bytes(bytes);
+    Some(is_alike && name.short().len() == 253 && name.host() == b"h".as_slice())
+}
+
+fn is_there_a_longest(alloc: Global) -> Option<bool> {
+    let bytes = bytes_of(alloc, "78*253+4068")?;
+    is_longest_so(alloc, &bytes)
 }
 
 #[test]
-fn bytes_are_a_name_or_the_first_reason_is_told(rt: HostRuntime) -> Result<(), Fail> {
+fn bytes_are_a_name_or_the_first_reason_is_told(rt: HostRuntime) {
     for row in NAMES.lines() {
-        let (text, wanted) = parts_of(row)?;
-        let bytes = bytes_of(rt.alloc(), text)?;
-        assert_eq!(rt;
-            name_in_words(rt.alloc(), &bytes)?.as_str(),
-            wanted,
-            "{row}"
-        );
+        assert!(rt; is_name_so(rt.alloc(), row) == Some(true), "{row}");
     }
-    let longest = bytes_of(rt.alloc(), "78*253+4068")?;
-    let name = NodeName::new(rt.alloc(), &longest)?;
-    assert_eq!(rt; name.short().len(), 253);
-    assert_eq!(rt; name.host(), b"h".as_slice());
-    let copy = name.try_clone(rt.alloc())?;
-    assert!(rt; copy == name && copy.is_same(&name) && copy.has_bytes(&longest));
-    Ok(())
+    assert!(rt; is_there_a_longest(rt.alloc()) == Some(true));
 }
 
 // The lesser name and the greater one.
@@ -66,17 +83,20 @@ a1@b aa@b
 a@x aa@x
 ";
 
+fn is_rising(alloc: Global, row: &str) -> Option<bool> {
+    let (low, high) = row.split_once(' ')?;
+    let low = NodeName::new(alloc, low.as_bytes()).ok()?;
+    let high = NodeName::new(alloc, high.as_bytes()).ok()?;
+    let is_less = low.cmp(&high) == Ordering::Less;
+    let is_greater = high.cmp(&low) == Ordering::Greater;
+    Some(is_less && is_greater && !low.is_same(&high))
+}
+
 #[test]
-fn names_are_ordered_as_strings_of_unsigned_bytes(rt: HostRuntime) -> Result<(), Fail> {
+fn names_are_ordered_as_strings_of_unsigned_bytes(rt: HostRuntime) {
     for row in RISING.lines() {
-        let (low, high) = parts_of(row)?;
-        let low = NodeName::new(rt.alloc(), low.as_bytes())?;
-        let high = NodeName::new(rt.alloc(), high.as_bytes())?;
-        assert_eq!(rt; low.cmp(&high), Ordering::Less, "{row}");
-        assert_eq!(rt; high.cmp(&low), Ordering::Greater, "{row}");
-        assert!(rt; !low.is_same(&high), "{row}");
+        assert!(rt; is_rising(rt.alloc(), row) == Some(true), "{row}");
     }
-    Ok(())
 }
 
 #[test]
@@ -91,13 +111,22 @@ fn flags_have_halves_and_two_bits_are_fixed(rt: HostRuntime) {
     assert_eq!(rt; Flags(0x400000000).required().0, 0x401000000);
 }
 
+// Three bytes, of which the last was appended.
+fn three_bytes(alloc: Global) -> Option<ByteString> {
+    let mut row = ByteString::from_slice(alloc, b"ab").ok()?;
+    row.append(b"c").ok()?;
+    Some(row)
+}
+
+fn is_copied(alloc: Global) -> Option<bool> {
+    let row = three_bytes(alloc)?;
+    let copy = row.try_clone(alloc).ok()?;
+    let is_alike = copy == row && copy.is_same(&row) && row.len() == 3;
+    Some(is_alike && copy.into_vec().as_slice() == b"abc".as_slice())
+}
+
 #[test]
-fn rows_of_bytes_are_made_copied_and_given_back(rt: HostRuntime) -> Result<(), Fail> {
-    let mut row = ByteString::from_slice(rt.alloc(), b"ab")?;
-    row.append(b"c")?;
-    let copy = row.try_clone(rt.alloc())?;
-    assert!(rt; copy == row && copy.is_same(&row) && row.len() == 3);
+fn rows_of_bytes_are_made_copied_and_given_back(rt: HostRuntime) {
+    assert!(rt; is_copied(rt.alloc()) == Some(true));
     assert!(rt; ByteString::new(rt.alloc()).is_empty());
-    assert_eq!(rt; copy.into_vec().as_slice(), b"abc".as_slice());
-    Ok(())
 }

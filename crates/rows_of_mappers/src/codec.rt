@@ -1,11 +1,9 @@
 //! Messages that are read and written.
 
-use crate::words::{bytes_in, digits_of, node_told, words_of};
+use crate::words::{bytes_in, four, node_told, three};
 use dist_epmd::{
-    Answer, Asked, EpmdError, NodeInfo, Request, decode_answer, decode_request, encode_answer,
-    encode_request,
+    Answer, Asked, EpmdError, decode_answer, decode_request, encode_answer, encode_request,
 };
-use dist_names::ByteString;
 use std::alloc::Global;
 use std::test::*;
 
@@ -51,22 +49,6 @@ port 770023294d000006000500 Short
 names - Short
 ";
 
-// A message with a name and extra bytes of these lengths, and the length of what is written.
-const LONG: &str = "\
-registration 65522 0 65535
-registration 65523 0 Malformed
-registration 0 65522 65535
-registration 0 65523 Malformed
-registration 65521 1 65535
-registration 65521 2 Malformed
-lookup 65534 0 65535
-lookup 65535 0 Malformed
-node 65535 65535 131084
-node 65536 0 Malformed
-node 0 65536 Malformed
-success 0 0 Malformed
-";
-
 fn question(asked: &str) -> Asked {
     match asked {
         "alive" => Asked::Alive,
@@ -85,129 +67,89 @@ fn again(alloc: Global, asked: &str, bytes: &[u8]) -> Result<Vec<u8>, EpmdError>
     encode_answer(alloc, &answer)
 }
 
-// Those bytes, or the refusal.
-fn told(alloc: Global, asked: &str, bytes: &[u8]) -> Result<String, Fail> {
+// Whether these bytes are written again, or, where there is a refusal, are refused so.
+fn is_told(alloc: Global, asked: &str, bytes: &[u8], refusal: &str) -> bool {
     match again(alloc, asked, bytes) {
-        Ok(bytes) => digits_of(alloc, &bytes),
-        Err(error) => Ok(String::from_str(alloc, error.name())?),
+        Ok(written) => refusal.is_empty() && written.as_slice() == bytes,
+        Err(error) => error.name() == refusal,
     }
 }
 
-// The bytes where they are a message, else the refusal.
-fn wanted(alloc: Global, bytes: &[u8], is_message: bool, refusal: &str) -> Result<String, Fail> {
-    if is_message {
-        digits_of(alloc, bytes)
-    } else {
-        Ok(String::from_str(alloc, refusal)?)
-    }
-}
-
-#[test]
-fn a_message_is_written_as_it_was_read_and_short_at_each_cut(rt: HostRuntime) -> Result<(), Fail> {
-    let alloc = rt.alloc();
-    for row in WHOLE.lines() {
-        let words = words_of(alloc, row)?;
-        let [asked, digits, least, ending] = words.as_slice() else {
-            return Err(Fail::new("a row of other words"));
-        };
-        let mut bytes = bytes_in(alloc, *digits)?;
-        let least = least.parse::<usize>()?;
-        for cut in 0..=bytes.len() {
-            let wanted = wanted(alloc, &bytes[..cut], cut >= least, "Short")?;
-            let told = told(alloc, *asked, &bytes[..cut])?;
-            assert_eq!(rt; told.as_str(), wanted.as_str(), "{row} cut at {cut}");
-        }
-        for last in [0u8, 0xff] {
-            bytes.push(last)?;
-            let wanted = wanted(alloc, &bytes, *ending == "open", "Trailing")?;
-            let told = told(alloc, *asked, &bytes)?;
-            assert_eq!(rt; told.as_str(), wanted.as_str(), "{row} and {last}");
+// Whether each front of fewer bytes than this is short, and each longer one is written again.
+fn is_short_up_to(alloc: Global, asked: &str, bytes: &[u8], least: usize) -> bool {
+    for cut in 0..=bytes.len() {
+        let refusal = if cut >= least { "" } else { "Short" };
+        if !is_told(alloc, asked, &bytes[..cut], refusal) {
+            return false;
         }
     }
-    Ok(())
+    true
 }
 
-#[test]
-fn bytes_that_are_no_message_are_refused(rt: HostRuntime) -> Result<(), Fail> {
-    let alloc = rt.alloc();
-    for row in REFUSED.lines() {
-        let words = words_of(alloc, row)?;
-        let [asked, digits, refusal] = words.as_slice() else {
-            return Err(Fail::new("a row of other words"));
-        };
-        let told = told(alloc, *asked, &bytes_in(alloc, *digits)?)?;
-        assert_eq!(rt; told.as_str(), *refusal, "{row}");
-    }
-    let feed = vec![in alloc; 0x6eu8; 65535]?;
-    assert_eq!(rt; told(alloc, "request", &feed)?.as_str(), "Trailing");
-    assert_eq!(rt; EpmdError::NoMemory.name(), "NoMemory");
-    Ok(())
-}
-
-#[test]
-fn the_answer_to_a_lookup_has_its_fields(rt: HostRuntime) -> Result<(), Fail> {
-    let alloc = rt.alloc();
-    let bytes = bytes_in(alloc, "7700232948010007000500016100027879")?;
-    let answer = decode_answer(alloc, Asked::Port, &bytes)?;
-    let Answer::Port(Ok(node)) = &answer else {
-        return Err(Fail::new("the answer names no node"));
-    };
-    assert_eq!(rt; node_told(alloc, node)?.as_str(), "9001 72 1 7 5 61 7879");
-    Ok(())
-}
-
-// So many bytes.
-fn text(alloc: Global, len: usize) -> Result<ByteString, Fail> {
-    Ok(ByteString::from_vec(vec![in alloc; b'x'; len]?))
-}
-
-fn node(alloc: Global, name: usize, extra: usize) -> Result<NodeInfo, Fail> {
-    Ok(NodeInfo {
-        port: 9001,
-        node_type: 0x4d,
-        protocol: 0,
-        highest: 6,
-        lowest: 5,
-        name: text(alloc, name)?,
-        extra: text(alloc, extra)?,
-    })
-}
-
-// What is written of such a message.
-fn written(
+// The same with one more byte.
+fn is_told_longer(
     alloc: Global,
-    message: &str,
-    name: usize,
-    extra: usize,
-) -> Result<Result<Vec<u8>, EpmdError>, Fail> {
-    let node = node(alloc, name, extra)?;
-    Ok(match message {
-        "registration" => encode_request(alloc, &Request::Alive(node)),
-        "lookup" => encode_request(alloc, &Request::PortPlease(node.name)),
-        "node" => encode_answer(alloc, &Answer::Port(Ok(node))),
-        _ => encode_answer(alloc, &Answer::Port(Err(0))),
-    })
+    asked: &str,
+    bytes: &mut Vec<u8>,
+    last: u8,
+    refusal: &str,
+) -> Option<bool> {
+    bytes.push(last).ok()?;
+    Some(is_told(alloc, asked, bytes.as_slice(), refusal))
+}
+
+fn are_told_longer(alloc: Global, asked: &str, bytes: &mut Vec<u8>, refusal: &str) -> Option<bool> {
+    let is_zero_told = is_told_longer(alloc, asked, bytes, 0, refusal)?;
+    Some(is_told_longer(alloc, asked, bytes, 0xff, refusal)? && is_zero_told)
+}
+
+fn is_message(alloc: Global, row: &str) -> Option<bool> {
+    let (asked, digits, least, ending) = four(row)?;
+    let least = least.parse::<usize>().ok()?;
+    let refusal = if ending == "open" { "" } else { "Trailing" };
+    let mut bytes = bytes_in(alloc, digits)?;
+    let is_cut_so = is_short_up_to(alloc, asked, &bytes, least);
+    Some(is_cut_so && are_told_longer(alloc, asked, &mut bytes, refusal)?)
 }
 
 #[test]
-fn what_is_too_long_is_not_written(rt: HostRuntime) -> Result<(), Fail> {
-    let alloc = rt.alloc();
-    for row in LONG.lines() {
-        let words = words_of(alloc, row)?;
-        let [message, name, extra, wanted] = words.as_slice() else {
-            return Err(Fail::new("a row of other words"));
-        };
-        let bytes = written(
-            alloc,
-            *message,
-            name.parse::<usize>()?,
-            extra.parse::<usize>()?,
-        )?;
-        let told = match bytes {
-            Ok(bytes) => format!(in alloc; "{}", bytes.len())?,
-            Err(error) => String::from_str(alloc, error.name())?,
-        };
-        assert_eq!(rt; told.as_str(), *wanted, "{row}");
+fn a_message_is_written_as_it_was_read_and_short_at_each_cut(rt: HostRuntime) {
+    for row in WHOLE.lines() {
+        assert!(rt; is_message(rt.alloc(), row) == Some(true), "{row}");
     }
-    Ok(())
+}
+
+fn is_refused(alloc: Global, row: &str) -> Option<bool> {
+    let (asked, digits, refusal) = three(row)?;
+    let bytes = bytes_in(alloc, digits)?;
+    Some(is_told(alloc, asked, &bytes, refusal))
+}
+
+// The longest body, of tags that ask for all names.
+fn is_long_refused(alloc: Global) -> Option<bool> {
+    let feed = vec![in alloc; 0x6eu8; 65535].ok()?;
+    Some(is_told(alloc, "request", &feed, "Trailing"))
+}
+
+#[test]
+fn bytes_that_are_no_message_are_refused(rt: HostRuntime) {
+    for row in REFUSED.lines() {
+        assert!(rt; is_refused(rt.alloc(), row) == Some(true), "{row}");
+    }
+    assert!(rt; is_long_refused(rt.alloc()) == Some(true));
+    assert_eq!(rt; EpmdError::NoMemory.name(), "NoMemory");
+}
+
+fn fields(alloc: Global) -> Option<String> {
+    let bytes = bytes_in(alloc, "7700232948010007000500016100027879")?;
+    match decode_answer(alloc, Asked::Port, &bytes) {
+        Ok(Answer::Port(Ok(node))) => node_told(alloc, &node),
+        _ => None,
+    }
+}
+
+#[test]
+fn the_answer_to_a_lookup_has_its_fields(rt: HostRuntime) {
+    let told = fields(rt.alloc());
+    assert_eq!(rt; told.as_deref(), Some("9001 72 1 7 5 61 7879"));
 }

@@ -11,7 +11,17 @@ mod changed;
 #[cfg(test)]
 mod codec;
 #[cfg(test)]
+mod crawling;
+#[cfg(test)]
+mod lengths;
+#[cfg(test)]
+mod limits;
+#[cfg(test)]
+mod meanings;
+#[cfg(test)]
 mod memory;
+#[cfg(test)]
+mod queue;
 #[cfg(test)]
 mod serving;
 #[cfg(test)]
@@ -22,5 +32,7 @@ mod sockets;
 mod streams;
 #[cfg(test)]
 mod talks;
+#[cfg(test)]
+mod turns;
 #[cfg(test)]
 mod words;

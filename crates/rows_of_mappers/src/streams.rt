@@ -9,12 +9,13 @@ use std::test::*;
 use std::time::Duration;
 
 // Two ends of one connection, and the second waits for a millisecond at most.
-fn connection(rt: &HostRuntime) -> Result<(SocketStream, SocketStream), Fail> {
-    let listener = TcpListener::bind(rt, "127.0.0.1:0")?;
-    let client = TcpStream::connect(rt, listener.local_addr()?)?;
-    let (server, _) = listener.accept()?;
-    server.set_read_timeout(Some(Duration::from_millis(1)))?;
-    Ok((SocketStream::new(client), SocketStream::new(server)))
+fn connection(rt: &HostRuntime) -> Option<(SocketStream, SocketStream)> {
+    let listener = TcpListener::bind(rt, "127.0.0.1:0").ok()?;
+    let client = TcpStream::connect(rt, listener.local_addr().ok()?).ok()?;
+    let (server, _) = listener.accept().ok()?;
+    let wait = Some(Duration::from_millis(1));
+    server.set_read_timeout(wait).ok()?;
+    Some((SocketStream::new(client), SocketStream::new(server)))
 }
 
 // What comes after quiet turns.
@@ -29,8 +30,10 @@ fn heard(stream: &mut SocketStream, room: &mut [u8; 8]) -> Heard {
 }
 
 #[test]
-fn a_socket_is_quiet_until_something_comes(rt: HostRuntime) -> Result<(), Fail> {
-    let (mut client, mut server) = connection(&rt)?;
+fn a_socket_is_quiet_until_something_comes(rt: HostRuntime) {
+    let Some((mut client, mut server)) = connection(&rt) else {
+        panic!(rt; "no connection");
+    };
     let mut room = [0u8; 8];
     assert_eq!(rt; server.read(&mut room), Heard::Quiet);
     assert_eq!(rt; client.write(b"abc"), Took::Bytes(3));
@@ -38,65 +41,91 @@ fn a_socket_is_quiet_until_something_comes(rt: HostRuntime) -> Result<(), Fail> 
     assert!(rt; room.starts_with(b"abc\0"));
     drop(client);
     assert_eq!(rt; heard(&mut server, &mut room), Heard::Bytes(0));
-    Ok(())
 }
 
 #[test]
-fn a_reset_is_a_failure(rt: HostRuntime) -> Result<(), Fail> {
-    let (mut client, server) = connection(&rt)?;
+fn a_reset_is_a_failure(rt: HostRuntime) {
+    let Some((mut client, server)) = connection(&rt) else {
+        panic!(rt; "no connection");
+    };
     assert_eq!(rt; client.write(b"abc"), Took::Bytes(3));
     // Bytes are left unread, so the system resets the connection.
     drop(server);
     let mut room = [0u8; 8];
     assert_eq!(rt; client.read(&mut room), Heard::Failed);
-    Ok(())
 }
 
 // Six bytes, of which two come, then none, and so on.
-fn halting(alloc: Global) -> Result<FaultStream, Fail> {
+fn halting(alloc: Global) -> Option<FaultStream> {
     let mut stream = over(alloc, b"abcdef", false)?;
-    stream.read_sizes.push(2)?;
-    stream.read_sizes.push(0)?;
-    Ok(stream)
+    stream.read_sizes.push(2).ok()?;
+    stream.read_sizes.push(0).ok()?;
+    Some(stream)
 }
 
-#[test]
-fn sizes_start_again_at_their_beginning(rt: HostRuntime) -> Result<(), Fail> {
-    let mut stream = halting(rt.alloc())?;
+fn put_heard(alloc: Global, told: &mut String, heard: Heard) -> Option<()> {
+    let word = format!(in alloc; "{heard:?} ").ok()?;
+    told.push_str(&word).ok()
+}
+
+fn put_took(alloc: Global, told: &mut String, took: Took) -> Option<()> {
+    let word = format!(in alloc; "{took:?} ").ok()?;
+    told.push_str(&word).ok()
+}
+
+// What seven reads and then three writes of `gh` answer.
+fn put_turns(alloc: Global, told: &mut String, stream: &mut FaultStream) -> Option<()> {
     let mut room = [0u8; 8];
-    let mut told = String::new(rt.alloc());
     for _ in 0..7 {
-        let heard = stream.read(&mut room);
-        told = format!(in rt.alloc(); "{told}{heard:?} ")?;
+        put_heard(alloc, told, stream.read(&mut room))?;
     }
     stream.fail_write = 2;
     for _ in 0..3 {
-        let took = stream.write(b"gh");
-        told = format!(in rt.alloc(); "{told}{took:?} ")?;
+        put_took(alloc, told, stream.write(b"gh"))?;
     }
-    let wanted = "Bytes(2) Quiet Bytes(2) Quiet Bytes(2) Quiet Bytes(0) Bytes(2) Failed Bytes(2) ";
-    assert_eq!(rt; told.as_str(), wanted);
-    assert_eq!(rt; stream.written(), b"ghgh".as_slice());
-    Ok(())
+    Some(())
+}
+
+fn turns_told(alloc: Global) -> Option<String> {
+    let mut stream = halting(alloc)?;
+    let mut told = String::new(alloc);
+    put_turns(alloc, &mut told, &mut stream)?;
+    let is_written = stream.written() == b"ghgh".as_slice();
+    is_written.then_some(told)
 }
 
 #[test]
-fn each_turn_is_counted(rt: HostRuntime) -> Result<(), Fail> {
-    let mut stream = halting(rt.alloc())?;
-    let mut turns = 6;
+fn sizes_start_again_at_their_beginning(rt: HostRuntime) {
+    let wanted = "Bytes(2) Quiet Bytes(2) Quiet Bytes(2) Quiet Bytes(0) Bytes(2) Failed Bytes(2) ";
+    let told = turns_told(rt.alloc());
+    assert_eq!(rt; told.as_deref(), Some(wanted));
+}
+
+// Whether three bytes take three turns, one of them quiet.
+fn are_three_read(stream: &mut FaultStream, turns: &mut usize) -> bool {
     let mut room = [0u8; 3];
-    assert_eq!(rt; read_exact(&mut stream, &mut room, &mut turns), Ok(()));
-    assert!(rt; room.starts_with(b"abc"));
-    assert_eq!(rt; turns, 3);
-    for wanted in [0, 2] {
-        let heard = read_turn(&mut stream, &mut room, &mut turns);
-        assert_eq!(rt; heard, Ok(wanted));
-    }
-    assert_eq!(rt; write_all(&mut stream, b"xyz", &mut turns), Ok(()));
-    assert_eq!(rt; stream.written(), b"xyz".as_slice());
-    assert_eq!(rt; turns, 0);
-    let after = read_turn(&mut stream, &mut room, &mut turns);
-    assert_eq!(rt; after, Err(TurnError::Limit));
-    assert_eq!(rt; stream.calls(), 6);
-    Ok(())
+    let told = read_exact(stream, &mut room, turns);
+    matches!(told, Ok(())) && room.starts_with(b"abc") && *turns == 3
+}
+
+// Whether a quiet read, another and a write take a turn each.
+fn are_three_taken(stream: &mut FaultStream, turns: &mut usize) -> bool {
+    let mut room = [0u8; 3];
+    let quiet = read_turn(stream, &mut room, turns);
+    let heard = read_turn(stream, &mut room, turns);
+    let told = write_all(stream, b"xyz", turns);
+    let are_told = matches!(quiet, Ok(0)) && matches!(heard, Ok(2)) && matches!(told, Ok(()));
+    are_told && stream.written() == b"xyz".as_slice() && *turns == 0
+}
+
+#[test]
+fn each_turn_is_counted(rt: HostRuntime) {
+    let Some(mut stream) = halting(rt.alloc()) else {
+        panic!(rt; "no memory");
+    };
+    let mut turns = 6;
+    assert!(rt; are_three_read(&mut stream, &mut turns));
+    assert!(rt; are_three_taken(&mut stream, &mut turns));
+    let after = read_turn(&mut stream, &mut [0u8; 3], &mut turns);
+    assert!(rt; matches!(after, Err(TurnError::Limit)) && stream.calls() == 6);
 }

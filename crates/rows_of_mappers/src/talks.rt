@@ -1,44 +1,32 @@
-//! The calls over a stream in memory, and what they answer in words.
+//! The calls over a stream in memory, and what they answer in words. `None`: memory was refused.
 
 use crate::words::{digits_of, node_told};
 use dist_epmd::{NodeInfo, Registry};
 use dist_mapper::{FaultStream, LookupError, Served, ask_names, lookup, register, serve_registry};
 use dist_names::ByteString;
-use std::alloc::{AllocError, Global};
-use std::test::*;
+use std::alloc::Global;
 
 /// A stream over these bytes: in one piece, or byte by byte each way.
-pub fn over(alloc: Global, input: &[u8], by_byte: bool) -> Result<FaultStream, AllocError> {
-    let mut stream = FaultStream::new(alloc, Vec::from_slice(alloc, input)?);
+pub fn over(alloc: Global, input: &[u8], by_byte: bool) -> Option<FaultStream> {
+    let mut stream = FaultStream::new(alloc, Vec::from_slice(alloc, input).ok()?);
     if by_byte {
-        stream.read_sizes.push(1)?;
-        stream.write_sizes.push(1)?;
+        stream.read_sizes.push(1).ok()?;
+        stream.write_sizes.push(1).ok()?;
     }
-    Ok(stream)
+    Some(stream)
 }
 
-/// The node `a` at port 9001.
-pub fn node_a(alloc: Global) -> Result<NodeInfo, AllocError> {
-    Ok(NodeInfo {
+/// The node of this name at port 9001.
+pub fn node_of(alloc: Global, name: &[u8]) -> Option<NodeInfo> {
+    Some(NodeInfo {
         port: 9001,
         node_type: 77,
         protocol: 0,
         highest: 6,
         lowest: 5,
-        name: ByteString::from_slice(alloc, b"a")?,
+        name: ByteString::from_slice(alloc, name).ok()?,
         extra: ByteString::new(alloc),
     })
-}
-
-/// Serves one request.
-pub fn serve(
-    alloc: Global,
-    stream: &mut FaultStream,
-    registry: &mut Registry,
-    conn: u64,
-    limit: usize,
-) -> Result<Served, LookupError> {
-    serve_registry(alloc, stream, registry, conn, limit)
 }
 
 /// How a request was served.
@@ -57,17 +45,42 @@ pub fn served(
     registry: &mut Registry,
     conn: u64,
     limit: usize,
-) -> Result<String, Fail> {
-    let how = how(serve(alloc, stream, registry, conn, limit));
+) -> Option<String> {
+    let how = how(serve_registry(alloc, stream, registry, conn, limit));
     let written = digits_of(alloc, stream.written())?;
-    Ok(format!(in alloc; "{how} {written}")?)
+    format!(in alloc; "{how} {written}").ok()
 }
 
-fn refused(alloc: Global, error: LookupError) -> Result<String, Fail> {
-    Ok(match error {
-        LookupError::Refused(code) => format!(in alloc; "Refused {code}")?,
-        _ => String::from_str(alloc, error.name())?,
-    })
+fn refused(alloc: Global, error: LookupError) -> Option<String> {
+    if let LookupError::Refused(code) = error {
+        return format!(in alloc; "Refused {code}").ok();
+    }
+    String::from_str(alloc, error.name()).ok()
+}
+
+fn looked_up(alloc: Global, stream: &mut FaultStream, limit: usize) -> Option<String> {
+    match lookup(alloc, stream, b"a", limit) {
+        Ok(node) => node_told(alloc, &node),
+        Err(error) => refused(alloc, error),
+    }
+}
+
+fn registered(alloc: Global, stream: &mut FaultStream, limit: usize) -> Option<String> {
+    let node = node_of(alloc, b"a")?;
+    match register(alloc, stream, &node, limit) {
+        Ok(creation) => format!(in alloc; "creation {}", creation.0).ok(),
+        Err(error) => refused(alloc, error),
+    }
+}
+
+fn listed(alloc: Global, stream: &mut FaultStream, limit: usize) -> Option<String> {
+    match ask_names(alloc, stream, limit) {
+        Ok((port, text)) => {
+            let text = digits_of(alloc, text.as_slice())?;
+            format!(in alloc; "{port} {text}").ok()
+        }
+        Err(error) => refused(alloc, error),
+    }
 }
 
 /// Looks up `a`, registers it, or asks for all names: the answer.
@@ -76,23 +89,11 @@ pub fn answer_to(
     question: &str,
     stream: &mut FaultStream,
     limit: usize,
-) -> Result<String, Fail> {
+) -> Option<String> {
     match question {
-        "lookup" => match lookup(alloc, stream, b"a", limit) {
-            Ok(node) => node_told(alloc, &node),
-            Err(error) => refused(alloc, error),
-        },
-        "register" => match register(alloc, stream, &node_a(alloc)?, limit) {
-            Ok(creation) => Ok(format!(in alloc; "creation {}", creation.0)?),
-            Err(error) => refused(alloc, error),
-        },
-        _ => match ask_names(alloc, stream, limit) {
-            Ok((port, text)) => {
-                let text = digits_of(alloc, text.as_slice())?;
-                Ok(format!(in alloc; "{port} {text}")?)
-            }
-            Err(error) => refused(alloc, error),
-        },
+        "lookup" => looked_up(alloc, stream, limit),
+        "register" => registered(alloc, stream, limit),
+        _ => listed(alloc, stream, limit),
     }
 }
 
@@ -102,9 +103,10 @@ pub fn asked(
     question: &str,
     stream: &mut FaultStream,
     limit: usize,
-) -> Result<String, Fail> {
+) -> Option<String> {
     let answer = answer_to(alloc, question, stream, limit)?;
     let said = digits_of(alloc, stream.written())?;
     let left = digits_of(alloc, stream.unread())?;
-    Ok(format!(in alloc; "{answer} said {said} left {left} calls {}", stream.calls())?)
+    let calls = stream.calls();
+    format!(in alloc; "{answer} said {said} left {left} calls {calls}").ok()
 }

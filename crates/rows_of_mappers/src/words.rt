@@ -1,23 +1,35 @@
-//! The words of the rows: bytes in hexadecimal digits, numbers, and what is told.
+//! The words of the rows: bytes in hexadecimal digits, numbers, and what is told. `None`: memory was refused, or the text is
+//! wrong.
 
 use dist_epmd::NodeInfo;
 use std::alloc::Global;
-use std::test::*;
 
 /// The bytes that the digits write; `-` is none.
-pub fn bytes_in(alloc: Global, digits: &str) -> Result<Vec<u8>, Fail> {
-    if digits == "-" {
-        return Ok(Vec::new(alloc));
-    }
-    Ok(hex::decode(alloc, digits)?)
+pub fn bytes_in(alloc: Global, digits: &str) -> Option<Vec<u8>> {
+    let digits = if digits == "-" { "" } else { digits };
+    hex::decode(alloc, digits).ok()
+}
+
+/// The three parts of a row around its first two spaces.
+pub fn three(row: &str) -> Option<(&str, &str, &str)> {
+    let (first, rest) = row.split_once(' ')?;
+    let (second, third) = rest.split_once(' ')?;
+    Some((first, second, third))
+}
+
+/// The four parts of a row around its first three spaces.
+pub fn four(row: &str) -> Option<(&str, &str, &str, &str)> {
+    let (first, second, rest) = three(row)?;
+    let (third, fourth) = rest.split_once(' ')?;
+    Some((first, second, third, fourth))
 }
 
 /// The digits that write the bytes.
-pub fn digits_of(alloc: Global, bytes: &[u8]) -> Result<String, Fail> {
+pub fn digits_of(alloc: Global, bytes: &[u8]) -> Option<String> {
     if bytes.is_empty() {
-        return Ok(String::from_str(alloc, "-")?);
+        return String::from_str(alloc, "-").ok();
     }
-    Ok(hex::encode(alloc, bytes)?)
+    hex::encode(alloc, bytes).ok()
 }
 
 /// The first so many bytes, as far as there are any.
@@ -25,25 +37,11 @@ pub fn front(bytes: &[u8], len: usize) -> &[u8] {
     &bytes[..len.min(bytes.len())]
 }
 
-/// The words of a row.
-pub fn words_of<'r>(alloc: Global, row: &'r str) -> Result<Vec<&'r str>, Fail> {
-    Ok(row.split(' ').collect(alloc)?)
-}
-
 /// What a node tells of itself: its five numbers, its name and its extra bytes.
-pub fn node_told(alloc: Global, node: &NodeInfo) -> Result<String, Fail> {
+pub fn node_told(alloc: Global, node: &NodeInfo) -> Option<String> {
     let name = digits_of(alloc, node.name.as_slice())?;
     let extra = digits_of(alloc, node.extra.as_slice())?;
-    Ok(format!(in alloc;
-        "{} {} {} {} {} {name} {extra}",
-        node.port, node.node_type, node.protocol, node.highest, node.lowest
-    )?)
-}
-
-/// Refuses a row that is told otherwise than it wants.
-pub fn same(told: &str, wanted: &str, row: &str) -> Result<(), Fail> {
-    if told == wanted {
-        return Ok(());
-    }
-    Err(Fail::new(format_args!("{row}: {told} and not {wanted}")))
+    let (highest, lowest) = (node.highest, node.lowest);
+    let (port, node_type, protocol) = (node.port, node.node_type, node.protocol);
+    format!(in alloc; "{port} {node_type} {protocol} {highest} {lowest} {name} {extra}").ok()
 }

@@ -1,9 +1,9 @@
 //! Which texts are nodes files, and what a plan says of one.
 
-use dist_plan::{PlanError, plan_of};
+use dist_plan::{Plan, PlanError, plan_of};
 use std::alloc::Global;
 use std::fmt::Write;
-use std::test::Fail;
+use std::test::*;
 
 const TWO_NODES: &str = "# keys of the file
 [[node]]
@@ -19,27 +19,35 @@ from = \"a@127.0.0.1\"
 to = \"b@127.0.0.1\"
 ";
 
-#[test]
-fn a_nodes_file_says_nodes_and_dials(rt: HostRuntime) -> Result<(), Fail> {
-    let alloc = rt.alloc();
-    let Ok(plan) = plan_of(alloc, TWO_NODES) else {
-        return Err("no plan".into());
+// Whether the nodes of a plan are those of this file.
+fn are_nodes_said(plan: &Plan) -> bool {
+    let [a, b] = plan.node.as_slice() else {
+        return false;
     };
-    assert_eq!(rt; plan.port, 0);
-    assert_eq!(rt; plan.turns, 200);
-    let nodes = plan.node.as_slice();
-    assert_eq!(rt; nodes.len(), 2);
-    assert!(rt; nodes[0].name.bytes() == b"a@127.0.0.1".as_slice());
-    assert!(rt; nodes[1].cookie.bytes() == b"secret".as_slice());
-    assert_eq!(rt; nodes[0].flags.0, 0x401000004);
-    assert_eq!(rt; nodes[1].required.0, 0);
-    assert_eq!(rt; nodes[1].listen, 0);
-    assert!(rt; nodes[1].allow.is_none());
-    let dials = plan.dial.as_slice();
-    assert_eq!(rt; dials.len(), 1);
-    assert!(rt; dials[0].from.bytes() == b"a@127.0.0.1".as_slice());
-    assert!(rt; dials[0].to.bytes() == b"b@127.0.0.1".as_slice());
-    Ok(())
+    a.name.bytes() == b"a@127.0.0.1".as_slice()
+        && a.flags.0 == 0x401000004
+        && b.cookie.bytes() == b"secret".as_slice()
+        && b.required.0 == 0
+        && b.listen == 0
+        && b.allow.is_none()
+}
+
+// Whether the dials of a plan are those of this file.
+fn are_dials_said(plan: &Plan) -> bool {
+    let [dial] = plan.dial.as_slice() else {
+        return false;
+    };
+    dial.from.bytes() == b"a@127.0.0.1".as_slice() && dial.to.bytes() == b"b@127.0.0.1".as_slice()
+}
+
+#[test]
+fn a_nodes_file_says_nodes_and_dials(rt: HostRuntime) {
+    let Ok(plan) = plan_of(rt.alloc(), TWO_NODES) else {
+        panic!(rt; "no plan");
+    };
+    assert!(rt; plan.port == 0 && plan.turns == 200);
+    assert!(rt; are_nodes_said(&plan));
+    assert!(rt; are_dials_said(&plan));
 }
 
 // A line a case: whether it is a nodes file, a text of the file of two nodes, and what is put in its place. A tilde stands
@@ -78,58 +86,62 @@ no|to = "b@127.0.0.1"|to = "z"
 no|[[dial]]|[dial]
 no|[[dial]]|[[dial"#;
 
-// Whether a text is a nodes file. One that is none is a bad one.
-fn is_plan(alloc: Global, text: &str) -> Result<bool, Fail> {
+// Whether a text is a nodes file. One that is none is a bad one. `None`: memory was refused.
+fn is_plan(alloc: Global, text: &str) -> Option<bool> {
     match plan_of(alloc, text) {
-        Ok(_) => Ok(true),
-        Err(PlanError::Bad) => Ok(false),
-        Err(PlanError::NoMemory) => Err("no memory".into()),
+        Ok(_) => Some(true),
+        Err(PlanError::Bad) => Some(false),
+        Err(PlanError::NoMemory) => None,
     }
 }
 
+fn is_change_so(alloc: Global, line: &str) -> Option<bool> {
+    let (answer, change) = line.split_once('|')?;
+    let (old, new) = change.split_once('|')?;
+    let new = new.replace(alloc, "~", "\n").ok()?;
+    let text = TWO_NODES.replacen(alloc, old, &new, 1).ok()?;
+    Some(TWO_NODES.contains(old) && is_plan(alloc, &text)? == (answer == "yes"))
+}
+
 #[test]
-fn bad_nodes_files(rt: HostRuntime) -> Result<(), Fail> {
-    let alloc = rt.alloc();
+fn bad_nodes_files(rt: HostRuntime) {
     for line in CHANGES.lines() {
-        let (answer, change) = line.split_once('|').ok_or("no answer")?;
-        let (old, new) = change.split_once('|').ok_or("no change")?;
-        let new = new.replace(alloc, "~", "\n")?;
-        assert!(rt; TWO_NODES.contains(old), "{line}");
-        let text = TWO_NODES.replacen(alloc, old, new.as_str(), 1)?;
-        assert!(rt;
-            is_plan(alloc, text.as_str())? == (answer == "yes"),
-            "{line}"
-        );
+        assert!(rt; is_change_so(rt.alloc(), line) == Some(true), "{line}");
     }
-    Ok(())
 }
 
-// A file of so many nodes and dials.
-fn file_of(alloc: Global, nodes: usize, dials: usize) -> Result<String, Fail> {
-    let mut text = String::new(alloc);
+fn put_nodes(text: &mut String, nodes: usize) -> Option<()> {
     for number in 0..nodes {
-        writeln!(
-            text,
-            "[[node]]\nname = \"n{number}@h\"\ncookie = \"c\"\nflags = \"4\""
-        )?;
+        let rest = "cookie = \"c\"\nflags = \"4\"";
+        write!(text, "[[node]]\nname = \"n{number}@h\"\n{rest}\n").ok()?;
     }
-    for number in 0..dials {
-        writeln!(text, "[[dial]]\nfrom = \"n0@h\"\nto = \"n{number}@h\"")?;
-    }
-    Ok(text)
+    Some(())
 }
+
+fn put_dials(text: &mut String, dials: usize) -> Option<()> {
+    for number in 0..dials {
+        write!(text, "[[dial]]\nfrom = \"n0@h\"\nto = \"n{number}@h\"\n").ok()?;
+    }
+    Some(())
+}
+
+// Whether a file of so many nodes and dials is one.
+fn is_size_so(alloc: Global, line: &str) -> Option<bool> {
+    let (nodes, rest) = line.split_once(' ')?;
+    let (dials, answer) = rest.split_once(' ')?;
+    let (nodes, dials) = (nodes.parse::<usize>().ok()?, dials.parse::<usize>().ok()?);
+    let mut text = String::new(alloc);
+    put_nodes(&mut text, nodes)?;
+    put_dials(&mut text, dials)?;
+    Some(is_plan(alloc, &text)? == (answer == "yes"))
+}
+
+// How many nodes, how many dials, and whether that is a nodes file.
+const SIZES: &str = "0 0 no\n1 0 yes\n16 64 yes\n17 0 no\n1 65 no";
 
 #[test]
-fn a_nodes_file_has_16_nodes_and_64_dials_at_most(rt: HostRuntime) -> Result<(), Fail> {
-    let alloc = rt.alloc();
-    for line in "0 0 no\n1 0 yes\n16 64 yes\n17 0 no\n1 65 no".lines() {
-        let (nodes, rest) = line.split_once(' ').ok_or("no nodes")?;
-        let (dials, answer) = rest.split_once(' ').ok_or("no dials")?;
-        let text = file_of(alloc, nodes.parse()?, dials.parse()?)?;
-        assert!(rt;
-            is_plan(alloc, text.as_str())? == (answer == "yes"),
-            "{line}"
-        );
+fn a_nodes_file_has_16_nodes_and_64_dials_at_most(rt: HostRuntime) {
+    for line in SIZES.lines() {
+        assert!(rt; is_size_so(rt.alloc(), line) == Some(true), "{line}");
     }
-    Ok(())
 }

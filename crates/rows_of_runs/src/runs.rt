@@ -1,122 +1,52 @@
-//! What runs tell: the orders that made no dial, how many peers each node is up with, and what the audit says.
+//! What runs of two nodes tell.
 
-use crate::system::{System, Wrong};
-use dist_audit::audit;
+use crate::running::{
+    A_PEER, EACH_OTHER, NOBODY_ITSELF_AND_A_PEER, NODES, run_of, run_of_two, tells,
+};
+use crate::system::Wrong;
 use dist_core::Opening;
 use dist_epmd::PortInfo;
 use dist_names::ByteString;
-use dist_plan::plan_of;
-use dist_run::{Ran, RunError, opening_for, run_plan};
-use std::alloc::{AllocError, Global};
-use std::fmt::Write;
-use std::net::{Ipv4Addr, Net, TcpListener, TcpStream};
-use std::random::RandomSource;
-use std::sync::Wait;
-use std::test::Fail;
-use std::thread::{Threads, map_indices};
-use std::time::Clock;
+use dist_run::opening_for;
+use std::alloc::Global;
+use std::net::{Ipv4Addr, TcpListener};
+use std::test::*;
+use std::thread::map_indices;
 
-#[test]
-fn opening_by_version(rt: HostRuntime) -> Result<(), Fail> {
-    let alloc = rt.alloc();
-    for highest in 5..8u16 {
-        let peer = PortInfo {
-            port: 9001,
-            node_type: 77,
-            protocol: 0,
-            highest,
-            lowest: 5,
-            name: ByteString::new(alloc),
-            extra: ByteString::new(alloc),
-        };
-        let is_old = opening_for(&peer) == Opening::Old;
-        assert!(rt; is_old == (highest == 5), "{highest}");
-    }
-    Ok(())
-}
-
-fn write_ran(text: &mut String, alloc: Global, ran: &Ran) -> Result<(), AllocError> {
-    for fault in ran.faults.iter() {
-        write!(text, "order {} {}, ", fault.number, fault.refusal.name())?;
-    }
-    write!(text, "up")?;
-    for closed in ran.closed.iter() {
-        write!(text, " {}", closed.node.ups())?;
-    }
-    match audit(alloc, ran.closed.as_slice()) {
-        Ok(_) => write!(text, ", audit holds"),
-        Err(error) => write!(text, ", audit refused {} {}", error.number(), error.name()),
-    }
-}
-
-// Runs the nodes of a text on a system with something wrong.
-fn run_of<R>(rt: &R, alloc: Global, wrong: Wrong, nodes: &str) -> Result<String, RunError>
-where
-    R: Net<Listener = TcpListener, Stream = TcpStream>
-        + Threads
-        + Wait
-        + Clock
-        + RandomSource
-        + Sync,
-{
-    let Ok(plan) = plan_of(alloc, nodes) else {
-        return Err(RunError::NoMemory);
+// Whether a peer of this highest version is dialled in the old opening.
+fn is_old(alloc: Global, highest: u16) -> bool {
+    let peer = PortInfo {
+        port: 9001,
+        node_type: 77,
+        protocol: 0,
+        highest,
+        lowest: 5,
+        name: ByteString::new(alloc),
+        extra: ByteString::new(alloc),
     };
-    let system = System::new(rt, wrong);
-    let ran = run_plan(&system, alloc, plan, &system)?;
-    let mut text = String::new(alloc);
-    write_ran(&mut text, alloc, &ran)?;
-    Ok(text)
-}
-
-fn tells(ran: &Result<String, RunError>, wanted: &str) -> bool {
-    match ran {
-        Ok(text) => text.as_str() == wanted,
-        Err(error) => error.name() == wanted,
-    }
-}
-
-// Nodes of one cookie, of which the second takes its peers from a list.
-const NODES: &str = r#"node = [
-  { name = "a@127.0.0.1", cookie = "secret", flags = "401000004" },
-  { name = "b@127.0.0.1", cookie = "secret", flags = "101000104", allow = ["PEER@127.0.0.1"] },
-]
-"#;
-
-// Who dials whom.
-const NOBODY_ITSELF_AND_A_PEER: &str = r#"dial = [
-  { from = "a@127.0.0.1", to = "z@127.0.0.1" },
-  { from = "b@127.0.0.1", to = "b@127.0.0.1" },
-  { from = "a@127.0.0.1", to = "b@127.0.0.1" },
-]
-"#;
-
-const A_PEER: &str = r#"dial = [{ from = "a@127.0.0.1", to = "b@127.0.0.1" }]"#;
-
-const EACH_OTHER: &str = r#"dial = [
-  { from = "a@127.0.0.1", to = "b@127.0.0.1" },
-  { from = "b@127.0.0.1", to = "a@127.0.0.1" },
-]
-"#;
-
-// A file of these nodes, the second of which takes this peer, and of these dials.
-fn file_of(alloc: Global, peer: &str, dials: &str) -> Result<String, Fail> {
-    let mut text = NODES.replacen(alloc, "PEER", peer, 1)?;
-    text.push_str(dials)?;
-    Ok(text)
+    opening_for(&peer) == Opening::Old
 }
 
 #[test]
-fn an_order_may_find_nobody_itself_or_a_refusal(rt: HostRuntime) -> Result<(), Fail> {
-    let alloc = rt.alloc();
-    for line in "a up 1 1\nc up 0 0".lines() {
-        let (peer, ups) = line.split_once(' ').ok_or("no case")?;
-        let nodes = file_of(alloc, peer, NOBODY_ITSELF_AND_A_PEER)?;
-        let wanted = format!(in alloc; "order 0 NotThere, {ups}, audit holds")?;
-        let ran = run_of(&rt, alloc, Wrong::Nothing, nodes.as_str());
-        assert!(rt; tells(&ran, wanted.as_str()), "{line}: {ran:?}");
+fn opening_by_version(rt: HostRuntime) {
+    for highest in 5..8u16 {
+        assert_eq!(rt; is_old(rt.alloc(), highest), highest == 5, "{highest}");
     }
-    Ok(())
+}
+
+// Whom the second node takes, and what a run tells.
+const TAKEN: &str = "\
+a order 0 NotThere, up 1 1, audit holds
+c order 0 NotThere, up 0 0, audit holds";
+
+#[test]
+fn an_order_may_find_nobody_itself_or_a_refusal(rt: HostRuntime) {
+    for line in TAKEN.lines() {
+        let (peer, wanted) = line.split_once(' ').unwrap_or(("", ""));
+        let dials = NOBODY_ITSELF_AND_A_PEER;
+        let ran = run_of_two(&rt, rt.alloc(), Wrong::Nothing, peer, dials);
+        assert!(rt; tells(&ran, wanted), "{line}: {ran:?}");
+    }
 }
 
 // What is wrong, its number, and what the run tells of two nodes, one of which dials the other.
@@ -131,6 +61,14 @@ mapper 2 order 0 NoRegistry, up 0 0, audit holds
 peer 0 up 0 0, audit holds
 strangers 0 up 1 1, audit refused 3 Unpaired";
 
+// What is wrong, and what is told.
+fn case_of(line: &str) -> Option<(Wrong, &str)> {
+    let (kind, rest) = line.split_once(' ')?;
+    let (number, wanted) = rest.split_once(' ')?;
+    let number = number.parse::<usize>().ok()?;
+    Some((wrong_of(kind, number), wanted))
+}
+
 fn wrong_of(kind: &str, number: usize) -> Wrong {
     match kind {
         "random" => Wrong::NoRandomBytes,
@@ -143,115 +81,85 @@ fn wrong_of(kind: &str, number: usize) -> Wrong {
 }
 
 #[test]
-fn what_is_wrong_is_told(rt: HostRuntime) -> Result<(), Fail> {
-    let alloc = rt.alloc();
-    let nodes = file_of(alloc, "a", A_PEER)?;
+fn what_is_wrong_is_told(rt: HostRuntime) {
     for line in WRONGS.lines() {
-        let (kind, rest) = line.split_once(' ').ok_or("no kind")?;
-        let (number, wanted) = rest.split_once(' ').ok_or("no number")?;
-        let wrong = wrong_of(kind, number.parse()?);
-        let ran = run_of(&rt, alloc, wrong, nodes.as_str());
+        let (wrong, wanted) = case_of(line).unwrap_or((Wrong::Nothing, ""));
+        let ran = run_of_two(&rt, rt.alloc(), wrong, "a", A_PEER);
         assert!(rt; tells(&ran, wanted), "{line}: {ran:?}");
     }
-    Ok(())
 }
 
-#[test]
-fn a_port_that_is_taken_is_no_port_to_listen_at(rt: HostRuntime) -> Result<(), Fail> {
-    let alloc = rt.alloc();
-    let taken = TcpListener::bind(&rt, (Ipv4Addr::LOCALHOST, 0))?;
-    let port = taken.local_addr()?.port();
-    let node = format!(in alloc; "listen = {port}, flags")?;
-    let of_mapper = format!(in alloc; "port = {port}\n{NODES}")?;
-    let of_node = NODES.replacen(alloc, "flags", node.as_str(), 1)?;
-    for (nodes, wanted) in [
-        (of_mapper.as_str(), "ListenFailed"),
-        (of_node.as_str(), "ListenFailed"),
-        (
-            "turns = 1\nnode = [{ name = \"a@h\", cookie = \"c\", flags = \"4\" }]",
-            "Limit",
-        ),
-    ] {
-        let nodes = nodes.replacen(alloc, "PEER", "a", 1)?;
-        let ran = run_of(&rt, alloc, Wrong::Nothing, nodes.as_str());
-        assert!(rt; tells(&ran, wanted), "{wanted}: {ran:?}");
+// The nodes with the port mapper at this port.
+fn with_mapper_at(alloc: Global, port: u16) -> Option<String> {
+    format!(in alloc; "port = {port}\n{NODES}").ok()
+}
+
+// The nodes with the first of them at this port.
+fn with_node_at(alloc: Global, port: u16) -> Option<String> {
+    let node = format!(in alloc; "listen = {port}, flags").ok()?;
+    NODES.replacen(alloc, "flags", &node, 1).ok()
+}
+
+// The port that is taken.
+fn port_of(taken: &TcpListener) -> u16 {
+    match taken.local_addr() {
+        Ok(address) => address.port(),
+        Err(_) => 0,
     }
-    Ok(())
 }
 
 #[test]
-fn two_nodes_that_dial_each_other_come_up_once(rt: HostRuntime) -> Result<(), Fail> {
-    let alloc = rt.alloc();
-    let nodes = file_of(alloc, "a", EACH_OTHER)?;
-    let ran = run_of(&rt, alloc, Wrong::Holds, nodes.as_str());
+fn a_port_that_is_taken_is_no_port_to_listen_at(rt: HostRuntime) {
+    let Ok(taken) = TcpListener::bind(&rt, (Ipv4Addr::LOCALHOST, 0)) else {
+        panic!(rt; "no listener");
+    };
+    let port = port_of(&taken);
+    let nodes = with_mapper_at(rt.alloc(), port);
+    let ran = run_of(
+        &rt,
+        rt.alloc(),
+        Wrong::Nothing,
+        nodes.as_deref().unwrap_or(""),
+    );
+    assert!(rt; tells(&ran, "ListenFailed"), "{ran:?}");
+    let nodes = with_node_at(rt.alloc(), port);
+    let ran = run_of(
+        &rt,
+        rt.alloc(),
+        Wrong::Nothing,
+        nodes.as_deref().unwrap_or(""),
+    );
+    assert!(rt; tells(&ran, "ListenFailed"), "{ran:?}");
+}
+
+const ONE_TURN: &str = "turns = 1\nnode = [{ name = \"a@h\", cookie = \"c\", flags = \"4\" }]";
+
+#[test]
+fn a_run_may_use_up_its_turns(rt: HostRuntime) {
+    let ran = run_of(&rt, rt.alloc(), Wrong::Nothing, ONE_TURN);
+    assert!(rt; tells(&ran, "Limit"), "{ran:?}");
+}
+
+#[test]
+fn two_nodes_that_dial_each_other_come_up_once(rt: HostRuntime) {
+    let ran = run_of_two(&rt, rt.alloc(), Wrong::Holds, "a", EACH_OTHER);
     assert!(rt; tells(&ran, "up 1 1, audit holds"), "{ran:?}");
-    Ok(())
-}
-
-// A file of so many nodes, each of which dials those that follow it at these distances, the first beside the last.
-fn crowd(alloc: Global, nodes: usize, dials: usize, distances: &str) -> Result<String, Fail> {
-    let mut text = String::new(alloc);
-    for number in 0..nodes {
-        let table = "cookie = \"c\"\nflags = \"4\"";
-        write!(text, "[[node]]\nname = \"n{number}@h\"\n{table}\n")?;
-    }
-    for from in 0..dials {
-        for far in distances.split(' ') {
-            let far: usize = far.parse()?;
-            let to = from.saturating_add(far) % nodes.max(1);
-            write!(text, "[[dial]]\nfrom = \"n{from}@h\"\nto = \"n{to}@h\"\n")?;
-        }
-    }
-    Ok(text)
 }
 
 #[test]
-fn sixteen_nodes_that_dial_each_other_come_up(rt: HostRuntime) -> Result<(), Fail> {
+fn twenty_runs_of_one_file_tell_the_same(rt: HostRuntime) {
     let alloc = rt.alloc();
-    let nodes = crowd(alloc, 16, 16, "1 2 14 15")?;
-    let ran = run_of(&rt, alloc, Wrong::Nothing, nodes.as_str());
-    let text = ran.map_err(|error| error.name())?;
-
-    // An order whose peer has dialled and is up already finds the node busy.
-    let (orders, tables) = text.split_once("up").ok_or("no tables")?;
-    for order in orders.split_terminator(", ") {
-        assert!(rt; order.ends_with(" Busy"), "{order}");
-    }
-    let wanted = format!(in alloc; "{}, audit holds", " 4".repeat(alloc, 16)?)?;
-    assert!(rt; tables == wanted.as_str(), "{text}");
-    Ok(())
-}
-
-#[test]
-fn connections_that_are_cut_leave_one_world(rt: HostRuntime) -> Result<(), Fail> {
-    let alloc = rt.alloc();
-    let nodes = crowd(alloc, 5, 1, "1 2 3 4")?;
-    let ran = run_of(&rt, alloc, Wrong::Cuts, nodes.as_str());
-    let text = ran.map_err(|error| error.name())?;
-
-    // The first node is up with the one whose connection was not cut.
-    let (first, rest) = text.split_at_checked(4).ok_or("no tables")?;
-    assert!(rt; first == "up 1", "{text}");
-    assert!(rt; rest.matches(" 1").count() == 1, "{text}");
-    assert!(rt; rest.ends_with(", audit holds"), "{text}");
-    Ok(())
-}
-
-#[test]
-fn twenty_runs_of_one_file_tell_the_same(rt: HostRuntime) -> Result<(), Fail> {
-    let alloc = rt.alloc();
-    let file = file_of(alloc, "a", A_PEER)?;
-    let nodes = file.as_str();
     for _ in 0..4 {
-        let runs = map_indices(
+        let Ok(runs) = map_indices(
             &rt,
             alloc,
             5,
-            &|_| run_of(&rt, alloc, Wrong::Nothing, nodes),
-        )?;
+            &|_| run_of_two(&rt, alloc, Wrong::Nothing, "a", A_PEER),
+        ) else {
+            panic!(rt; "no memory");
+        };
         for ran in runs.iter() {
             assert!(rt; tells(ran, "up 1 1, audit holds"), "{ran:?}");
         }
     }
-    Ok(())
 }

@@ -1,4 +1,4 @@
-//! Tests, from outside, of driven ends and of nodes under locks where memory is refused.
+//! Tests, from outside, of driven ends, of the queue of dial orders, and of nodes and registries under locks.
 //!
 //! They stand in a crate of their own, so that no crate is proved a second time for its tests.
 #![tactic(auto)]
@@ -6,6 +6,28 @@
 #[cfg(test)]
 mod calls;
 #[cfg(test)]
+mod cuts;
+#[cfg(test)]
+mod desks;
+#[cfg(test)]
+mod driven;
+#[cfg(test)]
+mod drives;
+#[cfg(test)]
+mod locking;
+#[cfg(test)]
+mod orders;
+#[cfg(test)]
+mod registry;
+#[cfg(test)]
+mod seats;
+#[cfg(test)]
 mod setting;
 #[cfg(test)]
+mod shown;
+#[cfg(test)]
+mod silent;
+#[cfg(test)]
 mod steps;
+#[cfg(test)]
+mod threads;

@@ -1,13 +1,13 @@
 //! Each request for memory of a node under a lock refused in turn, as `rt try --test --fail-alloc N` does for N = 1, 2, ..:
 //! where one is refused before the first step, there is nothing to be seen.
 
-use crate::setting::{CHALLENGE, NAME_OF_A, REPLY, setup_of_b};
+use crate::locking::{Closing, alone, closing, frame};
+use crate::setting::{CHALLENGE, NAME_OF_A, REPLY};
 use dist_core::{Event, StepError, Still, Why};
-use dist_locked::{Book, CloseError, LockedNode, Seat, Tickets, close, step_on};
-use dist_names::ByteString;
+use dist_locked::{Book, LockedNode, Seat, step_on};
 use dist_peers::EndId;
 use std::alloc::Global;
-use std::sync::{Arc, Wait};
+use std::sync::Wait;
 use std::test::*;
 
 // A connection comes, the name of node a and its reply, and then a second connection.
@@ -19,15 +19,6 @@ struct Told {
     came_again: Event,
 }
 
-fn frame(alloc: Global, text: &str) -> Option<Event> {
-    let body = hex::decode(alloc, text.get(4..)?).ok()?;
-    let body = ByteString::from_vec(body);
-    Some(Event::Frame {
-        end_: EndId(0),
-        body,
-    })
-}
-
 fn what_is_told(alloc: Global) -> Option<Told> {
     Some(Told {
         came: Event::Incoming { link: 1 },
@@ -37,16 +28,15 @@ fn what_is_told(alloc: Global) -> Option<Told> {
     })
 }
 
-// Node b under a lock, with two seats.
-fn locked(alloc: Global) -> Option<(LockedNode, Vec<Seat>)> {
-    let tickets = Arc::new(alloc, Tickets::new()).ok()?;
-    let (node, seats) = LockedNode::new(alloc, setup_of_b(alloc)?, tickets, 2).ok()?;
-    Some((node, seats))
-}
-
-// Whether the step is made, and not refused for want of memory.
-fn is_made<R: Wait>(rt: &R, node: &LockedNode, seat: &mut Seat, event: &Event) -> Option<bool> {
-    match node.step(rt, seat, event, CHALLENGE) {
+// Whether the step is made at a seat, and not refused for want of memory.
+fn is_made<R: Wait>(
+    rt: &R,
+    node: &LockedNode,
+    seats: &mut [Seat],
+    which: usize,
+    event: &Event,
+) -> Option<bool> {
+    match node.step(rt, seats.get_mut(which)?, event, CHALLENGE) {
         Ok(_) => Some(true),
         Err(StepError::NoMemory) => Some(false),
         Err(_) => None,
@@ -54,23 +44,17 @@ fn is_made<R: Wait>(rt: &R, node: &LockedNode, seat: &mut Seat, event: &Event) -
 }
 
 // Makes the steps, the seats in turn, until one lacks memory. How many were made, unless one was refused for another reason.
-fn made<R: Wait>(
-    rt: &R,
-    node: &LockedNode,
-    first: &mut Seat,
-    second: &mut Seat,
-    told: &Told,
-) -> Option<usize> {
-    if !is_made(rt, node, first, &told.came)? {
+fn made<R: Wait>(rt: &R, node: &LockedNode, seats: &mut [Seat], told: &Told) -> Option<usize> {
+    if !is_made(rt, node, seats, 0, &told.came)? {
         return Some(0);
     }
-    if !is_made(rt, node, second, &told.named)? {
+    if !is_made(rt, node, seats, 1, &told.named)? {
         return Some(1);
     }
-    if !is_made(rt, node, first, &told.replied)? {
+    if !is_made(rt, node, seats, 0, &told.replied)? {
         return Some(2);
     }
-    if !is_made(rt, node, second, &told.came_again)? {
+    if !is_made(rt, node, seats, 1, &told.came_again)? {
         return Some(3);
     }
     Some(4)
@@ -88,52 +72,72 @@ fn standing_after(made: usize) -> [usize; 6] {
     }
 }
 
-fn standing(book: &Book, first: &Seat, second: &Seat) -> [usize; 6] {
+fn receipts_of(seats: &[Seat], which: usize) -> usize {
+    match seats.get(which) {
+        Some(seat) => seat.receipts().len(),
+        None => 0,
+    }
+}
+
+fn standing(book: &Book, seats: &[Seat]) -> [usize; 6] {
     let node = book.node();
     [
         book.history().len(),
         node.entries(),
         node.ups(),
         node.open_ends(),
-        first.receipts().len(),
-        second.receipts().len(),
+        receipts_of(seats, 0),
+        receipts_of(seats, 1),
     ]
 }
 
-// Whether the end is lost, or was not there.
-fn is_lost(alloc: Global, book: &mut Book, seat: &mut Seat, end: u32) -> bool {
+// Whether an end is lost, as the seat of its number is told, or was not there.
+fn is_lost(alloc: Global, book: &mut Book, seats: &mut [Seat], end: u32) -> bool {
     let (end_, why) = (EndId(end), Why::Ended);
     if book.node().still(end_) == Still::NoSuchEnd {
         return true;
     }
-    step_on(alloc, book, seat, 99, &Event::Lost { end_, why }, 0).is_ok()
+    match seats.get_mut(end as usize) {
+        Some(seat) => step_on(alloc, book, seat, 99, &Event::Lost { end_, why }, 0).is_ok(),
+        None => false,
+    }
 }
 
-// How many lines the closed history has, and whether no end is left open.
-fn closed(book: Book, seats: Vec<Seat>) -> Result<(usize, bool), CloseError> {
-    match close(book, seats) {
-        Ok(closed) => Ok((closed.history.len(), closed.node.open_ends() == 0)),
-        Err((error, _, _)) => Err(error),
-    }
+// How many steps were made, how the node and the seats stand then, whether both ends are lost, and what `close` says then.
+#[derive(Clone, Copy)]
+struct Seen {
+    made: Option<usize>,
+    standing: [usize; 6],
+    are_lost: bool,
+    closing: Closing,
+}
+
+fn watched<R: Wait>(rt: &R, alloc: Global) -> Option<Seen> {
+    let told = what_is_told(alloc)?;
+    let (node, mut seats) = alone(alloc)?;
+    let made = made(rt, &node, &mut seats, &told);
+    let mut book = node.into_book();
+    let standing = standing(&book, &seats);
+    let is_first_lost = is_lost(alloc, &mut book, &mut seats, 0);
+    let is_second_lost = is_lost(alloc, &mut book, &mut seats, 1);
+    Some(Seen {
+        made,
+        standing,
+        are_lost: is_first_lost && is_second_lost,
+        closing: closing(book, seats),
+    })
 }
 
 // A step that lacks memory leaves entries, ups, history and seats as they were. The loss of each open end asks for none.
 #[test]
-fn memory_refused_in_a_step(rt: HostRuntime) -> Result<(), Fail> {
-    let alloc = rt.alloc();
-    let (Some((node, mut seats)), Some(told)) = (locked(alloc), what_is_told(alloc)) else {
-        return Ok(());
+fn memory_refused_in_a_step(rt: HostRuntime) {
+    let Some(seen) = watched(&rt, rt.alloc()) else {
+        return;
     };
-    let mut second = seats.pop().ok_or("no seat")?;
-    let mut first = seats.pop().ok_or("no seat")?;
-    let made = made(&rt, &node, &mut first, &mut second, &told).ok_or("refused")?;
-    let mut book = node.into_book();
-    assert_eq!(rt; standing(&book, &first, &second), standing_after(made));
-    assert!(rt; is_lost(alloc, &mut book, &mut first, 0));
-    assert!(rt; is_lost(alloc, &mut book, &mut second, 1));
-    seats.push(first)?;
-    seats.push(second)?;
+    assert_ne!(rt; seen.made, None);
+    let made = seen.made.unwrap_or(0);
+    assert_eq!(rt; seen.standing, standing_after(made));
+    assert!(rt; seen.are_lost);
     let lost = made.min(1) + made / 4;
-    assert_eq!(rt; closed(book, seats), Ok((made.saturating_add(lost), true)));
-    Ok(())
+    assert_eq!(rt; seen.closing, Ok((made.saturating_add(lost), 0, 0)));
 }

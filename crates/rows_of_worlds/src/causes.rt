@@ -1,5 +1,5 @@
 //! Each happening where it applies, and each cause for which one does not.
-use crate::worlds::{happening, world};
+use crate::worlds::{happen, world};
 use dist_world::World;
 use std::alloc::Global;
 use std::test::*;
@@ -85,23 +85,25 @@ const CAUSES: &str = "0 halt 0: it does not run
 fn is_so(alloc: Global, world: &mut World, line: &str) -> Option<bool> {
     let (applies, rest) = line.split_once(' ')?;
     let (script, _) = rest.split_once(": ")?;
-    let one = happening(alloc, script, 999)?;
-    let count = world.run(alloc, &[one]).ok()?;
+    let count = happen(alloc, world, script, 999)?;
     Some(applies == if count == 1 { "1" } else { "0" })
 }
 
-#[test]
-fn happenings_apply_just_where_they_should(rt: HostRuntime) -> Result<(), Fail> {
-    let mut world = world(rt.alloc()).ok_or("no memory")?;
+// The first line that is not so, or for which memory was refused.
+fn first_wrong(alloc: Global, world: &mut World) -> Option<&'static str> {
     for line in CAUSES.split('\n') {
-        assert!(rt;
-            is_so(rt.alloc(), &mut world, line).ok_or("no memory")?,
-            "{line}"
-        );
+        if is_so(alloc, world, line) != Some(true) {
+            return Some(line);
+        }
     }
-    assert_eq!(rt;
-        world.run(rt.alloc(), &[]).map_err(|_| "no memory")?,
-        0usize
-    );
-    Ok(())
+    None
+}
+
+#[test]
+fn happenings_apply_just_where_they_should(rt: HostRuntime) {
+    let Some(mut world) = world(rt.alloc()) else {
+        panic!(rt; "no memory");
+    };
+    assert_eq!(rt; first_wrong(rt.alloc(), &mut world), None);
+    assert!(rt; matches!(world.run(rt.alloc(), &[]), Ok(0)));
 }

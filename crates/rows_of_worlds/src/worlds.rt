@@ -43,28 +43,24 @@ pub fn world(alloc: Global) -> Option<World> {
 }
 
 // A number, or one that names nothing.
-fn number(word: Option<&str>) -> u32 {
-    word.unwrap_or("").parse::<u32>().unwrap_or(99)
+fn number(word: &str) -> u32 {
+    word.parse::<u32>().unwrap_or(99)
 }
 
-/// A happening in the words of a script, of which at most so many bytes are delivered.
-pub fn happening(alloc: Global, line: &str, most: usize) -> Option<Happening> {
-    let mut words = line.split(' ');
-    let verb = words.next()?;
-    let node = number(words.next()) as usize;
-    let second = words.next();
-    let third = words.next();
-    let end_ = EndId(number(second));
-    let creation = Creation(end_.0);
-    let last = number(third);
+// The first word, and what stands behind it, which may be nothing.
+fn first_of(line: &str) -> (&str, &str) {
+    line.split_once(' ').unwrap_or((line, ""))
+}
+
+// A happening that holds no name.
+fn nameless(verb: &str, node: usize, number: u32, last: u32, most: usize) -> Option<Happening> {
+    let end_ = EndId(number);
     Some(match verb {
-        "begin" => Happening::Begin { node, creation },
-        "halt" => Happening::Halt { node },
-        "dial" => Happening::Dial {
+        "begin" => Happening::Begin {
             node,
-            peer: NodeName::new(alloc, second?.as_bytes()).ok()?,
-            opening: Opening::New,
+            creation: Creation(number),
         },
+        "halt" => Happening::Halt { node },
         "tick" => Happening::Tick { node, end_ },
         "reach" => Happening::Reach {
             node,
@@ -97,11 +93,35 @@ pub fn happening(alloc: Global, line: &str, most: usize) -> Option<Happening> {
     })
 }
 
-/// All happenings of a script, one between two commas.
-pub fn happenings(alloc: Global, script: &str) -> Option<Vec<Happening>> {
+// A happening in the words of a script, of which at most so many bytes are delivered.
+fn happening(alloc: Global, line: &str, most: usize) -> Option<Happening> {
+    let (verb, rest) = first_of(line);
+    let (node, rest) = first_of(rest);
+    let (second, third) = first_of(rest);
+    let node = number(node) as usize;
+    if verb != "dial" {
+        return nameless(verb, node, number(second), number(third), most);
+    }
+    let peer = NodeName::new(alloc, second.as_bytes()).ok()?;
+    let opening = Opening::New;
+    Some(Happening::Dial {
+        node,
+        peer,
+        opening,
+    })
+}
+
+/// All happenings of a script, one between two commas, of which at most so many bytes are delivered at a time.
+pub fn happenings(alloc: Global, script: &str, most: usize) -> Option<Vec<Happening>> {
     let mut list = Vec::new(alloc);
     for line in script.split(", ") {
-        list.push(happening(alloc, line, 999)?).ok()?;
+        list.push(happening(alloc, line, most)?).ok()?;
     }
     Some(list)
+}
+
+/// How many of the happenings of a script apply, one after another.
+pub fn happen(alloc: Global, world: &mut World, script: &str, most: usize) -> Option<usize> {
+    let list = happenings(alloc, script, most)?;
+    world.run(alloc, &list).ok()
 }

@@ -1,8 +1,8 @@
 //! The other commands, the command line, and how faults are told.
 
 use super::*;
-use crate::fault::Fault;
 use dist_commands::order_of;
+use dist_faults::Fault;
 use dist_mapper::LookupError;
 use dist_run::RunError;
 use dist_script::ScriptFault;

@@ -73,7 +73,7 @@ const PRINTED: &str = "end 0 {-}\nend 0 say {OK}{CB} closed - up -\na@127.0.0.1 
 fn enacted_from(alloc: Global, rest: &[u8], piece: usize, fault: Option<ErrorKind>) -> Ran {
     let mut input = Source { rest, piece, fault };
     let (mut out, mut err) = (Vec::new(alloc), Vec::new(alloc));
-    let status = dist_script::enact(alloc, &mut input, &mut out, &mut err);
+    let status = dist_play::enact(alloc, &mut input, &mut out, &mut err);
     Ran { status, out, err }
 }
 
@@ -104,7 +104,7 @@ fn written<A: Abort>(rt: &A, alloc: Global, script: &[u8], room: usize) -> Vec<u
     let mut out = Sink::new(alloc, room);
     let mut err = Vec::new(alloc);
     let mut input = script;
-    let status = dist_script::enact(alloc, &mut input, &mut out, &mut err);
+    let status = dist_play::enact(alloc, &mut input, &mut out, &mut err);
     assert_eq!(rt; text_of(&err), "distnode: WriteFailed\n", "room for {room}");
     assert_eq!(rt; status, 1, "room for {room}");
     out.taken
@@ -137,7 +137,7 @@ fn a_status_is_answered_also_where_it_cannot_be_told(rt: HostRuntime) {
     let alloc = rt.alloc();
     let mut out = Vec::new(alloc);
     let mut input = b"x".as_slice();
-    let status = dist_script::enact(alloc, &mut input, &mut out, &mut Sink::new(alloc, 0));
+    let status = dist_play::enact(alloc, &mut input, &mut out, &mut Sink::new(alloc, 0));
     assert_eq!(rt; status, 2);
     assert_eq!(rt; text_of(&out), "");
 }

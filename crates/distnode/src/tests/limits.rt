@@ -4,7 +4,8 @@ use super::*;
 use dist_core::{Event, Node, Reply, Setup, StepError};
 use dist_frames::Frames;
 use dist_names::ByteString;
-use dist_script::{Line, Scene, Script, script_of};
+use dist_play::Scene;
+use dist_script::{Line, Script, script_of};
 
 // The node of a script, and what it is told.
 fn told(alloc: Global, text: &str) -> Result<(Setup, Vec<Line>), Fail> {

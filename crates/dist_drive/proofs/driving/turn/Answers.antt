@@ -10,7 +10,7 @@ use Rattle.dist_drive.proofs.Carrying.{gone, piece_ends, piece_comes}
 use Rattle.dist_drive.proofs.driving.turn.Goals as goal
 
 pub returns-in-Gone-clause-ends : goal.returns-in-Gone-clause-ends
-returns-in-Gone-clause-ends g c = λ none start e runs. gone (record { fed_on = c.fed_and_moved.ensures.fed; moved_on = c.fed_and_moved.ensures.moved; bodies_are = c.fed_and_moved.ensures.bodies }) g.D.Desk.list g.D.Desk.stands g.D.Desk.refuses g.W.Draws.gives start _ _ c.args.desk.now _ _ _ runs (subst (λ (x : EndId). g.D.Desk.stands c.args.desk.now x (still.Gone c.in-Gone.why)) (sym e) c.in-Gone.ensures)
+returns-in-Gone-clause-ends g c = λ none start e runs. gone (record { fed_on = c.fed_and_moved.ensures.fed; moved_on = c.fed_and_moved.ensures.moved; bodies_are = c.fed_and_moved.ensures.bodies }) g.D.Desk.list g.D.Desk.stands g.D.Desk.refuses g.W.Draws.gives start _ _ c.args.desk.now _ _ _ runs none (subst (λ (x : EndId). g.D.Desk.stands c.args.desk.now x (still.Gone c.in-Gone.why)) (sym e) c.in-Gone.ensures)
 
 pub returns-in-Err-clause-ends : goal.returns-in-Err-clause-ends
 returns-in-Err-clause-ends g c = λ none start e runs. piece_ends (record { fed_on = c.fed_and_moved.ensures.fed; moved_on = c.fed_and_moved.ensures.moved; bodies_are = c.fed_and_moved.ensures.bodies }) g.D.Desk.list g.D.Desk.stands g.D.Desk.refuses g.W.Draws.gives start (g.S.Stream.meaning c.args.stream.now) _ c.args.turns.now c.hear.new.turns c.args.desk.now c.args.draws.now c.args.frames.now c.hear.new.frames _ runs none c.in-Err.ensures.hears

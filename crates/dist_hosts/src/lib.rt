@@ -1,0 +1,21 @@
+//! Nodes that listen and are registered, and what the threads of a run are given: sockets whose calls wait for one turn,
+//! seats, challenges, and the loop of the port mapper.
+//!
+//! No thread is started here: the crate of the run does that. What a node does stands in the crates below.
+#![tactic(auto)]
+
+mod challenges;
+mod host;
+mod mapping;
+mod order_fault;
+mod run_error;
+mod seats;
+mod sockets;
+
+pub use challenges::Challenges;
+pub use host::{Host, started};
+pub use mapping::serve_all;
+pub use order_fault::{OrderFault, OrderRefusal};
+pub use run_error::RunError;
+pub use seats::{Pool, SharedOut};
+pub use sockets::{Connection, accepted, connected, link_of, listening, say_goodbye};

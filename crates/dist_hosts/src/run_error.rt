@@ -1,0 +1,67 @@
+//! Why a run ends before its work is done.
+
+ghost use Rattle.std.specs.Prelude.{◌≡◌};
+ghost use Rattle.dist_hosts.specs.declared.run_error.RunError.TheVariants.{NoMemory};
+
+use dist_drive::LookupError;
+use dist_locked::CloseError;
+use std::alloc::{AllocError, AllocFailed};
+use thiserror::Error;
+
+/// What ends a run before its work is done. All its threads have ended when it is told.
+#[derive(Clone, Copy, Debug, PartialEq, Eq, Error)]
+pub enum RunError {
+    /// The system gave no random bytes to seed the challenges with.
+    #[error("no random bytes")]
+    NoRandomBytes,
+    /// The system gave no socket to listen on, or not at the port of the file.
+    #[error("a listener was refused")]
+    ListenFailed,
+    /// The port mapper of this run couldn't be connected to.
+    #[error("a connection to the port mapper was refused")]
+    ConnectFailed,
+    /// The port mapper of this run didn't register a node.
+    #[error("a node was not registered")]
+    NotRegistered(LookupError),
+    /// The system gave no thread to the port mapper or to a node.
+    #[error("a thread was refused")]
+    ThreadFailed,
+    /// The receipts of a node's steps are not those of its history. It never comes where the threads kept to their seats.
+    #[error("the receipts of a node are not its history's")]
+    NotClosed(CloseError),
+    /// No memory was left.
+    #[error("out of memory")]
+    NoMemory,
+}
+
+impl RunError {
+    /// The word that a program prints for it: that of the refusal, or of what the system did not give.
+    pub fn name(self) -> &'static str {
+        match self {
+            RunError::NoRandomBytes => "ReadFailed",
+            RunError::ListenFailed => "ListenFailed",
+            RunError::ConnectFailed => "ConnectFailed",
+            RunError::NotRegistered(error) => error.name(),
+            RunError::ThreadFailed => "ThreadFailed",
+            RunError::NotClosed(CloseError::MissingSeat) => "MissingSeat",
+            RunError::NotClosed(CloseError::ReceiptAbsent) => "ReceiptAbsent",
+            RunError::NoMemory => "NoMemory",
+        }
+    }
+}
+
+impl From<AllocError> for RunError {
+    ghost from_gives = { λ _ error. error ≡ NoMemory };
+
+    fn from(_error: AllocError) -> RunError {
+        RunError::NoMemory
+    }
+}
+
+impl<T: Drop> From<AllocFailed<T>> for RunError {
+    ghost from_gives = { λ _ error. error ≡ NoMemory };
+
+    fn from(_failed: AllocFailed<T>) -> RunError {
+        RunError::NoMemory
+    }
+}

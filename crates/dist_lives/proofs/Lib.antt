@@ -1,0 +1,6 @@
+pub mod Edits
+pub mod Writing
+pub mod Told
+pub mod Wired
+pub mod Links
+pub mod Indexes

@@ -1,0 +1,4 @@
+pub mod Hearing
+pub mod Telling
+pub mod Index
+pub mod Links

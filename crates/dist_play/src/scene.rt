@@ -1,0 +1,199 @@
+//! A node that a script tells things, with a reader of frames for each of its ends.
+
+ghost use Rattle.std.specs.Prelude.{◌≡◌, ◌≤◌, [], ◌∷◌, length, IfOk, MatchOption};
+ghost use Rattle.dist_frames.specs.Reader.{to_come};
+
+use crate::pieces::Straight;
+use crate::print;
+use crate::readers::Readers;
+use dist_core::{Event, Node, Reply, Setup, StepError, Still};
+use dist_frames::Frames;
+use dist_names::ByteString;
+use dist_peers::EndId;
+use dist_script::{Line, ScriptFault, written};
+use std::alloc::Global;
+use std::io::Write;
+
+/// The node, a reader for each open end to which bytes came, and the text of the last line that was printed.
+#[derive(Drop)]
+pub struct Scene {
+    node: Node,
+    readers: Readers,
+    text: Vec<u8>,
+}
+
+// What is left of a reply once it was printed.
+#[derive(Clone, Copy)]
+struct Told {
+    closed: Option<EndId>,
+    is_up: bool,
+}
+
+fn told_of(reply: &Reply) -> Told {
+    Told {
+        closed: match reply.closed {
+            Some((closed, _)) => Some(closed),
+            None => None,
+        },
+        is_up: reply.up.is_some(),
+    }
+}
+
+fn print_reply<W: Write>(
+    text: &mut Vec<u8>,
+    reply: &Reply,
+    out: &mut W,
+) -> Result<(), ScriptFault> {
+    text.clear();
+    print::reply(text, reply)?;
+    written(out.write_all(text))
+}
+
+fn print_refusal<W: Write>(
+    text: &mut Vec<u8>,
+    error: StepError,
+    out: &mut W,
+) -> Result<(), ScriptFault> {
+    text.clear();
+    print::refused(text, error)?;
+    written(out.write_all(text))
+}
+
+// Makes a step and prints what comes of it. Want of memory ends the run; another refusal is printed and answered `None`.
+fn step<W: Write>(
+    alloc: Global,
+    node: &mut Node,
+    text: &mut Vec<u8>,
+    event: &Event,
+    fresh: u32,
+    out: &mut W,
+) -> Result<Option<Told>, ScriptFault> {
+    let stepped = node.step(alloc, event, fresh);
+    match &stepped {
+        Ok(reply) => {
+            print_reply(text, reply, out)?;
+            Ok(Some(told_of(reply)))
+        }
+        Err(StepError::NoMemory) => Err(ScriptFault::NoMemory),
+        Err(error) => {
+            print_refusal(text, *error, out)?;
+            Ok(None)
+        }
+    }
+}
+
+// The next whole body, moved out of the reader.
+fn next_body(reader: &mut Frames) -> Result<Option<ByteString>, ScriptFault>
+    ensures { IfOk result (λ body. MatchOption body (to_come reader.new ≡ []) (λ b. to_come reader.old ≡ b ∷ to_come reader.new)) }
+{
+    match reader.next_short() {
+        Ok(body) => Ok(body.map(ByteString::from_vec)),
+        Err(_) => Err(ScriptFault::NoMemory),
+    }
+}
+
+// What a reader does once a frame of its end was told to the node.
+fn goes_on(alloc: Global, reader: &mut Frames, end_: EndId, told: Option<Told>)
+    ensures { length (to_come reader.new) ≤ length (to_come reader.old) }
+{
+    match told {
+        Some(told) if told.is_up => reader.to_linked(),
+        Some(told) if told.closed != Some(end_) => {}
+        _ => *reader = Frames::new(alloc),
+    }
+}
+
+impl Scene {
+    /// A node that was told nothing yet.
+    pub fn new(alloc: Global, setup: Setup) -> Scene {
+        Scene {
+            node: Node::new(alloc, setup),
+            readers: Readers::new(alloc),
+            text: Vec::new(alloc),
+        }
+    }
+
+    /// Tells the node what a line says, and prints what comes of it.
+    pub fn tell<W: Write>(
+        &mut self,
+        alloc: Global,
+        line: &Line,
+        out: &mut W,
+    ) -> Result<(), ScriptFault> {
+        match line {
+            Line::Event(event) => {
+                let told = step(alloc, &mut self.node, &mut self.text, event, 0, out)?;
+                self.forget(told);
+                Ok(())
+            }
+            Line::Bytes { end_, bytes, fresh } => match self.node.still(*end_) {
+                Still::NoSuchEnd => print_refusal(&mut self.text, StepError::NoSuchEnd, out),
+                Still::Gone(why) => print_refusal(&mut self.text, StepError::Gone(why), out),
+                Still::Pending | Still::Up => self.hear(alloc, *end_, bytes, *fresh, out),
+            },
+        }
+    }
+
+    /// Prints the table of the node's peers.
+    pub fn print_table<W: Write>(&self, out: &mut W) -> Result<(), ScriptFault> {
+        written(print::table(&mut Straight { out }, &self.node))
+    }
+
+    // Drops the reader of an end that a step closed.
+    fn forget(&mut self, told: Option<Told>) {
+        if let Some(told) = told
+            && let Some(end_) = told.closed
+        {
+            self.readers.forget(end_);
+        }
+    }
+
+    // Bytes for an open end.
+    fn hear<W: Write>(
+        &mut self,
+        alloc: Global,
+        end_: EndId,
+        bytes: &ByteString,
+        fresh: u32,
+        out: &mut W,
+    ) -> Result<(), ScriptFault> {
+        let mut reader = self
+            .readers
+            .take(alloc, end_)
+            .map_err(|_| ScriptFault::NoMemory)?;
+        reader
+            .feed(bytes.as_slice())
+            .map_err(|_| ScriptFault::NoMemory)?;
+        let told = self.hear_frames(alloc, end_, &mut reader, fresh, out)?;
+        let skipped = reader.skip_long();
+        self.readers.put_back(end_, reader);
+        if skipped > 0 {
+            return written(print::skipped(&mut Straight { out }, skipped));
+        }
+        if told {
+            Ok(())
+        } else {
+            written(out.write_all(b"waiting\n"))
+        }
+    }
+
+    // Tells the node each whole frame, and answers whether there was one.
+    fn hear_frames<W: Write>(
+        &mut self,
+        alloc: Global,
+        end_: EndId,
+        reader: &mut Frames,
+        fresh: u32,
+        out: &mut W,
+    ) -> Result<bool, ScriptFault> {
+        let mut any = false;
+        while let Some(body) = next_body(reader)? {
+            any = true;
+            let event = Event::Frame { end_, body };
+            let told = step(alloc, &mut self.node, &mut self.text, &event, fresh, out)?;
+            goes_on(alloc, reader, end_, told);
+            self.forget(told);
+        }
+        Ok(any)
+    }
+}

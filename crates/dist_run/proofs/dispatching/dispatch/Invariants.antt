@@ -1,5 +1,0 @@
-use Rattle.std.proofs.Common.{◌≡◌, length}
-use Rattle.dist_run.proofs.dispatching.dispatch.Given as goal
-
-abbrev pub invariant-loop-number : goal.invariant-loop-number
-invariant-loop-number g l = (l.pass.table ≡ l.orders.table) × (l.pass.table ≡ l.fn.pass.table) × (length l.pass.put ≡ l.number)

@@ -1,0 +1,82 @@
+//! What runs of many nodes tell.
+
+use crate::running::run_of;
+use crate::system::Wrong;
+use std::alloc::Global;
+use std::fmt::Write;
+use std::test::*;
+
+fn put_nodes(text: &mut String, nodes: usize) -> Option<()> {
+    for number in 0..nodes {
+        let table = "cookie = \"c\"\nflags = \"4\"";
+        write!(text, "[[node]]\nname = \"n{number}@h\"\n{table}\n").ok()?;
+    }
+    Some(())
+}
+
+fn put_dials(text: &mut String, from: usize, nodes: usize, distances: &str) -> Option<()> {
+    for far in distances.split(' ') {
+        let to = from.saturating_add(far.parse::<usize>().ok()?) % nodes.max(1);
+        write!(text, "[[dial]]\nfrom = \"n{from}@h\"\nto = \"n{to}@h\"\n").ok()?;
+    }
+    Some(())
+}
+
+// A file of so many nodes, of which so many dial those that follow them at these distances, the first beside the last.
+fn put_crowd(text: &mut String, nodes: usize, dials: usize, distances: &str) -> Option<()> {
+    put_nodes(text, nodes)?;
+    for from in 0..dials {
+        put_dials(text, from, nodes, distances)?;
+    }
+    Some(())
+}
+
+fn crowd(alloc: Global, nodes: usize, dials: usize, distances: &str) -> Option<String> {
+    let mut text = String::new(alloc);
+    put_crowd(&mut text, nodes, dials, distances)?;
+    Some(text)
+}
+
+// Whether each of sixteen nodes is up with four. An order whose peer has dialled and is up already finds the node busy.
+fn are_all_up(text: &str) -> Option<bool> {
+    let (orders, tables) = text.split_once("up")?;
+    for order in orders.split_terminator(", ") {
+        if !order.ends_with(" Busy") {
+            return Some(false);
+        }
+    }
+    Some(tables == " 4 4 4 4 4 4 4 4 4 4 4 4 4 4 4 4, audit holds")
+}
+
+#[test]
+fn sixteen_nodes_that_dial_each_other_come_up(rt: HostRuntime) {
+    let nodes = crowd(rt.alloc(), 16, 16, "1 2 14 15");
+    let ran = run_of(
+        &rt,
+        rt.alloc(),
+        Wrong::Nothing,
+        nodes.as_deref().unwrap_or(""),
+    );
+    let text = match &ran {
+        Ok(text) => text.as_str(),
+        Err(error) => error.name(),
+    };
+    assert!(rt; are_all_up(text) == Some(true), "{text}");
+}
+
+// Whether the first node is up with the one whose connection was not cut.
+fn is_one_up(text: &str) -> Option<bool> {
+    let rest = text.strip_prefix("up 1")?;
+    Some(rest.matches(" 1").count() == 1 && rest.ends_with(", audit holds"))
+}
+
+#[test]
+fn connections_that_are_cut_leave_one_world(rt: HostRuntime) {
+    let nodes = crowd(rt.alloc(), 5, 1, "1 2 3 4");
+    let ran = run_of(&rt, rt.alloc(), Wrong::Cuts, nodes.as_deref().unwrap_or(""));
+    let text = match &ran {
+        Ok(text) => text.as_str(),
+        Err(error) => error.name(),
+    };
+    assert!(rt; is_one_up(text) == Some(true), "{text}");
+}

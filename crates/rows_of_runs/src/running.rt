@@ -1,0 +1,121 @@
+//! A run of nodes on a system with something wrong, and what it tells: the orders that made no dial, how many peers each node
+//! is up with, and what the audit says.
+
+use crate::system::{System, Wrong};
+use dist_audit::audit;
+use dist_plan::plan_of;
+use dist_run::{Ran, RunError, run_plan};
+use std::alloc::Global;
+use std::fmt::Write;
+use std::net::{Net, TcpListener, TcpStream};
+use std::random::RandomSource;
+use std::sync::Wait;
+use std::thread::Threads;
+use std::time::Clock;
+
+fn write_tables(text: &mut String, ran: &Ran) -> Option<()> {
+    for fault in ran.faults.iter() {
+        write!(text, "order {} {}, ", fault.number, fault.refusal.name()).ok()?;
+    }
+    text.push_str("up").ok()?;
+    for closed in ran.closed.iter() {
+        write!(text, " {}", closed.node.ups()).ok()?;
+    }
+    Some(())
+}
+
+fn write_audit(text: &mut String, alloc: Global, ran: &Ran) -> Option<()> {
+    match audit(alloc, ran.closed.as_slice()) {
+        Ok(_) => text.push_str(", audit holds").ok(),
+        Err(error) => write!(text, ", audit refused {} {}", error.number(), error.name()).ok(),
+    }
+}
+
+fn told(alloc: Global, ran: &Ran) -> Option<String> {
+    let mut text = String::new(alloc);
+    write_tables(&mut text, ran)?;
+    write_audit(&mut text, alloc, ran)?;
+    Some(text)
+}
+
+/// Runs the nodes of a text on a system with something wrong. What is no nodes file is told as want of memory.
+pub fn run_of<R>(rt: &R, alloc: Global, wrong: Wrong, nodes: &str) -> Result<String, RunError>
+where
+    R: Net<Listener = TcpListener, Stream = TcpStream>
+        + Threads
+        + Wait
+        + Clock
+        + RandomSource
+        + Sync,
+{
+    let Ok(plan) = plan_of(alloc, nodes) else {
+        return Err(RunError::NoMemory);
+    };
+    let system = System::new(rt, wrong);
+    match run_plan(&system, alloc, plan, &system) {
+        Ok(ran) => told(alloc, &ran).ok_or(RunError::NoMemory),
+        Err(error) => Err(error),
+    }
+}
+
+/// Whether a run told this, or was refused so.
+pub fn tells(ran: &Result<String, RunError>, wanted: &str) -> bool {
+    match ran {
+        Ok(text) => text.as_str() == wanted,
+        Err(error) => error.name() == wanted,
+    }
+}
+
+/// Nodes of one cookie, of which the second takes its peers from a list.
+pub const NODES: &str = r#"node = [
+  { name = "a@127.0.0.1", cookie = "secret", flags = "401000004" },
+  { name = "b@127.0.0.1", cookie = "secret", flags = "101000104", allow = ["PEER@127.0.0.1"] },
+]
+"#;
+
+/// Who dials whom.
+pub const NOBODY_ITSELF_AND_A_PEER: &str = r#"dial = [
+  { from = "a@127.0.0.1", to = "z@127.0.0.1" },
+  { from = "b@127.0.0.1", to = "b@127.0.0.1" },
+  { from = "a@127.0.0.1", to = "b@127.0.0.1" },
+]
+"#;
+
+/// Who dials whom.
+pub const A_PEER: &str = r#"dial = [{ from = "a@127.0.0.1", to = "b@127.0.0.1" }]"#;
+
+/// Who dials whom.
+pub const EACH_OTHER: &str = r#"dial = [
+  { from = "a@127.0.0.1", to = "b@127.0.0.1" },
+  { from = "b@127.0.0.1", to = "a@127.0.0.1" },
+]
+"#;
+
+// A file of these nodes, the second of which takes this peer, and of these dials.
+fn file_of(alloc: Global, peer: &str, dials: &str) -> Option<String> {
+    let mut text = NODES.replacen(alloc, "PEER", peer, 1).ok()?;
+    text.push_str(dials).ok()?;
+    Some(text)
+}
+
+/// Runs those nodes, the second of which takes this peer, and these dials.
+pub fn run_of_two<R>(
+    rt: &R,
+    alloc: Global,
+    wrong: Wrong,
+    peer: &str,
+    dials: &str,
+) -> Result<String, RunError>
+where
+    R: Net<Listener = TcpListener, Stream = TcpStream>
+        + Threads
+        + Wait
+        + Clock
+        + RandomSource
+        + Sync,
+{
+    match file_of(alloc, peer, dials) {
+        Some(nodes) => run_of(rt, alloc, wrong, &nodes),
+        None => Err(RunError::NoMemory),
+    }
+}

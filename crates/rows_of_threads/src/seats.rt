@@ -1,0 +1,123 @@
+//! Two seats at one node, a seat of another node, and the queue of dial orders.
+
+use crate::locking::{Closing, closing, closing_both, come, frame, locked, seated, tickets};
+use crate::orders::orders_in_turn;
+use crate::setting::{CHALLENGE, NAME_OF_A};
+use crate::shown::still_word;
+use dist_core::Event;
+use dist_locked::{Book, CloseError, LockedNode, Receipt, Seat, Tickets, close};
+use dist_peers::EndId;
+use std::alloc::Global;
+use std::sync::{Arc, Wait};
+use std::test::*;
+
+// A receipt, but for its event.
+fn in_words(alloc: Global, receipt: &Receipt) -> Option<String> {
+    let (line, reply) = (&receipt.line, &receipt.line.reply);
+    let said = hex::encode(alloc, reply.say.as_slice()).ok()?;
+    let (at, end) = (receipt.at_, reply.end_.0);
+    let (ticket, seat) = (line.ticket, line.seat);
+    format!(in alloc; "line {at} ticket {ticket} seat {seat} end {end} says [{said}]\n").ok()
+}
+
+// Makes a step, and adds its receipt. Whether it was made.
+fn tell<R: Wait>(
+    rt: &R,
+    alloc: Global,
+    node: &LockedNode,
+    seat: &mut Seat,
+    event: &Event,
+    lines: &mut String,
+) -> Option<()> {
+    let receipt = node.step(rt, seat, event, CHALLENGE).ok()?;
+    let line = in_words(alloc, &receipt)?;
+    lines.push_str(line.as_str()).ok()
+}
+
+// A connection comes at the first seat, and the name of node a at the second.
+fn tell_both<R: Wait>(
+    rt: &R,
+    alloc: Global,
+    node: &LockedNode,
+    first: &mut Seat,
+    second: &mut Seat,
+    lines: &mut String,
+) -> Option<()> {
+    tell(rt, alloc, node, first, &Event::Incoming { link: 1 }, lines)?;
+    let named = frame(alloc, NAME_OF_A)?;
+    tell(rt, alloc, node, second, &named, lines)
+}
+
+// What `close` says where a seat is there alone.
+fn close_without(alloc: Global, book: Book, seat: Seat) -> Option<(CloseError, Book, Vec<Seat>)> {
+    let mut alone = Vec::new(alloc);
+    alone.push(seat).ok()?;
+    close(book, alone).err()
+}
+
+// How the end stands after the steps of both seats, and what `close` says without the second seat and with it. The receipts
+// are added.
+fn two_seats<R: Wait>(
+    rt: &R,
+    alloc: Global,
+    lines: &mut String,
+) -> Option<(&'static str, CloseError, Closing)> {
+    let (node, mut first, mut second) = locked(alloc)?;
+    let _ = tell_both(rt, alloc, &node, &mut first, &mut second, lines);
+    let still = still_word(node.still(rt, EndId(0)));
+    let (error, book, mut seats) = close_without(alloc, node.into_book(), first)?;
+    seats.push(second).ok()?;
+    Some((still, error, closing(book, seats)))
+}
+
+// Node b, and its first seat or its second after so many steps.
+fn seat_after<R: Wait>(
+    rt: &R,
+    alloc: Global,
+    tickets: Arc<Tickets, Global>,
+    which: usize,
+    steps: u64,
+) -> Option<(LockedNode, Seat)> {
+    let (node, mut seats) = seated(alloc, tickets)?;
+    seats.truncate(which);
+    let mut seat = seats.pop()?;
+    if come(rt, &node, &mut seat, steps) {
+        Some((node, seat))
+    } else {
+        None
+    }
+}
+
+// What `close` says of the first seat of a node and the second of another node, which shares its tickets.
+fn foreign_seat<R: Wait>(rt: &R, alloc: Global) -> Option<Closing> {
+    let tickets = tickets(alloc)?;
+    let shared = Arc::try_clone(&tickets).ok()?;
+    let (node, own) = seat_after(rt, alloc, shared, 1, 1)?;
+    let (_, foreign) = seat_after(rt, alloc, tickets, 2, 3)?;
+    closing_both(alloc, node, own, foreign)
+}
+
+const RECEIPTS: &str = "\
+line 0 ticket 0 seat 0 end 0 says []
+line 1 ticket 1 seat 1 end 0 says [0003736f6b001e4e0000000101000104075bcd1500000006000b62403132372e302e302e31]
+";
+
+#[test]
+fn two_seats_and_orders(rt: HostRuntime) {
+    let alloc = rt.alloc();
+    let mut lines = String::new(alloc);
+    let seen = two_seats(&rt, alloc, &mut lines);
+    assert_eq!(rt; lines.as_str(), RECEIPTS);
+    assert_eq!(rt;
+        seen,
+        Some(("Pending", CloseError::MissingSeat, Ok((2, 0, 1))))
+    );
+    assert_eq!(rt;
+        foreign_seat(&rt, alloc),
+        Some(Err(CloseError::ReceiptAbsent))
+    );
+    assert_eq!(rt;
+        orders_in_turn(&rt, alloc),
+        Some(([0, 0, 6, 4, 5, 0, 0, 7], 0))
+    );
+}
