@@ -24,7 +24,7 @@ use Rattle.dist_core.specs.declared.reply.Note.TheVariants as note
 use Rattle.dist_ends.specs.Ends.{AreLegal, entry_in}
 use Rattle.dist_core.specs.Node.{NodeState, ends_after}
 use Rattle.dist_core.specs.Step.{effect_of}
-use Rattle.dist_core.specs.Laws.{IsOther}
+use Rattle.dist_laws.specs.Laws.{IsOther}
 use Rattle.dist_agreement.specs.Lists.{add_some}
 use Rattle.dist_agreement.specs.Rows.{EndRow, given_by, mark, written, once, rows_after, rises, takes_name, says_reply, peer_by, dooms, shuts_end, new_row}
 use Rattle.dist_agreement.proofs.Stands.{AreBeside, stand_in, dialled_stand, Stand}

@@ -21,7 +21,7 @@ use Rattle.dist_setup.specs.Rules.{announced_by}
 use Rattle.dist_setup.specs.Saying.{CanBeSaid}
 use Rattle.dist_core.specs.declared.event.Event.{Event}
 use Rattle.dist_core.specs.declared.effect.Effect.{Effect}
-use Rattle.dist_core.specs.Laws.{IsOther}
+use Rattle.dist_laws.specs.Laws.{IsOther}
 use Rattle.dist_core.specs.Node.{NodeState, ends_after}
 use Rattle.dist_core.specs.Rows.{Row, Heard}
 use Rattle.dist_core.specs.Runs.{opening, settled}

@@ -1,11 +1,11 @@
 //! What the laws of worlds take from one node.
 ghost use Rattle.dist_agreement.specs.NodeLaws.{NodeLaws};
 
-use dist_core::{
+use dist_ends::ends_after_a_change;
+use dist_laws::{
     a_reply_is_of_its_end, another_end_is_replaced, entries_are_whole, steps_are_rows,
     two_ends_change_at_most,
 };
-use dist_ends::ends_after_a_change;
 use dist_names::order_of_names;
 use dist_setup::{announced_flags_fit, messages_can_be_said, what_is_said_is_read};
 

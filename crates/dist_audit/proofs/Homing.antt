@@ -11,7 +11,7 @@ use Rattle.dist_peers.specs.declared.entry.EndId.{EndId}
 use Rattle.dist_ends.specs.Ends.{is_dialing}
 use Rattle.dist_setup.specs.declared.setup.Setup.{Setup}
 use Rattle.dist_names.specs.declared.creation.Creation.{Creation}
-use Rattle.dist_locked.specs.declared.closing.Closed.{Closed}
+use Rattle.dist_books.specs.declared.closing.Closed.{Closed}
 use Rattle.dist_core.specs.declared.event.Event.{Event}
 use Rattle.dist_core.specs.declared.event.Event.TheVariants as event
 use Rattle.dist_core.specs.declared.reply.Reply.{Reply}

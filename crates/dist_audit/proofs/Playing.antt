@@ -1,6 +1,6 @@
 -- A whole play.
 use Rattle.std.proofs.Common.{None, ◌≡◌, false, IsTrue, List, [], length, sym, ap, subst, inl, inr, ◌∙◌}
-use Rattle.dist_locked.specs.declared.closing.Closed.{Closed}
+use Rattle.dist_books.specs.declared.closing.Closed.{Closed}
 use Rattle.dist_agreement.specs.World.{World, empty}
 use Rattle.dist_agreement.specs.Run.{run}
 use Rattle.dist_audit.specs.Lines.{Told, lines_of}

@@ -8,8 +8,8 @@ use Rattle.std.specs.BTreeMap.{insert_entry}
 use Rattle.std.specs.Map.{values_of}
 use Rattle.std.proofs.lemmas.Bool.Decides.{nat_tests}
 use Rattle.std.proofs.lemmas.Bool.{cases_lt, lt-ltb}
-use Rattle.dist_locked.specs.declared.line.Line.{Line}
-use Rattle.dist_locked.specs.declared.closing.Closed.{Closed}
+use Rattle.dist_books.specs.declared.line.Line.{Line}
+use Rattle.dist_books.specs.declared.closing.Closed.{Closed}
 use Rattle.dist_audit.specs.Lines.{Told, ticket_of, place_of, put, put_all, told_by, told_from}
 use Rattle.dist_audit.specs.Kept.{AreInTurn}
 

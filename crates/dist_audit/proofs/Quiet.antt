@@ -16,7 +16,7 @@ use Rattle.dist_core.specs.declared.step_error.StepError.{StepError}
 use Rattle.dist_core.specs.Node.{NodeState}
 use Rattle.dist_core.specs.Step.{step}
 use Rattle.dist_names.specs.declared.creation.Creation.{Creation}
-use Rattle.dist_locked.specs.declared.closing.Closed.{Closed}
+use Rattle.dist_books.specs.declared.closing.Closed.{Closed}
 use Rattle.dist_agreement.specs.declared.happening.Happening.{Happening}
 use Rattle.dist_agreement.specs.declared.happening.Happening.TheVariants as happening
 use Rattle.dist_agreement.specs.Lists.{at_place}

@@ -1,7 +1,7 @@
 -- Lines that are followed, one on.
 use Rattle.std.proofs.Common.{◌≡◌, ℕ, suc, ◌+◌, ◌<◌, List, [], ◌∷◌, ◌++◌, option_to_list, refl, ap, sym, subst, inl, inr, ◌∙◌, length, get_or, drop, drop-cons, add-one, add_assoc, length-append, arith}
 use Rattle.dist_agreement.specs.declared.happening.Happening.{Happening}
-use Rattle.dist_locked.specs.declared.closing.Closed.{Closed}
+use Rattle.dist_books.specs.declared.closing.Closed.{Closed}
 use Rattle.dist_agreement.specs.World.{World, empty}
 use Rattle.dist_agreement.specs.Run.{run, count_applied, one_where}
 use Rattle.dist_agreement.specs.Happenings.{happens, applied_at}

@@ -15,8 +15,8 @@ use Rattle.dist_ends.specs.Ends.{table_of, up_ids, up_from}
 use Rattle.dist_core.specs.Node.{NodeState}
 use Rattle.dist_core.specs.Step.{step}
 use Rattle.dist_core.specs.Answers.{reply_of}
-use Rattle.dist_locked.specs.declared.line.Line.{Line}
-use Rattle.dist_locked.specs.declared.closing.Closed.{Closed}
+use Rattle.dist_books.specs.declared.line.Line.{Line}
+use Rattle.dist_books.specs.declared.closing.Closed.{Closed}
 use Rattle.dist_agreement.specs.declared.happening.Happening.{Happening}
 use Rattle.dist_agreement.specs.World.{World, empty, running, row_at}
 use Rattle.dist_agreement.specs.Delivery.{text_to}

@@ -4,8 +4,8 @@ use Rattle.std.specs.List.{list_any}
 use Rattle.dist_world.specs.Setups.{names_repeat}
 use Rattle.dist_core.specs.declared.event.Event.{Event}
 use Rattle.dist_core.specs.declared.event.Event.TheVariants as event
-use Rattle.dist_locked.specs.declared.line.Line.{Line}
-use Rattle.dist_locked.specs.declared.closing.Closed.{Closed}
+use Rattle.dist_books.specs.declared.line.Line.{Line}
+use Rattle.dist_books.specs.declared.closing.Closed.{Closed}
 use Rattle.dist_audit.specs.declared.audit_error.AuditError.{AuditError}
 use Rattle.dist_audit.specs.declared.audit_error.AuditError.TheVariants as error
 use Rattle.dist_audit.specs.Lines.{Told, lines_of}

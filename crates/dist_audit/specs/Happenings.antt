@@ -4,8 +4,8 @@ use Rattle.dist_peers.specs.declared.entry.EndId.{EndId}
 use Rattle.dist_setup.specs.declared.setup.Setup.{Setup}
 use Rattle.dist_core.specs.declared.event.Event.{Event}
 use Rattle.dist_core.specs.declared.event.Event.TheVariants as event
-use Rattle.dist_locked.specs.declared.line.Line.{Line}
-use Rattle.dist_locked.specs.declared.closing.Closed.{Closed}
+use Rattle.dist_books.specs.declared.line.Line.{Line}
+use Rattle.dist_books.specs.declared.closing.Closed.{Closed}
 use Rattle.dist_agreement.specs.declared.happening.Happening.{Happening}
 use Rattle.dist_agreement.specs.declared.happening.Happening.TheVariants as happening
 use Rattle.dist_audit.specs.Lines.{Told, lines_of}

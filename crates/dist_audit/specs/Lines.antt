@@ -1,8 +1,8 @@
 -- THE LINES OF ALL HISTORIES, in the order of their tickets.
 use Rattle.std.specs.Prelude.{ℕ, suc, nat_lt, List, [], ◌∷◌, ◌++◌}
 use Rattle.std.specs.List.{insert, position_or_len}
-use Rattle.dist_locked.specs.declared.line.Line.{Line}
-use Rattle.dist_locked.specs.declared.closing.Closed.{Closed}
+use Rattle.dist_books.specs.declared.line.Line.{Line}
+use Rattle.dist_books.specs.declared.closing.Closed.{Closed}
 
 -- a line, and whose it is: the place of its node among all
 pub record Told : Type 0 where

@@ -13,8 +13,8 @@ use crate::happenings::{begins, setups_of};
 use crate::pairing::{Lines, paired_lines};
 use crate::tables::has_tables;
 use crate::walk::{follow_all, happen};
+use dist_books::Closed;
 use dist_frames::frame_in_front;
-use dist_locked::Closed;
 use dist_world::{World, WorldError};
 use std::alloc::{AllocError, Global};
 

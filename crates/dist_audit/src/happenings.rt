@@ -6,8 +6,8 @@ ghost use Rattle.dist_audit.specs.Links.{dialler_of};
 use crate::links::target_of;
 use crate::mentions::Mentioned;
 use crate::pairing::Lines;
+use dist_books::Closed;
 use dist_core::{Event, Setup};
-use dist_locked::Closed;
 use dist_world::Happening;
 use std::alloc::{AllocError, Global};
 

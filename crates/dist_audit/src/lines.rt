@@ -2,7 +2,7 @@
 ghost use Rattle.std.specs.Prelude.{◌≡◌, [], OnOk, IfOk};
 ghost use Rattle.dist_audit.specs.Lines.{told, told_by, ticket_of, put, put_all, lines_of};
 
-use dist_locked::{Closed, Line};
+use dist_books::{Closed, Line};
 use std::alloc::{AllocError, Global};
 use std::collections::BTreeMap;
 use std::marker::Model;

@@ -7,7 +7,7 @@ ghost use Rattle.dist_audit.specs.Faults.{links_unpaired, Unpairs};
 use crate::audit_error::AuditError;
 use crate::lines::{Told, lines_of};
 use crate::links::{LinkTable, link_table};
-use dist_locked::Closed;
+use dist_books::Closed;
 use dist_peers::EndId;
 use std::alloc::Global;
 use std::marker::Model;

@@ -8,8 +8,8 @@ ghost use Rattle.dist_ends.specs.declared.known.UpRecord.{UpRecord};
 ghost use Rattle.dist_world.specs.Asking.{node_of};
 ghost use Rattle.dist_audit.specs.Audit.{entry_at, record_at, AreAlike, IsAlike, HasTables};
 
+use dist_books::Closed;
 use dist_core::{Node, UpRecord};
-use dist_locked::Closed;
 use dist_names::NodeName;
 use dist_peers::{EndId, Entry};
 use dist_world::World;

@@ -15,7 +15,7 @@ use Rattle.dist_core.specs.Node.{NodeState}
 use Rattle.dist_core.specs.Effects.{closes}
 use Rattle.dist_core.specs.Step.{effect_of, at_end, opened, framed_from, sender_to, ticked, step, stepped}
 use Rattle.dist_core.specs.Answers.{IsStep, GivesReply, Refuses, reply_of, IsLoss}
-use Rattle.dist_core.specs.Laws.{end_of, loss_reply, ClosesOnReply}
+use Rattle.dist_core.specs.Clauses.{end_of, loss_reply, ClosesOnReply}
 use Rattle.dist_core.proofs.Closings.{closes_on_reply}
 
 -- a call of step answers

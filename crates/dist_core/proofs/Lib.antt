@@ -1,17 +1,8 @@
 pub mod Verdicts
 pub mod Steps
 pub mod Counts
-pub mod Legal
 pub mod Rows
 pub mod Replies
 pub mod Closings
 pub mod Clauses
-pub mod Others
-pub mod OpenCounts
-pub mod Constant
-pub mod Rises
 pub mod Losses
-pub mod Succeeding
-pub mod Crossings
-pub mod Doomed
-pub mod Answering

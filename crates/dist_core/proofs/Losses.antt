@@ -12,7 +12,7 @@ use Rattle.dist_core.specs.declared.step_error.StepError.{StepError}
 use Rattle.dist_core.specs.declared.step_error.StepError.TheVariants as error
 use Rattle.dist_core.specs.Answers.{IsLoss}
 use Rattle.dist_ends.specs.Ends.{is_open}
-use Rattle.dist_core.specs.Laws.{end_of, loss_reply}
+use Rattle.dist_core.specs.Clauses.{end_of, loss_reply}
 use Rattle.dist_core.specs.Losses.{IsGone, IsSilent}
 
 abbrev bad : StepError → Result Reply StepError

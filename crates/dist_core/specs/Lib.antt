@@ -7,6 +7,6 @@ pub mod Answers
 pub mod Rows
 pub mod Fitting
 pub mod Runs
-pub mod Laws
+pub mod Clauses
 pub mod Losses
 pub mod Words

@@ -1,7 +1,7 @@
 //! What a node is told.
 ghost use Rattle.std.specs.Prelude.{◌≡◌, ◌↔◌, IsTrue};
 ghost use Rattle.dist_core.specs.Answers.{IsLoss};
-ghost use Rattle.dist_core.specs.Laws.{end_of};
+ghost use Rattle.dist_core.specs.Clauses.{end_of};
 ghost use Rattle.dist_core.specs.Losses.{is_loss, loss_of};
 
 use dist_ends::Why;

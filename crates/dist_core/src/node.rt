@@ -5,7 +5,7 @@ ghost use Rattle.std.specs.FinMap as map;
 ghost use Rattle.dist_peers.specs.Verdicts.{is_full};
 ghost use Rattle.dist_ends.specs.Ends.{AreLegal, FindsUp, record_in, up_from, up_pair, up_ids, claim_of, is_open, is_dialing, entry_in, table_of, still_of};
 ghost use Rattle.dist_core.specs.Node.{NodeState, ends_after, is_crowded, is_spent, new_id};
-ghost use Rattle.dist_core.specs.Laws.{ClosesOnReply, end_of, loss_reply};
+ghost use Rattle.dist_core.specs.Clauses.{ClosesOnReply, end_of, loss_reply};
 ghost use Rattle.dist_core.specs.Losses.{IsGone, IsSilent};
 ghost use Rattle.dist_core.specs.Fitting.{Fits};
 ghost use Rattle.dist_setup.specs.Saying.{name_text, tick_text};

@@ -1,38 +1,31 @@
 -- How a call goes on, and how it ends.
-use Rattle.std.proofs.Common.{◌≡◌, ℕ, ◌+◌, ◌-◌, ◌*◌, ◌≤◌, ◌⊎◌, Bool, true, false, List, [], ◌∷◌, ◌++◌, length, take, drop, map, Option, Some, None, Result, Ok, Err, refl, sym, ap, subst, ◌∙◌, arith, append_assoc, length-append, inl, inr, ⊎_elim}
-use Rattle.std.specs.Prelude.{is_some, eqb, if◌then◌else◌}
-use Rattle.std.proofs.lemmas.Bool.{eqb-true}
-use Rattle.std.proofs.lemmas.List.{append-nil, map-append, length-map, take-append-drop}
-use Rattle.std.proofs.Math.Seq.{take-length}
+use Rattle.std.proofs.Common.{◌≡◌, ℕ, ◌+◌, ◌≤◌, Bool, List, [], ◌∷◌, ◌++◌, length, take, drop, map, Some, None, Ok, Err, refl, sym, ap, subst, ◌∙◌, append_assoc, inl, inr}
+use Rattle.std.specs.Prelude.{is_some}
+use Rattle.std.proofs.lemmas.List.{append-nil, map-append, take-append-drop}
 use Rattle.std.specs.Io.KnownBytes.{prepend_known, append_known}
-use Rattle.dist_frames.specs.Reader.{Reader, Short, fed, next_body, without_next, told, to_come}
+use Rattle.dist_frames.specs.Reader.{Reader, fed, next_body, without_next, told, to_come}
 use Rattle.dist_frames.specs.History.{IsBytes}
 use Rattle.dist_peers.specs.declared.entry.EndId.{EndId}
 use Rattle.dist_ends.specs.declared.why.Why.{Why}
 use Rattle.dist_ends.specs.declared.why.Why.TheVariants as why
 use Rattle.dist_core.specs.declared.event.Event.{Event}
 use Rattle.dist_core.specs.declared.event.Event.TheVariants as event
-use Rattle.dist_core.specs.declared.reply.Reply.{Reply}
 use Rattle.dist_ends.specs.declared.phase.Still.{Still}
 use Rattle.dist_ends.specs.declared.phase.Still.TheVariants as still
 use Rattle.dist_core.specs.declared.step_error.StepError.{StepError}
 use Rattle.dist_core.specs.declared.step_error.StepError.TheVariants as error
 use Rattle.dist_streams.specs.Stream.{StreamState}
-use Rattle.dist_streams.specs.Turns.{Rises, Spends, Says, Hears, SaysFront}
+use Rattle.dist_streams.specs.Turns.{Says, Hears}
 use Rattle.dist_streams.specs.declared.turn_error.TurnError.{TurnError}
-use Rattle.dist_streams.specs.declared.turn_error.TurnError.TheVariants as fault
 use Rattle.dist_drive.specs.declared.outcome.Ending.{Ending}
 use Rattle.dist_drive.specs.declared.outcome.Ending.TheVariants as ending
-use Rattle.dist_drive.specs.Desks.{Step, event_of, number_of, last_reply}
-use Rattle.dist_core.specs.Losses.{IsGone}
-use Rattle.dist_drive.specs.Numbers.{DrawsAll}
-use Rattle.dist_drive.specs.Driven.{IsFront, frames_of, next_frame, events_of, text_of, HandsOnAll, WritesAll, HasCause, TellsLoss, Carries}
-use Rattle.std.specs.Prelude.{IsErrAnd, IfErr, OnOk, OnErr}
-use Rattle.dist_drive.specs.Running.{RunsOn, EndsSo, Start, Runs, Keeps, MakesStep, SaysReply, after_reply, own_why, ending_of_refusal, ending_of_stream, HandsOn, HearsPiece}
+use Rattle.dist_drive.specs.Desks.{Step, event_of}
+use Rattle.dist_drive.specs.Driven.{IsFront, frames_of, next_frame, events_of, text_of, HandsOnAll, WritesAll, HasCause, Carries}
+use Rattle.dist_drive.specs.Running.{RunsOn, EndsSo, Start, Runs, Keeps, MakesStep, SaysReply, own_why, ending_of_refusal, ending_of_stream, HandsOn, HearsPiece}
 use Rattle.dist_drive.proofs.Steps.{last_pushed}
-use Rattle.dist_drive.proofs.Texts.{append_known-append, prepend_known-append, prepend_known-none, Rises-trans, IsFront-refl, IsFront-more, text_front, text_none, text_one, text_before}
+use Rattle.dist_drive.proofs.Texts.{append_known-append, prepend_known-append, prepend_known-none, IsFront-refl, IsFront-more, text_front, text_one, text_before}
 use Rattle.dist_drive.proofs.Keeping.{frames_are, next_is, next_none, keeps_next, keeps_fed, keeps_told, after_step, FrameLaws}
-use Rattle.dist_drive.proofs.Shown.{says_as, same_length, draws_push, pieces_on, pieces_one, Spent, spent, events_one, numbers_one, list_one, whole_reply, goes_on, ShowsEnd, own_is, shows_shut, failed, shows_failed, shows_whole, shows_limit, shows, ends_as, endings_are, not_refused, at_err, at_end, ShowsUnheard, unheard_shows, ends_whole, endings_same, ShowsFirst, first_shows, first_cut, begins_so, tells, ok_maps, ok_so, err_maps}
+use Rattle.dist_drive.proofs.Shown.{same_length, pieces_on, pieces_one, spent, events_one, numbers_one, list_one, goes_on, shows, endings_are, not_refused, at_end, unheard_shows, ends_whole, endings_same}
 
 module _ (laws : FrameLaws) where
   -- what was handed on is a front of the frames of the call

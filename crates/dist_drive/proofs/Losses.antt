@@ -10,7 +10,7 @@ use Rattle.dist_core.specs.declared.reply.Reply.{Reply}
 use Rattle.dist_core.specs.declared.step_error.StepError.{StepError}
 use Rattle.dist_core.specs.declared.step_error.StepError.TheVariants as error
 use Rattle.dist_ends.specs.Ends.{is_open}
-use Rattle.dist_core.specs.Laws.{end_of}
+use Rattle.dist_core.specs.Clauses.{end_of}
 use Rattle.dist_core.specs.Losses.{is_loss}
 use Rattle.dist_core.specs.Node.{NodeState}
 use Rattle.dist_core.specs.Step.{step}

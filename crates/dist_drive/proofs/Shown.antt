@@ -1,11 +1,11 @@
 -- What a call shows on its way and where it ends: what was handed on, said and counted.
 use Rattle.std.proofs.Common.{◌≡◌, ℕ, ◌+◌, ◌-◌, ◌*◌, ◌≤◌, ◌⊎◌, Bool, true, false, List, [], ◌∷◌, ◌++◌, length, take, drop, map, Option, Some, None, Result, Ok, Err, refl, sym, ap, subst, ◌∙◌, arith, append_assoc, length-append, inl, inr, ⊎_elim}
-use Rattle.std.specs.Prelude.{is_some, eqb, if◌then◌else◌}
+use Rattle.std.specs.Prelude.{eqb, if◌then◌else◌}
 use Rattle.std.proofs.lemmas.Bool.{eqb-true}
 use Rattle.std.proofs.lemmas.List.{append-nil, map-append, length-map, take-append-drop}
 use Rattle.std.proofs.Math.Seq.{take-length}
 use Rattle.std.specs.Io.KnownBytes.{prepend_known, append_known}
-use Rattle.dist_frames.specs.Reader.{Reader, Short, fed, next_body, without_next, told, to_come}
+use Rattle.dist_frames.specs.Reader.{Short}
 use Rattle.dist_frames.specs.History.{Accounts}
 use Rattle.dist_peers.specs.declared.entry.EndId.{EndId}
 use Rattle.dist_ends.specs.declared.why.Why.{Why}
@@ -14,9 +14,7 @@ use Rattle.dist_core.specs.declared.event.Event.{Event}
 use Rattle.dist_core.specs.declared.event.Event.TheVariants as event
 use Rattle.dist_core.specs.declared.reply.Reply.{Reply}
 use Rattle.dist_ends.specs.declared.phase.Still.{Still}
-use Rattle.dist_ends.specs.declared.phase.Still.TheVariants as still
 use Rattle.dist_core.specs.declared.step_error.StepError.{StepError}
-use Rattle.dist_core.specs.declared.step_error.StepError.TheVariants as error
 use Rattle.dist_streams.specs.Stream.{StreamState}
 use Rattle.dist_streams.specs.Turns.{Rises, Spends, Says, Hears, SaysFront}
 use Rattle.dist_streams.specs.declared.turn_error.TurnError.{TurnError}
@@ -26,11 +24,10 @@ use Rattle.dist_drive.specs.declared.outcome.Ending.TheVariants as ending
 use Rattle.dist_drive.specs.Desks.{Step, event_of, number_of, last_reply}
 use Rattle.dist_core.specs.Losses.{IsGone}
 use Rattle.dist_drive.specs.Numbers.{DrawsAll}
-use Rattle.dist_drive.specs.Driven.{IsFront, frames_of, next_frame, events_of, text_of, HandsOnAll, WritesAll, HasCause, TellsLoss, Carries}
+use Rattle.dist_drive.specs.Driven.{frames_of, next_frame, events_of, HandsOnAll, WritesAll, HasCause, TellsLoss, Carries}
 use Rattle.std.specs.Prelude.{IsErrAnd, IfErr, OnOk, OnErr}
-use Rattle.dist_drive.specs.Running.{RunsOn, EndsSo, Start, Runs, Keeps, MakesStep, SaysReply, after_reply, own_why, ending_of_refusal, ending_of_stream, HandsOn, HearsPiece}
-use Rattle.dist_drive.proofs.Steps.{last_pushed}
-use Rattle.dist_drive.proofs.Texts.{append_known-append, prepend_known-append, prepend_known-none, Rises-trans, IsFront-refl, IsFront-more, text_front, text_none, text_one, text_before}
+use Rattle.dist_drive.specs.Running.{Runs, SaysReply, after_reply, own_why, ending_of_stream, HandsOn}
+use Rattle.dist_drive.proofs.Texts.{prepend_known-none, Rises-trans, text_none}
 use Rattle.dist_drive.proofs.Keeping.{keeps_none}
 
 pub says_as : {end_ : EndId} {old new : StreamState} {turns left : ℕ} {result : Result Bool Ending} (r q : Reply) → r ≡ q → SaysReply end_ r old new turns left result → SaysReply end_ q old new turns left result

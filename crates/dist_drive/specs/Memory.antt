@@ -7,7 +7,7 @@ use Rattle.dist_core.specs.declared.step_error.StepError.{StepError}
 use Rattle.dist_core.specs.declared.step_error.StepError.TheVariants as error
 use Rattle.dist_core.specs.Answers.{Refuses}
 use Rattle.dist_ends.specs.Ends.{is_open}
-use Rattle.dist_core.specs.Laws.{end_of}
+use Rattle.dist_core.specs.Clauses.{end_of}
 use Rattle.dist_core.specs.Node.{NodeState}
 use Rattle.dist_core.specs.Step.{step}
 use Rattle.dist_drive.specs.Desks.{Step}

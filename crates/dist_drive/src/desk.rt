@@ -13,7 +13,7 @@ pub trait Desk {
     ghost use Rattle.dist_ends.specs.declared.phase.Still.{Still};
     ghost use Rattle.dist_core.specs.declared.step_error.StepError.{StepError};
     ghost use Rattle.dist_core.specs.Answers.{IsLoss};
-    ghost use Rattle.dist_core.specs.Laws.{end_of};
+    ghost use Rattle.dist_core.specs.Clauses.{end_of};
     ghost use Rattle.dist_drive.specs.Desks.{Step, last_reply};
     ghost use Rattle.dist_core.specs.Losses.{IsGone};
 

@@ -16,7 +16,7 @@ use dist_core::{Event, Reply, StepError, Still, Why};
 use dist_frames::{Frames, bodies_of_stream, fed_and_moved};
 use dist_names::ByteString;
 use dist_peers::EndId;
-use dist_streams::{Stream, TurnError, read_turn, write_all};
+use dist_streams::{Limited, Stream, TurnError};
 use std::alloc::Global;
 
 // Why the call ends where the desk refused a frame.
@@ -91,36 +91,36 @@ fn make_step<D: Desk, W: Draws>(
 
 // Writes what a reply says. Whether it brought its end up.
 fn say_reply<S: Stream>(
-    stream: &mut S,
+    limited: &mut Limited<'_, S>,
     reply: &Reply,
     end_: EndId,
-    turns: &mut usize,
 ) -> Result<bool, Ending>
-    ensures { SaysReply end_ reply.now (S.meaning stream.old) (S.meaning stream.new) turns.old turns.new result }
+    ensures says { SaysReply end_ reply.now (S.meaning limited.old.stream.now) (S.meaning limited.new.stream.now) limited.old.left limited.new.left result }
+    ensures loan { limited.new.stream.ghost_name ≡ limited.old.stream.ghost_name }
 {
-    let written = write_all(stream, reply.say.as_slice(), turns);
+    let written = limited.write_all(reply.say.as_slice());
     after_reply(own_why(reply, end_), written)?;
     Ok(reply.up.is_some())
 }
 
 // Hands a frame on, and writes what the reply says. Whether it brought the end up.
 fn hand_on<S: Stream, D: Desk, W: Draws>(
-    stream: &mut S,
+    limited: &mut Limited<'_, S>,
     desk: &mut D,
     draws: &mut W,
     end_: EndId,
     body: ByteString,
-    turns: &mut usize,
 ) -> Result<bool, Ending>
-    ensures hands { HandsOn D.list D.refuses W.gives end_ body draws.old draws.new desk.old desk.new (S.meaning stream.old) (S.meaning stream.new) turns.old turns.new result }
-    ensures turns { turns.new ≤ turns.old }
+    ensures hands { HandsOn D.list D.refuses W.gives end_ body draws.old draws.new desk.old desk.new (S.meaning limited.old.stream.now) (S.meaning limited.new.stream.now) limited.old.left limited.new.left result }
+    ensures turns { limited.new.left ≤ limited.old.left }
     ensures base { (D.base desk.new ≡ D.base desk.old) × (D.serves desk.new ≡ D.serves desk.old) }
+    ensures loan { limited.new.stream.ghost_name ≡ limited.old.stream.ghost_name }
 {
     make_step(desk, draws, end_, body)?;
     let Some(reply) = desk.last() else {
         unreachable!()
     };
-    say_reply(stream, reply, end_, turns)
+    say_reply(limited, reply, end_)
 }
 
 // The next whole frame that came.
@@ -138,22 +138,22 @@ fn next_frame(frames: &mut Frames) -> Result<Option<ByteString>, Ending>
 
 // Hands on each whole frame that came.
 fn hand_on_all<S: Stream, D: Desk, W: Draws>(
-    stream: &mut S,
+    limited: &mut Limited<'_, S>,
     desk: &mut D,
     draws: &mut W,
     end_: EndId,
     frames: &mut Frames,
-    turns: &mut usize,
 ) -> Result<(), Ending>
-    ensures runs { OnOk result (RunsOn W.gives end_ (S.meaning stream.old) (S.meaning stream.new) turns.old turns.new (D.list desk.old) (D.list desk.new) draws.old draws.new frames.old frames.new) }
+    ensures runs { OnOk result (RunsOn W.gives end_ (S.meaning limited.old.stream.now) (S.meaning limited.new.stream.now) limited.old.left limited.new.left (D.list desk.old) (D.list desk.new) draws.old draws.new frames.old frames.new) }
     ensures all { OnOk result (to_come frames.new ≡ []) }
-    ensures turns { turns.new ≤ turns.old }
-    ensures ends { IfErr result (EndsSo D.list D.stands D.refuses W.gives end_ (S.meaning stream.old) (S.meaning stream.new) turns.old desk.old desk.new draws.old frames.old) }
+    ensures turns { limited.new.left ≤ limited.old.left }
+    ensures ends { IfErr result (EndsSo D.list D.stands D.refuses W.gives end_ (S.meaning limited.old.stream.now) (S.meaning limited.new.stream.now) limited.old.left desk.old desk.new draws.old frames.old) }
     ensures base { (D.base desk.new ≡ D.base desk.old) × (D.serves desk.new ≡ D.serves desk.old) }
+    ensures loan { limited.new.stream.ghost_name ≡ limited.old.stream.ghost_name }
 {
     fed_and_moved();
     while let Some(body) = next_frame(frames)? {
-        if hand_on(stream, desk, draws, end_, body, turns)? {
+        if hand_on(limited, desk, draws, end_, body)? {
             frames.to_linked();
         }
     }
@@ -176,12 +176,13 @@ fn keep_piece(frames: &mut Frames, piece: &[u8]) -> Result<(), Ending>
 }
 
 // Reads a piece, and gives it to the reader.
-fn hear<S: Stream>(stream: &mut S, frames: &mut Frames, turns: &mut usize) -> Result<(), Ending>
-    ensures hears { HearsPiece (S.meaning stream.old) (S.meaning stream.new) turns.old turns.new frames.old frames.new result }
-    ensures turn { OnOk result (turns.old ≡ turns.new + 1) }
+fn hear<S: Stream>(limited: &mut Limited<'_, S>, frames: &mut Frames) -> Result<(), Ending>
+    ensures hears { HearsPiece (S.meaning limited.old.stream.now) (S.meaning limited.new.stream.now) limited.old.left limited.new.left frames.old frames.new result }
+    ensures turn { OnOk result (limited.old.left ≡ limited.new.left + 1) }
+    ensures loan { limited.new.stream.ghost_name ≡ limited.old.stream.ghost_name }
 {
     let mut room = [0u8; PIECE];
-    match read_turn(stream, &mut room, turns) {
+    match limited.read(&mut room) {
         Ok(count) => keep_piece(frames, &room[..count]),
         Err(error) => Err(ending_of_stream(error)),
     }
@@ -189,25 +190,25 @@ fn hear<S: Stream>(stream: &mut S, frames: &mut Frames, turns: &mut usize) -> Re
 
 // Reads a piece, and hands on what came whole, unless the end is closed.
 fn turn<S: Stream, D: Desk, W: Draws>(
-    stream: &mut S,
+    limited: &mut Limited<'_, S>,
     desk: &mut D,
     draws: &mut W,
     end_: EndId,
     frames: &mut Frames,
-    turns: &mut usize,
 ) -> Result<(), Ending>
-    ensures runs { OnOk result (to_come frames.old ≡ [] → RunsOn W.gives end_ (S.meaning stream.old) (S.meaning stream.new) turns.old turns.new (D.list desk.old) (D.list desk.new) draws.old draws.new frames.old frames.new) }
+    ensures runs { OnOk result (to_come frames.old ≡ [] → RunsOn W.gives end_ (S.meaning limited.old.stream.now) (S.meaning limited.new.stream.now) limited.old.left limited.new.left (D.list desk.old) (D.list desk.new) draws.old draws.new frames.old frames.new) }
     ensures all { OnOk result (to_come frames.new ≡ []) }
-    ensures ends { IfErr result (λ e. to_come frames.old ≡ [] → EndsSo D.list D.stands D.refuses W.gives end_ (S.meaning stream.old) (S.meaning stream.new) turns.old desk.old desk.new draws.old frames.old e) }
-    ensures fewer { OnOk result (turns.new < turns.old) }
+    ensures ends { IfErr result (λ e. to_come frames.old ≡ [] → EndsSo D.list D.stands D.refuses W.gives end_ (S.meaning limited.old.stream.now) (S.meaning limited.new.stream.now) limited.old.left desk.old desk.new draws.old frames.old e) }
+    ensures fewer { OnOk result (limited.new.left < limited.old.left) }
     ensures base { (D.base desk.new ≡ D.base desk.old) × (D.serves desk.new ≡ D.serves desk.old) }
+    ensures loan { limited.new.stream.ghost_name ≡ limited.old.stream.ghost_name }
 {
     fed_and_moved();
     if let Still::Gone(why) = desk.still(end_) {
         return Err(Ending::Gone(why));
     }
-    match hear(stream, frames, turns) {
-        Ok(()) => hand_on_all(stream, desk, draws, end_, frames, turns),
+    match hear(limited, frames) {
+        Ok(()) => hand_on_all(limited, desk, draws, end_, frames),
         Err(ending) => Err(ending),
     }
 }
@@ -227,13 +228,16 @@ fn run<S: Stream, D: Desk, W: Draws>(
 {
     fed_and_moved();
     bodies_of_stream();
-    let mut turns = limit;
-    if let Err(error) = write_all(stream, first, &mut turns) {
+    let mut limited = Limited {
+        stream,
+        left: limit,
+    };
+    if let Err(error) = limited.write_all(first) {
         return ending_of_stream(error);
     }
     let mut frames = Frames::new(alloc);
     loop {
-        if let Err(ending) = turn(stream, desk, draws, end_, &mut frames, &mut turns) {
+        if let Err(ending) = turn(&mut limited, desk, draws, end_, &mut frames) {
             return ending;
         }
     }

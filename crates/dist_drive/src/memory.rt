@@ -6,14 +6,15 @@ ghost use Rattle.dist_core.specs.declared.reply.Reply.{Reply};
 ghost use Rattle.dist_core.specs.Answers.{IsLoss, Refuses};
 ghost use Rattle.dist_ends.specs.Ends.{still_of};
 ghost use Rattle.dist_ends.specs.Ends.{is_open};
-ghost use Rattle.dist_core.specs.Laws.{end_of};
+ghost use Rattle.dist_core.specs.Clauses.{end_of};
 ghost use Rattle.dist_core.specs.Losses.{is_loss};
 ghost use Rattle.dist_core.specs.Step.{step};
 ghost use Rattle.dist_drive.specs.Desks.{Step, last_reply};
 ghost use Rattle.dist_core.specs.Losses.{IsGone};
 
 use crate::desk::Desk;
-use dist_core::{Event, Node, Reply, StepError, Still, a_lost_end_is_closed};
+use dist_core::{Event, Node, Reply, StepError, Still};
+use dist_laws::a_lost_end_is_closed;
 use dist_peers::EndId;
 use std::alloc::{AllocError, Global};
 use std::marker::Model;

@@ -1,5 +1,8 @@
 //! Orders that were not followed.
 
+ghost use Rattle.std.specs.Prelude.{◌≡◌};
+ghost use Rattle.dist_hosts.specs.Words.{order_refusal_name};
+
 use dist_core::StepError;
 use dist_drive::LookupError;
 
@@ -16,7 +19,9 @@ pub enum OrderRefusal {
 
 impl OrderRefusal {
     /// The word that a program prints for it.
-    pub fn name(self) -> &'static str {
+    pub fn name(self) -> &'static str
+        ensures { result.now ≡ order_refusal_name self }
+    {
         match self {
             OrderRefusal::NoRegistry => "NoRegistry",
             OrderRefusal::Lookup(error) => error.name(),

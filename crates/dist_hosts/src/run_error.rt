@@ -2,6 +2,7 @@
 
 ghost use Rattle.std.specs.Prelude.{◌≡◌};
 ghost use Rattle.dist_hosts.specs.declared.run_error.RunError.TheVariants.{NoMemory};
+ghost use Rattle.dist_hosts.specs.Words.{run_error_name};
 
 use dist_drive::LookupError;
 use dist_locked::CloseError;
@@ -36,7 +37,9 @@ pub enum RunError {
 
 impl RunError {
     /// The word that a program prints for it: that of the refusal, or of what the system did not give.
-    pub fn name(self) -> &'static str {
+    pub fn name(self) -> &'static str
+        ensures { result.now ≡ run_error_name self }
+    {
         match self {
             RunError::NoRandomBytes => "ReadFailed",
             RunError::ListenFailed => "ListenFailed",

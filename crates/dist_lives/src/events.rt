@@ -4,7 +4,8 @@ ghost use Rattle.dist_lives.specs.Telling.{wire_at, HasTold, Declines, is_short}
 
 use crate::hearing::Heard;
 use crate::life::Life;
-use dist_core::{Event, StepError, a_reply_is_of_its_end};
+use dist_core::{Event, StepError};
+use dist_laws::a_reply_is_of_its_end;
 use dist_messages::Side;
 use dist_wires::Connections;
 use std::alloc::{AllocError, Global};

@@ -6,11 +6,11 @@ use Rattle.dist_ends.specs.declared.phase.Still.{Still}
 use Rattle.dist_ends.specs.declared.why.Why.{Why}
 use Rattle.dist_core.specs.declared.step_error.StepError.{StepError}
 use Rattle.dist_core.specs.declared.step_error.StepError.TheVariants as error
-use Rattle.dist_core.specs.Laws.{end_of}
+use Rattle.dist_core.specs.Clauses.{end_of}
 use Rattle.dist_core.specs.Losses.{loss_of}
 use Rattle.dist_drive.specs.Desks.{Step}
-use Rattle.dist_locked.specs.declared.line.Receipt.{Receipt}
-use Rattle.dist_locked.specs.History.{IsRefused}
+use Rattle.dist_books.specs.declared.line.Receipt.{Receipt}
+use Rattle.dist_books.specs.History.{IsRefused}
 
 -- the step of a receipt
 abbrev pub entry_of : Receipt → Step
@@ -36,7 +36,7 @@ last_loss [] = None
 last_loss (s ∷ []) = loss_of s.0
 last_loss (s ∷ t ∷ ss) = last_loss (t ∷ ss)
 
--- An event that doesn't name the end is refused as unknown, one behind a loss with the cause of that loss, and any other as
--- some node with a legal history refuses it.
-abbrev pub refuses_all : DeskState → Event → ℕ → StepError → Type 0
-refuses_all d v n e = ((end_of v ≢ Some d.end_) × (e ≡ error.NoSuchEnd)) ⊎ (((w : Why) × (last_loss d.list ≡ Some w) × (e ≡ error.Gone w)) ⊎ IsRefused v n e)
+-- the causes of its refusals: an event that doesn't name the end is refused as unknown, one behind a loss with the cause of
+-- that loss, and any other as some node with a legal history refuses it
+abbrev pub causes : DeskState → Event → ℕ → StepError → Type 0
+causes d v n e = ((end_of v ≢ Some d.end_) × (e ≡ error.NoSuchEnd)) ⊎ (((w : Why) × (last_loss d.list ≡ Some w) × (e ≡ error.Gone w)) ⊎ IsRefused v n e)

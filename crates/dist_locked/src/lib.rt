@@ -1,30 +1,24 @@
 //! Nodes under locks, with the histories of their steps, and receipts for them: so that what several threads did to a node
 //! is the history of one.
 //!
-//! A node stands under its lock with its book: the lines of its steps, whose replay from the opening node gives the node and
-//! each reply. Each caller has a seat, and each step gives the seat a receipt. At the end `close` compares the receipts with
-//! the book. A lock is held for one step and no longer, and never while anything is read or written.
+//! A node stands under its lock with its book (`dist_books`, whose paths stand here too): the lines of its steps, whose
+//! replay from the opening node gives the node and each reply. Each caller has a seat, and each step gives the seat a
+//! receipt. At the end `close` compares the receipts with the book. A lock is held for one step and no longer, and never
+//! while anything is read or written.
 //!
 //! It starts no thread and knows no socket. It promises no order between threads, no fairness and no end of waiting.
 #![tactic(auto)]
 
-mod book;
-mod closing;
 mod driven;
 mod gate;
-mod line;
 mod locked_node;
-mod seat;
 mod seat_desk;
 mod shared;
 
-pub use book::{Book, step_on};
-pub use closing::{CloseError, Closed, close};
+pub use dist_books::{Book, CloseError, Closed, Line, Receipt, Seat, close, step_on};
 pub use dist_orders::{DialOrder, Orders, PutPass, TakePass};
 pub use driven::{Driven, drive_end};
 pub use gate::{Gate, Moment, Open};
-pub use line::{Line, Receipt};
 pub use locked_node::{LockedNode, Tickets};
-pub use seat::Seat;
 pub use seat_desk::SeatDesk;
 pub use shared::{LockedRegistry, SharedMapper};

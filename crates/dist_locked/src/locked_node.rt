@@ -1,11 +1,9 @@
 ghost use Rattle.std.specs.Prelude.{◌≡◌, ◌≢◌, ◌<◌, ◌≤◌, ◌∷◌, [], ◌++◌, vec_len, false, Ok, Err, IfOk, IfErr, OnOk, OnErr};
 ghost use Rattle.dist_core.specs.Losses.{is_loss, IsGone};
 ghost use Rattle.dist_core.specs.Answers.{IsLoss};
-ghost use Rattle.dist_locked.specs.History.{AreFresh, IsAnswered, IsLegal, IsRefused};
+ghost use Rattle.dist_books.specs.History.{AreFresh, IsAnswered, IsLegal, IsRefused};
 
-use super::book::{Book, step_on};
-use super::line::Receipt;
-use super::seat::Seat;
+use dist_books::{Book, Receipt, Seat, fresh_seats, step_on};
 use dist_core::{Event, Setup, StepError, Still};
 use dist_peers::EndId;
 use std::alloc::{AllocError, Global};
@@ -56,10 +54,7 @@ impl LockedNode {
         ensures count { IfOk result (λ r. vec_len r.1 ≡ seats) }
         ensures seats { IfOk result (λ r. AreFresh r.1.items) }
     {
-        let mut all = Vec::new(alloc);
-        for number in 0..seats {
-            all.push(Seat::new(alloc, number)?)?;
-        }
+        let all = fresh_seats(alloc, seats)?;
         let book = Mutex::new(Book::new(alloc, setup, seats));
         Ok((
             LockedNode {

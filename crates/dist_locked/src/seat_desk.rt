@@ -3,13 +3,12 @@ ghost use Rattle.dist_core.specs.declared.event.Event.{Event};
 ghost use Rattle.dist_core.specs.declared.reply.Reply.{Reply};
 ghost use Rattle.dist_core.specs.Losses.{is_loss, IsGone};
 ghost use Rattle.dist_core.specs.Answers.{IsLoss};
-ghost use Rattle.dist_locked.specs.declared.line.Receipt.{Receipt};
+ghost use Rattle.dist_books.specs.declared.line.Receipt.{Receipt};
 ghost use Rattle.dist_drive.specs.Desks.{last_reply};
-ghost use Rattle.dist_locked.specs.Desks.{entry_of, tells_all, refuses_all};
+ghost use Rattle.dist_locked.specs.Desks.{entry_of, tells_all, causes};
 
-use super::line::{Line, Receipt};
 use super::locked_node::LockedNode;
-use super::seat::Seat;
+use dist_books::{Line, Receipt, Seat};
 use dist_core::{Event, Reply, StepError, Still, Why};
 use dist_drive::Desk;
 use dist_peers::EndId;
@@ -103,7 +102,7 @@ impl<'a, R: Wait> Desk for SeatDesk<'a, R> {
 
     ghost stands = { tells_all };
 
-    ghost refuses = { refuses_all };
+    ghost refuses = { causes };
 
     fn step(&mut self, event: Event, fresh: u32) -> Result<(), StepError> {
         if event.end_named() != Some(self.end_) {

@@ -13,7 +13,7 @@ use crate::refusals::{end_refusal, lookup_error, whole_refusal};
 use dist_epmd::{Answer, Asked, PortInfo, Request, decode_answer, encode_request};
 use dist_frames::write_short;
 use dist_names::ByteString;
-use dist_streams::{Stream, TurnError, read_turn, write_all};
+use dist_streams::{Limited, Stream, TurnError};
 use std::alloc::Global;
 
 // The most bytes of one read.
@@ -38,15 +38,15 @@ pub fn frame_of(alloc: Global, request: &Request) -> Result<ByteString, LookupEr
 
 // Appends what comes to the end of the stream.
 fn read_to_end<S: Stream>(
-    stream: &mut S,
+    limited: &mut Limited<'_, S>,
     bytes: &mut Vec<u8>,
-    turns: &mut usize,
 ) -> Result<(), LookupError>
-    ensures { HearsAll (S.meaning stream.old) (S.meaning stream.new) turns.old turns.new result bytes.old.items bytes.new.items }
+    ensures hears { HearsAll (S.meaning limited.old.stream.now) (S.meaning limited.new.stream.now) limited.old.left limited.new.left result bytes.old.items bytes.new.items }
+    ensures loan { limited.new.stream.ghost_name ≡ limited.old.stream.ghost_name }
 {
     let mut room = [0u8; PIECE];
     loop {
-        match read_turn(stream, &mut room, turns) {
+        match limited.read(&mut room) {
             Ok(count) => {
                 if bytes.extend_from_slice(&room[..count]).is_err() {
                     return Err(LookupError::NoMemory);
@@ -68,10 +68,13 @@ fn exchange<S: Stream>(
     ensures { ExchangesWritten (written_request request.now) (S.meaning stream.old) (S.meaning stream.new) limit result }
 {
     let frame = frame_of(alloc, request)?;
-    let mut turns = limit;
-    write_all(stream, frame.as_slice(), &mut turns)?;
+    let mut limited = Limited {
+        stream,
+        left: limit,
+    };
+    limited.write_all(frame.as_slice())?;
     let mut bytes = Vec::new(alloc);
-    read_to_end(stream, &mut bytes, &mut turns)?;
+    read_to_end(&mut limited, &mut bytes)?;
     Ok(ByteString::from_vec(bytes))
 }
 

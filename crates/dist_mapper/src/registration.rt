@@ -13,7 +13,7 @@ use crate::lookup_error::LookupError;
 use crate::refusals::whole_refusal;
 use dist_epmd::{AliveReq, Answer, Asked, Request, decode_answer};
 use dist_names::{ByteString, Creation};
-use dist_streams::{Stream, TurnError, read_exact, write_all};
+use dist_streams::{Limited, Stream, TurnError};
 use std::alloc::Global;
 
 // The most bytes of a name and extra bytes together.
@@ -47,17 +47,14 @@ fn rest_len(tag: u8) -> usize
 }
 
 // Reads an answer to a registration into the room, and not a byte more. How long it is.
-fn read_answer<S: Stream>(
-    stream: &mut S,
-    room: &mut [u8],
-    turns: &mut usize,
-) -> Result<usize, TurnError>
+fn read_answer<S: Stream>(limited: &mut Limited<'_, S>, room: &mut [u8]) -> Result<usize, TurnError>
     requires { length room.old ≡ 6 }
-    ensures { HearsAnswer (S.meaning stream.old) (S.meaning stream.new) turns.old turns.new result room.new }
+    ensures hears { HearsAnswer (S.meaning limited.old.stream.now) (S.meaning limited.new.stream.now) limited.old.left limited.new.left result room.new }
+    ensures loan { limited.new.stream.ghost_name ≡ limited.old.stream.ghost_name }
 {
-    read_exact(stream, &mut room[..1], turns)?;
+    limited.read_exact(&mut room[..1])?;
     let len = 1 + rest_len(room[0]);
-    read_exact(stream, &mut room[1..len], turns)?;
+    limited.read_exact(&mut room[1..len])?;
     Ok(len)
 }
 
@@ -102,10 +99,13 @@ fn exchange<S: Stream>(
 ) -> Result<Creation, LookupError>
     ensures { Registers (S.meaning stream.old) (S.meaning stream.new) limit frame.now result }
 {
-    let mut turns = limit;
-    write_all(stream, frame, &mut turns)?;
+    let mut limited = Limited {
+        stream,
+        left: limit,
+    };
+    limited.write_all(frame)?;
     let mut room = [0u8; 6];
-    let len = read_answer(stream, &mut room, &mut turns)?;
+    let len = read_answer(&mut limited, &mut room)?;
     creation_of(alloc, &room[..len])
 }
 

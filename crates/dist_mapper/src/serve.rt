@@ -9,7 +9,7 @@ use crate::mapper::Mapper;
 use crate::refusals::whole_refusal;
 use dist_epmd::{Answer, Request, decode_request, encode_answer};
 use dist_names::ByteString;
-use dist_streams::{Stream, TurnError, read_exact, write_all};
+use dist_streams::{Limited, Stream, TurnError};
 use std::alloc::Global;
 
 /// How a request was served.
@@ -22,41 +22,38 @@ pub enum Served {
 }
 
 // The length of the next frame, which is read into the header.
-fn read_len<S: Stream>(
-    stream: &mut S,
-    header: &mut [u8],
-    turns: &mut usize,
-) -> Result<usize, TurnError>
+fn read_len<S: Stream>(limited: &mut Limited<'_, S>, header: &mut [u8]) -> Result<usize, TurnError>
     requires { length header.old ≡ 2 }
-    ensures { HearsLen (S.meaning stream.old) (S.meaning stream.new) turns.old turns.new result }
+    ensures hears { HearsLen (S.meaning limited.old.stream.now) (S.meaning limited.new.stream.now) limited.old.left limited.new.left result }
+    ensures loan { limited.new.stream.ghost_name ≡ limited.old.stream.ghost_name }
 {
-    read_exact(stream, header, turns)?;
+    limited.read_exact(header)?;
     Ok(u16::from_be_bytes([header[0], header[1]]) as usize)
 }
 
 // The body of the next frame.
 fn read_body<S: Stream>(
     alloc: Global,
-    stream: &mut S,
-    turns: &mut usize,
+    limited: &mut Limited<'_, S>,
 ) -> Result<ByteString, LookupError>
-    ensures { HearsBody (S.meaning stream.old) (S.meaning stream.new) turns.old turns.new result }
+    ensures hears { HearsBody (S.meaning limited.old.stream.now) (S.meaning limited.new.stream.now) limited.old.left limited.new.left result }
+    ensures loan { limited.new.stream.ghost_name ≡ limited.old.stream.ghost_name }
 {
-    let len = read_len(stream, &mut [0; 2], turns)?;
+    let len = read_len(limited, &mut [0; 2])?;
     let mut body = vec![in alloc; 0u8; len]?;
-    read_exact(stream, &mut body, turns)?;
+    limited.read_exact(&mut body)?;
     Ok(ByteString::from_vec(body))
 }
 
 // The next request.
 fn read_request<S: Stream>(
     alloc: Global,
-    stream: &mut S,
-    turns: &mut usize,
+    limited: &mut Limited<'_, S>,
 ) -> Result<Request, LookupError>
-    ensures { HearsRequest (S.meaning stream.old) (S.meaning stream.new) turns.old turns.new result }
+    ensures hears { HearsRequest (S.meaning limited.old.stream.now) (S.meaning limited.new.stream.now) limited.old.left limited.new.left result }
+    ensures loan { limited.new.stream.ghost_name ≡ limited.old.stream.ghost_name }
 {
-    let body = read_body(alloc, stream, turns)?;
+    let body = read_body(alloc, limited)?;
     match decode_request(alloc, body.as_slice()) {
         Ok(request) => Ok(request),
         Err(error) => Err(whole_refusal(error)),
@@ -65,17 +62,17 @@ fn read_request<S: Stream>(
 
 fn write_answer<S: Stream>(
     alloc: Global,
-    stream: &mut S,
+    limited: &mut Limited<'_, S>,
     answer: &Answer,
-    turns: &mut usize,
 ) -> Result<(), LookupError>
-    ensures { SaysAnswer (S.meaning stream.old) (S.meaning stream.new) turns.old turns.new result answer.now }
+    ensures says { SaysAnswer (S.meaning limited.old.stream.now) (S.meaning limited.new.stream.now) limited.old.left limited.new.left result answer.now }
+    ensures loan { limited.new.stream.ghost_name ≡ limited.old.stream.ghost_name }
 {
     let bytes = match encode_answer(alloc, answer) {
         Ok(bytes) => bytes,
         Err(error) => return Err(whole_refusal(error)),
     };
-    write_all(stream, bytes.as_slice(), turns)?;
+    limited.write_all(bytes.as_slice())?;
     Ok(())
 }
 
@@ -105,18 +102,18 @@ fn close_cut<M: Mapper>(mapper: &mut M, request: &Request, conn: u64)
 // Answers a request that came.
 fn reply<S: Stream, M: Mapper>(
     alloc: Global,
-    stream: &mut S,
+    limited: &mut Limited<'_, S>,
     mapper: &mut M,
     conn: u64,
     request: &Request,
-    turns: &mut usize,
 ) -> Result<Served, LookupError>
-    ensures { SaysReply M.allows M.leaves conn mapper.old mapper.new request.now (S.meaning stream.old) (S.meaning stream.new) turns.old turns.new result }
+    ensures says { SaysReply M.allows M.leaves conn mapper.old mapper.new request.now (S.meaning limited.old.stream.now) (S.meaning limited.new.stream.now) limited.old.left limited.new.left result }
+    ensures loan { limited.new.stream.ghost_name ≡ limited.old.stream.ghost_name }
 {
     let Ok(answer) = mapper.ask(alloc, conn, request) else {
         return Err(LookupError::NoMemory);
     };
-    match write_answer(alloc, stream, &answer, turns) {
+    match write_answer(alloc, limited, &answer) {
         Ok(()) => Ok(served_as(request, &answer)),
         Err(error) => {
             close_cut(mapper, request, conn);
@@ -145,7 +142,10 @@ pub fn serve_registry<S: Stream, M: Mapper>(
 ) -> Result<Served, LookupError>
     ensures { Serves M.allows M.leaves conn limit (S.meaning stream.old) (S.meaning stream.new) mapper.old mapper.new result }
 {
-    let mut turns = limit;
-    let request = read_request(alloc, stream, &mut turns)?;
-    reply(alloc, stream, mapper, conn, &request, &mut turns)
+    let mut limited = Limited {
+        stream,
+        left: limit,
+    };
+    let request = read_request(alloc, &mut limited)?;
+    reply(alloc, &mut limited, mapper, conn, &request)
 }

@@ -16,4 +16,4 @@ pub use faults::FaultStream;
 pub use socket::SocketStream;
 pub use stream::{Heard, Stream, Took};
 pub use turn_error::TurnError;
-pub use turns::{read_exact, read_turn, write_all};
+pub use turns::Limited;

@@ -1,13 +1,16 @@
-use std::alloc::{AllocError, Global};
+use std::alloc::Global;
 use std::io;
 use std::io::{ErrorKind, Read, Write};
-use std::process::Abort;
 use std::test::*;
 
+mod answers;
 mod bad;
+mod beforehand;
 mod checks;
 mod commands;
 mod failing;
+mod failing_commands;
+mod faults;
 mod limits;
 mod phases;
 mod rows;
@@ -57,26 +60,26 @@ fn meaning(name: &str) -> &'static str {
 }
 
 // Puts what a name in braces stands for in its place.
-fn push_part(text: &mut String, part: &str) -> Result<(), AllocError> {
+fn push_part(text: &mut String, part: &str) -> Option<()> {
     match part.split_once('}') {
         Some((name, rest)) => {
-            text.push_str(meaning(name))?;
-            text.push_str(rest)
+            text.push_str(meaning(name)).ok()?;
+            text.push_str(rest).ok()
         }
-        None => text.push_str(part),
+        None => text.push_str(part).ok(),
     }
 }
 
-fn expanded(alloc: Global, text: &str) -> Result<String, AllocError> {
+fn expanded(alloc: Global, text: &str) -> Option<String> {
     let mut all = String::new(alloc);
     for part in text.split('{') {
         push_part(&mut all, part)?;
     }
-    Ok(all)
+    Some(all)
 }
 
 // What a command left behind.
-#[derive(Debug, Drop)]
+#[derive(Drop)]
 struct Ran {
     status: u8,
     out: Vec<u8>,
@@ -94,34 +97,32 @@ fn text_of(bytes: &[u8]) -> &str {
     std::str::from_utf8(bytes).unwrap_or("no text")
 }
 
-// What a command left behind is this status, output and error.
-fn check_ran<A: Abort>(rt: &A, ran: &Ran, wanted: (u8, &str, &str), case: &str) {
-    assert_eq!(rt; text_of(&ran.err), wanted.2, "{case}");
-    assert_eq!(rt; text_of(&ran.out), wanted.1, "{case}");
-    assert_eq!(rt; ran.status, wanted.0, "{case}");
+// Whether a command left this status, output and error behind.
+fn has_left(ran: &Ran, wanted: (u8, &str, &str)) -> bool {
+    ran.status == wanted.0 && text_of(&ran.out) == wanted.1 && text_of(&ran.err) == wanted.2
 }
 
-// Enacts a script, and compares what it prints.
-fn check_script<A: Abort>(
-    rt: &A,
-    alloc: Global,
-    script: &str,
-    wanted: &str,
-    case: &str,
-) -> Result<(), AllocError> {
+// Whether enacting a script prints this.
+fn is_printed(alloc: Global, script: &str, wanted: &str) -> Option<bool> {
     let script = expanded(alloc, script)?;
     let wanted = expanded(alloc, wanted)?;
     let ran = enacted(alloc, script.as_bytes());
-    check_ran(rt, &ran, (0, wanted.as_str(), ""), case);
-    Ok(())
+    Some(has_left(&ran, (0, wanted.as_str(), "")))
 }
 
-// A table of rows `=== NAME`, a script, `---`, and what it prints.
-fn check_table<A: Abort>(rt: &A, alloc: Global, table: &str) -> Result<(), Fail> {
+// Whether the script of a row prints what stands behind it.
+fn is_row_printed(alloc: Global, row: &str) -> Option<bool> {
+    let (_, row) = row.split_once('\n')?;
+    let (script, wanted) = row.split_once("---\n")?;
+    is_printed(alloc, script, wanted)
+}
+
+// The first row of a table whose script prints anything else. A row is `=== NAME`, a script, `---`, and what it prints.
+fn first_other(alloc: Global, table: &str) -> Option<&str> {
     for row in table.split("=== ").skip(1) {
-        let (case, row) = row.split_once('\n').ok_or("a row without a name")?;
-        let (script, wanted) = row.split_once("---\n").ok_or("a row without output")?;
-        check_script(rt, alloc, script, wanted, case)?;
+        if is_row_printed(alloc, row) != Some(true) {
+            return Some(row);
+        }
     }
-    Ok(())
+    None
 }

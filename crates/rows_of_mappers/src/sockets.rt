@@ -2,7 +2,7 @@
 
 use dist_epmd::Registry;
 use dist_mapper::{Heard, LookupError, Served, SocketStream, Stream, Took, serve_registry};
-use dist_streams::write_all;
+use dist_streams::Limited;
 use std::net::{Shutdown, TcpListener, TcpStream};
 use std::test::*;
 
@@ -32,7 +32,11 @@ pub fn served<S: Stream>(
 fn half_registered(rt: &HostRuntime, len: usize) -> Option<(SocketStream, SocketStream)> {
     let (mut client, server) = connection(rt)?;
     let bytes = REGISTRATION.get(..len)?;
-    write_all(&mut client, bytes, &mut 9).ok()?;
+    let mut limited = Limited {
+        stream: &mut client,
+        left: 9,
+    };
+    limited.write_all(bytes).ok()?;
     Some((client, server))
 }
 

@@ -2,7 +2,7 @@
 
 use crate::talks::over;
 use dist_mapper::{FaultStream, Heard, SocketStream, Stream, Took, TurnError};
-use dist_streams::{read_exact, read_turn, write_all};
+use dist_streams::Limited;
 use std::alloc::Global;
 use std::net::{TcpListener, TcpStream};
 use std::test::*;
@@ -102,20 +102,20 @@ fn sizes_start_again_at_their_beginning(rt: HostRuntime) {
 }
 
 // Whether three bytes take three turns, one of them quiet.
-fn are_three_read(stream: &mut FaultStream, turns: &mut usize) -> bool {
+fn are_three_read(limited: &mut Limited<'_, FaultStream>) -> bool {
     let mut room = [0u8; 3];
-    let told = read_exact(stream, &mut room, turns);
-    matches!(told, Ok(())) && room.starts_with(b"abc") && *turns == 3
+    let told = limited.read_exact(&mut room);
+    matches!(told, Ok(())) && room.starts_with(b"abc") && limited.left == 3
 }
 
 // Whether a quiet read, another and a write take a turn each.
-fn are_three_taken(stream: &mut FaultStream, turns: &mut usize) -> bool {
+fn are_three_taken(limited: &mut Limited<'_, FaultStream>) -> bool {
     let mut room = [0u8; 3];
-    let quiet = read_turn(stream, &mut room, turns);
-    let heard = read_turn(stream, &mut room, turns);
-    let told = write_all(stream, b"xyz", turns);
+    let quiet = limited.read(&mut room);
+    let heard = limited.read(&mut room);
+    let told = limited.write_all(b"xyz");
     let are_told = matches!(quiet, Ok(0)) && matches!(heard, Ok(2)) && matches!(told, Ok(()));
-    are_told && stream.written() == b"xyz".as_slice() && *turns == 0
+    are_told && limited.stream.written() == b"xyz".as_slice() && limited.left == 0
 }
 
 #[test]
@@ -123,9 +123,12 @@ fn each_turn_is_counted(rt: HostRuntime) {
     let Some(mut stream) = halting(rt.alloc()) else {
         panic!(rt; "no memory");
     };
-    let mut turns = 6;
-    assert!(rt; are_three_read(&mut stream, &mut turns));
-    assert!(rt; are_three_taken(&mut stream, &mut turns));
-    let after = read_turn(&mut stream, &mut [0u8; 3], &mut turns);
+    let mut limited = Limited {
+        stream: &mut stream,
+        left: 6,
+    };
+    assert!(rt; are_three_read(&mut limited));
+    assert!(rt; are_three_taken(&mut limited));
+    let after = limited.read(&mut [0u8; 3]);
     assert!(rt; matches!(after, Err(TurnError::Limit)) && stream.calls() == 6);
 }

@@ -15,3 +15,5 @@ mod peers;
 mod setups;
 #[cfg(test)]
 mod slots;
+#[cfg(test)]
+mod tables;

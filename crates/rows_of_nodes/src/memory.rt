@@ -1,7 +1,7 @@
 //! Each allocation failing in turn: `rt try --test --fail-alloc N`. With ample memory each step succeeds.
 
 use crate::events::{event_of, node_b};
-use dist_core::{Event, Node, StepError, Still};
+use dist_core::{Event, Node, StepError, Still, Why};
 use dist_names::NodeName;
 use dist_peers::{EndId, Entry};
 use std::alloc::Global;
@@ -14,24 +14,29 @@ frame 0 72075bcd15d174ab98d277d9f5a5611c2c9f419d9f
 tick 0
 ";
 
-// A node, its peer and what it is told.
+// A node's peer, and what the node is told.
 #[derive(Drop)]
 struct Told {
-    node: Node,
     peer: NodeName,
     events: Vec<Event>,
 }
 
+fn put_event(alloc: Global, events: &mut Vec<Event>, line: &str) -> bool {
+    match event_of(alloc, line) {
+        Some(event) => events.push(event).is_ok(),
+        None => false,
+    }
+}
+
 fn handshake(alloc: Global) -> Option<Told> {
+    let peer = NodeName::new(alloc, b"a@127.0.0.1").ok()?;
     let mut events = Vec::new(alloc);
     for line in HANDSHAKE.lines() {
-        events.push(event_of(alloc, line)?).ok()?;
+        if !put_event(alloc, &mut events, line) {
+            return None;
+        }
     }
-    Some(Told {
-        node: node_b(alloc)?,
-        peer: NodeName::new(alloc, b"a@127.0.0.1").ok()?,
-        events,
-    })
+    Some(Told { peer, events })
 }
 
 // How the node stands: its entries, which ends are up, and how its first end is.
@@ -57,34 +62,59 @@ fn is_taken(alloc: Global, node: &mut Node, peer: &NodeName, event: &Event) -> b
     }
 }
 
+// The place of the first event of a handshake that is not taken, where there was memory for them all.
+fn refused_in_handshake(alloc: Global, node: &mut Node) -> Option<Option<usize>> {
+    let told = handshake(alloc)?;
+    Some(first_refused(alloc, node, &told))
+}
+
+fn first_refused(alloc: Global, node: &mut Node, told: &Told) -> Option<usize> {
+    for (place, event) in told.events.iter().enumerate() {
+        if !is_taken(alloc, node, &told.peer, event) {
+            return Some(place);
+        }
+    }
+    None
+}
+
+fn is_lost(alloc: Global, node: &mut Node, end: u32) -> bool {
+    let (end_, why) = (EndId(end), Why::Ended);
+    node.step(alloc, &Event::Lost { end_, why }, 0).is_ok()
+}
+
+// A second connection comes, or memory lacks for it.
+fn come_again(alloc: Global, node: &mut Node) {
+    let _ = node.step(alloc, &Event::Incoming { link: 2 }, 0);
+}
+
+// The first end whose loss is refused.
+fn first_kept(alloc: Global, node: &mut Node) -> Option<u32> {
+    for end in 0..4096u32 {
+        if node.still(EndId(end)) == Still::NoSuchEnd {
+            return None;
+        }
+        if !is_lost(alloc, node, end) {
+            return Some(end);
+        }
+    }
+    None
+}
+
 #[test]
-fn memory_refused(rt: HostRuntime) -> Result<(), Fail> {
+fn memory_refused(rt: HostRuntime) {
     let alloc = rt.alloc();
     // Where memory is short for what the node is told, there is nothing to be seen.
-    let Some(made) = handshake(alloc) else {
-        return Ok(());
+    let Some(mut node) = node_b(alloc) else {
+        return;
     };
-    let Told {
-        mut node,
-        peer,
-        events,
-    } = made;
-    for event in events.iter() {
-        assert!(rt; is_taken(alloc, &mut node, &peer, event), "{event:?}");
-    }
-    assert_eq!(rt; node.still(EndId(0)), Still::Up);
-    assert_eq!(rt; node.ups(), 1);
+    let Some(refused) = refused_in_handshake(alloc, &mut node) else {
+        return;
+    };
+    assert_eq!(rt; refused, None);
+    assert_eq!(rt; (node.still(EndId(0)), node.ups()), (Still::Up, 1));
 
     // A loss asks for none: whichever request is refused, it succeeds at once.
-    let _ = node.step(alloc, &Event::Incoming { link: 2 }, 0);
-    for end in 0..node.open_ends() {
-        let lost = Event::Lost {
-            end_: EndId(end as u32),
-            why: dist_core::Why::Ended,
-        };
-        assert!(rt; node.step(alloc, &lost, 0).is_ok(), "end {end}");
-    }
-    assert_eq!(rt; node.open_ends(), 0);
-    assert_eq!(rt; node.entries(), 0);
-    Ok(())
+    come_again(alloc, &mut node);
+    assert_eq!(rt; first_kept(alloc, &mut node), None);
+    assert_eq!(rt; (node.open_ends(), node.entries()), (0, 0));
 }

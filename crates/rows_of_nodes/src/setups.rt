@@ -6,50 +6,107 @@ use dist_setup::{NameList, Setup};
 use std::alloc::Global;
 use std::test::*;
 
-// A list of these names, with blanks between them.
-fn listed(alloc: Global, text: &str) -> Result<NameList, Fail> {
-    let mut names = Vec::new(alloc);
-    for name in text.split(' ') {
-        names.push(NodeName::new(alloc, name.as_bytes())?)?;
+fn put_name(alloc: Global, names: &mut Vec<NodeName>, name: &str) -> bool {
+    match NodeName::new(alloc, name.as_bytes()) {
+        Ok(name) => names.push(name).is_ok(),
+        Err(_) => false,
     }
-    Ok(NameList::from_vec(names))
 }
 
-#[test]
-fn a_copied_setup_has_the_names_that_may_connect(rt: HostRuntime) -> Result<(), Fail> {
-    let alloc = rt.alloc();
-    let setup = Setup {
-        name: NodeName::new(alloc, b"b@127.0.0.1")?,
-        cookie: Cookie::from_bytes(alloc, b"K")?,
+// A list of these names, with blanks between them.
+fn listed(alloc: Global, text: &str) -> Option<NameList> {
+    let mut names = Vec::new(alloc);
+    for name in text.split(' ') {
+        if !put_name(alloc, &mut names, name) {
+            return None;
+        }
+    }
+    Some(NameList::from_vec(names))
+}
+
+fn setup(alloc: Global) -> Option<Setup> {
+    let name = NodeName::new(alloc, b"b@127.0.0.1").ok()?;
+    let cookie = Cookie::from_bytes(alloc, b"K").ok()?;
+    let allow = listed(alloc, "a@127.0.0.1 c@127.0.0.1")?;
+    Some(Setup {
+        name,
+        cookie,
         flags: Flags(0x101000104),
         required: Flags(0x4),
         creation: Creation(6),
-        allow: Some(listed(alloc, "a@127.0.0.1 c@127.0.0.1")?),
-    };
-    let copy = setup.try_clone(alloc)?;
-    assert!(rt; copy.name.has_bytes(b"b@127.0.0.1"), "own name");
-    assert_eq!(rt; copy.creation, Creation(6), "creation");
-    let allow = copy.allow.unwrap_or(NameList::from_vec(Vec::new(alloc)));
-    assert!(rt; allow.lists(b"a@127.0.0.1"), "first name");
-    assert!(rt; allow.lists(b"c@127.0.0.1"), "second name");
-    assert!(rt; !allow.lists(b"b@127.0.0.1"), "a name that is not listed");
-    assert_eq!(rt; allow.into_vec().len(), 2, "names");
-    Ok(())
+        allow: Some(allow),
+    })
+}
+
+fn copied(alloc: Global) -> Option<Setup> {
+    setup(alloc)?.try_clone(alloc).ok()
+}
+
+// Whether a node of this name may connect.
+fn may_connect(setup: &Setup, name: &str) -> bool {
+    match &setup.allow {
+        Some(allow) => allow.lists(name.as_bytes()),
+        None => true,
+    }
+}
+
+// How many names a list has, where there is one.
+fn names_of(allow: Option<NameList>) -> Option<usize> {
+    match allow {
+        Some(allow) => Some(allow.into_vec().len()),
+        None => None,
+    }
 }
 
 #[test]
-fn a_copied_list_has_long_names_too(rt: HostRuntime) -> Result<(), Fail> {
-    let alloc = rt.alloc();
-    let mut long = String::from_str(alloc, "a@")?;
+fn a_copied_setup_has_the_names_that_may_connect(rt: HostRuntime) {
+    let Some(copy) = copied(rt.alloc()) else {
+        panic!(rt; "no memory");
+    };
+    assert!(rt; copy.name.has_bytes(b"b@127.0.0.1"), "own name");
+    assert_eq!(rt; copy.creation, Creation(6), "creation");
+    assert!(rt; may_connect(&copy, "a@127.0.0.1"), "first name");
+    assert!(rt; may_connect(&copy, "c@127.0.0.1"), "second name");
+    assert!(rt;
+        !may_connect(&copy, "b@127.0.0.1"),
+        "a name that is not listed"
+    );
+    assert_eq!(rt; names_of(copy.allow), Some(2), "names");
+}
+
+// Four names, of which two are long.
+fn long_names(alloc: Global) -> Option<String> {
+    let mut long = String::from_str(alloc, "a@").ok()?;
     for _ in 0..253 {
-        long.push_str("x")?;
+        long.push_str("x").ok()?;
     }
-    let text = format!(in alloc; "n@h {long} m@h {long}")?;
-    let copy = listed(alloc, text.as_str())?.try_clone(alloc)?;
+    format!(in alloc; "n@h {long} m@h {long}").ok()
+}
+
+fn copied_list(alloc: Global, text: &str) -> Option<NameList> {
+    listed(alloc, text)?.try_clone(alloc).ok()
+}
+
+// The first place where the list has another name than the text, or none.
+fn first_other(names: &NameList, text: &str) -> Option<usize> {
+    for (place, name) in text.split(' ').enumerate() {
+        match names.at(place) {
+            Some(one) if one.has_bytes(name.as_bytes()) => {}
+            _ => return Some(place),
+        }
+    }
+    None
+}
+
+#[test]
+fn a_copied_list_has_long_names_too(rt: HostRuntime) {
+    let alloc = rt.alloc();
+    let Some(text) = long_names(alloc) else {
+        panic!(rt; "no memory for names");
+    };
+    let Some(copy) = copied_list(alloc, text.as_str()) else {
+        panic!(rt; "no memory for a list");
+    };
     assert_eq!(rt; copy.len(), 4);
-    for (i, name) in text.as_str().split(' ').enumerate() {
-        let same = copy.at(i).is_some_and(|one| one.has_bytes(name.as_bytes()));
-        assert!(rt; same, "name {i}");
-    }
-    Ok(())
+    assert_eq!(rt; first_other(&copy, text.as_str()), None);
 }

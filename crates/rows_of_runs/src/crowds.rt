@@ -1,23 +1,22 @@
 //! What runs of many nodes tell.
 
-use crate::running::run_of;
+use crate::running::run_of_file;
+use crate::sizes::{put_dial, put_nodes};
 use crate::system::Wrong;
+use dist_run::RunError;
 use std::alloc::Global;
-use std::fmt::Write;
 use std::test::*;
 
-fn put_nodes(text: &mut String, nodes: usize) -> Option<()> {
-    for number in 0..nodes {
-        let table = "cookie = \"c\"\nflags = \"4\"";
-        write!(text, "[[node]]\nname = \"n{number}@h\"\n{table}\n").ok()?;
-    }
-    Some(())
+// So many places further on, round all nodes.
+fn place_behind(from: usize, nodes: usize, far: &str) -> Option<usize> {
+    let far = far.parse::<usize>().ok()?;
+    Some(from.saturating_add(far) % nodes.max(1))
 }
 
 fn put_dials(text: &mut String, from: usize, nodes: usize, distances: &str) -> Option<()> {
     for far in distances.split(' ') {
-        let to = from.saturating_add(far.parse::<usize>().ok()?) % nodes.max(1);
-        write!(text, "[[dial]]\nfrom = \"n{from}@h\"\nto = \"n{to}@h\"\n").ok()?;
+        let to = place_behind(from, nodes, far)?;
+        put_dial(text, from, to)?;
     }
     Some(())
 }
@@ -37,6 +36,13 @@ fn crowd(alloc: Global, nodes: usize, dials: usize, distances: &str) -> Option<S
     Some(text)
 }
 
+fn text_of(ran: &Result<String, RunError>) -> &str {
+    match ran {
+        Ok(text) => text.as_str(),
+        Err(error) => error.name(),
+    }
+}
+
 // Whether each of sixteen nodes is up with four. An order whose peer has dialled and is up already finds the node busy.
 fn are_all_up(text: &str) -> Option<bool> {
     let (orders, tables) = text.split_once("up")?;
@@ -51,16 +57,8 @@ fn are_all_up(text: &str) -> Option<bool> {
 #[test]
 fn sixteen_nodes_that_dial_each_other_come_up(rt: HostRuntime) {
     let nodes = crowd(rt.alloc(), 16, 16, "1 2 14 15");
-    let ran = run_of(
-        &rt,
-        rt.alloc(),
-        Wrong::Nothing,
-        nodes.as_deref().unwrap_or(""),
-    );
-    let text = match &ran {
-        Ok(text) => text.as_str(),
-        Err(error) => error.name(),
-    };
+    let ran = run_of_file(&rt, rt.alloc(), Wrong::Nothing, nodes);
+    let text = text_of(&ran);
     assert!(rt; are_all_up(text) == Some(true), "{text}");
 }
 
@@ -73,10 +71,7 @@ fn is_one_up(text: &str) -> Option<bool> {
 #[test]
 fn connections_that_are_cut_leave_one_world(rt: HostRuntime) {
     let nodes = crowd(rt.alloc(), 5, 1, "1 2 3 4");
-    let ran = run_of(&rt, rt.alloc(), Wrong::Cuts, nodes.as_deref().unwrap_or(""));
-    let text = match &ran {
-        Ok(text) => text.as_str(),
-        Err(error) => error.name(),
-    };
+    let ran = run_of_file(&rt, rt.alloc(), Wrong::Cuts, nodes);
+    let text = text_of(&ran);
     assert!(rt; is_one_up(text) == Some(true), "{text}");
 }

@@ -11,4 +11,6 @@ mod running;
 #[cfg(test)]
 mod runs;
 #[cfg(test)]
+mod sizes;
+#[cfg(test)]
 mod system;

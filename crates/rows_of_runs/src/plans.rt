@@ -2,7 +2,6 @@
 
 use dist_plan::{Plan, PlanError, plan_of};
 use std::alloc::Global;
-use std::fmt::Write;
 use std::test::*;
 
 const TWO_NODES: &str = "# keys of the file
@@ -86,8 +85,8 @@ no|to = "b@127.0.0.1"|to = "z"
 no|[[dial]]|[dial]
 no|[[dial]]|[[dial"#;
 
-// Whether a text is a nodes file. One that is none is a bad one. `None`: memory was refused.
-fn is_plan(alloc: Global, text: &str) -> Option<bool> {
+/// Whether a text is a nodes file. One that is none is a bad one. `None`: memory was refused.
+pub fn is_plan(alloc: Global, text: &str) -> Option<bool> {
     match plan_of(alloc, text) {
         Ok(_) => Some(true),
         Err(PlanError::Bad) => Some(false),
@@ -95,53 +94,23 @@ fn is_plan(alloc: Global, text: &str) -> Option<bool> {
     }
 }
 
+// The file of two nodes with a text in the place of another.
+fn changed(alloc: Global, old: &str, new: &str) -> Option<String> {
+    let new = new.replace(alloc, "~", "\n").ok()?;
+    TWO_NODES.replacen(alloc, old, &new, 1).ok()
+}
+
 fn is_change_so(alloc: Global, line: &str) -> Option<bool> {
     let (answer, change) = line.split_once('|')?;
     let (old, new) = change.split_once('|')?;
-    let new = new.replace(alloc, "~", "\n").ok()?;
-    let text = TWO_NODES.replacen(alloc, old, &new, 1).ok()?;
-    Some(TWO_NODES.contains(old) && is_plan(alloc, &text)? == (answer == "yes"))
+    let text = changed(alloc, old, new)?;
+    let wanted = Some(answer == "yes");
+    Some(TWO_NODES.contains(old) && is_plan(alloc, &text) == wanted)
 }
 
 #[test]
 fn bad_nodes_files(rt: HostRuntime) {
     for line in CHANGES.lines() {
         assert!(rt; is_change_so(rt.alloc(), line) == Some(true), "{line}");
-    }
-}
-
-fn put_nodes(text: &mut String, nodes: usize) -> Option<()> {
-    for number in 0..nodes {
-        let rest = "cookie = \"c\"\nflags = \"4\"";
-        write!(text, "[[node]]\nname = \"n{number}@h\"\n{rest}\n").ok()?;
-    }
-    Some(())
-}
-
-fn put_dials(text: &mut String, dials: usize) -> Option<()> {
-    for number in 0..dials {
-        write!(text, "[[dial]]\nfrom = \"n0@h\"\nto = \"n{number}@h\"\n").ok()?;
-    }
-    Some(())
-}
-
-// Whether a file of so many nodes and dials is one.
-fn is_size_so(alloc: Global, line: &str) -> Option<bool> {
-    let (nodes, rest) = line.split_once(' ')?;
-    let (dials, answer) = rest.split_once(' ')?;
-    let (nodes, dials) = (nodes.parse::<usize>().ok()?, dials.parse::<usize>().ok()?);
-    let mut text = String::new(alloc);
-    put_nodes(&mut text, nodes)?;
-    put_dials(&mut text, dials)?;
-    Some(is_plan(alloc, &text)? == (answer == "yes"))
-}
-
-// How many nodes, how many dials, and whether that is a nodes file.
-const SIZES: &str = "0 0 no\n1 0 yes\n16 64 yes\n17 0 no\n1 65 no";
-
-#[test]
-fn a_nodes_file_has_16_nodes_and_64_dials_at_most(rt: HostRuntime) {
-    for line in SIZES.lines() {
-        assert!(rt; is_size_so(rt.alloc(), line) == Some(true), "{line}");
     }
 }

@@ -13,27 +13,40 @@ use std::sync::Wait;
 use std::thread::Threads;
 use std::time::Clock;
 
-fn write_tables(text: &mut String, ran: &Ran) -> Option<()> {
+fn write_fault(text: &mut String, number: u32, word: &str) -> Option<()> {
+    write!(text, "order {number} {word}, ").ok()
+}
+
+fn write_faults(text: &mut String, ran: &Ran) -> Option<()> {
     for fault in ran.faults.iter() {
-        write!(text, "order {} {}, ", fault.number, fault.refusal.name()).ok()?;
+        write_fault(text, fault.number, fault.refusal.name())?;
     }
-    text.push_str("up").ok()?;
+    text.push_str("up").ok()
+}
+
+fn write_ups(text: &mut String, ran: &Ran) -> Option<()> {
     for closed in ran.closed.iter() {
-        write!(text, " {}", closed.node.ups()).ok()?;
+        let ups = closed.node.ups();
+        write!(text, " {ups}").ok()?;
     }
     Some(())
+}
+
+fn write_refusal(text: &mut String, number: u32, word: &str) -> Option<()> {
+    write!(text, ", audit refused {number} {word}").ok()
 }
 
 fn write_audit(text: &mut String, alloc: Global, ran: &Ran) -> Option<()> {
     match audit(alloc, ran.closed.as_slice()) {
         Ok(_) => text.push_str(", audit holds").ok(),
-        Err(error) => write!(text, ", audit refused {} {}", error.number(), error.name()).ok(),
+        Err(error) => write_refusal(text, error.number(), error.name()),
     }
 }
 
 fn told(alloc: Global, ran: &Ran) -> Option<String> {
     let mut text = String::new(alloc);
-    write_tables(&mut text, ran)?;
+    write_faults(&mut text, ran)?;
+    write_ups(&mut text, ran)?;
     write_audit(&mut text, alloc, ran)?;
     Some(text)
 }
@@ -55,6 +68,27 @@ where
     match run_plan(&system, alloc, plan, &system) {
         Ok(ran) => told(alloc, &ran).ok_or(RunError::NoMemory),
         Err(error) => Err(error),
+    }
+}
+
+/// Runs the nodes of a text, if there was memory for it.
+pub fn run_of_file<R>(
+    rt: &R,
+    alloc: Global,
+    wrong: Wrong,
+    nodes: Option<String>,
+) -> Result<String, RunError>
+where
+    R: Net<Listener = TcpListener, Stream = TcpStream>
+        + Threads
+        + Wait
+        + Clock
+        + RandomSource
+        + Sync,
+{
+    match nodes {
+        Some(text) => run_of(rt, alloc, wrong, &text),
+        None => Err(RunError::NoMemory),
     }
 }
 
@@ -114,8 +148,5 @@ where
         + RandomSource
         + Sync,
 {
-    match file_of(alloc, peer, dials) {
-        Some(nodes) => run_of(rt, alloc, wrong, &nodes),
-        None => Err(RunError::NoMemory),
-    }
+    run_of_file(rt, alloc, wrong, file_of(alloc, peer, dials))
 }

@@ -1,7 +1,7 @@
 //! What runs of two nodes tell.
 
 use crate::running::{
-    A_PEER, EACH_OTHER, NOBODY_ITSELF_AND_A_PEER, NODES, run_of, run_of_two, tells,
+    A_PEER, EACH_OTHER, NOBODY_ITSELF_AND_A_PEER, NODES, run_of, run_of_file, run_of_two, tells,
 };
 use crate::system::Wrong;
 use dist_core::Opening;
@@ -115,20 +115,10 @@ fn a_port_that_is_taken_is_no_port_to_listen_at(rt: HostRuntime) {
     };
     let port = port_of(&taken);
     let nodes = with_mapper_at(rt.alloc(), port);
-    let ran = run_of(
-        &rt,
-        rt.alloc(),
-        Wrong::Nothing,
-        nodes.as_deref().unwrap_or(""),
-    );
+    let ran = run_of_file(&rt, rt.alloc(), Wrong::Nothing, nodes);
     assert!(rt; tells(&ran, "ListenFailed"), "{ran:?}");
     let nodes = with_node_at(rt.alloc(), port);
-    let ran = run_of(
-        &rt,
-        rt.alloc(),
-        Wrong::Nothing,
-        nodes.as_deref().unwrap_or(""),
-    );
+    let ran = run_of_file(&rt, rt.alloc(), Wrong::Nothing, nodes);
     assert!(rt; tells(&ran, "ListenFailed"), "{ran:?}");
 }
 

@@ -110,13 +110,10 @@ fn by_seat<R: Wait>(rt: &R, alloc: Global, lines: &mut String) -> Option<(usize,
 #[test]
 fn desks_answer_alike(rt: HostRuntime) {
     let alloc = rt.alloc();
-    let mut lines = String::new(alloc);
-    assert_eq!(rt; by_memory(alloc, &mut lines), Some(3));
-    assert_eq!(rt; lines.as_str(), ROWS);
-    lines.clear();
-    assert_eq!(rt;
-        by_seat(&rt, alloc, &mut lines),
-        Some((3, 4, Ok((4, 0, 0))))
-    );
-    assert_eq!(rt; lines.as_str(), ROWS);
+    let (mut by_desk, mut by_its_seat) = (String::new(alloc), String::new(alloc));
+    let made = by_memory(alloc, &mut by_desk);
+    let seen = by_seat(&rt, alloc, &mut by_its_seat);
+    assert_eq!(rt; [by_desk.as_str(), by_its_seat.as_str()], [ROWS, ROWS]);
+    assert_eq!(rt; made, Some(3));
+    assert_eq!(rt; seen, Some((3, 4, Ok((4, 0, 0)))));
 }

@@ -8,7 +8,12 @@ use std::alloc::Global;
 use std::test::*;
 
 fn word(row: &str, place: usize) -> &str {
-    row.split(' ').nth(place).unwrap_or("")
+    for (i, word) in row.split(' ').enumerate() {
+        if i == place {
+            return word;
+        }
+    }
+    ""
 }
 
 // The sizes and the faults of a row.

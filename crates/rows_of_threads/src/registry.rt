@@ -10,14 +10,16 @@ use std::test::*;
 use std::thread;
 
 fn node_a(alloc: Global) -> Option<Request> {
+    let name = ByteString::from_slice(alloc, b"a").ok()?;
+    let extra = ByteString::new(alloc);
     Some(Request::Alive(NodeInfo {
         port: 9001,
         node_type: 77,
         protocol: 0,
         highest: 6,
         lowest: 5,
-        name: ByteString::from_slice(alloc, b"a").ok()?,
-        extra: ByteString::new(alloc),
+        name,
+        extra,
     }))
 }
 
@@ -44,6 +46,18 @@ fn register_a<R: Wait>(
     alive(answer.ok()?)
 }
 
+// The connection whose node was registered, where the other was refused; else 0.
+fn first_of(one: Option<(u8, u32)>, two: Option<(u8, u32)>) -> u64 {
+    let (registered, refused) = (Some((0, 1)), Some((1, 0)));
+    if one == registered && two == refused {
+        1
+    } else if two == registered && one == refused {
+        2
+    } else {
+        0
+    }
+}
+
 #[test]
 fn two_threads_register(rt: HostRuntime) {
     let alloc = rt.alloc();
@@ -54,9 +68,8 @@ fn two_threads_register(rt: HostRuntime) {
         move || register_a(&rt, alloc, shared, 1),
         move || register_a(&rt, alloc, shared, 2),
     );
-    let first = one == Some((0, 1)) && two == Some((1, 0));
-    let second = two == Some((0, 1)) && one == Some((1, 0));
-    assert!(rt; first || second, "{one:?} and {two:?}");
-    SharedMapper::new(&rt, shared).closed(if first { 1 } else { 2 });
+    let registered = first_of(one, two);
+    assert!(rt; registered != 0, "{one:?} and {two:?}");
+    SharedMapper::new(&rt, shared).closed(registered);
     assert_eq!(rt; register_a(&rt, alloc, shared, 3), Some((0, 2)));
 }

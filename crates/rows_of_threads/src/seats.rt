@@ -55,8 +55,16 @@ fn close_without(alloc: Global, book: Book, seat: Seat) -> Option<(CloseError, B
     close(book, alone).err()
 }
 
-// How the end stands after the steps of both seats, and what `close` says without the second seat and with it. The receipts
-// are added.
+// What `close` says without the second seat, and then with it.
+fn closings(alloc: Global, book: Book, first: Seat, second: Seat) -> Option<(CloseError, Closing)> {
+    let (error, book, mut seats) = close_without(alloc, book, first)?;
+    match seats.push(second) {
+        Ok(()) => Some((error, closing(book, seats))),
+        Err(_) => None,
+    }
+}
+
+// How the end stands after the steps of both seats, and what `close` says. The receipts are added.
 fn two_seats<R: Wait>(
     rt: &R,
     alloc: Global,
@@ -65,9 +73,8 @@ fn two_seats<R: Wait>(
     let (node, mut first, mut second) = locked(alloc)?;
     let _ = tell_both(rt, alloc, &node, &mut first, &mut second, lines);
     let still = still_word(node.still(rt, EndId(0)));
-    let (error, book, mut seats) = close_without(alloc, node.into_book(), first)?;
-    seats.push(second).ok()?;
-    Some((still, error, closing(book, seats)))
+    let (error, closing) = closings(alloc, node.into_book(), first, second)?;
+    Some((still, error, closing))
 }
 
 // Node b, and its first seat or its second after so many steps.
@@ -100,24 +107,23 @@ fn foreign_seat<R: Wait>(rt: &R, alloc: Global) -> Option<Closing> {
 const RECEIPTS: &str = "\
 line 0 ticket 0 seat 0 end 0 says []
 line 1 ticket 1 seat 1 end 0 says [0003736f6b001e4e0000000101000104075bcd1500000006000b62403132372e302e302e31]
-";
+Some((\"Pending\", MissingSeat, Ok((2, 0, 1))))";
+
+// The receipts of both seats, and what is seen of them.
+fn two_seats_in_words<R: Wait>(rt: &R, alloc: Global) -> Option<String> {
+    let mut lines = String::new(alloc);
+    let seen = two_seats(rt, alloc, &mut lines);
+    format!(in alloc; "{lines}{seen:?}").ok()
+}
 
 #[test]
-fn two_seats_and_orders(rt: HostRuntime) {
+fn two_seats_and_orders(rt: HostRuntime) -> Result<(), Fail> {
     let alloc = rt.alloc();
-    let mut lines = String::new(alloc);
-    let seen = two_seats(&rt, alloc, &mut lines);
-    assert_eq!(rt; lines.as_str(), RECEIPTS);
-    assert_eq!(rt;
-        seen,
-        Some(("Pending", CloseError::MissingSeat, Ok((2, 0, 1))))
-    );
-    assert_eq!(rt;
-        foreign_seat(&rt, alloc),
-        Some(Err(CloseError::ReceiptAbsent))
-    );
-    assert_eq!(rt;
-        orders_in_turn(&rt, alloc),
-        Some(([0, 0, 6, 4, 5, 0, 0, 7], 0))
-    );
+    let seen = two_seats_in_words(&rt, alloc).ok_or("no memory")?;
+    assert_eq!(rt; seen.as_str(), RECEIPTS);
+    let foreign = foreign_seat(&rt, alloc);
+    assert_eq!(rt; foreign, Some(Err(CloseError::ReceiptAbsent)));
+    let orders = orders_in_turn(&rt, alloc);
+    assert_eq!(rt; orders, Some(([0, 0, 6, 4, 5, 0, 0, 7], 0)));
+    Ok(())
 }

@@ -108,13 +108,13 @@ fn watched<R: Threads + Wait + Clock + Sync>(rt: &R, alloc: Global) -> Option<Se
         move || silent(rt, alloc, shared, first),
         move || shaking(rt, alloc, shared, second),
     );
-    let (first, silent, looks) = one?;
-    let (second, shaking) = two?;
+    let ((first, silent, looks), (second, shaking)) = one.zip(two)?;
+    let closing = closing_both(alloc, node, first, second)?;
     Some(Seen {
         silent,
         shaking,
         looks,
-        closing: closing_both(alloc, node, first, second)?,
+        closing,
     })
 }
 

@@ -11,21 +11,22 @@ use std::sync::Wait;
 use std::test::*;
 
 // A connection comes, the name of node a and its reply, and then a second connection.
-#[derive(Drop)]
-struct Told {
-    came: Event,
-    named: Event,
-    replied: Event,
-    came_again: Event,
+fn put_told(alloc: Global, told: &mut Vec<Event>, place: usize) -> Option<()> {
+    let event = match place {
+        0 => Event::Incoming { link: 1 },
+        1 => frame(alloc, NAME_OF_A)?,
+        2 => frame(alloc, REPLY)?,
+        _ => Event::Incoming { link: 2 },
+    };
+    told.push(event).ok()
 }
 
-fn what_is_told(alloc: Global) -> Option<Told> {
-    Some(Told {
-        came: Event::Incoming { link: 1 },
-        named: frame(alloc, NAME_OF_A)?,
-        replied: frame(alloc, REPLY)?,
-        came_again: Event::Incoming { link: 2 },
-    })
+fn what_is_told(alloc: Global) -> Option<Vec<Event>> {
+    let mut told = Vec::new(alloc);
+    for place in 0..4usize {
+        put_told(alloc, &mut told, place)?;
+    }
+    Some(told)
 }
 
 // Whether the step is made at a seat, and not refused for want of memory.
@@ -44,20 +45,13 @@ fn is_made<R: Wait>(
 }
 
 // Makes the steps, the seats in turn, until one lacks memory. How many were made, unless one was refused for another reason.
-fn made<R: Wait>(rt: &R, node: &LockedNode, seats: &mut [Seat], told: &Told) -> Option<usize> {
-    if !is_made(rt, node, seats, 0, &told.came)? {
-        return Some(0);
+fn made<R: Wait>(rt: &R, node: &LockedNode, seats: &mut [Seat], told: &[Event]) -> Option<usize> {
+    for (place, event) in told.iter().enumerate() {
+        if !is_made(rt, node, seats, place % 2, event)? {
+            return Some(place);
+        }
     }
-    if !is_made(rt, node, seats, 1, &told.named)? {
-        return Some(1);
-    }
-    if !is_made(rt, node, seats, 0, &told.replied)? {
-        return Some(2);
-    }
-    if !is_made(rt, node, seats, 1, &told.came_again)? {
-        return Some(3);
-    }
-    Some(4)
+    Some(told.len())
 }
 
 // The lines of the history, the entries, the ends that are up, the open ends, and the receipts of the first seat and of the

@@ -33,15 +33,18 @@ fn many<R: Wait>(rt: &R, alloc: Global, node: &LockedNode, mut seat: Seat) -> Op
     })
 }
 
+fn stands(history: &[Line], receipt: &Receipt) -> bool {
+    match history.get(receipt.at_) {
+        Some(line) => line.is_same(&receipt.line),
+        None => false,
+    }
+}
+
 // Whether each receipt's line stands at its place, and the places rise.
 fn stand(history: &[Line], receipts: &[Receipt]) -> bool {
     let mut next = 0usize;
     for receipt in receipts {
-        let stands = match history.get(receipt.at_) {
-            Some(line) => receipt.at_ >= next && line.is_same(&receipt.line),
-            None => false,
-        };
-        if !stands {
+        if receipt.at_ < next || !stands(history, receipt) {
             return false;
         }
         next = receipt.at_.saturating_add(1);

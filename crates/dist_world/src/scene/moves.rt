@@ -7,7 +7,8 @@ ghost use Rattle.dist_world.specs.Doing.{Did, Happened};
 
 use crate::scene::{Scene, setup_at};
 use dist_agreement::Happening;
-use dist_core::{Event, Opening, Why, a_reply_is_of_its_end};
+use dist_core::{Event, Opening, Why};
+use dist_laws::a_reply_is_of_its_end;
 use dist_names::{ByteString, Creation, NodeName};
 use dist_peers::EndId;
 use std::alloc::{AllocError, Global};

@@ -96,50 +96,88 @@ bad line 1: node b@h c 1 1 version 5
 bad line 42: {b};;;;;;;;;;;;;;;;;;;;;;;;;;;;;;;;;;;;;;;;;x
 ";
 
-fn check_bad<A: Abort>(
-    rt: &A,
-    alloc: Global,
-    script: &[u8],
-    wanted: &str,
-) -> Result<(), AllocError> {
-    let told = format!(in alloc; "distnode: {wanted}\n")?;
+// Whether a script is refused, and this is told.
+fn is_refused(alloc: Global, script: &[u8], wanted: &str) -> Option<bool> {
+    let told = format!(in alloc; "distnode: {wanted}\n").ok()?;
     let ran = enacted(alloc, script);
-    check_ran(rt, &ran, (2, "", told.as_str()), text_of(script));
-    Ok(())
+    Some(has_left(&ran, (2, "", told.as_str())))
+}
+
+fn is_row_refused(alloc: Global, row: &str) -> Option<bool> {
+    let (wanted, script) = row.split_once(": ")?;
+    let script = expanded(alloc, script)?;
+    let script = script.replace(alloc, ';', "\n").ok()?;
+    is_refused(alloc, script.as_bytes(), wanted)
 }
 
 #[test]
-fn the_first_bad_line_is_told_and_nothing_is_enacted(rt: HostRuntime) -> Result<(), Fail> {
+fn the_first_bad_line_is_told_and_nothing_is_enacted(rt: HostRuntime) {
     let alloc = rt.alloc();
     for row in BAD.lines() {
-        let (wanted, script) = row.split_once(": ").ok_or("a row without a script")?;
-        let script = expanded(alloc, script)?.replace(alloc, ';', "\n")?;
-        check_bad(&rt, alloc, script.as_bytes(), wanted)?;
+        assert!(rt; is_row_refused(alloc, row) == Some(true), "{row}");
     }
-    check_bad(&rt, alloc, b"\xff", "bad line 1")?;
-    check_bad(&rt, alloc, b"# \xff\nincoming \xc3\xa9\n", "bad line 2")?;
-    check_bad(&rt, alloc, b"# \xff\xfe\n", "no node")?;
-    check_bad(&rt, alloc, b"incoming 1\0\n", "bad line 1")?;
-    Ok(())
+    let scripts = [
+        (b"\xff".as_slice(), "bad line 1"),
+        (b"# \xff\nincoming \xc3\xa9\n", "bad line 2"),
+        (b"# \xff\xfe\n", "no node"),
+        (b"incoming 1\0\n", "bad line 1"),
+    ];
+    for (script, wanted) in scripts {
+        assert!(rt;
+            is_refused(alloc, script, wanted) == Some(true),
+            "{script:?}"
+        );
+    }
+}
+
+// The line of a node whose cookie has 255 bytes and these.
+fn node_line(alloc: Global, more: &str) -> Option<String> {
+    let cookie = vec![in alloc; b'~'; 255].ok()?;
+    format!(in alloc; "node b@h {}{more} 0 0", text_of(&cookie)).ok()
+}
+
+fn is_longest_cookie_taken(alloc: Global) -> Option<bool> {
+    let line = node_line(alloc, "")?;
+    is_printed(alloc, line.as_str(), "no peers\n")
+}
+
+fn is_longer_cookie_refused(alloc: Global) -> Option<bool> {
+    let line = node_line(alloc, "!")?;
+    is_refused(alloc, line.as_bytes(), "bad line 1")
+}
+
+// A script of 1,048,576 bytes.
+fn longest_script(alloc: Global) -> Option<Vec<u8>> {
+    let node = b"node b@h c ffffffffffffffff 4294967295\n#";
+    let mut script = Vec::from_slice(alloc, node).ok()?;
+    script.resize(1048576, b'x').ok()?;
+    Some(script)
+}
+
+fn is_longest_script_taken(alloc: Global) -> Option<bool> {
+    let script = longest_script(alloc)?;
+    let ran = enacted(alloc, &script);
+    Some(has_left(&ran, (0, "no peers\n", "")))
+}
+
+fn is_longer_script_refused(alloc: Global) -> Option<bool> {
+    let mut script = longest_script(alloc)?;
+    script.push(b'\n').ok()?;
+    is_refused(alloc, &script, "script too long")
+}
+
+// It is told before a bad line that stands in it.
+fn is_long_line_refused(alloc: Global) -> Option<bool> {
+    let script = vec![in alloc; b'x'; 1048577].ok()?;
+    is_refused(alloc, &script, "script too long")
 }
 
 #[test]
-fn a_cookie_and_a_script_have_their_limits(rt: HostRuntime) -> Result<(), Fail> {
+fn a_cookie_and_a_script_have_their_limits(rt: HostRuntime) {
     let alloc = rt.alloc();
-    let cookie = vec![in alloc; b'~'; 255]?;
-    let most = format!(in alloc; "node b@h {} 0 0", text_of(&cookie))?;
-    check_script(&rt, alloc, most.as_str(), "no peers\n", "255 bytes")?;
-    let more = format!(in alloc; "node b@h {}! 0 0", text_of(&cookie))?;
-    check_bad(&rt, alloc, more.as_bytes(), "bad line 1")?;
-
-    let mut script = Vec::from_slice(alloc, b"node b@h c ffffffffffffffff 4294967295\n#")?;
-    script.resize(1048576, b'x')?;
-    check_ran(&rt, &enacted(alloc, &script), (0, "no peers\n", ""), "");
-    script.push(b'\n')?;
-    check_bad(&rt, alloc, &script, "script too long")?;
-
-    // It is told before a bad line that stands in it.
-    let bad = vec![in alloc; b'x'; 1048577]?;
-    check_bad(&rt, alloc, &bad, "script too long")?;
-    Ok(())
+    assert_eq!(rt; is_longest_cookie_taken(alloc), Some(true));
+    assert_eq!(rt; is_longer_cookie_refused(alloc), Some(true));
+    assert_eq!(rt; is_longest_script_taken(alloc), Some(true));
+    assert_eq!(rt; is_longer_script_refused(alloc), Some(true));
+    assert_eq!(rt; is_long_line_refused(alloc), Some(true));
 }

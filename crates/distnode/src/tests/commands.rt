@@ -1,13 +1,7 @@
-//! The other commands, the command line, and how faults are told.
+//! The command `cookie`, and the command line.
 
 use super::*;
 use dist_commands::order_of;
-use dist_faults::Fault;
-use dist_mapper::LookupError;
-use dist_run::RunError;
-use dist_script::ScriptFault;
-use dist_secret::CookieError;
-use dist_streams::FaultStream;
 
 // What is printed or told, the challenge, and the file, in which `;` stands for LF.
 const COOKIES: &str = "\
@@ -21,33 +15,46 @@ distnode: Empty: 0: ;
 distnode: BadByte: 0: A\tB
 ";
 
-fn check_cookie<A: Abort>(rt: &A, alloc: Global, file: &[u8], challenge: u32, wanted: &str) {
+fn cookie_told(alloc: Global, file: &[u8], challenge: u32) -> Ran {
     let (mut out, mut err) = (Vec::new(alloc), Vec::new(alloc));
     let mut input = file;
     let status = crate::cookie::cookie(alloc, &mut input, challenge, &mut out, &mut err);
-    let (printed, told) = if wanted.starts_with("cookie") {
-        (wanted, "")
+    Ran { status, out, err }
+}
+
+// Whether the cookie of a file is printed, or a fault told, so.
+fn is_cookie_told(alloc: Global, file: &[u8], challenge: u32, wanted: &str) -> bool {
+    let (status, printed, told) = if wanted.starts_with("cookie") {
+        (0, wanted, "")
     } else {
-        ("", wanted)
+        (1, "", wanted)
     };
-    let ran = Ran { status, out, err };
-    assert_eq!(rt; text_of(&ran.out).trim_end(), printed);
-    assert_eq!(rt; text_of(&ran.err).trim_end(), told);
-    assert_eq!(rt; ran.status, u8::from(printed.is_empty()));
+    let ran = cookie_told(alloc, file, challenge);
+    ran.status == status
+        && text_of(&ran.out).trim_end() == printed
+        && text_of(&ran.err).trim_end() == told
+}
+
+fn is_row_told(alloc: Global, row: &str) -> Option<bool> {
+    let (front, file) = row.rsplit_once(": ")?;
+    let (wanted, challenge) = front.rsplit_once(": ")?;
+    let challenge = challenge.parse::<u32>().ok()?;
+    let file = expanded(alloc, file)?;
+    let file = file.replace(alloc, ';', "\n").ok()?;
+    Some(is_cookie_told(alloc, file.as_bytes(), challenge, wanted))
 }
 
 #[test]
-fn a_cookie_is_told_by_its_length_and_digest(rt: HostRuntime) -> Result<(), Fail> {
+fn a_cookie_is_told_by_its_length_and_digest(rt: HostRuntime) {
     let alloc = rt.alloc();
     for row in COOKIES.lines() {
-        let (front, file) = row.rsplit_once(": ").ok_or("a row without a file")?;
-        let (wanted, challenge) = front.rsplit_once(": ").ok_or("a row without a challenge")?;
-        let file = expanded(alloc, file)?.replace(alloc, ';', "\n")?;
-        let challenge = challenge.parse::<u32>()?;
-        check_cookie(&rt, alloc, file.as_bytes(), challenge, wanted);
+        assert!(rt; is_row_told(alloc, row) == Some(true), "{row}");
     }
-    check_cookie(&rt, alloc, &[b'x'; 256], 0, "distnode: TooLong");
-    Ok(())
+    let long = [b'x'; 256];
+    assert!(rt;
+        is_cookie_told(alloc, &long, 0, "distnode: TooLong"),
+        "too long"
+    );
 }
 
 const ORDERS: &str = r#"
@@ -95,159 +102,29 @@ run -h
 ";
 
 // What the words of a line ask for.
-fn order_told(alloc: Global, line: &str) -> Result<String, Fail> {
-    let words: Vec<&str> = line.split_whitespace().collect(alloc)?;
-    Ok(match order_of(alloc, &words) {
-        Ok(order) => format!(in alloc; "{order:?}")?,
-        Err(error) => format!(in alloc; "{error:?}")?,
-    })
+fn order_told(alloc: Global, line: &str) -> Option<String> {
+    let words: Vec<&str> = line.split_whitespace().collect(alloc).ok()?;
+    match order_of(alloc, &words) {
+        Ok(order) => format!(in alloc; "{order:?}").ok(),
+        Err(error) => format!(in alloc; "{error:?}").ok(),
+    }
+}
+
+fn is_order(alloc: Global, line: &str, wanted: &str) -> bool {
+    match order_told(alloc, line) {
+        Some(told) => told.as_str() == wanted,
+        None => false,
+    }
 }
 
 #[test]
-fn command_lines(rt: HostRuntime) -> Result<(), Fail> {
+fn command_lines(rt: HostRuntime) {
     let alloc = rt.alloc();
     for row in ORDERS.lines().skip(1) {
-        let (line, wanted) = row.split_once(" => ").ok_or("a row without an order")?;
-        assert_eq!(rt; order_told(alloc, line)?.as_str(), wanted, "{line}");
+        let (line, wanted) = row.split_once(" => ").unwrap_or((row, "no order"));
+        assert!(rt; is_order(alloc, line, wanted), "{row}");
     }
     for line in NO_ORDERS.lines() {
-        assert_eq!(rt; order_told(alloc, line)?.as_str(), "Bad", "{line}");
+        assert!(rt; is_order(alloc, line, "Bad"), "{line}");
     }
-    Ok(())
-}
-
-// How a fault is told, and which status it ends with.
-fn check_told<A: Abort>(rt: &A, alloc: Global, fault: Fault, status: u8, name: &str) {
-    let mut told = Vec::new(alloc);
-    assert_eq!(rt; fault.tell(&mut told), status, "{name}");
-    let told = text_of(&told).trim_end();
-    assert_eq!(rt; told.strip_prefix("distnode: "), Some(name));
-}
-
-#[test]
-fn faults_are_told_by_their_names(rt: HostRuntime) {
-    let alloc = rt.alloc();
-    check_told(&rt, alloc, Fault::BadCommandLine, 2, "bad command line");
-    check_told(
-        &rt,
-        alloc,
-        Fault::from(ScriptFault::TooLong),
-        2,
-        "bad nodes file",
-    );
-    check_told(
-        &rt,
-        alloc,
-        Fault::RunEnded(RunError::ListenFailed),
-        1,
-        "ListenFailed",
-    );
-    check_told(
-        &rt,
-        alloc,
-        Fault::from(ScriptFault::ReadFailed),
-        1,
-        "ReadFailed",
-    );
-    check_told(
-        &rt,
-        alloc,
-        Fault::from(ScriptFault::WriteFailed),
-        1,
-        "WriteFailed",
-    );
-    check_told(&rt, alloc, Fault::OpenFailed, 1, "OpenFailed");
-    check_told(
-        &rt,
-        alloc,
-        Fault::NoCookie(CookieError::BadByte),
-        1,
-        "BadByte",
-    );
-    check_told(&rt, alloc, Fault::ConnectFailed, 1, "ConnectFailed");
-    check_told(&rt, alloc, Fault::NoAnswer(LookupError::Limit), 1, "Limit");
-    check_told(
-        &rt,
-        alloc,
-        Fault::from(ScriptFault::NoMemory),
-        1,
-        "NoMemory",
-    );
-    let unregistered = RunError::NotRegistered(LookupError::Ended);
-    check_told(&rt, alloc, Fault::RunEnded(unregistered), 1, "Ended");
-    let mut told = Vec::new(alloc);
-    assert_eq!(rt; ScriptFault::BadLine(1048576).tell(&mut told), 2);
-    assert_eq!(rt; text_of(&told), "distnode: bad line 1048576\n");
-}
-
-// A port mapper that says these bytes.
-fn over(alloc: Global, heard: &str) -> Result<FaultStream, AllocError> {
-    let mut bytes = Vec::from_slice(alloc, b"\x00\x00\x11\x11")?;
-    bytes.extend_from_slice(heard.as_bytes())?;
-    Ok(FaultStream::new(alloc, bytes))
-}
-
-fn asked(alloc: Global, stream: &mut FaultStream) -> Ran {
-    let (mut out, mut err) = (Vec::new(alloc), Vec::new(alloc));
-    let status = crate::names::names(alloc, stream, &mut out, &mut err);
-    Ran { status, out, err }
-}
-
-// Answers of a port mapper, the first of no bytes.
-const ANSWERS: &str = "|name a at port 9001\n|name b at port 1\nname a at port 2";
-
-#[test]
-fn the_answer_of_a_port_mapper_is_printed_as_it_came(rt: HostRuntime) -> Result<(), Fail> {
-    let alloc = rt.alloc();
-    for row in ANSWERS.split('|') {
-        let mut stream = over(alloc, row)?;
-        check_ran(&rt, &asked(alloc, &mut stream), (0, row, ""), row);
-        assert_eq!(rt; stream.written(), b"\x00\x01n".as_slice());
-    }
-
-    // An `epmd` that knows 1,024 nodes writes a line at a time.
-    let mut text = String::new(alloc);
-    for _ in 0..1024 {
-        text.push_str("name a at port 9001\n")?;
-    }
-    let mut stream = over(alloc, text.as_str())?;
-    stream.read_sizes.push(20)?;
-    let ran = asked(alloc, &mut stream);
-    check_ran(&rt, &ran, (0, text.as_str(), ""), "1,024 lines");
-    Ok(())
-}
-
-// Which read fails, which write fails, how much each read gives, and what is told.
-const FAILING: &str = "\
-2 0 5: ReadFailed
-0 1 5: WriteFailed
-0 0 0: Limit
-";
-
-fn number(word: Option<&str>) -> Result<usize, Fail> {
-    Ok(word.ok_or("a row without a number")?.parse::<usize>()?)
-}
-
-#[test]
-fn a_port_mapper_that_fails_is_told(rt: HostRuntime) -> Result<(), Fail> {
-    let alloc = rt.alloc();
-    for row in FAILING.lines() {
-        let (numbers, name) = row.split_once(": ").ok_or("a row without a name")?;
-        let mut numbers = numbers.split_whitespace();
-        let mut stream = over(alloc, "name a at port 9001\n")?;
-        stream.fail_read = number(numbers.next())? as u64;
-        stream.fail_write = number(numbers.next())? as u64;
-        stream.read_sizes.push(number(numbers.next())?)?;
-        let told = format!(in alloc; "distnode: {name}\n")?;
-        check_ran(
-            &rt,
-            &asked(alloc, &mut stream),
-            (1, "", told.as_str()),
-            name,
-        );
-    }
-    let mut stream = FaultStream::new(alloc, vec![in alloc; 0, 0, 0x11]?);
-    let ran = asked(alloc, &mut stream);
-    check_ran(&rt, &ran, (1, "", "distnode: Ended\n"), "cut");
-    Ok(())
 }

@@ -1,14 +1,13 @@
-//! Inputs and outputs that fail.
+//! Inputs and outputs of scripts that fail.
 
 use super::*;
-use dist_streams::FaultStream;
 
-// Gives its bytes in pieces, and then fails, or ends where it has no fault.
+/// Gives its bytes in pieces, and then fails, or ends where it has no fault.
 #[derive(Drop)]
-struct Source<'a> {
-    rest: &'a [u8],
-    piece: usize,
-    fault: Option<ErrorKind>,
+pub struct Source<'a> {
+    pub rest: &'a [u8],
+    pub piece: usize,
+    pub fault: Option<ErrorKind>,
 }
 
 impl Read for Source<'_> {
@@ -26,16 +25,17 @@ impl Read for Source<'_> {
     }
 }
 
-// Takes so many bytes, and then fails. A failure is told once, and the next write would be taken.
+/// Takes so many bytes, and then fails. A failure is told once, and the next write would be taken.
 #[derive(Drop)]
-struct Sink {
-    taken: Vec<u8>,
-    room: usize,
-    fails_on_flush: bool,
+pub struct Sink {
+    pub taken: Vec<u8>,
+    pub room: usize,
+    pub fails_on_flush: bool,
 }
 
 impl Sink {
-    fn new(alloc: Global, room: usize) -> Sink {
+    /// One whose flush fails.
+    pub fn new(alloc: Global, room: usize) -> Sink {
         Sink {
             taken: Vec::new(alloc),
             room,
@@ -77,59 +77,77 @@ fn enacted_from(alloc: Global, rest: &[u8], piece: usize, fault: Option<ErrorKin
     Ran { status, out, err }
 }
 
-#[test]
-fn a_script_comes_in_any_pieces_and_a_read_that_fails_is_told(rt: HostRuntime) -> Result<(), Fail> {
-    let alloc = rt.alloc();
+// Whether the script is enacted that comes in pieces of so many bytes.
+fn is_enacted_in(alloc: Global, piece: usize) -> Option<bool> {
     let script = expanded(alloc, SCRIPT)?;
     let printed = expanded(alloc, PRINTED)?;
-    for piece in [1, 2, 3, 64, 5000] {
-        let ran = enacted_from(alloc, script.as_bytes(), piece, None);
-        check_ran(&rt, &ran, (0, printed.as_str(), ""), "in pieces");
-    }
-    for kind in [
-        ErrorKind::Other,
-        ErrorKind::Interrupted,
-        ErrorKind::WouldBlock,
-    ] {
-        for given in [b"".as_slice(), b"n", script.as_bytes()] {
-            let ran = enacted_from(alloc, given, 7, Some(kind));
-            check_ran(&rt, &ran, (1, "", "distnode: ReadFailed\n"), "a read");
-        }
-    }
-    Ok(())
+    let ran = enacted_from(alloc, script.as_bytes(), piece, None);
+    Some(has_left(&ran, (0, printed.as_str(), "")))
 }
 
-// Enacts a script where the output has room for so many bytes and cannot be flushed, and answers what was written.
-fn written<A: Abort>(rt: &A, alloc: Global, script: &[u8], room: usize) -> Vec<u8> {
+// Whether a read is told that fails behind this text.
+fn is_failed_read_told(alloc: Global, given: &str, kind: ErrorKind) -> Option<bool> {
+    let given = expanded(alloc, given)?;
+    let ran = enacted_from(alloc, given.as_bytes(), 7, Some(kind));
+    Some(has_left(&ran, (1, "", "distnode: ReadFailed\n")))
+}
+
+#[test]
+fn a_script_comes_in_any_pieces_and_a_read_that_fails_is_told(rt: HostRuntime) {
+    let alloc = rt.alloc();
+    for piece in [1usize, 2, 3, 64, 5000] {
+        assert!(rt; is_enacted_in(alloc, piece) == Some(true), "{piece}");
+    }
+    for given in ["", "n", SCRIPT] {
+        for kind in [
+            ErrorKind::Other,
+            ErrorKind::Interrupted,
+            ErrorKind::WouldBlock,
+        ] {
+            let told = is_failed_read_told(alloc, given, kind);
+            assert!(rt; told == Some(true), "{kind:?} behind {given}");
+        }
+    }
+}
+
+// Enacts a script where the output has room for so many bytes and cannot be flushed. What was written, where that is told.
+fn written(alloc: Global, script: &[u8], room: usize) -> Option<Vec<u8>> {
     let mut out = Sink::new(alloc, room);
     let mut err = Vec::new(alloc);
     let mut input = script;
     let status = dist_play::enact(alloc, &mut input, &mut out, &mut err);
-    assert_eq!(rt; text_of(&err), "distnode: WriteFailed\n", "room for {room}");
-    assert_eq!(rt; status, 1, "room for {room}");
-    out.taken
+    if status == 1 && text_of(&err) == "distnode: WriteFailed\n" {
+        Some(out.taken)
+    } else {
+        None
+    }
+}
+
+// Whether what was written is the beginning of what is printed.
+fn is_beginning_written(alloc: Global, room: usize) -> Option<bool> {
+    let script = expanded(alloc, SCRIPT)?;
+    let printed = expanded(alloc, PRINTED)?;
+    let taken = written(alloc, script.as_bytes(), room)?;
+    Some(printed.as_bytes().starts_with(&taken))
+}
+
+// More than a buffer holds is written, so that a write fails while the script is enacted. How much was written.
+fn written_of_many(alloc: Global) -> Option<usize> {
+    let mut script = expanded(alloc, "{b}\n")?;
+    for _ in 0..1000 {
+        script.push_str("incoming 1\n").ok()?;
+    }
+    Some(written(alloc, script.as_bytes(), 100)?.len())
 }
 
 #[test]
-fn a_write_that_fails_is_told_and_what_was_written_is_the_beginning(
-    rt: HostRuntime,
-) -> Result<(), Fail> {
+fn a_write_that_fails_is_told_and_what_was_written_is_the_beginning(rt: HostRuntime) {
     let alloc = rt.alloc();
-    let script = expanded(alloc, SCRIPT)?;
-    let printed = expanded(alloc, PRINTED)?;
-    for room in [0, 1, 30, 5000] {
-        let taken = written(&rt, alloc, script.as_bytes(), room);
-        assert!(rt; printed.as_bytes().starts_with(&taken), "room for {room}");
+    for room in [0usize, 1, 30, 5000] {
+        let begins = is_beginning_written(alloc, room);
+        assert!(rt; begins == Some(true), "room for {room}");
     }
-
-    // More than a buffer holds is written, so that a write fails while the script is enacted.
-    let mut script = expanded(alloc, "{b}\n")?;
-    for _ in 0..1000 {
-        script.push_str("incoming 1\n")?;
-    }
-    let taken = written(&rt, alloc, script.as_bytes(), 100);
-    assert_eq!(rt; taken.len(), 100);
-    Ok(())
+    assert_eq!(rt; written_of_many(alloc), Some(100));
 }
 
 #[test]
@@ -138,49 +156,5 @@ fn a_status_is_answered_also_where_it_cannot_be_told(rt: HostRuntime) {
     let mut out = Vec::new(alloc);
     let mut input = b"x".as_slice();
     let status = dist_play::enact(alloc, &mut input, &mut out, &mut Sink::new(alloc, 0));
-    assert_eq!(rt; status, 2);
-    assert_eq!(rt; text_of(&out), "");
-}
-
-#[test]
-fn a_cookie_is_not_told_where_a_read_or_a_write_fails(rt: HostRuntime) -> Result<(), Fail> {
-    let alloc = rt.alloc();
-    let (mut out, mut err) = (Vec::new(alloc), Vec::new(alloc));
-    let mut file = Source {
-        rest: b"ABC",
-        piece: 2,
-        fault: Some(ErrorKind::Other),
-    };
-    let status = crate::cookie::cookie(alloc, &mut file, 0, &mut out, &mut err);
-    let ran = Ran { status, out, err };
-    check_ran(&rt, &ran, (1, "", "distnode: ReadFailed\n"), "a read");
-
-    for room in [0, 5000] {
-        let mut err = Vec::new(alloc);
-        let mut file = b"ABC".as_slice();
-        let mut full = Sink::new(alloc, room);
-        let status = crate::cookie::cookie(alloc, &mut file, 0, &mut full, &mut err);
-        assert_eq!(rt; text_of(&err), "distnode: WriteFailed\n", "room for {room}");
-        assert_eq!(rt; status, 1, "room for {room}");
-    }
-    Ok(())
-}
-
-#[test]
-fn names_that_cannot_be_written_are_a_failed_write(rt: HostRuntime) -> Result<(), Fail> {
-    let alloc = rt.alloc();
-    for room in [7, 5000] {
-        let mut full = Sink::new(alloc, room);
-        let mut err = Vec::new(alloc);
-        let heard = Vec::from_slice(alloc, b"\x00\x00\x11\x11name a at port 9001\n")?;
-        let mut stream = FaultStream::new(alloc, heard);
-        let status = crate::names::names(alloc, &mut stream, &mut full, &mut err);
-        assert_eq!(rt; text_of(&err), "distnode: WriteFailed\n", "room for {room}");
-        assert_eq!(rt; status, 1, "room for {room}");
-        assert!(rt;
-            text_of(&full.taken).starts_with("name a "),
-            "room for {room}"
-        );
-    }
-    Ok(())
+    assert_eq!(rt; (status, text_of(&out)), (2, ""));
 }

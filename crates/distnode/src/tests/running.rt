@@ -3,9 +3,13 @@
 use super::*;
 use crate::run::{run_file, run_nodes};
 use dist_locked::{Gate, Moment, Open};
+use std::net::{Net, TcpListener, TcpStream};
+use std::random::RandomSource;
+use std::sync::Wait;
 use std::sync::atomic::{AtomicBool, Ordering};
+use std::thread;
+use std::thread::Threads;
 use std::time::{Clock, Duration};
-use std::{str, thread};
 
 const TWO_NODES: &str = "[[node]]
 name = \"a@127.0.0.1\"
@@ -58,24 +62,59 @@ fn wanted_of(kind: &str) -> (u8, &'static str, &'static str) {
 }
 
 // The nodes file with another text in the place of one.
-fn changed(alloc: Global, old: &str, new: &str) -> Result<String, AllocError> {
-    let old = old.replace(alloc, ';', "\n")?;
-    let new = new.replace(alloc, ';', "\n")?;
-    TWO_NODES.replacen(alloc, old.as_str(), new.as_str(), 1)
+fn changed(alloc: Global, old: &str, new: &str) -> Option<String> {
+    let old = old.replace(alloc, ';', "\n").ok()?;
+    let new = new.replace(alloc, ';', "\n").ok()?;
+    let file = TWO_NODES.replacen(alloc, old.as_str(), new.as_str(), 1);
+    file.ok()
+}
+
+fn changed_by(alloc: Global, change: &str) -> Option<String> {
+    let (old, new) = change.split_once(" -> ")?;
+    changed(alloc, old, new)
+}
+
+// Runs the nodes of a text.
+fn ran<R>(rt: &R, alloc: Global, text: &str) -> Ran
+where
+    R: Net<Listener = TcpListener, Stream = TcpStream>
+        + Threads
+        + Wait
+        + Clock
+        + RandomSource
+        + Sync,
+{
+    let (mut out, mut err) = (Vec::new(alloc), Vec::new(alloc));
+    let status = run_nodes(rt, alloc, text, &Open, &mut out, &mut err);
+    Ran { status, out, err }
 }
 
 #[test]
 fn two_nodes_on_loopback(rt: HostRuntime) -> Result<(), Fail> {
     let alloc = rt.alloc();
     for row in RUNS.lines().skip(1) {
-        let (front, kind) = row.rsplit_once(" -> ").ok_or("a row without an end")?;
-        let (old, new) = front.split_once(" -> ").ok_or("a row without a text")?;
-        let text = changed(alloc, old, new)?;
-        let (mut out, mut err) = (Vec::new(alloc), Vec::new(alloc));
-        let status = run_nodes(&rt, alloc, text.as_str(), &Open, &mut out, &mut err);
-        check_ran(&rt, &Ran { status, out, err }, wanted_of(kind), new);
+        let (change, kind) = row.rsplit_once(" -> ").unwrap_or((row, "no kind"));
+        let text = changed_by(alloc, change).ok_or("no memory")?;
+        let ran = ran(&rt, alloc, text.as_str());
+        let (out, err) = (text_of(&ran.out), text_of(&ran.err));
+        assert_eq!(rt; (ran.status, out, err), wanted_of(kind), "{row}");
     }
     Ok(())
+}
+
+// Runs the nodes of a file.
+fn ran_file<R>(rt: &R, alloc: Global, mut file: &[u8]) -> Ran
+where
+    R: Net<Listener = TcpListener, Stream = TcpStream>
+        + Threads
+        + Wait
+        + Clock
+        + RandomSource
+        + Sync,
+{
+    let (mut out, mut err) = (Vec::new(alloc), Vec::new(alloc));
+    let status = run_file(rt, alloc, &mut file, &mut out, &mut err);
+    Ran { status, out, err }
 }
 
 #[test]
@@ -83,10 +122,8 @@ fn a_nodes_file_is_text_of_a_mebibyte_at_most(rt: HostRuntime) -> Result<(), Fai
     let alloc = rt.alloc();
     let long = "#".repeat(alloc, 1_048_577)?;
     for bytes in [b"\xff".as_slice(), long.as_bytes()] {
-        let (mut out, mut err) = (Vec::new(alloc), Vec::new(alloc));
-        let mut file = bytes;
-        let status = run_file(&rt, alloc, &mut file, &mut out, &mut err);
-        check_ran(&rt, &Ran { status, out, err }, (2, "", BAD), "a file");
+        let ran = ran_file(&rt, alloc, bytes);
+        assert!(rt; has_left(&ran, (2, "", BAD)), "{} bytes", bytes.len());
     }
     Ok(())
 }
@@ -152,8 +189,14 @@ node d@127.0.0.1 running 4
 c@127.0.0.1 up 0 common 0000000101000104 creation 3
 ";
 
+// Which of the two connections is number 0 is the schedule's.
+fn is_either_order(printed: &str) -> bool {
+    let agreed = printed.lines().filter(|line| line.starts_with("agree "));
+    printed.starts_with(FOUR_TABLES) && printed.ends_with("audit holds\n") && agreed.count() == 2
+}
+
 #[test]
-fn gated_workers(rt: HostRuntime) -> Result<(), Fail> {
+fn gated_workers(rt: HostRuntime) {
     let alloc = rt.alloc();
     let (mut out, mut err) = (Vec::new(alloc), Vec::new(alloc));
     let gate = Held {
@@ -162,16 +205,7 @@ fn gated_workers(rt: HostRuntime) -> Result<(), Fail> {
         second_passed: AtomicBool::new(false),
     };
     let status = run_nodes(&rt, alloc, FOUR_NODES, &gate, &mut out, &mut err);
-    assert_eq!(rt; status, 0);
-    assert!(rt; err.is_empty());
-    // Which of the two connections is number 0 is the schedule's.
-    let printed = str::from_utf8(&out).unwrap_or("");
-    assert!(rt; printed.starts_with(FOUR_TABLES), "both orders: {printed}");
-    assert!(rt;
-        printed.ends_with("audit holds\n"),
-        "both orders: {printed}"
-    );
-    let agreed = printed.lines().filter(|line| line.starts_with("agree "));
-    assert_eq!(rt; agreed.count(), 2);
-    Ok(())
+    assert_eq!(rt; (status, text_of(&err)), (0, ""));
+    let printed = text_of(&out);
+    assert!(rt; is_either_order(printed), "both orders: {printed}");
 }

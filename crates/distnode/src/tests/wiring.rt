@@ -26,39 +26,25 @@ where
 }
 
 #[test]
-fn a_cookie_file_and_a_challenge_arrive(rt: HostRuntime) -> Result<(), Fail> {
+fn a_cookie_file_and_a_challenge_arrive(rt: HostRuntime) {
     let file = "cookie_of_the_wiring_test";
-    fs::write(&rt, file, "ABC\n")?;
-    let found = followed(
-        &rt,
-        &rt,
-        Order::Cookie {
-            file,
-            challenge: 99,
-        },
-    );
-    fs::remove_file(&rt, file)?;
+    let challenge = 99;
+    assert!(rt; fs::write(&rt, file, "ABC\n").is_ok(), "writing");
+    let found = followed(&rt, &rt, Order::Cookie { file, challenge });
+    assert!(rt; fs::remove_file(&rt, file).is_ok(), "removing");
     let printed = "cookie of 3 bytes, digest of 99 is 34320ccb783a06babb85278b46ed8cc9\n";
-    check_ran(&rt, &found, (0, printed, ""), "a file");
-    let absent = followed(
-        &rt,
-        &rt,
-        Order::Cookie {
-            file,
-            challenge: 99,
-        },
+    assert!(rt; has_left(&found, (0, printed, "")), "a file");
+    let absent = followed(&rt, &rt, Order::Cookie { file, challenge });
+    assert!(rt;
+        has_left(&absent, (1, "", "distnode: OpenFailed\n")),
+        "no file"
     );
-    check_ran(&rt, &absent, (1, "", "distnode: OpenFailed\n"), "no file");
-    let folder = followed(
-        &rt,
-        &rt,
-        Order::Cookie {
-            file: ".",
-            challenge: 0,
-        },
+    let (file, challenge) = (".", 0);
+    let folder = followed(&rt, &rt, Order::Cookie { file, challenge });
+    assert!(rt;
+        has_left(&folder, (1, "", "distnode: ReadFailed\n")),
+        "a folder"
     );
-    check_ran(&rt, &folder, (1, "", "distnode: ReadFailed\n"), "a folder");
-    Ok(())
 }
 
 // Takes one connection, and answers its question as a port mapper that knows one node.
@@ -79,11 +65,17 @@ fn names_are_asked_at_the_port_that_is_given(rt: HostRuntime) -> Result<(), Fail
         || followed(&rt, &rt, Order::Names { port }),
     );
     assert!(rt; served.is_ok());
-    check_ran(&rt, &answered, (0, "name a at port 9001\n", ""), "served");
+    assert!(rt;
+        has_left(&answered, (0, "name a at port 9001\n", "")),
+        "served"
+    );
 
     // Nobody listens there any more.
     drop(listener);
     let alone = followed(&rt, &rt, Order::Names { port });
-    check_ran(&rt, &alone, (1, "", "distnode: ConnectFailed\n"), "alone");
+    assert!(rt;
+        has_left(&alone, (1, "", "distnode: ConnectFailed\n")),
+        "alone"
+    );
     Ok(())
 }

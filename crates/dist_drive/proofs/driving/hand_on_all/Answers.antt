@@ -8,25 +8,26 @@ use Rattle.dist_drive.proofs.driving.hand_on_all.Goals as goal
 
 pub returns-in_err-body-clause-ends : goal.returns-in_err-body-clause-ends
 returns-in_err-body-clause-ends g c =
-    let P = EndsSo g.D.Desk.list g.D.Desk.stands g.D.Desk.refuses g.W.Draws.gives c.args.end_ (g.S.Stream.meaning c.args.stream.now) (g.S.Stream.meaning c.loop-body.stream) c.args.turns.now c.args.desk.now c.loop-body.desk c.args.draws.now c.args.frames.now in
+    let P = EndsSo g.D.Desk.list g.D.Desk.stands g.D.Desk.refuses g.W.Draws.gives c.args.end_ (g.S.Stream.meaning c.args.limited.now.stream.now) (g.S.Stream.meaning c.loop-body.limited.stream.now) c.args.limited.now.left c.args.desk.now c.loop-body.desk c.args.draws.now c.args.frames.now in
     at_err P c.from_residual.result c.in_err-body.field-0.0 c.from_residual.ensures.1
-    (subst P (sym c.in_err-body.ensures.err.0) (lacks_so (record { fed_on = c.fed_and_moved.ensures.fed; moved_on = c.fed_and_moved.ensures.moved; bodies_are = c.fed_and_moved.ensures.bodies }) g.D.Desk.list g.D.Desk.stands g.D.Desk.refuses g.W.Draws.gives c.args.end_ _ _ _ c.loop-body.turns c.args.desk.now c.loop-body.desk _ c.loop-body.draws _ c.loop-body.frames c.loop-body.invariant.runs))
+    (subst P (sym c.in_err-body.ensures.err.0) (lacks_so (record { fed_on = c.fed_and_moved.ensures.fed; moved_on = c.fed_and_moved.ensures.moved; bodies_are = c.fed_and_moved.ensures.bodies }) g.D.Desk.list g.D.Desk.stands g.D.Desk.refuses g.W.Draws.gives c.args.end_ _ _ _ c.loop-body.limited.left c.args.desk.now c.loop-body.desk _ c.loop-body.draws _ c.loop-body.frames c.loop-body.invariant.runs))
 
 pub returns-in_err-hand_on-clause-ends : goal.returns-in_err-hand_on-clause-ends
 returns-in_err-hand_on-clause-ends g c =
-    let P = EndsSo g.D.Desk.list g.D.Desk.stands g.D.Desk.refuses g.W.Draws.gives c.args.end_ (g.S.Stream.meaning c.args.stream.now) (g.S.Stream.meaning c.hand_on.new.stream) c.args.turns.now c.args.desk.now c.hand_on.new.desk c.args.draws.now c.args.frames.now in
+    let P = EndsSo g.D.Desk.list g.D.Desk.stands g.D.Desk.refuses g.W.Draws.gives c.args.end_ (g.S.Stream.meaning c.args.limited.now.stream.now) (g.S.Stream.meaning c.hand_on.new.limited.stream.now) c.args.limited.now.left c.args.desk.now c.hand_on.new.desk c.args.draws.now c.args.frames.now in
     at_err P c.from_residual-in_err-hand_on.result c.in_err-hand_on.field-0.0 c.from_residual-in_err-hand_on.ensures.1
-    (stops_so (record { fed_on = c.fed_and_moved.ensures.fed; moved_on = c.fed_and_moved.ensures.moved; bodies_are = c.fed_and_moved.ensures.bodies }) g.D.Desk.list g.D.Desk.stands g.D.Desk.refuses g.W.Draws.gives c.args.end_ _ (g.S.Stream.meaning c.loop-body.stream) _ _ c.loop-body.turns c.hand_on.new.turns c.args.desk.now c.loop-body.desk c.hand_on.new.desk _ c.loop-body.draws c.hand_on.new.draws _ c.loop-body.frames c.in-Some.body c.in_err-hand_on.field-0.0 c.loop-body.invariant.runs (sym c.in_ok-body.ensures.next.0 ∙ c.in-Some.is) c.in_err-hand_on.ensures.hands)
+    (stops_so (record { fed_on = c.fed_and_moved.ensures.fed; moved_on = c.fed_and_moved.ensures.moved; bodies_are = c.fed_and_moved.ensures.bodies }) g.D.Desk.list g.D.Desk.stands g.D.Desk.refuses g.W.Draws.gives c.args.end_ _ (g.S.Stream.meaning c.loop-body.limited.stream.now) _ _ c.loop-body.limited.left c.hand_on.new.limited.left c.args.desk.now c.loop-body.desk c.hand_on.new.desk _ c.loop-body.draws c.hand_on.new.draws _ c.loop-body.frames c.in-Some.body c.in_err-hand_on.field-0.0 c.loop-body.invariant.runs (sym c.in_ok-body.ensures.next.0 ∙ c.in-Some.is) c.in_err-hand_on.ensures.hands)
 
 pub loop-body-preserved-then-branch : goal.loop-body-preserved-then-branch
 loop-body-preserved-then-branch g c =
     let up = c.in_ok-hand_on.field-0 in
     let after : c.to_linked.new.self ≡ after_step up (without_next c.loop-body.frames) = c.to_linked.ensures ∙ ap linked c.in_ok-body.ensures.next.1 ∙ ap (λ b. after_step b (without_next c.loop-body.frames)) (sym c.if-branch.true) in
     record {
-      runs = moves_so (record { fed_on = c.fed_and_moved.ensures.fed; moved_on = c.fed_and_moved.ensures.moved; bodies_are = c.fed_and_moved.ensures.bodies }) g.D.Desk.list g.D.Desk.refuses g.W.Draws.gives c.args.end_ _ (g.S.Stream.meaning c.loop-body.stream) _ _ c.loop-body.turns c.hand_on.new.turns c.args.desk.now c.loop-body.desk c.hand_on.new.desk _ c.loop-body.draws c.hand_on.new.draws _ c.loop-body.frames c.to_linked.new.self c.in-Some.body up c.loop-body.invariant.runs (sym c.in_ok-body.ensures.next.0 ∙ c.in-Some.is) c.in_ok-hand_on.ensures.hands after;
+      runs = moves_so (record { fed_on = c.fed_and_moved.ensures.fed; moved_on = c.fed_and_moved.ensures.moved; bodies_are = c.fed_and_moved.ensures.bodies }) g.D.Desk.list g.D.Desk.refuses g.W.Draws.gives c.args.end_ _ (g.S.Stream.meaning c.loop-body.limited.stream.now) _ _ c.loop-body.limited.left c.hand_on.new.limited.left c.args.desk.now c.loop-body.desk c.hand_on.new.desk _ c.loop-body.draws c.hand_on.new.draws _ c.loop-body.frames c.to_linked.new.self c.in-Some.body up c.loop-body.invariant.runs (sym c.in_ok-body.ensures.next.0 ∙ c.in-Some.is) c.in_ok-hand_on.ensures.hands after;
       turns = omega (arith, c.in_ok-hand_on.ensures.turns);
       base = c.in_ok-hand_on.ensures.base.0 ∙ c.loop-body.invariant.base;
       serves = c.in_ok-hand_on.ensures.base.1 ∙ c.loop-body.invariant.serves;
+      loan = c.in_ok-hand_on.ensures.loan ∙ c.loop-body.invariant.loan;
     }
 
 pub loop-body-preserved : goal.loop-body-preserved
@@ -34,8 +35,9 @@ loop-body-preserved g c =
     let up = c.in_ok-hand_on.field-0 in
     let after : c.next_frame.new.frames ≡ after_step up (without_next c.loop-body.frames) = c.in_ok-body.ensures.next.1 ∙ ap (λ b. after_step b (without_next c.loop-body.frames)) (sym c.if-branch.false) in
     record {
-      runs = moves_so (record { fed_on = c.fed_and_moved.ensures.fed; moved_on = c.fed_and_moved.ensures.moved; bodies_are = c.fed_and_moved.ensures.bodies }) g.D.Desk.list g.D.Desk.refuses g.W.Draws.gives c.args.end_ _ (g.S.Stream.meaning c.loop-body.stream) _ _ c.loop-body.turns c.hand_on.new.turns c.args.desk.now c.loop-body.desk c.hand_on.new.desk _ c.loop-body.draws c.hand_on.new.draws _ c.loop-body.frames c.next_frame.new.frames c.in-Some.body up c.loop-body.invariant.runs (sym c.in_ok-body.ensures.next.0 ∙ c.in-Some.is) c.in_ok-hand_on.ensures.hands after;
+      runs = moves_so (record { fed_on = c.fed_and_moved.ensures.fed; moved_on = c.fed_and_moved.ensures.moved; bodies_are = c.fed_and_moved.ensures.bodies }) g.D.Desk.list g.D.Desk.refuses g.W.Draws.gives c.args.end_ _ (g.S.Stream.meaning c.loop-body.limited.stream.now) _ _ c.loop-body.limited.left c.hand_on.new.limited.left c.args.desk.now c.loop-body.desk c.hand_on.new.desk _ c.loop-body.draws c.hand_on.new.draws _ c.loop-body.frames c.next_frame.new.frames c.in-Some.body up c.loop-body.invariant.runs (sym c.in_ok-body.ensures.next.0 ∙ c.in-Some.is) c.in_ok-hand_on.ensures.hands after;
       turns = omega (arith, c.in_ok-hand_on.ensures.turns);
       base = c.in_ok-hand_on.ensures.base.0 ∙ c.loop-body.invariant.base;
       serves = c.in_ok-hand_on.ensures.base.1 ∙ c.loop-body.invariant.serves;
+      loan = c.in_ok-hand_on.ensures.loan ∙ c.loop-body.invariant.loan;
     }

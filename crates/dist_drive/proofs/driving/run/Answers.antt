@@ -1,4 +1,4 @@
-use Rattle.std.proofs.Common.{refl, sym, ap, subst, ◌∙◌}
+use Rattle.std.proofs.Common.{rules, refl, sym, ap, subst, ◌∙◌}
 use Rattle.dist_frames.specs.Reader.{Reader, to_come}
 use Rattle.dist_drive.specs.declared.outcome.Ending.{Ending}
 use Rattle.dist_drive.specs.Driven.{Carries}
@@ -8,19 +8,23 @@ use Rattle.dist_drive.proofs.driving.run.Goals as goal
 
 pub returns-in-Err-clause-carries : goal.returns-in-Err-clause-carries
 returns-in-Err-clause-carries g c =
-    let P : Ending → Type 0 = λ e. Carries g.D.Desk.list g.D.Desk.stands g.D.Desk.refuses g.W.Draws.gives c.args.end_ c.args.first.now c.args.limit (g.S.Stream.meaning c.args.stream.now) (g.S.Stream.meaning c.write_all.new.stream) (g.D.Desk.list c.args.desk.now) c.args.desk.now c.args.draws.now e in
-    subst P (sym c.ending_of_stream.ensures) (first_cut g.D.Desk.list g.D.Desk.stands g.D.Desk.refuses g.W.Draws.gives c.args.end_ c.args.first.now c.args.limit c.write_all.new.turns _ _ c.args.desk.now c.args.draws.now c.in-Err.error c.in-Err.ensures)
+    let P : Ending → Type 0 = λ e. Carries g.D.Desk.list g.D.Desk.stands g.D.Desk.refuses g.W.Draws.gives c.args.end_ c.args.first.now c.args.limit (g.S.Stream.meaning c.args.stream.now) (g.S.Stream.meaning c.write_all.new.self.stream.now) (g.D.Desk.list c.args.desk.now) c.args.desk.now c.args.draws.now e in
+    let cut = subst P (sym c.ending_of_stream.ensures) (first_cut g.D.Desk.list g.D.Desk.stands g.D.Desk.refuses g.W.Draws.gives c.args.end_ c.args.first.now c.args.limit c.write_all.new.self.left _ _ c.args.desk.now c.args.draws.now c.in-Err.error c.in-Err.ensures.says) in
+    subst (λ s. Carries g.D.Desk.list g.D.Desk.stands g.D.Desk.refuses g.W.Draws.gives c.args.end_ c.args.first.now c.args.limit (g.S.Stream.meaning c.args.stream.now) (g.S.Stream.meaning s) (g.D.Desk.list c.args.desk.now) c.args.desk.now c.args.draws.now c.ending_of_stream.result) (search rules) cut
 
 pub loop-ending-init : goal.loop-ending-init
 loop-ending-init g c =
     let start : Start g.row.W.Denot = record { end_ = c.args.end_; first = c.args.first.now; limit = c.args.limit; stream = g.S.Stream.meaning c.args.stream.now; list = g.D.Desk.list c.args.desk.now; draws = c.args.draws.now } in
     record {
-      runs = subst (λ (r : Reader). Runs g.W.Draws.gives start (g.S.Stream.meaning c.write_all.new.stream) c.write_all.new.turns (g.D.Desk.list c.args.desk.now) c.args.draws.now r) (sym c.new-frames.ensures)
-          (begins_so c.fed_and_moved.ensures.none g.W.Draws.gives c.args.end_ c.args.first.now c.args.limit c.write_all.new.turns _ _ (g.D.Desk.list c.args.desk.now) c.args.draws.now c.in_default.ensures);
+      runs = subst (λ (r : Reader). Runs g.W.Draws.gives start (g.S.Stream.meaning c.write_all.new.self.stream.now) c.write_all.new.self.left (g.D.Desk.list c.args.desk.now) c.args.draws.now r) (sym c.new-frames.ensures)
+          (begins_so c.fed_and_moved.ensures.none g.W.Draws.gives c.args.end_ c.args.first.now c.args.limit c.write_all.new.self.left _ _ (g.D.Desk.list c.args.desk.now) c.args.draws.now c.in_default.ensures.says);
       none = ap to_come c.new-frames.ensures ∙ c.bodies_of_stream.ensures.none;
       base = refl;
       serves = refl;
+      loan = refl;
     }
 
 pub returns-in-Err-turn-clause-carries : goal.returns-in-Err-turn-clause-carries
-returns-in-Err-turn-clause-carries g c = c.in-Err-turn.ensures.ends c.loop-ending.invariant.none _ refl c.loop-ending.invariant.runs
+returns-in-Err-turn-clause-carries g c =
+    let carried = c.in-Err-turn.ensures.ends c.loop-ending.invariant.none _ refl c.loop-ending.invariant.runs in
+    subst (λ s. Carries g.D.Desk.list g.D.Desk.stands g.D.Desk.refuses g.W.Draws.gives c.args.end_ c.args.first.now c.args.limit (g.S.Stream.meaning c.args.stream.now) (g.S.Stream.meaning s) (g.D.Desk.list c.args.desk.now) c.turn.new.desk c.args.draws.now c.in-Err-turn.ending) (search rules) carried

@@ -1,0 +1,19 @@
+//! A node with the history of its steps, and receipts for them: so that what each caller did can be compared with what the
+//! node went through.
+//!
+//! A book has the lines of all steps that succeeded, and their replay from the opening node of the setup gives the node and
+//! each reply. Each caller has a seat, and each step gives the seat a receipt. At the end `close` compares the receipts with
+//! the book.
+//!
+//! It knows no lock, no thread and no socket, and draws no tickets: whoever hands them in sees to it that they rise.
+#![tactic(auto)]
+
+mod book;
+mod closing;
+mod line;
+mod seat;
+
+pub use book::{Book, step_on};
+pub use closing::{CloseError, Closed, close};
+pub use line::{Line, Receipt};
+pub use seat::{Seat, fresh_seats};

@@ -1,0 +1,57 @@
+-- What the clauses of a step say: which end an event names, what a loss is told, and what may close an end that is up.
+use Rattle.std.specs.Prelude.{◌≡◌, ℕ, true, List, Some, Ok, slice_get, Option, None, []}
+use Rattle.dist_messages.specs.Reading.{read}
+use Rattle.dist_messages.specs.declared.message.Side.TheVariants.{Dialler}
+use Rattle.dist_messages.specs.declared.message.Message.TheVariants as message
+use Rattle.dist_peers.specs.declared.entry.EndId.{EndId}
+use Rattle.dist_ends.specs.declared.why.Why.{Why}
+use Rattle.dist_ends.specs.declared.known.Attempt.{Attempt}
+use Rattle.dist_ends.specs.declared.known.UpRecord.{UpRecord}
+use Rattle.dist_ends.specs.declared.known.End.{End}
+use Rattle.dist_ends.specs.declared.known.End.TheVariants as ends
+use Rattle.dist_setup.specs.Rules.{own_digest, same_bytes}
+use Rattle.dist_core.specs.declared.event.Event.{Event}
+use Rattle.dist_core.specs.declared.event.Event.TheVariants as event
+use Rattle.dist_core.specs.declared.reply.Reply.{Reply}
+use Rattle.dist_core.specs.declared.reply.Note.TheVariants as note
+use Rattle.dist_core.specs.declared.effect.Effect.{Effect}
+use Rattle.dist_core.specs.Node.{NodeState}
+use Rattle.dist_core.specs.Step.{effect_of}
+
+-- the event is a reply that bears the digest of the own cookie and the challenge of the end on which it came
+pub record IsRightReply (n : NodeState) (v : Event) : Type 0 where
+  pub id : EndId
+  pub body : List ℕ
+  pub attempt : Attempt
+  pub challenge : ℕ
+  pub digest : List ℕ
+  pub came : v ≡ event.Frame id body
+  pub at_ : slice_get n.ends id.0 ≡ Some (ends.Attempt attempt)
+  pub says : read Dialler body ≡ Ok (message.Reply challenge digest)
+  pub right : same_bytes digest (own_digest n.setup attempt.peer attempt.challenge) ≡ true
+
+-- another end that was up changes only on a right reply
+abbrev pub ReplacesOnReply : NodeState → Type 0
+ReplacesOnReply n = (v : Event) (fresh : ℕ) (f : Effect) (x : EndId) (s : End) (r : UpRecord) → effect_of n v fresh ≡ Ok f → f.other ≡ Some (x, s) → slice_get n.ends x.0 ≡ Some (ends.Up r) → IsRightReply n v
+
+-- the event is a frame
+abbrev pub IsFrame : Event → Type 0
+IsFrame (event.Frame id body) = Unit {0}
+IsFrame v = ⊥
+
+-- where the event is a frame, the reply tells an end that was up as closed only if it is a right reply
+abbrev pub ClosesOnReply : NodeState → Event → Reply → Type 0
+ClosesOnReply n v r = (x : EndId) (w : Why) (kept : UpRecord) → IsFrame v → r.closed ≡ Some (x, w) → slice_get n.ends x.0 ≡ Some (ends.Up kept) → IsRightReply n v
+
+-- the end that an event names
+abbrev pub end_of : Event → Option EndId
+end_of (event.Dial p o) = None
+end_of (event.Opened x link) = Some x
+end_of (event.Incoming link) = None
+end_of (event.Frame x body) = Some x
+end_of (event.Lost x w) = Some x
+end_of (event.Tick x) = Some x
+
+-- what is answered to a loss
+abbrev pub loss_reply : EndId → Why → Reply
+loss_reply x w = record { end_ = x; say = []; closed = Some (x, w); up = None; note = note.Nothing }

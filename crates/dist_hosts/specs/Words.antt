@@ -1,0 +1,26 @@
+-- The words by which the end of a run, and an order that was not followed, are told.
+use Rattle.std.specs.Prelude.{ℕ, List, codes}
+use Rattle.dist_core.specs.Words.{refusal_name}
+use Rattle.dist_mapper.specs.Refusals.{error_name}
+use Rattle.dist_books.specs.declared.closing.CloseError.TheVariants as closing
+use Rattle.dist_hosts.specs.declared.order_fault.OrderRefusal.{OrderRefusal}
+use Rattle.dist_hosts.specs.declared.order_fault.OrderRefusal.TheVariants as refusal
+use Rattle.dist_hosts.specs.declared.run_error.RunError.{RunError}
+use Rattle.dist_hosts.specs.declared.run_error.RunError.TheVariants as run
+
+-- the word of what ended a run: that of a refusal, or of what the system did not give
+abbrev pub run_error_name : RunError → List ℕ
+run_error_name run.NoRandomBytes = codes "ReadFailed"
+run_error_name run.ListenFailed = codes "ListenFailed"
+run_error_name run.ConnectFailed = codes "ConnectFailed"
+run_error_name (run.NotRegistered e) = error_name e
+run_error_name run.ThreadFailed = codes "ThreadFailed"
+run_error_name (run.NotClosed closing.MissingSeat) = codes "MissingSeat"
+run_error_name (run.NotClosed closing.ReceiptAbsent) = codes "ReceiptAbsent"
+run_error_name run.NoMemory = codes "NoMemory"
+
+-- the word of why an order made no step
+abbrev pub order_refusal_name : OrderRefusal → List ℕ
+order_refusal_name refusal.NoRegistry = codes "NoRegistry"
+order_refusal_name (refusal.Lookup e) = error_name e
+order_refusal_name (refusal.Step e) = refusal_name e

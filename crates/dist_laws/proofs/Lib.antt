@@ -1,0 +1,9 @@
+pub mod Legal
+pub mod Others
+pub mod OpenCounts
+pub mod Constant
+pub mod Rises
+pub mod Succeeding
+pub mod Crossings
+pub mod Doomed
+pub mod Answering
