@@ -1,3 +1,4 @@
+use Rattle.std.proofs.Common.{rules}
 use Rattle.dist_audit.specs.Happenings.{setups_of}
 use Rattle.dist_audit.proofs.Walking.{all-apply}
 use Rattle.dist_audit.proofs.Beginning.{all-begin}
@@ -14,3 +15,6 @@ returns-clause-bodies c = all-take-theirs (record { front = c.frame_in_front.ens
 
 pub returns-clause-links : goal.returns-clause-links
 returns-clause-links c = all-come-home c.args.closed.now (links-paired c.args.closed.now c.in_ok-world.ensures.faultless) c.in_ok-play.ensures.one_world
+
+pub returns-clause-world : goal.returns-clause-world
+returns-clause-world c = search rules

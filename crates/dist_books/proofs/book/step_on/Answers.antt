@@ -1,4 +1,4 @@
-use Rattle.std.proofs.Common.{◌≡◌, Ok, sym, subst}
+use Rattle.std.proofs.Common.{◌≡◌, Ok, sym, subst, rules}
 use Rattle.dist_core.specs.Step.{step}
 use Rattle.dist_books.specs.declared.line.Line.{Line}
 use Rattle.dist_books.specs.History.{IsLegal}
@@ -10,3 +10,6 @@ returns-clause-answered c =
     let m = c.enter.new.self.node in
     let P : Line → Type 0 = λ l. step b.node l.event l.fresh ≡ Ok (l.reply, m) in
     (b, m, subst IsLegal c.book.view_is c.book.invariant.0, c.in_ok-at_.ensures.at_end, subst P (sym c.in_ok-line.ensures.same.0) c.in_ok-at_.ensures.step)
+
+pub returns-clause-receipt : goal.returns-clause-receipt
+returns-clause-receipt c = search rules

@@ -1,4 +1,5 @@
-use Rattle.std.proofs.Common.{◌≡◌, ◌↔◌, IsTrue, List, length, nat_eq, subst}
+use Rattle.std.proofs.lemmas.Grind.{common_steps}
+use Rattle.std.proofs.Common.{◌≡◌, ◌↔◌, IsTrue, List, length, nat_eq, subst, arith}
 use Rattle.dist_books.specs.declared.line.Receipt.{Receipt}
 use Rattle.dist_books.specs.Closing.{receipts_of}
 use Rattle.dist_books.proofs.Closings.{all_seen}
@@ -11,3 +12,6 @@ returns c =
     let next = c.loop-place.next in
     let P : List Receipt → Type 0 = λ l. IsTrue (nat_eq next (length list)) ↔ (l ≡ receipts_of number 0 c.args.history.now) in
     subst P c.receipts-list.ensures.list (all_seen list number next c.loop-place.place c.args.history.now c.loop-place.invariant.0 c.loop-place-test.false c.loop-place.invariant.1)
+
+pub loop-place-preserved : goal.loop-place-preserved
+loop-place-preserved c = grind (arith, common_steps)

@@ -1,4 +1,4 @@
-use Rattle.std.proofs.Common.{sym, subst}
+use Rattle.std.proofs.Common.{sym, subst, rules}
 use Rattle.dist_mapper.specs.Steps.{HearsRequest}
 use Rattle.dist_mapper.proofs.Asks.{told}
 use Rattle.dist_mapper.proofs.Serves.{request_none, request_came}
@@ -9,3 +9,6 @@ returns-in_err-body-clause-hears g c = subst (HearsRequest _ _ _ _) (sym (told c
 
 pub returns-in-Ok-clause-hears : goal.returns-in-Ok-clause-hears
 returns-in-Ok-clause-hears g c = request_came c.in_ok-body.body c.as_slice.result.now c.in-Ok.request c.as_slice.ensures c.in-Ok.ensures.exact c.in_ok-body.ensures.hears
+
+pub returns-clause-hears : goal.returns-clause-hears
+returns-clause-hears c = search rules

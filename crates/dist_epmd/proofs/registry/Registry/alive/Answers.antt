@@ -12,3 +12,9 @@ invariant_of-self-2 c =
     let row : Row = record { conn = c.args.conn; info = c.args.request.now; creation = c.self.inside.next } in
     let rows : values c.put.new.rows ≡ with_row row (values c.self.inside.rows) = search rules in
     (subst (λ (r : List Row). IsLegal (record { port = c.self.inside.port; next = c.self.inside.next + 1; rows = r })) (sym rows) (registered_legal c.args.conn c.args.request.now book c.self.invariant.0 ok), c.put.ensures.names)
+
+pub returns-then-not-accepts-clause-answer : goal.returns-then-not-accepts-clause-answer
+returns-then-not-accepts-clause-answer c = search rules
+
+pub returns-then-not-accepts-clause-after : goal.returns-then-not-accepts-clause-after
+returns-then-not-accepts-clause-after c = search rules

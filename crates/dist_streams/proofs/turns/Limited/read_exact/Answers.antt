@@ -21,3 +21,6 @@ loop-at-preserved g c =
       hears = subst (Hears _ _ _ _ _) (ap (λ l. take from c.loop-at.room ++ l) (sym part) ∙ joined) both;
       loan = search rules;
     }
+
+pub returns-clause-hears : goal.returns-clause-hears
+returns-clause-hears c = search rules

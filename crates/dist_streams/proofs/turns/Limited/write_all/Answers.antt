@@ -12,3 +12,6 @@ loop-at-preserved g c =
       says = subst (Says _ _ _ _ _) (take_more c.loop-at.at c.in_ok-at.field-0 c.args.bytes.now c.loop-at.invariant.at) both;
       loan = search rules;
     }
+
+pub returns-clause-says : goal.returns-clause-says
+returns-clause-says c = search rules

@@ -1,0 +1,5 @@
+use Rattle.std.proofs.Common.{rules}
+use Rattle.dist_audit.proofs.audit_error.AuditError.number.Goals as goal
+
+pub returns-in-TicketTwice : goal.returns-in-TicketTwice
+returns-in-TicketTwice c = search rules

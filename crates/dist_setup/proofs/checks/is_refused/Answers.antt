@@ -1,0 +1,5 @@
+use Rattle.std.proofs.Common.{rules}
+use Rattle.dist_setup.proofs.checks.is_refused.Goals as goal
+
+pub returns-else-not-is_allowed : goal.returns-else-not-is_allowed
+returns-else-not-is_allowed c = search rules
