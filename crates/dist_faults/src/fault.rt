@@ -6,8 +6,8 @@ ghost use Rattle.dist_faults.specs.Fault.{status_of};
 use dist_commands::OrderError;
 use dist_mapper::LookupError;
 use dist_run::RunError;
-use dist_script::ScriptFault;
 use dist_secret::CookieError;
+use dist_words::ScriptFault;
 use std::io::Write;
 use std::{fmt, io};
 

@@ -1,5 +1,6 @@
 //! Writing the messages that have a name. A name of more than 255 bytes is refused before any memory is asked for.
 
+ghost use Rattle.std.specs.Prelude.{◌↔◌, ◌≤◌, length, IsTrue};
 ghost use Rattle.dist_messages.specs.declared.message.Side.TheVariants.{Dialler, Acceptor};
 ghost use Rattle.dist_messages.specs.declared.message.Message.TheVariants as message;
 ghost use Rattle.dist_messages.specs.Answer.{Answers};
@@ -13,10 +14,17 @@ const LONGEST_NAME: usize = 255;
 
 const VERSION: u16 = 5;
 
+// Whether a name is short enough to be written.
+fn fits(name: &[u8]) -> bool
+    ensures { IsTrue result ↔ (length name.now ≤ 255) }
+{
+    name.len() <= LONGEST_NAME
+}
+
 pub fn old_name(alloc: Global, flags: u32, name: &[u8]) -> Result<Vec<u8>, MessageError>
     ensures { Answers (λ v. v.items) result (written Dialler (message.OldName flags name.now)) }
 {
-    if name.len() > LONGEST_NAME {
+    if !fits(name) {
         return Err(MessageError::BadName);
     }
     let mut body = Vec::new(alloc);
@@ -35,7 +43,7 @@ pub fn new_name(
 ) -> Result<Vec<u8>, MessageError>
     ensures { Answers (λ v. v.items) result (written Dialler (message.NewName flags creation name.now)) }
 {
-    if name.len() > LONGEST_NAME {
+    if !fits(name) {
         return Err(MessageError::BadName);
     }
     let mut body = Vec::new(alloc);
@@ -55,7 +63,7 @@ pub fn old_challenge(
 ) -> Result<Vec<u8>, MessageError>
     ensures { Answers (λ v. v.items) result (written Acceptor (message.OldChallenge flags challenge name.now)) }
 {
-    if name.len() > LONGEST_NAME {
+    if !fits(name) {
         return Err(MessageError::BadName);
     }
     let mut body = Vec::new(alloc);
@@ -77,7 +85,7 @@ pub fn new_challenge(
     ensures { Answers (λ v. v.items) result
         (written Acceptor (message.NewChallenge flags challenge creation name.now)) }
 {
-    if name.len() > LONGEST_NAME {
+    if !fits(name) {
         return Err(MessageError::BadName);
     }
     let mut body = Vec::new(alloc);

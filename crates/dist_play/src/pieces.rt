@@ -2,7 +2,7 @@
 
 ghost use Rattle.std.specs.Prelude.{◌≤◌, length};
 
-use dist_script::write_digits;
+use dist_words::write_digits;
 use itoa::Buffer;
 use std::alloc::AllocError;
 use std::io;

@@ -5,7 +5,8 @@ ghost use Rattle.std.specs.Prelude.{◌≤◌};
 use crate::scene::Scene;
 use crate::stage;
 use dist_core::Setup;
-use dist_script::{Line, Script, ScriptFault, read_text, script_of};
+use dist_script::{Line, Script, script_of};
+use dist_words::{ScriptFault, read_text};
 use std::alloc::Global;
 use std::io::{BufWriter, Read, Write};
 

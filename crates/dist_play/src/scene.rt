@@ -10,7 +10,8 @@ use dist_core::{Event, Node, Reply, Setup, StepError, Still};
 use dist_frames::Frames;
 use dist_names::ByteString;
 use dist_peers::EndId;
-use dist_script::{Line, ScriptFault, written};
+use dist_script::Line;
+use dist_words::{ScriptFault, written};
 use std::alloc::Global;
 use std::io::Write;
 

@@ -4,7 +4,7 @@ use crate::pieces::Straight;
 use crate::print;
 use dist_core::{Node, Setup};
 use dist_names::NodeName;
-use dist_script::{ScriptFault, written};
+use dist_words::{ScriptFault, written};
 use dist_world::{Happening, World, WorldError};
 use std::alloc::{AllocError, Global};
 use std::collections::BTreeMap;

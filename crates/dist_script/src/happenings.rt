@@ -2,11 +2,11 @@
 
 ghost use Rattle.std.specs.Prelude.{◌≡◌, drop};
 ghost use Rattle.std.specs.Str.Parse.{digits_value};
-ghost use Rattle.dist_script.specs.Words.{ReadsNext, IsDecimal};
+ghost use Rattle.dist_words.specs.Words.{ReadsNext, IsDecimal};
 
 use crate::lines::{end_word, name_word, number_word, opening_word, why_word};
-use crate::words::{LineFault, Words};
 use dist_names::Creation;
+use dist_words::{LineFault, Words};
 use dist_world::Happening;
 use std::alloc::Global;
 

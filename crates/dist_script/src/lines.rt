@@ -3,15 +3,14 @@
 ghost use Rattle.std.specs.Prelude.{◌≡◌, drop};
 ghost use Rattle.std.specs.Str.Parse.{digits_value};
 ghost use Rattle.dist_names.specs.NodeName.{IsNodeName};
-ghost use Rattle.dist_script.specs.Words.{ReadsNext, IsDecimal};
+ghost use Rattle.dist_words.specs.Words.{ReadsNext, IsDecimal};
 
-use crate::digits::bytes_of;
 use crate::script::Line;
-use crate::words::{LineFault, Words};
 use dist_core::{Event, Opening, Why};
 use dist_names::{NameError, NodeName};
 use dist_numerals::{number_32, number_64};
 use dist_peers::EndId;
+use dist_words::{LineFault, Words, bytes_of};
 use std::alloc::Global;
 
 /// The name that the next word is.

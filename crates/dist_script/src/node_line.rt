@@ -1,15 +1,14 @@
 //! The line of a script that sets the node up.
 
 ghost use Rattle.std.specs.Prelude.{◌≡◌};
-ghost use Rattle.dist_script.specs.Words.{ReadsNext};
-ghost use Rattle.dist_script.specs.Digits.{AreFlags, flags_of};
+ghost use Rattle.dist_words.specs.Words.{ReadsNext};
+ghost use Rattle.dist_words.specs.Digits.{AreFlags, flags_of};
 
-use crate::digits::flags_value;
 use crate::lines::{name_word, number_word};
-use crate::words::{LineFault, Words};
 use dist_core::{NameList, Setup};
 use dist_names::{Creation, Flags};
 use dist_secret::{Cookie, CookieError};
+use dist_words::{LineFault, Words, flags_value};
 use std::alloc::Global;
 
 fn flags_word(words: &mut Words<'_>) -> Result<Flags, LineFault>

@@ -1,18 +1,13 @@
 //! A script: the lines that set nodes up, and the lines of what happens to them.
 
-ghost use Rattle.std.specs.Prelude.{◌≡◌, ◌++◌, ◌∷◌, MatchOption};
-ghost use Rattle.dist_script.specs.Words.{is_skipped};
-
-use crate::fault::ScriptFault;
 use crate::happenings::happening_of;
 use crate::lines::line_of;
 use crate::node_line::setup_of;
-use crate::words::{LineFault, Words};
 use dist_core::{Event, Setup};
 use dist_names::ByteString;
 use dist_peers::EndId;
+use dist_words::{LineFault, ScriptFault, Words, first_line, is_skipped};
 use dist_world::Happening;
-use memchr::memchr;
 use std::alloc::Global;
 
 /// What a line tells the one node of a script.
@@ -113,26 +108,6 @@ fn is_line(alloc: Global, text: &[u8]) -> Result<(), LineFault> {
 fn is_happening(alloc: Global, text: &[u8]) -> Result<(), LineFault> {
     let mut words = Words::new(text);
     happening_of(alloc, words.word()?, &mut words).map(|_| ())
-}
-
-// Whether a line is empty or a comment.
-fn is_skipped(line: &[u8]) -> bool
-    ensures { result ≡ is_skipped line.now }
-{
-    match line {
-        [] => true,
-        [first, ..] => *first == b'#',
-    }
-}
-
-// The first line of a text, and what stands behind the line feed that ends it.
-fn first_line(text: &[u8]) -> (&[u8], Option<&[u8]>)
-    ensures { MatchOption result.1 (result.0.now ≡ text.now) (λ rest. result.0.now ++ 10 ∷ rest.now ≡ text.now) }
-{
-    match memchr(b'\n', text) {
-        Some(place) => (&text[..place], Some(&text[place + 1..])),
-        None => (text, None),
-    }
 }
 
 fn draft_of(alloc: Global, text: &[u8]) -> Result<Draft, ScriptFault> {

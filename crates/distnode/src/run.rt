@@ -8,7 +8,7 @@ use dist_locked::{Closed, Gate, Open};
 use dist_plan::{Plan, PlanError, plan_of};
 use dist_play::{print, print_agreements, print_nodes};
 use dist_run::{OrderFault, Ran, run_plan};
-use dist_script::read_text;
+use dist_words::read_text;
 use dist_world::World;
 use std::alloc::Global;
 use std::io::{BufWriter, Read, Write};

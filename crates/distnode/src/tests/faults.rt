@@ -4,8 +4,8 @@ use super::*;
 use dist_faults::Fault;
 use dist_mapper::LookupError;
 use dist_run::RunError;
-use dist_script::ScriptFault;
 use dist_secret::CookieError;
+use dist_words::ScriptFault;
 
 // Whether a fault is told by this name, and ends with this status.
 fn is_told(alloc: Global, fault: Fault, status: u8, name: &str) -> bool {

@@ -1,0 +1,48 @@
+//! Hexadecimal digits of either case.
+
+ghost use Rattle.std.specs.Prelude.{◌≡◌, ◌≢◌, ◌⊎◌, ◌*◌, length, SomeIff, IfOk, IsErr, []};
+ghost use Rattle.std.specs.Str.Parse.{digits_value};
+ghost use Rattle.hex.specs.Hex.{decode_of, encode_lower};
+ghost use Rattle.dist_words.specs.Digits.{AreFlags};
+
+use crate::words::LineFault;
+use dist_names::ByteString;
+use dist_numerals::number_in;
+use hex::FromHexError;
+use std::alloc::Global;
+
+/// The most digits of flags, which have 64 bits.
+const MOST_DIGITS: usize = 16;
+
+/// The number that 1 to 16 hexadecimal digits write.
+pub fn flags_value(word: &[u8]) -> Option<u64>
+    ensures { SomeIff result (AreFlags word.now) (digits_value 16 word.now) }
+{
+    if word.len() > MOST_DIGITS {
+        return None;
+    }
+    number_in(word, 16)
+}
+
+/// The bytes that an even, positive number of hexadecimal digits write.
+pub fn bytes_of(alloc: Global, word: &[u8]) -> Result<ByteString, LineFault>
+    ensures ok { IfOk result (λ bytes. (decode_of word.now ≡ Ok bytes) × (word.now ≢ [])) }
+    ensures bad { result ≡ Err LineFault.Bad → (word.now ≡ []) ⊎ IsErr (decode_of word.now) }
+{
+    if word.is_empty() {
+        return Err(LineFault::Bad);
+    }
+    match hex::decode(alloc, word) {
+        Ok(bytes) => Ok(ByteString::from_vec(bytes)),
+        Err(FromHexError::OutOfMemory) => Err(LineFault::NoMemory),
+        Err(_) => Err(LineFault::Bad),
+    }
+}
+
+/// Writes the two digits, in lower case, of each byte.
+pub fn write_digits(bytes: &[u8], room: &mut [u8])
+    requires { length room.old ≡ 2 * length bytes.now }
+    ensures { room.new ≡ encode_lower bytes.now }
+{
+    let _ = hex::encode_to_slice(bytes, room);
+}

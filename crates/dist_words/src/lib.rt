@@ -1,0 +1,16 @@
+//! The text of a script: its bytes, its lines, the words of a line, and the digits of a word.
+//!
+//! What a line means is not known here, and no file is opened: the text comes from any reader.
+#![tactic(auto)]
+
+mod digits;
+mod fault;
+mod input;
+mod lines;
+mod words;
+
+pub use digits::{bytes_of, flags_value, write_digits};
+pub use fault::{ScriptFault, written};
+pub use input::read_text;
+pub use lines::{first_line, is_skipped};
+pub use words::{LineFault, Words};
