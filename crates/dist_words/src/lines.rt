@@ -1,6 +1,7 @@
 //! The lines of a text.
 
-ghost use Rattle.std.specs.Prelude.{◌≡◌, ◌++◌, ◌∷◌, MatchOption};
+ghost use Rattle.std.specs.Prelude.{◌≡◌, ◌++◌, ◌∷◌, ◌<◌, ℕ, length, MatchOption};
+ghost use Rattle.memchr.specs.Find.{Passes, is_byte};
 ghost use Rattle.dist_words.specs.Words.{is_skipped};
 
 use memchr::memchr;
@@ -17,7 +18,8 @@ pub fn is_skipped(line: &[u8]) -> bool
 
 /// The first line of a text, and what stands behind the line feed that ends it, which the last line has none of.
 pub fn first_line(text: &[u8]) -> (&[u8], Option<&[u8]>)
-    ensures { MatchOption result.1 (result.0.now ≡ text.now) (λ rest. result.0.now ++ 10 ∷ rest.now ≡ text.now) }
+    ensures parts { MatchOption result.1 (result.0.now ≡ text.now) (λ rest. result.0.now ++ 10 ∷ rest.now ≡ text.now) }
+    ensures first { (i : ℕ) → i < length result.0.now → ¬ (Passes (is_byte 10) text.now i) }
 {
     match memchr(b'\n', text) {
         Some(place) => (&text[..place], Some(&text[place + 1..])),
