@@ -5,12 +5,16 @@
 
 mod cookie;
 mod cookie_error;
+mod cookies;
+mod cookies_error;
 mod digesting;
 mod laws;
 mod reading;
 
 pub use cookie::Cookie;
 pub use cookie_error::CookieError;
+pub use cookies::Cookies;
+pub use cookies_error::CookiesError;
 pub use digesting::digest;
 pub use laws::length_of_digest;
 pub use reading::read_cookie;

@@ -1,0 +1,43 @@
+-- Cookies by peer: a finite map from names to cookies, and a cookie for every other name.
+use Rattle.std.specs.Prelude.{◌≡◌, ℕ, Bool, true, false, ◌&&◌, List, length, codes, Option, unwrap_or, is_none, nat_le, Result, Ok, Err}
+use Rattle.std.specs.BTreeMap.{is_at, insert_entry}
+use Rattle.std.specs.Map.{lookup}
+use Rattle.dist_names.specs.Order.{Name, name_cmp, same_name}
+use Rattle.dist_secret.specs.declared.cookies_error.CookiesError.{CookiesError}
+use Rattle.dist_secret.specs.declared.cookies_error.CookiesError.TheVariants.{Full, NoMemory}
+
+-- the cookie of each name that has its own, in the order of the names, and that of all others
+pub record CookieTable : Type 0 where
+  pub usual : List ℕ
+  pub own : List (Name × List ℕ)
+
+-- the cookie that a name has of its own, where there is one
+abbrev pub held : CookieTable → Name → Option (List ℕ)
+held table name = lookup (is_at (name_cmp name)) table.own
+
+-- THE COOKIE FOR A PEER: its own, and the usual one where it has none
+abbrev pub cookie_for : CookieTable → Name → List ℕ
+cookie_for table name = unwrap_or (held table name) table.usual
+
+-- the cookies in which this name has this one, and every other name has what it had
+abbrev pub with_cookie : CookieTable → Name → List ℕ → CookieTable
+with_cookie table name cookie = record table { own = insert_entry name_cmp table.own name cookie }
+
+-- a further name finds no room: 1,024 have cookies of their own (our own limit), and this one is none of them
+abbrev pub is_full_for : CookieTable → Name → Bool
+is_full_for table name = is_none (held table name) && nat_le 1024 (length table.own)
+
+-- every other name has the cookie that it had
+abbrev pub OthersKeep : Name → CookieTable → CookieTable → Type 0
+OthersKeep name old new = (other : Name) → same_name name other ≡ false → cookie_for new other ≡ cookie_for old other
+
+-- a call set the cookie; a refusal changed nothing, and want of memory comes only where there was room
+abbrev pub Sets : {T : Type 0} → Result T CookiesError → Name → List ℕ → CookieTable → CookieTable → Type 0
+Sets (Ok x) name cookie old new = (is_full_for old name ≡ false) × (new ≡ with_cookie old name cookie)
+Sets (Err Full) name cookie old new = (is_full_for old name ≡ true) × (new ≡ old)
+Sets (Err NoMemory) name cookie old new = (is_full_for old name ≡ false) × (new ≡ old)
+
+-- the word that a program prints for a refusal
+abbrev pub refusal_name : CookiesError → List ℕ
+refusal_name Full = codes "Full"
+refusal_name NoMemory = codes "NoMemory"

@@ -1,0 +1,112 @@
+//! Cookies by peer.
+
+ghost use Rattle.std.specs.Prelude.{◌≡◌, [], OnOk, IfOk, length};
+ghost use Rattle.dist_secret.specs.Cookies.{cookie_for, is_full_for, OthersKeep, Sets};
+
+use crate::cookie::Cookie;
+use crate::cookies_error::CookiesError;
+use dist_names::NodeName;
+use std::alloc::{AllocError, Global};
+use std::collections::BTreeMap;
+use std::marker::Model;
+
+/// The most names that have cookies of their own, our own limit.
+const MOST: usize = 1024;
+
+/// The cookies of a node: one for each of at most 1,024 names, and one for all others.
+///
+/// It has neither `Debug` nor `Display`, as a [`Cookie`] has none.
+#[derive(Drop)]
+pub struct Cookies {
+    usual: Cookie,
+    own: BTreeMap<NodeName, Cookie>,
+}
+
+impl Model for Cookies {
+    ghost use Rattle.dist_secret.specs.Cookies.{CookieTable};
+
+    ghost Value = { CookieTable };
+
+    ghost view = { λ c. record { usual = c.usual; own = c.own.entries } };
+}
+
+// The same cookies by name.
+fn copied(
+    alloc: Global,
+    cookies: &BTreeMap<NodeName, Cookie>,
+) -> Result<BTreeMap<NodeName, Cookie>, AllocError>
+    ensures { IfOk result (λ copy. copy.entries ≡ cookies.now.entries) }
+{
+    let mut copy = BTreeMap::new(alloc);
+    for row in cookies.iter() {
+        let (name, cookie) = row;
+        let name = name.try_clone(alloc)?;
+        let cookie = cookie.try_clone(alloc)?;
+        if copy.insert(name, cookie).is_err() {
+            return Err(AllocError);
+        }
+    }
+    Ok(copy)
+}
+
+impl Cookies {
+    /// This cookie for every name. It takes no memory.
+    pub fn new(alloc: Global, usual: Cookie) -> Cookies
+        ensures { result ≡ record { usual = usual; own = [] } }
+    {
+        Cookies {
+            usual,
+            own: BTreeMap::new(alloc),
+        }
+    }
+
+    /// How many names have cookies of their own, at most 1,024 where each was set.
+    pub fn len(&self) -> usize
+        ensures { result ≡ length self.now.own }
+    {
+        self.own.len()
+    }
+
+    /// The cookie for this peer. It takes no memory.
+    pub fn for_peer(&self, peer: &NodeName) -> &Cookie
+        ensures { result.now ≡ cookie_for self.now peer.now }
+    {
+        self.own.get(peer).unwrap_or(&self.usual)
+    }
+
+    /// Whether 1,024 other names have cookies of their own, so that this one finds no room.
+    pub fn is_full_for(&self, peer: &NodeName) -> bool
+        ensures { result ≡ is_full_for self.now peer.now }
+    {
+        self.own.get(peer).is_none() && MOST <= self.own.len()
+    }
+
+    /// Keeps a cookie for this name; a name that has one gets this in its place.
+    ///
+    /// Refused as `Full`, then `NoMemory`; the cookies then stay as they were, and the one that was given is dropped.
+    pub fn set(&mut self, peer: NodeName, cookie: Cookie) -> Result<(), CookiesError>
+        ensures set { Sets result peer cookie self.old self.new }
+
+        // From then on the peer has this cookie, and every other name the one that it had.
+        ensures this { OnOk result (cookie_for self.new peer ≡ cookie) }
+        ensures others { OnOk result (OthersKeep peer self.old self.new) }
+    {
+        if self.is_full_for(&peer) {
+            return Err(CookiesError::Full);
+        }
+        match self.own.insert(peer, cookie) {
+            Ok(_) => Ok(()),
+            Err(_) => Err(CookiesError::NoMemory),
+        }
+    }
+
+    /// Equal cookies. The only refusal is want of memory.
+    pub fn try_clone(&self, alloc: Global) -> Result<Cookies, AllocError>
+        ensures { IfOk result (λ copy. copy ≡ self.now) }
+    {
+        Ok(Cookies {
+            usual: self.usual.try_clone(alloc)?,
+            own: copied(alloc, &self.own)?,
+        })
+    }
+}
