@@ -28,12 +28,13 @@ pub fn required_of(setup: &Setup, opening: Opening) -> Flags
     }
 }
 
-/// The digest of a challenge, for this peer and from it (ERTS User's Guide, Distribution Handshake).
+/// The digest of a challenge, for this peer and from it, by the cookie for this peer (ERTS User's Guide, Distribution
+/// Handshake).
 #[tactic(auto, unfolding(crate::specs::Rules::own_digest))]
-pub fn own_digest(setup: &Setup, _peer: &NodeName, challenge: u32) -> [u8; 16]
-    ensures { result ≡ own_digest setup.now _peer.now challenge }
+pub fn own_digest(setup: &Setup, peer: &NodeName, challenge: u32) -> [u8; 16]
+    ensures { result ≡ own_digest setup.now peer.now challenge }
 {
-    digest(&setup.cookie, challenge)
+    digest(setup.cookies.for_peer(peer), challenge)
 }
 
 /// The name that these bytes are, where they are one.

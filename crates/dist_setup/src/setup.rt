@@ -4,7 +4,7 @@ ghost use Rattle.std.specs.Option.{option_map};
 ghost use Rattle.dist_names.specs.Order.{same_name, is_listed};
 
 use dist_names::{Creation, Flags, NodeName};
-use dist_secret::Cookie;
+use dist_secret::Cookies;
 use std::alloc::{AllocError, Global};
 use std::marker::Model;
 
@@ -13,8 +13,8 @@ use std::marker::Model;
 pub struct Setup {
     /// The own name.
     pub name: NodeName,
-    /// The secret that it shares with its peers.
-    pub cookie: Cookie,
+    /// The secrets that it shares with its peers: one for each that has its own, and one for all others.
+    pub cookies: Cookies,
     /// What it announces, but for `DFLAG_HANDSHAKE_23`, which is announced always, and `DFLAG_NAME_ME`, which never is.
     pub flags: Flags,
     /// What it asks of a peer beside `DFLAG_HANDSHAKE_23`.
@@ -32,7 +32,7 @@ impl Setup {
     {
         Ok(Setup {
             name: self.name.try_clone(alloc)?,
-            cookie: self.cookie.try_clone(alloc)?,
+            cookies: self.cookies.try_clone(alloc)?,
             flags: self.flags,
             required: self.required,
             creation: self.creation,
