@@ -42,7 +42,8 @@ pub record Counts (w : World) (a b : ℕ) : Type 0 where
   pub named : slice_get w.setups b ≡ Some other
   pub peer : kept.peer ≡ other.name
 
--- the record has the flags that both announced, the other's creation, and the digest of the own cookie and challenge
+-- the record has the flags that both announced, the other's creation, and the digest of the own cookie for the other and
+-- the own challenge
 pub record IsAgreed (own other : Setup) (kept : UpRecord) : Type 0 where
   pub flags : kept.common.0 ≡ common (announced own.flags.0) (announced other.flags.0)
   pub creation : kept.creation ≡ other.creation
