@@ -4,10 +4,11 @@ use Rattle.std.specs.Result.{result_ok}
 use Rattle.std.specs.Char.{digit_value}
 use Rattle.std.specs.Str.Parse.{digits_value}
 use Rattle.std.specs.List.{list_all}
-use Rattle.toml.specs.Data.{Data, integer, Items, no_items, item, as_str, as_array}
+use Rattle.toml.specs.Data.{Data, integer, Items, no_items, item, Members, no_members, member, as_str, as_array, as_table}
 use Rattle.dist_names.specs.NodeName.{named}
 use Rattle.dist_names.specs.declared.flags.Flags.{Flags}
 use Rattle.dist_secret.specs.Cookie.{is_cookie_byte, cookie_of}
+use Rattle.dist_secret.specs.Cookies.{CookieTable, is_full_for, with_cookie}
 
 -- a whole number within these bounds
 abbrev pub number_in : ℕ → ℕ → Data → Option ℕ
@@ -21,6 +22,20 @@ name_in value = option_and_then (λ text. result_ok (named text)) (as_str value)
 -- a text of printable ASCII characters, spaces among them, that is a cookie
 abbrev pub cookie_in : Data → Option (List ℕ)
 cookie_in value = option_and_then (λ text. if list_all is_cookie_byte text then result_ok (cookie_of text) else None) (as_str value)
+
+-- a further cookie, where there is room for it
+abbrev pub cookie_added : CookieTable → Option (List ℕ) → Option (List ℕ) → Option CookieTable
+cookie_added cookies (Some name) (Some cookie) = if is_full_for cookies name then None else Some (with_cookie cookies name cookie)
+cookie_added cookies _ _ = None
+
+-- these cookies, and then those of a table: its keys are names, and its values are cookies
+abbrev pub cookies_of : CookieTable → Members → Option CookieTable
+cookies_of cookies no_members = Some cookies
+cookies_of cookies (member key value rest) = option_and_then (λ more. cookies_of more rest) (cookie_added cookies (result_ok (named key)) (cookie_in value))
+
+-- these cookies, and then those of a value that is a table
+abbrev pub cookies_in : CookieTable → Data → Option CookieTable
+cookies_in cookies value = option_and_then (cookies_of cookies) (as_table value)
 
 -- a hexadecimal digit, of either case
 abbrev pub is_digit : ℕ → Bool

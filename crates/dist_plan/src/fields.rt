@@ -6,14 +6,15 @@ ghost use Rattle.std.specs.Str.Parse.{digits_value};
 ghost use Rattle.toml.specs.Data.{as_str, as_table};
 ghost use Rattle.toml.specs.View.{view, table_view};
 ghost use Rattle.std.specs.Result.{result_ok};
+ghost use Rattle.dist_names.specs.NodeName.{named};
 ghost use Rattle.dist_secret.specs.Cookie.{is_cookie_byte, cookie_of};
 ghost use Rattle.dist_plan.specs.declared.plan_error.PlanError.TheVariants.{Bad, NoMemory};
 ghost use Rattle.dist_plan.specs.Answer.{Reads, ReadsPlainly};
-ghost use Rattle.dist_plan.specs.Values.{number_in, name_in, cookie_in, is_digit, are_flags, flags_written, flags_in, names_in, array_in, all_some};
+ghost use Rattle.dist_plan.specs.Values.{number_in, name_in, cookie_in, cookie_added, cookies_of, cookies_in, is_digit, are_flags, flags_written, flags_in, names_in, array_in, all_some};
 
 use crate::plan_error::PlanError;
 use dist_names::{Flags, NameError, NodeName};
-use dist_secret::{Cookie, CookieError};
+use dist_secret::{Cookie, CookieError, Cookies, CookiesError};
 use dist_setup::NameList;
 use std::alloc::Global;
 use toml::{Table, Value};
@@ -66,16 +67,23 @@ pub fn turns_of(value: &Value) -> Result<u32, PlanError>
     }
 }
 
+// The name of a text.
+fn name_from(alloc: Global, text: &[u8]) -> Result<NodeName, PlanError>
+    ensures { Reads result (result_ok (named text.now)) }
+{
+    match NodeName::new(alloc, text) {
+        Ok(name) => Ok(name),
+        Err(NameError::NoMemory) => Err(PlanError::NoMemory),
+        Err(_) => Err(PlanError::Bad),
+    }
+}
+
 /// The name of a node.
 pub fn name_of(alloc: Global, value: &Value) -> Result<NodeName, PlanError>
     ensures { Reads result (name_in (view value.now)) }
 {
     let text = text_of(value)?;
-    match NodeName::new(alloc, text.as_bytes()) {
-        Ok(name) => Ok(name),
-        Err(NameError::NoMemory) => Err(PlanError::NoMemory),
-        Err(_) => Err(PlanError::Bad),
-    }
+    name_from(alloc, text.as_bytes())
 }
 
 // Whether all bytes are printable ASCII characters or spaces.
@@ -106,6 +114,44 @@ pub fn cookie_of(alloc: Global, value: &Value) -> Result<Cookie, PlanError>
     } else {
         Err(PlanError::Bad)
     }
+}
+
+// Adds the cookie of a key.
+fn add_cookie(
+    alloc: Global,
+    cookies: &mut Cookies,
+    key: &str,
+    value: &Value,
+) -> Result<(), PlanError>
+    ensures { MatchResult result (λ _. cookie_added cookies.old (result_ok (named key.now)) (cookie_in (view value.now)) ≡ Some cookies.new) (λ error. error ≡ Bad → cookie_added cookies.old (result_ok (named key.now)) (cookie_in (view value.now)) ≡ None) }
+{
+    let name = name_from(alloc, key.as_bytes())?;
+    let cookie = cookie_of(alloc, value)?;
+    match cookies.set(name, cookie) {
+        Ok(()) => Ok(()),
+        Err(CookiesError::Full) => Err(PlanError::Bad),
+        Err(CookiesError::NoMemory) => Err(PlanError::NoMemory),
+    }
+}
+
+// These cookies, and then those of a table.
+fn cookies_of(alloc: Global, usual: Cookies, table: &Table) -> Result<Cookies, PlanError>
+    ensures { Reads result (cookies_of usual (table_view table.now)) }
+{
+    let mut cookies = usual;
+    for row in table.iter() {
+        let (key, value) = row;
+        add_cookie(alloc, &mut cookies, key.as_str(), value)?;
+    }
+    Ok(cookies)
+}
+
+/// These cookies, and then those of a value: a table from names to cookies, with room for each.
+pub fn cookies_in(alloc: Global, usual: Cookies, value: &Value) -> Result<Cookies, PlanError>
+    ensures { Reads result (cookies_in usual (view value.now)) }
+{
+    let table = table_of(value)?;
+    cookies_of(alloc, usual, table)
 }
 
 // Whether all bytes are hexadecimal digits.

@@ -2,7 +2,7 @@
 
 use crate::lists::{DialList, NodeList};
 use dist_names::{Flags, NodeName};
-use dist_secret::Cookie;
+use dist_secret::{Cookie, Cookies};
 use dist_setup::NameList;
 
 /// What a nodes file says.
@@ -24,8 +24,10 @@ pub struct Plan {
 pub struct NodePlan {
     /// Its name. No two nodes of a file have one short name, since the port mapper knows them by it.
     pub name: NodeName,
-    /// The secret that it shares with its peers.
+    /// The secret that it shares with peers that have no cookie of their own.
     pub cookie: Cookie,
+    /// That secret, and the cookies of peers that have their own: at most 1,024, none where the file doesn't say.
+    pub cookies: Cookies,
     /// What it announces, beside what every node does.
     pub flags: Flags,
     /// What it asks of a peer, beside what every node does. Nothing where the file doesn't say.

@@ -9,17 +9,18 @@ ghost use Rattle.dist_names.specs.Order.{same_name};
 ghost use Rattle.dist_names.specs.NodeName.{short_of};
 ghost use Rattle.dist_plan.specs.declared.plan_error.PlanError.TheVariants.{Bad};
 ghost use Rattle.dist_plan.specs.Answer.{Reads, ReadsPlainly};
-ghost use Rattle.dist_plan.specs.Values.{number_in, names_in, flags_in, name_in, cookie_in, all_some};
-ghost use Rattle.dist_plan.specs.Plans.{or_usual, needed, port_in, node_of, node_in, dial_of, dial_in, are_within, nodes_in, dials_in, are_apart, are_made_by, parts_of, whole, plan_in, plan_of};
+ghost use Rattle.dist_plan.specs.Values.{number_in, names_in, flags_in, name_in, cookie_in, cookies_in, all_some};
+ghost use Rattle.dist_plan.specs.Plans.{or_usual, usual_alone, needed, port_in, node_of, node_in, dial_of, dial_in, are_within, nodes_in, dials_in, are_apart, are_made_by, parts_of, whole, plan_in, plan_of};
 
 use crate::fields::{
-    array_of, cookie_of, flags_of, name_of, names_of, port_of, table_of, turns_of,
+    array_of, cookie_of, cookies_in, flags_of, name_of, names_of, port_of, table_of, turns_of,
 };
 use crate::keys::{has_only, value_at};
 use crate::lists::{DialList, NodeList};
 use crate::plan::{DialPlan, NodePlan, Plan};
 use crate::plan_error::PlanError;
 use dist_names::{Flags, NodeName};
+use dist_secret::{Cookie, Cookies};
 use dist_setup::NameList;
 use std::alloc::Global;
 use toml::{Table, Value};
@@ -83,12 +84,28 @@ fn names_or_all(alloc: Global, value: Option<&Value>) -> Result<Option<NameList>
     }
 }
 
+// The usual cookie, and the cookies of peers that have their own.
+fn cookies_or_one(
+    alloc: Global,
+    cookie: &Cookie,
+    value: Option<&Value>,
+) -> Result<Cookies, PlanError>
+    ensures { Reads result (or_usual (cookies_in (usual_alone cookie.now)) (usual_alone cookie.now) (option_map (λ v. view v.now) value.entry)) }
+{
+    let usual = Cookies::new(alloc, cookie.try_clone(alloc)?);
+    match value {
+        Some(value) => cookies_in(alloc, usual, value),
+        None => Ok(usual),
+    }
+}
+
 // The node of a table whose keys are a node's.
 fn node_of(alloc: Global, table: &Table) -> Result<NodePlan, PlanError>
     ensures { Reads result (node_of (table_view table.now)) }
 {
     let name = name_of(alloc, value_of(table, "name")?)?;
     let cookie = cookie_of(alloc, value_of(table, "cookie")?)?;
+    let cookies = cookies_or_one(alloc, &cookie, value_at(table, "cookies"))?;
     let flags = flags_of(value_of(table, "flags")?)?;
     let required = flags_or_none(value_at(table, "required"))?;
     let listen = port_or_any(value_at(table, "listen"))?;
@@ -96,6 +113,7 @@ fn node_of(alloc: Global, table: &Table) -> Result<NodePlan, PlanError>
     Ok(NodePlan {
         name,
         cookie,
+        cookies,
         flags,
         required,
         listen,
@@ -110,7 +128,9 @@ fn node_in(alloc: Global, value: &Value) -> Result<NodePlan, PlanError>
     let table = table_of(value)?;
     if has_only(
         table,
-        &["name", "cookie", "flags", "required", "listen", "allow"],
+        &[
+            "name", "cookie", "cookies", "flags", "required", "listen", "allow",
+        ],
     ) {
         node_of(alloc, table)
     } else {
