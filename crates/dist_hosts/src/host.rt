@@ -67,7 +67,7 @@ fn registered<R: Net<Listener = TcpListener, Stream = TcpStream>>(
 fn setup_of(plan: NodePlan, creation: Creation) -> Setup {
     Setup {
         name: plan.name,
-        cookie: plan.cookie,
+        cookies: plan.cookies,
         flags: plan.flags,
         required: plan.required,
         creation,
