@@ -3,7 +3,7 @@
 use dist_core::{Event, Node, Opening, Setup, Why};
 use dist_names::{ByteString, Creation, Flags, NodeName};
 use dist_peers::EndId;
-use dist_secret::Cookie;
+use dist_secret::{Cookie, Cookies};
 use std::alloc::Global;
 
 const COOKIE: &str = "ABCDEFGHIJKLMNOPQRSTUVWXYZabcdefghijklmnopqrstuvwxyz0";
@@ -12,7 +12,7 @@ const COOKIE: &str = "ABCDEFGHIJKLMNOPQRSTUVWXYZabcdefghijklmnopqrstuvwxyz0";
 pub fn node_b(alloc: Global) -> Option<Node> {
     let setup = Setup {
         name: NodeName::new(alloc, b"b@127.0.0.1").ok()?,
-        cookie: Cookie::from_bytes(alloc, COOKIE.as_bytes()).ok()?,
+        cookies: Cookies::new(alloc, Cookie::from_bytes(alloc, COOKIE.as_bytes()).ok()?),
         flags: Flags(0x101000104),
         required: Flags(0),
         creation: Creation(6),

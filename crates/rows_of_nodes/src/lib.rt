@@ -12,6 +12,8 @@ mod causes;
 #[cfg(test)]
 mod cookies;
 #[cfg(test)]
+mod cookies_by_peer;
+#[cfg(test)]
 mod copies;
 #[cfg(test)]
 mod digests;

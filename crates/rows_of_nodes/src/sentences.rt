@@ -3,7 +3,7 @@
 use dist_frames::FrameError;
 use dist_messages::MessageError;
 use dist_names::NameError;
-use dist_secret::CookieError;
+use dist_secret::{CookieError, CookiesError};
 use std::alloc::Global;
 use std::test::*;
 
@@ -61,6 +61,15 @@ fn of_cookies(alloc: Global) -> Option<String> {
     format!(in alloc; "{Empty}\n{BadByte}\n{TooLong}\n{ReadFailed}\n{NoMemory}").ok()
 }
 
+const OF_COOKIES_BY_PEER: &str = "\
+no room for the cookie of a further name
+out of memory";
+
+fn of_cookies_by_peer(alloc: Global) -> Option<String> {
+    use CookiesError::{Full, NoMemory};
+    format!(in alloc; "{Full}\n{NoMemory}").ok()
+}
+
 fn is_said(told: Option<String>, wanted: &str) -> bool {
     match told {
         Some(text) => text.as_str() == wanted,
@@ -76,4 +85,5 @@ fn each_refusal_has_a_sentence(rt: HostRuntime) {
     assert!(rt; is_said(of_messages(alloc), OF_MESSAGES));
     assert!(rt; is_said(of_more_messages(alloc), OF_MORE_MESSAGES));
     assert!(rt; is_said(of_cookies(alloc), OF_COOKIES));
+    assert!(rt; is_said(of_cookies_by_peer(alloc), OF_COOKIES_BY_PEER));
 }

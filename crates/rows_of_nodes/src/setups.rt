@@ -1,7 +1,7 @@
 //! Copies of setups, and of lists of names.
 
 use dist_names::{Creation, Flags, NodeName};
-use dist_secret::Cookie;
+use dist_secret::{Cookie, Cookies};
 use dist_setup::{NameList, Setup};
 use std::alloc::Global;
 use std::test::*;
@@ -26,11 +26,11 @@ fn listed(alloc: Global, text: &str) -> Option<NameList> {
 
 fn setup(alloc: Global) -> Option<Setup> {
     let name = NodeName::new(alloc, b"b@127.0.0.1").ok()?;
-    let cookie = Cookie::from_bytes(alloc, b"K").ok()?;
+    let cookies = Cookies::new(alloc, Cookie::from_bytes(alloc, b"K").ok()?);
     let allow = listed(alloc, "a@127.0.0.1 c@127.0.0.1")?;
     Some(Setup {
         name,
-        cookie,
+        cookies,
         flags: Flags(0x101000104),
         required: Flags(0x4),
         creation: Creation(6),

@@ -2,7 +2,7 @@
 use dist_core::{Opening, Setup, Why};
 use dist_names::{Creation, Flags, NodeName};
 use dist_peers::EndId;
-use dist_secret::Cookie;
+use dist_secret::{Cookie, Cookies};
 use dist_world::{Happening, World};
 use std::alloc::Global;
 
@@ -15,7 +15,7 @@ pub const NAMES: &str = "a@127.0.0.1 b@127.0.0.1 c@127.0.0.1";
 fn setup(alloc: Global, name: &str, flags: u64) -> Option<Setup> {
     Some(Setup {
         name: NodeName::new(alloc, name.as_bytes()).ok()?,
-        cookie: Cookie::from_bytes(alloc, COOKIE.as_bytes()).ok()?,
+        cookies: Cookies::new(alloc, Cookie::from_bytes(alloc, COOKIE.as_bytes()).ok()?),
         flags: Flags(flags),
         required: Flags(0),
         creation: Creation(0),
