@@ -4,7 +4,7 @@ use dist_core::{Event, Node, Opening, Setup};
 use dist_drive::{Draws, MemoryDesk};
 use dist_names::{Creation, Flags, NodeName};
 use dist_peers::EndId;
-use dist_secret::Cookie;
+use dist_secret::{Cookie, Cookies};
 use std::alloc::Global;
 
 /// The frame of the name of node a, version 6.
@@ -40,7 +40,7 @@ impl Draws for Same {
 fn setup(alloc: Global, name: &str, flags: u64, creation: u32) -> Option<Setup> {
     Some(Setup {
         name: NodeName::new(alloc, name.as_bytes()).ok()?,
-        cookie: Cookie::from_bytes(alloc, COOKIE.as_bytes()).ok()?,
+        cookies: Cookies::new(alloc, Cookie::from_bytes(alloc, COOKIE.as_bytes()).ok()?),
         flags: Flags(flags),
         required: Flags(0),
         creation: Creation(creation),
