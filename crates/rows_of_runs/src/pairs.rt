@@ -4,7 +4,7 @@ use dist_core::Setup;
 use dist_frames::Frames;
 use dist_locked::{LockedNode, Seat, Tickets};
 use dist_names::{Creation, Flags, NodeName};
-use dist_secret::Cookie;
+use dist_secret::{Cookie, Cookies};
 use std::alloc::Global;
 use std::sync::Arc;
 
@@ -45,7 +45,7 @@ fn setup_of(alloc: Global, node: usize) -> Option<Setup> {
     };
     Some(Setup {
         name: name_of(alloc, node)?,
-        cookie: Cookie::from_bytes(alloc, COOKIE.as_bytes()).ok()?,
+        cookies: Cookies::new(alloc, Cookie::from_bytes(alloc, COOKIE.as_bytes()).ok()?),
         flags: Flags(flags),
         required: Flags(0),
         creation: Creation(creation),
