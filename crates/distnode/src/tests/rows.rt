@@ -232,6 +232,45 @@ bytes 0 00126e00050000000461403132372e302e302e31 {X}
 end 0 {-}
 end 0 say {REFUSE} closed 0 Refused up -
 no peers
+=== a cookie of its own for the peer that is dialled
+node a@127.0.0.1 wrong 401000004 5 cookie b@127.0.0.1 {K}
+dial b@127.0.0.1 new
+opened 0 1
+bytes 0 {OK} 0
+bytes 0 {CB} {X}
+bytes 0 {ACK}00000000000000050102030405 0
+tick 0
+dial b@127.0.0.1 new
+---
+end 0 {-}
+end 0 say {NA} closed - up -
+end 0 {-}
+end 0 say {R} closed - up -
+end 0 say - closed - up b@127.0.0.1 {COM} 6
+skipped 2
+end 0 say 00000000 closed - up -
+refused Busy Up 0
+b@127.0.0.1 up 0 common {COM} creation 6
+=== a cookie of its own for another peer
+node b@127.0.0.1 wrong 101000104 6 cookie c@127.0.0.1 {K}
+incoming 1
+bytes 0 {NA} {X}
+bytes 0 {R} 0
+---
+end 0 {-}
+end 0 say {OK}{CB} closed - up -
+end 0 say - closed 0 WrongDigest up -
+no peers
+=== cookies of their own behind required flags and before allowed names
+node b@127.0.0.1 wrong 101000104 6 require 4 cookie c@127.0.0.1 x cookie a@127.0.0.1 {K} allow a@127.0.0.1
+incoming 1
+bytes 0 {NA} {X}
+bytes 0 {R} 0
+---
+end 0 {-}
+end 0 say {OK}{CB} closed - up -
+end 0 say {ACK} closed - up a@127.0.0.1 {COM} 5
+a@127.0.0.1 up 0 common {COM} creation 5
 === no line but the node's
 {b}
 ---

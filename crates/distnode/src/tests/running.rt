@@ -48,6 +48,11 @@ turns -> turns -> both
 to = "b@ -> to = "z@ -> nobody
 [[dial]] -> [[nodes]];[[dial]] -> bad
 "401000004" -> "xyz" -> bad
+cookie = "secret" -> cookie = "one";cookies = { "b@127.0.0.1" = "secret" } -> both
+cookie = "secret" -> cookie = "secret";cookies = {} -> both
+cookie = "secret" -> cookie = "secret";cookies = { "b" = "secret" } -> bad
+cookie = "secret" -> cookie = "secret";cookies = { "b@127.0.0.1" = 1 } -> bad
+cookie = "secret" -> cookie = "secret";cookies = "secret" -> bad
 "b@127.0.0.1";cookie -> "a@127.0.0.2";cookie -> bad
 from = "a@ -> from = "q@ -> bad
 "#;

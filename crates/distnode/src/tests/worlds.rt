@@ -18,6 +18,36 @@ b@127.0.0.1 up 1 common {COM} creation 6
 node b@127.0.0.1 running 6
 a@127.0.0.1 up 0 common {COM} creation 5
 agree a@127.0.0.1 b@127.0.0.1 conn 1 common {COM} creations 5 6
+=== crossing dials of nodes with cookies for each other
+node a@127.0.0.1 one 401000004 5 cookie b@127.0.0.1 {K}
+node b@127.0.0.1 two 101000104 6 cookie a@127.0.0.1 {K}
+begin 0 5, begin 1 6, dial 0 b@127.0.0.1 new, dial 1 a@127.0.0.1 new, reach 0 0 1, reach 1 0 0, opened 0 0
+opened 1 0, accept 0, accept 1, deliver 1 1 999, take 1 1 1, deliver 0 1 999, take 0 1 7, deliver 0 0 999
+take 0 0 0, deliver 1 0 999, take 1 0 0, take 1 0 8, deliver 0 1 999, take 0 1 0, deliver 1 0 999, take 1 0 0
+---
+closed 1 1 Crossed
+closed 0 0 Crossed
+applied 23 of 23
+node a@127.0.0.1 running 5
+b@127.0.0.1 up 1 common {COM} creation 6
+node b@127.0.0.1 running 6
+a@127.0.0.1 up 0 common {COM} creation 5
+agree a@127.0.0.1 b@127.0.0.1 conn 1 common {COM} creations 5 6
+=== crossing dials where one alone has the cookie for the other
+node a@127.0.0.1 one 401000004 5 cookie b@127.0.0.1 {K}
+node b@127.0.0.1 two 101000104 6
+begin 0 5, begin 1 6, dial 0 b@127.0.0.1 new, dial 1 a@127.0.0.1 new, reach 0 0 1, reach 1 0 0, opened 0 0
+opened 1 0, accept 0, accept 1, deliver 1 1 999, take 1 1 1, deliver 0 1 999, take 0 1 7, deliver 0 0 999
+take 0 0 0, deliver 1 0 999, take 1 0 0, take 1 0 8, deliver 0 1 999, take 0 1 0, deliver 1 0 999, take 1 0 0
+---
+closed 1 1 Crossed
+closed 0 0 Crossed
+closed 0 1 WrongDigest
+applied 21 of 23
+node a@127.0.0.1 running 5
+no peers
+node b@127.0.0.1 running 6
+a@127.0.0.1 out 0
 === a dialled name reached another node
 {a}
 {b}
