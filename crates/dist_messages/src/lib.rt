@@ -4,6 +4,7 @@
 #![tactic(auto)]
 
 mod fields;
+mod form;
 mod laws;
 mod message;
 mod message_error;
@@ -14,6 +15,7 @@ mod status;
 mod writing;
 mod writing_named;
 
+pub use form::Form;
 pub use laws::{causes_of_refusals, causes_of_writing, one_message, written_is_read};
 pub use message::{Message, Side, Status};
 pub use message_error::MessageError;
