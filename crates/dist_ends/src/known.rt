@@ -3,7 +3,7 @@ ghost use Rattle.std.specs.Prelude.{◌≡◌, ◌↔◌, IsTrue, IfOk};
 
 use crate::phase::Phase;
 use crate::why::Why;
-use dist_messages::Opening;
+use dist_messages::Form;
 use dist_names::{Creation, Flags, NodeName};
 use std::alloc::{AllocError, Global};
 
@@ -12,16 +12,16 @@ use std::alloc::{AllocError, Global};
 pub struct Attempt {
     /// The name that was dialled, or that came.
     pub peer: NodeName,
-    /// The form of the name that opens, or opened, the handshake.
-    pub opening: Opening,
+    /// The form of the handshake; of a dial the one in which it was told to open.
+    pub form: Form,
     /// What is awaited.
     pub phase: Phase,
     /// The own challenge, once it was said, and 0 before.
     pub challenge: u32,
     /// The other side's flags, once they came, and none before.
     pub flags: Flags,
-    /// The other side's creation, once it came, and 0 before.
-    pub creation: Creation,
+    /// The other side's creation, once it came. None does where one side knows version 5 alone.
+    pub creation: Option<Creation>,
 }
 
 /// What is known of an end that came up.
@@ -31,8 +31,8 @@ pub struct UpRecord {
     pub peer: NodeName,
     /// The flags that both announced.
     pub common: Flags,
-    /// The other node's creation.
-    pub creation: Creation,
+    /// The other node's creation, where both know version 6.
+    pub creation: Option<Creation>,
     /// The own challenge.
     pub challenge: u32,
     /// The digest that came, which is that of the own cookie and the own challenge.
@@ -59,7 +59,7 @@ impl Attempt {
     {
         Ok(Attempt {
             peer: self.peer.try_clone(alloc)?,
-            opening: self.opening,
+            form: self.form,
             phase: self.phase,
             challenge: self.challenge,
             flags: self.flags,
