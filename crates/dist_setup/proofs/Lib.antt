@@ -1,2 +1,3 @@
 pub mod Sayable
+pub mod Versions
 pub mod Wholes

@@ -42,6 +42,13 @@ new_challenge flags n c name good = (
       omega (arith, most, length-append (to_be_bytes w64 flags.0) (to_be_bytes w32 n ++ (to_be_bytes w32 c.0 ++ (to_be_bytes w16 (length name) ++ name))), length-append (to_be_bytes w32 n) (to_be_bytes w32 c.0 ++ (to_be_bytes w16 (length name) ++ name)), length-append (to_be_bytes w32 c.0) (to_be_bytes w16 (length name) ++ name), length-append (to_be_bytes w16 (length name)) name),
 )
 
+pub old_challenge : (flags n : ℕ) (name : List ℕ) → IsNodeName name → CanBeSaid Acceptor (message.OldChallenge flags n name)
+old_challenge flags n name good = (
+  fits-name name (message.OldChallenge flags n name) good,
+  let most = good.most in
+      omega (arith, most, length-append (to_be_bytes w16 5) (to_be_bytes w32 flags ++ (to_be_bytes w32 n ++ name)), length-append (to_be_bytes w32 flags) (to_be_bytes w32 n ++ name), length-append (to_be_bytes w32 n) name),
+)
+
 pub complement : (high : ℕ) (c : Creation) → CanBeSaid Dialler (message.Complement high c)
 complement high c = (refl, omega (arith, length-append (to_be_bytes w32 high) (to_be_bytes w32 c.0)))
 

@@ -10,7 +10,9 @@ use Rattle.dist_messages.specs.Canonical.{canonical}
 use Rattle.dist_messages.specs.declared.message.Side.{Side}
 use Rattle.dist_messages.specs.declared.message.Message.{Message}
 use Rattle.dist_setup.specs.declared.setup.Setup.{Setup}
-use Rattle.dist_setup.specs.Rules.{announced_by}
+use Rattle.dist_setup.specs.declared.version.Version.{Version}
+use Rattle.dist_setup.specs.declared.version.Version.TheVariants as version
+use Rattle.dist_setup.specs.Rules.{announced_in, announced_by}
 use Rattle.dist_setup.specs.Saying.{CanBeSaid, frame_of, said}
 
 joined : (ms : List Message) → said ms ≡ flat_map (framed w16) (map canonical ms)
@@ -29,6 +31,10 @@ nothing_framed body more fits e = cc
 pub whole : (side : Side) (ms : List Message) → AllByRecursion (CanBeSaid side) ms → Splits w16 (said ms) (map canonical ms) []
 whole side ms h = record { whole = joined ms ∙ sym (append-nil (flat_map (framed w16) (map canonical ms))); fit = all-fit side ms h; no_more = nothing_framed }
 
+in-fits : (v : Version) (flags : ℕ) → announced_in v flags < 2 ^ 64
+in-fits version.Six flags = omega (arith, and_le_r (bit_or flags 16777216) 18446744065119617023)
+in-fits version.Five flags = omega (arith, and_le_r flags 4278190079)
+
 pub announced-fits : (s : Setup) → announced_by s < 2 ^ 64
 unfolding announced_by
-announced-fits s = omega (arith, and_le_r (bit_or s.flags.0 16777216) 18446744065119617023)
+announced-fits s = in-fits s.version s.flags.0

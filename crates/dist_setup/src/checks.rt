@@ -1,30 +1,70 @@
 //! What a node's setup decides: what it announces and asks for, its digests, and the checks on a name.
 ghost use Rattle.std.specs.Prelude.{◌≡◌, IfOk, true, false, Ok, Err, Some, None};
-ghost use Rattle.dist_setup.specs.Rules.{announced_by, required_of, own_digest, is_good, is_allowed, is_refused, GoodName};
+ghost use Rattle.dist_setup.specs.Rules.{announced_by, required_of, knows_six, form_of_old, opens_new, own_digest, is_good, is_allowed, is_refused, GoodName};
 
 use crate::setup::{NameList, Setup};
-use dist_messages::Opening;
+use crate::version::Version;
+use dist_messages::Form;
 use dist_names::{Flags, NameError, NodeName};
 use dist_secret::digest;
 use std::alloc::{AllocError, Global};
 
-/// The flags that the node announces: its own with `DFLAG_HANDSHAKE_23`, without `DFLAG_NAME_ME`.
+// The flags that a node of version 5 may announce: 32 bits, without `DFLAG_HANDSHAKE_23`.
+const FLAGS_OF_FIVE: u64 = 0xfeffffff;
+
+/// Whether the node knows version 6.
+pub fn knows_six(setup: &Setup) -> bool
+    ensures { result ≡ knows_six setup.now }
+{
+    match setup.version {
+        Version::Six => true,
+        Version::Five => false,
+    }
+}
+
+/// The flags that the node announces: its own with `DFLAG_HANDSHAKE_23`, without `DFLAG_NAME_ME`; where it knows version 5
+/// alone, the lower 32 without `DFLAG_HANDSHAKE_23`.
 #[tactic(auto, unfolding(crate::specs::Rules::announced_by))]
 pub fn announced_by(setup: &Setup) -> Flags
     ensures { result ≡ record { 0 = announced_by setup.now } }
 {
-    setup.flags.announced()
+    match setup.version {
+        Version::Six => setup.flags.announced(),
+        Version::Five => setup.flags.common(Flags(FLAGS_OF_FIVE)),
+    }
 }
 
-/// What is asked of a peer: what the setup requires and `DFLAG_HANDSHAKE_23`; of an old name, which has no more, the low
-/// half alone.
+/// What is asked of a peer: what the setup requires and `DFLAG_HANDSHAKE_23`; of an old name that a complement will follow
+/// the low half alone; in a handshake of version 5 what the setup requires.
 #[tactic(auto, unfolding(crate::specs::Rules::required_of))]
-pub fn required_of(setup: &Setup, opening: Opening) -> Flags
-    ensures { result.0 ≡ required_of setup.now opening }
+pub fn required_of(setup: &Setup, form: Form) -> Flags
+    ensures { result.0 ≡ required_of setup.now form }
 {
-    match opening {
-        Opening::New => setup.required.required(),
-        Opening::Old => Flags(setup.required.required().low() as u64),
+    match form {
+        Form::New => setup.required.required(),
+        Form::Old => Flags(setup.required.required().low() as u64),
+        Form::Five => setup.required,
+    }
+}
+
+/// The form of the handshake that an old name with these flags opens.
+pub fn form_of_old(setup: &Setup, flags: Flags) -> Form
+    ensures { result ≡ form_of_old setup.now flags.0 }
+{
+    if knows_six(setup) && flags.has(Flags::HANDSHAKE_23) {
+        Form::Old
+    } else {
+        Form::Five
+    }
+}
+
+/// Whether the node opens with the newer name where it was told to open in this form. One of version 5 never does.
+pub fn opens_new(setup: &Setup, form: Form) -> bool
+    ensures { result ≡ opens_new setup.now form }
+{
+    match form {
+        Form::New => knows_six(setup),
+        Form::Old | Form::Five => false,
     }
 }
 

@@ -1,9 +1,10 @@
 //! Laws of what a node says: each is a function whose contract is the law.
-ghost use Rattle.std.specs.Prelude.{◌≡◌, ℕ, ◌<◌, ◌^◌, List, [], length, map, true, Ok};
+ghost use Rattle.std.specs.Prelude.{◌≡◌, ℕ, ◌<◌, ◌^◌, ◌&&◌, List, [], length, map, true, false, Ok};
 ghost use Rattle.std.specs.List.{AllByRecursion};
 ghost use Rattle.std.specs.Int.{w16};
 ghost use Rattle.dist_names.specs.Order.{Name};
 ghost use Rattle.dist_names.specs.NodeName.{IsNodeName};
+ghost use Rattle.dist_names.specs.Flags.{low_half, common, has_all, handshake_23};
 ghost use Rattle.dist_names.specs.declared.flags.Flags.{Flags};
 ghost use Rattle.dist_names.specs.declared.creation.Creation.{Creation};
 ghost use Rattle.dist_frames.specs.Stream.{Splits};
@@ -16,7 +17,7 @@ ghost use Rattle.dist_messages.specs.Spelling.{Fits, is_said_by};
 ghost use Rattle.dist_messages.specs.Canonical.{canonical};
 ghost use Rattle.dist_messages.specs.Reading.{read};
 ghost use Rattle.dist_setup.specs.declared.setup.Setup.{Setup};
-ghost use Rattle.dist_setup.specs.Rules.{announced_by};
+ghost use Rattle.dist_setup.specs.Rules.{announced_by, knows_six};
 ghost use Rattle.dist_setup.specs.Saying.{CanBeSaid, said};
 
 use dist_messages::written_is_read;
@@ -27,6 +28,7 @@ pub fn messages_can_be_said()
     ensures new_name { (flags : Flags) (c : Creation) (name : Name) → IsNodeName name → CanBeSaid Dialler (message.NewName flags c name) }
     ensures old_name { (flags : ℕ) (name : Name) → IsNodeName name → CanBeSaid Dialler (message.OldName flags name) }
     ensures challenge { (flags : Flags) (n : ℕ) (c : Creation) (name : Name) → IsNodeName name → CanBeSaid Acceptor (message.NewChallenge flags n c name) }
+    ensures old_challenge { (flags n : ℕ) (name : Name) → IsNodeName name → CanBeSaid Acceptor (message.OldChallenge flags n name) }
     ensures complement { (high : ℕ) (c : Creation) → CanBeSaid Dialler (message.Complement high c) }
     ensures reply { (n : ℕ) (digest : List ℕ) → length digest ≡ 16 → CanBeSaid Dialler (message.Reply n digest) }
     ensures ack { (digest : List ℕ) → length digest ≡ 16 → CanBeSaid Acceptor (message.Ack digest) }
@@ -43,4 +45,14 @@ pub fn what_is_said_is_read()
 /// The flags that a node announces fit a field of 64 bits.
 pub fn announced_flags_fit()
     ensures { (s : Setup) → announced_by s < 2 ^ 64 }
+{}
+
+/// The lower half of what a node announces tells whether it knows version 6.
+pub fn flags_tell_versions()
+    ensures { (s : Setup) → has_all (low_half (announced_by s)) handshake_23 ≡ knows_six s }
+{}
+
+/// Where one of two nodes knows version 5 alone, they have no flags in common but those of the lower half.
+pub fn low_halves_suffice()
+    ensures { (own other : Setup) → (knows_six own && knows_six other) ≡ false → common (announced_by own) (low_half (announced_by other)) ≡ common (announced_by own) (announced_by other) }
 {}

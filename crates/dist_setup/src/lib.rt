@@ -9,8 +9,15 @@ mod checks;
 mod laws;
 mod saying;
 mod setup;
+mod version;
 
-pub use checks::{announced_by, good_name, is_refused, own_digest, required_of};
-pub use laws::{announced_flags_fit, messages_can_be_said, what_is_said_is_read};
+pub use checks::{
+    announced_by, form_of_old, good_name, is_refused, knows_six, opens_new, own_digest, required_of,
+};
+pub use laws::{
+    announced_flags_fit, flags_tell_versions, low_halves_suffice, messages_can_be_said,
+    what_is_said_is_read,
+};
 pub use saying::{ack_frame, challenge_frame, greeting, name_frame, reply_frame, status_frame};
 pub use setup::{NameList, Setup};
+pub use version::Version;

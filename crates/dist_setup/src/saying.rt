@@ -2,10 +2,10 @@
 ghost use Rattle.std.specs.Prelude.{◌≡◌, ◌++◌, IfOk};
 ghost use Rattle.dist_setup.specs.Saying.{frame_of, CanBeSaid, status_text, name_text, challenge_text, greeting_text, reply_text, ack_text};
 
-use crate::checks::{announced_by, own_digest};
+use crate::checks::{announced_by, opens_new, own_digest};
 use crate::setup::Setup;
 use dist_frames::{FrameError, write_short};
-use dist_messages::{Message, MessageError, Opening, Side, Status, encode};
+use dist_messages::{Form, Message, MessageError, Side, Status, encode};
 use dist_names::{ByteString, NodeName};
 use std::alloc::{AllocError, Global};
 
@@ -46,34 +46,48 @@ pub fn status_frame(alloc: Global, status: Status) -> Result<ByteString, AllocEr
 
 /// The own name in the form that opens the handshake, in its frame (OTP's `send_name`).
 #[tactic(auto, using(crate::proofs::Sayable::old_name, crate::proofs::Sayable::new_name))]
-pub fn name_frame(alloc: Global, setup: &Setup, opening: Opening) -> Result<ByteString, AllocError>
-    ensures { IfOk result (λ b. b ≡ name_text setup.now opening) }
+pub fn name_frame(alloc: Global, setup: &Setup, form: Form) -> Result<ByteString, AllocError>
+    ensures { IfOk result (λ b. b ≡ name_text setup.now form) }
 {
     let name = ByteString::from_slice(alloc, setup.name.bytes())?;
-    let message = match opening {
-        Opening::New => Message::NewName {
+    let message = if opens_new(setup, form) {
+        Message::NewName {
             flags: announced_by(setup),
             creation: setup.creation,
             name,
-        },
-        Opening::Old => Message::OldName {
+        }
+    } else {
+        Message::OldName {
             flags: announced_by(setup).low(),
             name,
-        },
+        }
     };
     frame(alloc, Side::Dialler, &message)
 }
 
 /// The own challenge, in its frame (OTP's `send_challenge`).
-#[tactic(auto, using(crate::proofs::Sayable::new_challenge))]
-pub fn challenge_frame(alloc: Global, setup: &Setup, fresh: u32) -> Result<ByteString, AllocError>
-    ensures { IfOk result (λ b. b ≡ challenge_text setup.now fresh) }
+#[tactic(auto, using(crate::proofs::Sayable::old_challenge, crate::proofs::Sayable::new_challenge))]
+pub fn challenge_frame(
+    alloc: Global,
+    setup: &Setup,
+    form: Form,
+    fresh: u32,
+) -> Result<ByteString, AllocError>
+    ensures { IfOk result (λ b. b ≡ challenge_text setup.now form fresh) }
 {
-    let message = Message::NewChallenge {
-        flags: announced_by(setup),
-        challenge: fresh,
-        creation: setup.creation,
-        name: ByteString::from_slice(alloc, setup.name.bytes())?,
+    let name = ByteString::from_slice(alloc, setup.name.bytes())?;
+    let message = match form {
+        Form::New | Form::Old => Message::NewChallenge {
+            flags: announced_by(setup),
+            challenge: fresh,
+            creation: setup.creation,
+            name,
+        },
+        Form::Five => Message::OldChallenge {
+            flags: announced_by(setup).low(),
+            challenge: fresh,
+            name,
+        },
     };
     frame(alloc, Side::Acceptor, &message)
 }
@@ -83,37 +97,38 @@ pub fn greeting(
     alloc: Global,
     setup: &Setup,
     status: Status,
+    form: Form,
     fresh: u32,
 ) -> Result<ByteString, AllocError>
-    ensures { IfOk result (λ b. b ≡ greeting_text setup.now status fresh) }
+    ensures { IfOk result (λ b. b ≡ greeting_text setup.now status form fresh) }
 {
     let mut say = status_frame(alloc, status)?;
-    let challenge = challenge_frame(alloc, setup, fresh)?;
+    let challenge = challenge_frame(alloc, setup, form, fresh)?;
     say.append(challenge.as_slice())?;
     Ok(say)
 }
 
-/// The reply to a challenge, after the complement where the handshake was opened in the old form (OTP's
-/// `send_challenge_reply`, `send_complement`).
+/// The reply to a challenge, after the complement in a handshake that has one (OTP's `send_challenge_reply`,
+/// `send_complement`).
 #[tactic(auto, using(crate::proofs::Sayable::reply, crate::proofs::Sayable::complement))]
 pub fn reply_frame(
     alloc: Global,
     setup: &Setup,
-    opening: Opening,
+    form: Form,
     peer: &NodeName,
     fresh: u32,
     challenge: u32,
 ) -> Result<ByteString, AllocError>
-    ensures { IfOk result (λ b. b ≡ reply_text setup.now opening peer.now fresh challenge) }
+    ensures { IfOk result (λ b. b ≡ reply_text setup.now form peer.now fresh challenge) }
 {
     let message = Message::Reply {
         challenge: fresh,
         digest: own_digest(setup, peer, challenge),
     };
     let reply = frame(alloc, Side::Dialler, &message)?;
-    match opening {
-        Opening::New => Ok(reply),
-        Opening::Old => {
+    match form {
+        Form::New | Form::Five => Ok(reply),
+        Form::Old => {
             let complement = Message::Complement {
                 high: announced_by(setup).high(),
                 creation: setup.creation,

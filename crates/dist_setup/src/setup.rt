@@ -3,6 +3,7 @@ ghost use Rattle.std.specs.Prelude.{◌≡◌, length, slice_get, IfOk};
 ghost use Rattle.std.specs.Option.{option_map};
 ghost use Rattle.dist_names.specs.Order.{same_name, is_listed};
 
+use crate::version::Version;
 use dist_names::{Creation, Flags, NodeName};
 use dist_secret::Cookies;
 use std::alloc::{AllocError, Global};
@@ -15,9 +16,12 @@ pub struct Setup {
     pub name: NodeName,
     /// The secrets that it shares with its peers: one for each that has its own, and one for all others.
     pub cookies: Cookies,
-    /// What it announces, but for `DFLAG_HANDSHAKE_23`, which is announced always, and `DFLAG_NAME_ME`, which never is.
+    /// The highest version of the handshake that it knows.
+    pub version: Version,
+    /// What it announces, but for `DFLAG_HANDSHAKE_23`, which its version decides, and `DFLAG_NAME_ME`, which never is. In
+    /// version 5 the lower half alone is.
     pub flags: Flags,
-    /// What it asks of a peer beside `DFLAG_HANDSHAKE_23`.
+    /// What it asks of a peer, beside `DFLAG_HANDSHAKE_23` where both know version 6.
     pub required: Flags,
     /// The number of this incarnation.
     pub creation: Creation,
@@ -33,6 +37,7 @@ impl Setup {
         Ok(Setup {
             name: self.name.try_clone(alloc)?,
             cookies: self.cookies.try_clone(alloc)?,
+            version: self.version,
             flags: self.flags,
             required: self.required,
             creation: self.creation,

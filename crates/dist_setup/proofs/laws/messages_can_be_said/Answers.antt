@@ -13,6 +13,9 @@ returns-clause-old_name c = sayable.old_name
 pub returns-clause-challenge : goal.returns-clause-challenge
 returns-clause-challenge c = sayable.new_challenge
 
+pub returns-clause-old_challenge : goal.returns-clause-old_challenge
+returns-clause-old_challenge c = sayable.old_challenge
+
 pub returns-clause-complement : goal.returns-clause-complement
 returns-clause-complement c = sayable.complement
 
