@@ -8,7 +8,7 @@ use crate::effect::{
 };
 use crate::reply::Note;
 use dist_ends::{Attempt, End, Ends, Phase, Why};
-use dist_messages::{Message, Opening, Status};
+use dist_messages::{Form, Message, Status};
 use dist_names::{ByteString, Flags};
 use dist_peers::{EndId, Entry, Verdict, replaced};
 use dist_setup::{
@@ -101,15 +101,15 @@ pub fn name_taken(
 ) -> Result<Effect, AllocError>
     ensures { IfOk result (λ f. f ≡ name_taken setup.now ends.now id attempt verdict) }
 {
-    let fresh = attempt.challenge;
+    let (form, fresh) = (attempt.form, attempt.challenge);
     let note = taken(alloc, &attempt)?;
     match verdict {
         Verdict::Ok => {
-            let say = greeting(alloc, setup, Status::Ok, fresh)?;
+            let say = greeting(alloc, setup, Status::Ok, form, fresh)?;
             Ok(goes_on(id, say, End::Attempt(attempt), note))
         }
         Verdict::OkSimultaneous { drops } => {
-            let say = greeting(alloc, setup, Status::OkSimultaneous, fresh)?;
+            let say = greeting(alloc, setup, Status::OkSimultaneous, form, fresh)?;
             let crossed = superseded_at(alloc, ends, drops)?;
             supersedes(alloc, id, say, attempt, drops, crossed)
         }
@@ -125,7 +125,7 @@ pub fn name_taken(
             let (say, this) = if alive {
                 (status_frame(alloc, Status::Alive)?, held_back(attempt))
             } else {
-                (greeting(alloc, setup, Status::Ok, fresh)?, attempt)
+                (greeting(alloc, setup, Status::Ok, form, fresh)?, attempt)
             };
             Ok(shuts_other(id, say, End::Attempt(this), drops, Why::Replaced, note))
         }
@@ -145,10 +145,10 @@ pub fn in_await_true(
 {
     match message {
         Message::Status(Status::True) => {
-            let say = challenge_frame(alloc, setup, fresh)?;
+            let say = challenge_frame(alloc, setup, attempt.form, fresh)?;
             let copy = attempt.try_clone(alloc)?;
             let attempt = Attempt {
-                phase: reply_phase(attempt.opening),
+                phase: reply_phase(attempt.form),
                 challenge: fresh,
                 ..copy
             };
@@ -173,14 +173,14 @@ pub fn in_await_complement(
         return Ok(closes(alloc, id, Why::Unexpected));
     };
     let flags = Flags::of_halves(*high, attempt.flags.low());
-    if !flags.has(required_of(setup, Opening::New)) {
+    if !flags.has(required_of(setup, Form::New)) {
         return Ok(closes(alloc, id, Why::WrongFlags));
     }
     let copy = attempt.try_clone(alloc)?;
     let attempt = Attempt {
         phase: Phase::AwaitReply,
         flags,
-        creation: *creation,
+        creation: Some(*creation),
         ..copy
     };
     let nothing = ByteString::new(alloc);

@@ -1,14 +1,14 @@
 //! What each message does to a dialled end.
 ghost use Rattle.std.specs.Prelude.{◌≡◌, IfOk, Ok, Err, Some, None};
-ghost use Rattle.dist_core.specs.Dialled.{in_await_status, in_doomed, in_await_challenge, in_await_ack};
+ghost use Rattle.dist_core.specs.Dialled.{in_await_status, in_doomed, challenged, in_await_challenge, in_await_ack};
 
 use crate::effect::{Effect, closes, comes_up, goes_on, moves, record_of, shuts};
 use crate::reply::Note;
 use dist_ends::{Attempt, End, Phase, Why};
-use dist_messages::{Message, Opening, Status};
-use dist_names::ByteString;
+use dist_messages::{Form, Message, Status};
+use dist_names::{ByteString, Creation, Flags};
 use dist_peers::{EndId, Entry, replaced};
-use dist_setup::{Setup, own_digest, reply_frame, required_of, status_frame};
+use dist_setup::{Setup, knows_six, opens_new, own_digest, reply_frame, required_of, status_frame};
 use std::alloc::{AllocError, Global};
 
 pub fn in_await_status(
@@ -48,6 +48,53 @@ pub fn in_doomed(alloc: Global, id: EndId, message: &Message) -> Result<Effect, 
     }
 }
 
+// What a challenge says that is understood, in which form it is answered, and which flags are asked for.
+#[derive(Clone, Copy)]
+struct Challenge {
+    form: Form,
+    required: Flags,
+    flags: Flags,
+    challenge: u32,
+    creation: Option<Creation>,
+}
+
+// A challenge is answered, where it is of the name that was dialled and has the flags that are asked for.
+fn challenged(
+    alloc: Global,
+    setup: &Setup,
+    id: EndId,
+    fresh: u32,
+    attempt: &Attempt,
+    came: Challenge,
+    name: &ByteString,
+) -> Result<Effect, AllocError>
+    ensures { IfOk result (λ f. f ≡ challenged setup.now id fresh attempt.now came.form came.required.0 came.flags came.challenge came.creation name.now) }
+{
+    let Challenge {
+        form,
+        required,
+        flags,
+        challenge,
+        creation,
+    } = came;
+    if !attempt.peer.has_bytes(name.as_slice()) {
+        return Ok(closes(alloc, id, Why::WrongName));
+    }
+    if !flags.has(required) {
+        return Ok(closes(alloc, id, Why::WrongFlags));
+    }
+    let say = reply_frame(alloc, setup, form, &attempt.peer, fresh, challenge)?;
+    let copy = attempt.try_clone(alloc)?;
+    let attempt = Attempt {
+        phase: Phase::AwaitAck,
+        challenge: fresh,
+        flags,
+        creation,
+        ..copy
+    };
+    Ok(goes_on(id, say, End::Attempt(attempt), Note::ReplySaid))
+}
+
 // The end awaits the challenge.
 pub fn in_await_challenge(
     alloc: Global,
@@ -59,32 +106,39 @@ pub fn in_await_challenge(
 ) -> Result<Effect, AllocError>
     ensures { IfOk result (λ f. f ≡ in_await_challenge setup.now id fresh attempt.now message.now) }
 {
-    let Message::NewChallenge {
-        flags,
-        challenge,
-        creation,
-        name,
-    } = message
-    else {
-        return Ok(closes(alloc, id, Why::Unexpected));
+    let (came, name) = match message {
+        Message::NewChallenge {
+            flags,
+            challenge,
+            creation,
+            name,
+        } if knows_six(setup) => {
+            let came = Challenge {
+                form: attempt.form,
+                required: required_of(setup, Form::New),
+                flags: *flags,
+                challenge: *challenge,
+                creation: Some(*creation),
+            };
+            (came, name)
+        }
+        Message::OldChallenge {
+            flags,
+            challenge,
+            name,
+        } if !opens_new(setup, attempt.form) => {
+            let came = Challenge {
+                form: Form::Five,
+                required: required_of(setup, Form::Five),
+                flags: Flags(*flags as u64),
+                challenge: *challenge,
+                creation: None,
+            };
+            (came, name)
+        }
+        _ => return Ok(closes(alloc, id, Why::Unexpected)),
     };
-    if !attempt.peer.has_bytes(name.as_slice()) {
-        return Ok(closes(alloc, id, Why::WrongName));
-    }
-    if !flags.has(required_of(setup, Opening::New)) {
-        return Ok(closes(alloc, id, Why::WrongFlags));
-    }
-    let (opening, peer) = (attempt.opening, &attempt.peer);
-    let say = reply_frame(alloc, setup, opening, peer, fresh, *challenge)?;
-    let copy = attempt.try_clone(alloc)?;
-    let attempt = Attempt {
-        phase: Phase::AwaitAck,
-        challenge: fresh,
-        flags: *flags,
-        creation: *creation,
-        ..copy
-    };
-    Ok(goes_on(id, say, End::Attempt(attempt), Note::ReplySaid))
+    challenged(alloc, setup, id, fresh, attempt, came, name)
 }
 
 // The end awaits the acknowledgement.

@@ -1,10 +1,10 @@
 //! What a step does, before it is done.
 ghost use Rattle.std.specs.Prelude.{◌≡◌, IfOk, Ok, Err, Some, None};
-ghost use Rattle.dist_core.specs.Effects.{reply_phase, goes_on, shuts, shuts_other, comes_up, closes, moves, record_of};
+ghost use Rattle.dist_core.specs.Effects.{form_of, reply_phase, goes_on, shuts, shuts_other, comes_up, closes, moves, record_of};
 
 use crate::reply::{Note, Reply};
 use dist_ends::{Attempt, End, Phase, UpRecord, Why};
-use dist_messages::Opening;
+use dist_messages::{Form, Opening};
 use dist_names::ByteString;
 use dist_peers::EndId;
 use dist_setup::{Setup, announced_by};
@@ -112,12 +112,22 @@ pub fn moves(
     Ok(goes_on(id, say, End::Attempt(attempt), Note::Nothing))
 }
 
-pub fn reply_phase(opening: Opening) -> Phase
-    ensures { result ≡ reply_phase opening }
+pub fn reply_phase(form: Form) -> Phase
+    ensures { result ≡ reply_phase form }
+{
+    match form {
+        Form::New | Form::Five => Phase::AwaitReply,
+        Form::Old => Phase::AwaitComplement,
+    }
+}
+
+// The form of a handshake that is to be opened so.
+pub fn form_of(opening: Opening) -> Form
+    ensures { result ≡ form_of opening }
 {
     match opening {
-        Opening::New => Phase::AwaitReply,
-        Opening::Old => Phase::AwaitComplement,
+        Opening::New => Form::New,
+        Opening::Old => Form::Old,
     }
 }
 

@@ -1,5 +1,5 @@
 use Rattle.std.proofs.Common.{rules}
-use Rattle.dist_core.proofs.dialled.in_await_challenge.Goals as goal
+use Rattle.dist_core.proofs.dialled.challenged.Goals as goal
 
 pub returns-then-not-has : goal.returns-then-not-has
 returns-then-not-has c = search rules
