@@ -1,5 +1,5 @@
 -- A reply is said only to a challenge of the name that was dialled.
-use Rattle.std.proofs.Common.{◌≡◌, ℕ, true, List, Option, Some, None, Ok, sym, ap, ◌∙◌, slice_get}
+use Rattle.std.proofs.Common.{◌≡◌, ℕ, true, List, Option, Some, None, Ok, sym, ap, ◌∙◌, subst, slice_get}
 use Rattle.std.proofs.lemmas.Bool.{false≢true, eqb-true}
 use Rattle.std.specs.Option.{option_map}
 use Rattle.dist_names.specs.Order.{Name}
@@ -7,7 +7,6 @@ use Rattle.dist_messages.specs.Reading.{read}
 use Rattle.dist_messages.specs.declared.message.Side.{Side}
 use Rattle.dist_messages.specs.declared.message.Side.TheVariants.{Acceptor}
 use Rattle.dist_messages.specs.declared.message.Message.{Message}
-use Rattle.dist_messages.specs.declared.message.Message.TheVariants as message
 use Rattle.dist_peers.specs.declared.entry.EndId.{EndId}
 use Rattle.dist_peers.specs.declared.entry.Entry.{Entry}
 use Rattle.dist_peers.specs.declared.entry.Entry.TheVariants as entry
@@ -25,7 +24,7 @@ use Rattle.dist_core.specs.declared.effect.Effect.{Effect}
 use Rattle.dist_core.specs.Effects.{supersedes, superseded}
 use Rattle.dist_laws.specs.Laws.{IsDialledChallenge}
 use Rattle.dist_core.specs.Node.{NodeState}
-use Rattle.dist_core.specs.Rows.{Row, Heard, Taken, Dials, Comes_in, Begins, Ceases, Loses, Ticks, Fails, Hears, Closes, Names, Goes_on, Insists, Replies, Challenges, Complements, Acknowledged, Replied, Accepts, Crosses, Declines, Comes_again, Asks_alive, Asks_again}
+use Rattle.dist_core.specs.Rows.{IsChallenge, Row, Heard, Taken, Dials, Comes_in, Begins, Ceases, Loses, Ticks, Fails, Hears, Closes, Names, Goes_on, Insists, Replies, Challenges, Complements, Acknowledged, Replied, Accepts, Crosses, Declines, Comes_again, Asks_alive, Asks_again}
 use Rattle.dist_core.specs.Step.{effect_of, sender_to, sender_in}
 use Rattle.dist_ends.proofs.Fitting.{self-same}
 use Rattle.dist_ends.proofs.Tables.{same-name}
@@ -82,18 +81,22 @@ module _ (n : NodeState) (legal : AreLegal n.ends) where
   by-heard v id body e side m fresh f is at to says (Complements high c b un ph mm fl k) o = absurd (nothing f (ap noted k) o)
   by-heard v id body e side m fresh f is at to says (Acknowledged digest b un ph mm right k) o = absurd (nothing f (ap noted k) o)
   by-heard v id body e side m fresh f is at to says (Replied challenge digest b un ph mm right k) o = absurd (nothing f (ap noted k) o)
-  by-heard v id body e side m fresh f is at to says (Replies flags challenge c p b un ph mm sn fl k) o =
+  by-heard v id body e side m fresh f is at to says (Replies fm r flags challenge c p b un ph ch sn fl k) o =
       record {
         id = id;
         body = body;
         attempt = b;
+        form = fm;
+        required = r;
         flags = flags;
         challenge = challenge;
         creation = c;
+        heard = m;
         came = is;
         there = at ∙ ap Some un;
         awaited = ph;
-        says = ap (λ z. read z body) (sym (same-side side (sym to ∙ ap sender_to un ∙ ap sender_in ph))) ∙ says ∙ ap Ok mm ∙ ap (λ (q : Name). Ok (message.NewChallenge flags challenge c q)) (sym (same-name b.peer p sn));
+        says = ap (λ z. read z body) (sym (same-side side (sym to ∙ ap sender_to un ∙ ap sender_in ph))) ∙ says;
+        is = subst (λ (q : Name). IsChallenge n.setup b fm r flags challenge c q m) (sym (same-name b.peer p sn)) ch;
         held = held id b (at ∙ ap Some un) ph;
       }
 

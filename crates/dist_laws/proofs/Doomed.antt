@@ -45,7 +45,7 @@ module _ (n : NodeState) where
   by-heard id fresh e m f d (Names o flags c p un mm ok t) = absurd (false≢true (sym (ap is_doomed un) ∙ d))
   by-heard id fresh e m f d (Goes_on s b un ph mm go k) = absurd (false≢true (sym (in-phase e b _ un ph) ∙ d))
   by-heard id fresh e m f d (Insists b un ph mm k) = absurd (false≢true (sym (in-phase e b _ un ph) ∙ d))
-  by-heard id fresh e m f d (Replies flags challenge c p b un ph mm sn fl k) = absurd (false≢true (sym (in-phase e b _ un ph) ∙ d))
+  by-heard id fresh e m f d (Replies o0 r0 flags challenge c p b un ph mm sn fl k) = absurd (false≢true (sym (in-phase e b _ un ph) ∙ d))
   by-heard id fresh e m f d (Challenges b un ph mm k) = absurd (false≢true (sym (in-phase e b _ un ph) ∙ d))
   by-heard id fresh e m f d (Complements high c b un ph mm fl k) = absurd (false≢true (sym (in-phase e b _ un ph) ∙ d))
   by-heard id fresh e m f d (Acknowledged digest b un ph mm right k) = absurd (false≢true (sym (in-phase e b _ un ph) ∙ d))

@@ -118,7 +118,7 @@ module _ (n : NodeState) where
 
   by-taken : (id : EndId) (b : Attempt) (f : Effect) → slice_get n.ends id.0 ≡ Some ends.Unnamed → Taken n id b f → ((x : EndId) (s : End) → f.other ≡ Some (x, s) → IsOther n id x) → Change 0 f
   by-taken id b f at (Accepts is k) o = kept-open ends.Unnamed k at refl refl
-  by-taken id b f at (Crosses y is g k) o = superseded-one id y (greeting_text n.setup status.OkSimultaneous b.challenge) b (superseded (slice_get n.ends y.0)) ends.Unnamed k at refl o
+  by-taken id b f at (Crosses y is g k) o = superseded-one id y (greeting_text n.setup status.OkSimultaneous b.form b.challenge) b (superseded (slice_get n.ends y.0)) ends.Unnamed k at refl o
   by-taken id b f at (Declines y is g k) o = shut-down ends.Unnamed k at refl
   by-taken id b f at (Comes_again y is k) o = shut-two ends.Unnamed k at refl refl (o y _ (ap (λ (f : Effect). f.other) k))
   by-taken id b f at (Asks_alive y is k) o = kept-open ends.Unnamed k at refl refl
@@ -136,7 +136,7 @@ module _ (n : NodeState) where
   by-heard id fresh d m f at was (Names nm flags c p un mm ok t) o = by-taken id (named_attempt nm flags c p fresh) f (at ∙ ap Some un) t o
   by-heard id fresh d m f at was (Goes_on st b un ph mm go k) o = kept-open d k at was refl
   by-heard id fresh d m f at was (Insists b un ph mm k) o = kept-open d k at was refl
-  by-heard id fresh d m f at was (Replies flags challenge c p b un ph mm sn fl k) o = kept-open d k at was refl
+  by-heard id fresh d m f at was (Replies o0 r0 flags challenge c p b un ph mm sn fl k) o = kept-open d k at was refl
   by-heard id fresh d m f at was (Challenges b un ph mm k) o = kept-open d k at was refl
   by-heard id fresh d m f at was (Complements high c b un ph mm fl k) o = kept-open d k at was refl
   by-heard id fresh d m f at was (Acknowledged digest b un ph mm right k) o = risen (replaced_by (entry_in n.ends b.peer)) d k at was o

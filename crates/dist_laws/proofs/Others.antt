@@ -95,7 +95,7 @@ module _ (n : NodeState) (legal : AreLegal n.ends) (x : EndId) (s : End) where
   by-heard id fresh d m f at (Names nm flags c p un mm ok t) o = by-taken id (named_attempt nm flags c p fresh) f (at ∙ ap Some un) t o
   by-heard id fresh d m f at (Goes_on st b un ph mm go k) o = absurd (nothing f x s (ap (λ (f : Effect). f.other) k) o)
   by-heard id fresh d m f at (Insists b un ph mm k) o = absurd (nothing f x s (ap (λ (f : Effect). f.other) k) o)
-  by-heard id fresh d m f at (Replies flags challenge c p b un ph mm sn fl k) o = absurd (nothing f x s (ap (λ (f : Effect). f.other) k) o)
+  by-heard id fresh d m f at (Replies o0 r0 flags challenge c p b un ph mm sn fl k) o = absurd (nothing f x s (ap (λ (f : Effect). f.other) k) o)
   by-heard id fresh d m f at (Challenges b un ph mm k) o = absurd (nothing f x s (ap (λ (f : Effect). f.other) k) o)
   by-heard id fresh d m f at (Complements high c b un ph mm fl k) o = absurd (nothing f x s (ap (λ (f : Effect). f.other) k) o)
   by-heard id fresh d m f at (Acknowledged digest b un ph mm right k) o = by-rising id b phase.AwaitAck (at ∙ ap Some un) ph (λ q. refl) (entry_in n.ends b.peer) refl (ap (λ (f : Effect). f.other) (sym k) ∙ o)

@@ -47,7 +47,7 @@ module _ (n : NodeState) (r : UpRecord) where
   by-heard id fresh d m f (Names o flags c p un mm ok t) e = by-taken id (named_attempt o flags c p fresh) f t e
   by-heard id fresh d m f (Goes_on s b un ph mm go k) e = none f (ap (λ (f : Effect). f.reply.up) k) e
   by-heard id fresh d m f (Insists b un ph mm k) e = none f (ap (λ (f : Effect). f.reply.up) k) e
-  by-heard id fresh d m f (Replies flags challenge c p b un ph mm sn fl k) e = none f (ap (λ (f : Effect). f.reply.up) k) e
+  by-heard id fresh d m f (Replies o0 r0 flags challenge c p b un ph mm sn fl k) e = none f (ap (λ (f : Effect). f.reply.up) k) e
   by-heard id fresh d m f (Challenges b un ph mm k) e = none f (ap (λ (f : Effect). f.reply.up) k) e
   by-heard id fresh d m f (Complements high c b un ph mm fl k) e = none f (ap (λ (f : Effect). f.reply.up) k) e
   by-heard id fresh d m f (Acknowledged digest b un ph mm right k) e = rises f (record_of n.setup b digest) (ap (λ (f : Effect). f.reply.up) k) right e

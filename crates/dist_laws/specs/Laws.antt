@@ -5,7 +5,8 @@ use Rattle.dist_names.specs.declared.flags.Flags.{Flags}
 use Rattle.dist_names.specs.declared.creation.Creation.{Creation}
 use Rattle.dist_messages.specs.Reading.{read}
 use Rattle.dist_messages.specs.declared.message.Side.TheVariants.{Acceptor}
-use Rattle.dist_messages.specs.declared.message.Message.TheVariants as message
+use Rattle.dist_messages.specs.declared.message.Message.{Message}
+use Rattle.dist_messages.specs.declared.form.Form.{Form}
 use Rattle.dist_peers.specs.declared.entry.EndId.{EndId}
 use Rattle.dist_peers.specs.declared.entry.Entry.TheVariants as entry
 use Rattle.dist_ends.specs.declared.phase.Kind.{Kind}
@@ -27,6 +28,7 @@ use Rattle.dist_core.specs.declared.reply.Note.TheVariants as note
 use Rattle.dist_core.specs.declared.effect.Effect.{Effect}
 use Rattle.dist_core.specs.Node.{NodeState, new_id}
 use Rattle.dist_core.specs.Effects.{dooms_other, shuts_other}
+use Rattle.dist_core.specs.Rows.{IsChallenge}
 use Rattle.dist_core.specs.Step.{effect_of, after}
 
 -- an open end of the node that holds a peer, and is not this one
@@ -114,11 +116,15 @@ pub record IsDialledChallenge (n : NodeState) (v : Event) : Type 0 where
   pub id : EndId
   pub body : List ℕ
   pub attempt : Attempt
+  pub form : Form
+  pub required : ℕ
   pub flags : Flags
   pub challenge : ℕ
-  pub creation : Creation
+  pub creation : Option Creation
+  pub heard : Message
   pub came : v ≡ event.Frame id body
   pub there : slice_get n.ends id.0 ≡ Some (ends.Attempt attempt)
   pub awaited : attempt.phase ≡ phase.AwaitChallenge
-  pub says : read Acceptor body ≡ Ok (message.NewChallenge flags challenge creation attempt.peer)
+  pub says : read Acceptor body ≡ Ok heard
+  pub is : IsChallenge n.setup attempt form required flags challenge creation attempt.peer heard
   pub held : entry_in n.ends attempt.peer ≡ Some (entry.Out id)
