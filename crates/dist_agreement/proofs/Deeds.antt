@@ -10,7 +10,8 @@ use Rattle.dist_peers.specs.Verdicts.{is_greater}
 use Rattle.dist_peers.specs.declared.entry.Entry.TheVariants as entry
 use Rattle.dist_ends.specs.declared.known.Attempt.{Attempt}
 use Rattle.dist_messages.specs.declared.opening.Opening.{Opening}
-use Rattle.dist_messages.specs.declared.opening.Opening.TheVariants as opening
+use Rattle.dist_messages.specs.declared.form.Form.{Form}
+use Rattle.dist_messages.specs.declared.form.Form.TheVariants as form
 use Rattle.dist_ends.specs.declared.known.UpRecord.{UpRecord}
 use Rattle.dist_ends.specs.declared.phase.Phase.{Phase}
 use Rattle.dist_ends.specs.declared.phase.Phase.TheVariants as phase
@@ -100,9 +101,10 @@ module _ (laws : NodeLaws) (n : NodeState) (legal : AreLegal n.ends) where
     taken f (core.Asks_alive x e k) = Takes id _ (held_back a) given un held (λ y. ap (names Out y) e) k
     taken f (core.Asks_again u x e k) = Takes_over id _ (held_back a) x given un held (λ y. ap (names Out y) e) (ap (names In x.0) e ∙ eqb-self (x.0)) k
 
-  reply-stand : (p : Name) (o : Opening) → stand_in p (reply_phase o) ≡ named_stand p
-  reply-stand p opening.New = refl
-  reply-stand p opening.Old = refl
+  reply-stand : (p : Name) (o : Form) → stand_in p (reply_phase o) ≡ named_stand p
+  reply-stand p form.New = refl
+  reply-stand p form.Old = refl
+  reply-stand p form.Five = refl
 
   module _ (v : Event) (given : is_given v ≡ false) (id : EndId) where
     moved : (say : List ℕ) (b d : Attempt) (f : Effect) → slice_get n.ends id.0 ≡ Some (ends.Attempt b) → stand_in d.peer d.phase ≡ stand_in b.peer b.phase → f ≡ goes_on id say (ends.Attempt d) note.Nothing → Deed n v f
@@ -113,8 +115,8 @@ module _ (laws : NodeLaws) (n : NodeState) (legal : AreLegal n.ends) where
     heard fresh e m f at (core.Names o flags c p un mm ok t) = taken v given id (at ∙ ap Some un) (named_attempt o flags c p fresh) (reply-stand p o) refl f t
     heard fresh e m f at (core.Goes_on s b un ph mm go k) = moved _ b _ f (at ∙ ap Some un) (sym (ap (stand_in b.peer) ph)) k
     heard fresh e m f at (core.Insists b un ph mm k) = moved _ b _ f (at ∙ ap Some un) (sym (ap (stand_in b.peer) ph)) k
-    heard fresh e m f at (core.Replies flags challenge c p b un ph mm sn fl k) = Says id _ b _ given (at ∙ ap Some un) ph refl refl k
-    heard fresh e m f at (core.Challenges b un ph mm k) = moved _ b _ f (at ∙ ap Some un) (reply-stand b.peer b.opening ∙ sym (ap (stand_in b.peer) ph)) k
+    heard fresh e m f at (core.Replies o r flags challenge c p b un ph mm sn fl k) = Says id _ b _ given (at ∙ ap Some un) ph refl refl k
+    heard fresh e m f at (core.Challenges b un ph mm k) = moved _ b _ f (at ∙ ap Some un) (reply-stand b.peer b.form ∙ sym (ap (stand_in b.peer) ph)) k
     heard fresh e m f at (core.Complements high c b un ph mm fl k) = moved _ b _ f (at ∙ ap Some un) (sym (ap (stand_in b.peer) ph)) k
     heard fresh e m f at (core.Acknowledged digest b un ph mm right k) = Rises id _ b _ phase.AwaitAck Dialler given (at ∙ ap Some un) ph tt refl k
     heard fresh e m f at (core.Replied challenge digest b un ph mm right k) = Rises id _ b _ phase.AwaitReply Acceptor given (at ∙ ap Some un) ph tt refl k

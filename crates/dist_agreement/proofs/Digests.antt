@@ -90,7 +90,7 @@ module _ (laws : NodeLaws) (n : NodeState) (all : (i : ℕ) (e : End) → slice_
   heard id fresh e m f (core.Names o flags c p un mm ok t) = taken id (named_attempt o flags c p fresh) f t
   heard id fresh e m f (core.Goes_on s b un ph mm go k) = subst (RightEffect n) (sym k) (tt, tt)
   heard id fresh e m f (core.Insists b un ph mm k) = subst (RightEffect n) (sym k) (tt, tt)
-  heard id fresh e m f (core.Replies flags challenge c p b un ph mm sn fl k) = subst (RightEffect n) (sym k) (tt, tt)
+  heard id fresh e m f (core.Replies o r flags challenge c p b un ph mm sn fl k) = subst (RightEffect n) (sym k) (tt, tt)
   heard id fresh e m f (core.Challenges b un ph mm k) = subst (RightEffect n) (sym k) (tt, tt)
   heard id fresh e m f (core.Complements high c b un ph mm fl k) = subst (RightEffect n) (sym k) (tt, tt)
   heard id fresh e m f (core.Acknowledged digest b un ph mm right k) = subst (RightEffect n) (sym k) (risen id [] (record_of n.setup b digest) (replaced_by (entry_in n.ends b.peer)) right)

@@ -39,15 +39,15 @@ say-more s a b g (message.OldChallenge f c p) h = h
 say-more s a b g (message.NewChallenge f n c p) h = h
 say-more s a b g (message.Ack d) h = h
 
-pub answer-more : (s : Setup) (a b c d : Option ℕ) → (is_some a ≡ true → is_some b ≡ true) → (is_some c ≡ true → is_some d ≡ true) → (m : Message) → MayAnswer s a c m → MayAnswer s b d m
-answer-more s a b c d g k (message.NewName f e p) h = h
-answer-more s a b c d g k (message.OldName f p) h = h
-answer-more s a b c d g k (message.Complement high e) h = h
-answer-more s a b c d g k (message.Reply e u) h = h
-answer-more s a b c d g k (message.Status e) h = h
-answer-more s a b c d g k (message.OldChallenge f e p) h = h
-answer-more s a b c d g k (message.NewChallenge f n e p) h = (g h.0, h.1, h.2, h.3)
-answer-more s a b c d g k (message.Ack u) h = k h
+pub answer-more : (s other : Setup) (a b c d : Option ℕ) → (is_some a ≡ true → is_some b ≡ true) → (is_some c ≡ true → is_some d ≡ true) → (m : Message) → MayAnswer s other a c m → MayAnswer s other b d m
+answer-more s other a b c d g k (message.NewName f e p) h = h
+answer-more s other a b c d g k (message.OldName f p) h = h
+answer-more s other a b c d g k (message.Complement high e) h = h
+answer-more s other a b c d g k (message.Reply e u) h = h
+answer-more s other a b c d g k (message.Status e) h = h
+answer-more s other a b c d g k (message.OldChallenge f e p) h = (g h.0, h.1, h.2, h.3)
+answer-more s other a b c d g k (message.NewChallenge f n e p) h = (g h.0, h.1, h.2, h.3, h.4)
+answer-more s other a b c d g k (message.Ack u) h = k h
 
 module _ (laws : NodeLaws) where
   -- a frame is taken by the event's own end

@@ -104,7 +104,7 @@ shut-hush y w x s e a b = let z = some_pair_parts y x (ends.Closed w) s e in let
 doomed-hush : (d : Attempt) (p : Name) → stand_in d.peer d.phase ≡ dialled_stand p true false → IsHush (ends.Attempt d)
 doomed-hush d p h a b = by d.phase (ap (λ (s : Stand). s.doomed) h)
   where
-    by : (q : Phase) → (let s = stand_in d.peer q in s.doomed) ≡ true → NotedIn b d q
+    by : (q : Phase) → (let s = stand_in d.peer q in s.doomed) ≡ true → NotedIn a b d q
     by phase.Dialing e = tt
     by phase.DoomedDialing e = tt
     by phase.AwaitStatus e = tt

@@ -35,7 +35,7 @@ dialing-noted own other (Some (ends.Closed w)) h = tt
 dialing-noted own other (Some (ends.Up r)) h = absurd (false≢true h)
 dialing-noted own other (Some (ends.Attempt a)) h = by a.phase h
   where
-    by : (q : Phase) → waits_in q ≡ true → NotedIn other a q
+    by : (q : Phase) → waits_in q ≡ true → NotedIn own other a q
     by phase.Dialing e = tt
     by phase.DoomedDialing e = tt
     by phase.AwaitStatus e = tt

@@ -1,5 +1,5 @@
 -- What a node says is whole frames of messages that it may say.
-use Rattle.std.proofs.Common.{◌≡◌, ℕ, ◌/◌, ◌^◌, ◌<◌, true, List, [], ◌∷◌, ◌++◌, length, Option, Ok, refl, sym, ◌∙◌, subst, arith, is_some, length-append, lit<}
+use Rattle.std.proofs.Common.{◌≡◌, ℕ, ◌/◌, ◌^◌, ◌<◌, true, false, cond, List, [], ◌∷◌, ◌++◌, length, Option, Ok, refl, sym, ◌∙◌, subst, arith, is_some, length-append, lit<}
 use Rattle.std.specs.Int.{w32, to_le_bytes}
 use Rattle.md5.specs.Md5.{md5, digest_bytes, hash_after, padded_message}
 use Rattle.std.specs.Prelude.{slice_index}
@@ -13,12 +13,13 @@ use Rattle.dist_messages.specs.declared.message.Status.{Status}
 use Rattle.dist_messages.specs.declared.message.Message.{Message}
 use Rattle.dist_messages.specs.declared.message.Message.TheVariants as message
 use Rattle.dist_setup.specs.declared.setup.Setup.{Setup}
-use Rattle.dist_messages.specs.declared.opening.Opening.{Opening}
-use Rattle.dist_messages.specs.declared.opening.Opening.TheVariants as opening
-use Rattle.dist_setup.specs.Rules.{announced_by, own_digest}
-use Rattle.dist_setup.specs.Saying.{CanBeSaid, frame_of, said, name_text, status_text, greeting_text, challenge_text, reply_text, ack_text, tick_text, challenge_message, complement_message, reply_message, ack_message, name_message}
+use Rattle.dist_messages.specs.declared.form.Form.{Form}
+use Rattle.dist_messages.specs.declared.form.Form.TheVariants as form
+use Rattle.dist_setup.specs.Rules.{announced_by, knows_six, own_digest}
+use Rattle.dist_setup.specs.Saying.{CanBeSaid, frame_of, said, name_text, status_text, greeting_text, challenge_text, reply_text, ack_text, tick_text, new_challenge_message, old_challenge_message, complement_message, reply_message, ack_message, new_name_message, old_name_message}
 use Rattle.dist_agreement.proofs.Ways.{Whole, whole-one, whole-append, whole-empty}
-use Rattle.dist_agreement.proofs.Wires.{MaySay, MayAnswer, Said}
+use Rattle.dist_agreement.specs.Agreement.{both_six}
+use Rattle.dist_agreement.proofs.Wires.{MaySay, MayAnswer, Said, is_newer}
 use Rattle.dist_agreement.specs.NodeLaws.{NodeLaws}
 
 -- the setup's name is a name, and its numbers fit
@@ -74,22 +75,50 @@ module _ (laws : NodeLaws) where
   -- ---- the dialling side
 
   module _ (s : Setup) (fit : IsFit s) (replied : Option ℕ) where
-    pub name-said : (o : Opening) → Whole (Said Dialler (MaySay s replied)) (name_text s o)
-    name-said opening.New = message-said laws Dialler (MaySay s replied) (name_message s opening.New) (laws.sayings.says_new_name _ _ _ fit.name) (fit.flags, fit.creation) (refl, refl, refl)
-    name-said opening.Old = message-said laws Dialler (MaySay s replied) (name_message s opening.Old) (laws.sayings.says_old_name _ _ fit.name) (let f = fit.flags in omega arith) (refl, refl)
+    old-name-said : Whole (Said Dialler (MaySay s replied)) (said (old_name_message s ∷ []))
+    old-name-said = message-said laws Dialler (MaySay s replied) (old_name_message s) (laws.sayings.says_old_name _ _ fit.name) (let f = fit.flags in omega arith) (refl, refl)
 
-    pub reply-said : (o : Opening) (p : List ℕ) (fresh challenge : ℕ) → fresh < 2 ^ 32 → is_some replied ≡ true → Whole (Said Dialler (MaySay s replied)) (reply_text s o p fresh challenge)
-    reply-said opening.New p fresh challenge f h = message-said laws Dialler (MaySay s replied) (reply_message s p fresh challenge) (laws.sayings.says_reply fresh _ (digest-length s p challenge)) (f, digest-length s p challenge) h
-    reply-said opening.Old p fresh challenge f h = two-said laws Dialler (MaySay s replied) (complement_message s) (reply_message s p fresh challenge) (laws.sayings.says_complement _ _) ((let g = fit.flags in omega arith), fit.creation) (refl, refl) (laws.sayings.says_reply fresh _ (digest-length s p challenge)) (f, digest-length s p challenge) h
+    pub name-said : (o : Form) → Whole (Said Dialler (MaySay s replied)) (name_text s o)
+    name-said form.New =
+        elim (knows_six s) as (λ v. knows_six s ≡ v → Whole (Said Dialler (MaySay s replied)) (said (cond v (new_name_message s) (old_name_message s) ∷ []))) [
+          | true ↦ λ v. message-said laws Dialler (MaySay s replied) (new_name_message s) (laws.sayings.says_new_name _ _ _ fit.name) (fit.flags, fit.creation) (v, refl, refl, refl)
+          | false ↦ λ v. old-name-said
+        ] refl
+    name-said form.Old = old-name-said
+    name-said form.Five = old-name-said
+
+    pub reply-said : (o : Form) (p : List ℕ) (fresh challenge : ℕ) → fresh < 2 ^ 32 → is_some replied ≡ true → Whole (Said Dialler (MaySay s replied)) (reply_text s o p fresh challenge)
+    reply-said form.New p fresh challenge f h = message-said laws Dialler (MaySay s replied) (reply_message s p fresh challenge) (laws.sayings.says_reply fresh _ (digest-length s p challenge)) (f, digest-length s p challenge) h
+    reply-said form.Old p fresh challenge f h = two-said laws Dialler (MaySay s replied) (complement_message s) (reply_message s p fresh challenge) (laws.sayings.says_complement _ _) ((let g = fit.flags in omega arith), fit.creation) (refl, refl) (laws.sayings.says_reply fresh _ (digest-length s p challenge)) (f, digest-length s p challenge) h
+    reply-said form.Five p fresh challenge f h = message-said laws Dialler (MaySay s replied) (reply_message s p fresh challenge) (laws.sayings.says_reply fresh _ (digest-length s p challenge)) (f, digest-length s p challenge) h
 
   -- ---- the accepting side
 
-  module _ (s : Setup) (fit : IsFit s) (named rose : Option ℕ) where
-    pub challenge-said : (fresh : ℕ) → fresh < 2 ^ 32 → is_some named ≡ true → Whole (Said Acceptor (MayAnswer s named rose)) (challenge_text s fresh)
-    challenge-said fresh f h = message-said laws Acceptor (MayAnswer s named rose) (challenge_message s fresh) (laws.sayings.says_challenge _ fresh _ _ fit.name) (fit.flags, f, fit.creation) (h, refl, refl, refl)
+  module _ (s other : Setup) (fit : IsFit s) (named rose : Option ℕ) where
+    abbrev May : Message → Type 0
+    May = MayAnswer s other named rose
 
-    pub greeting-said : (k : Status) (fresh : ℕ) → is_said_by k Acceptor ≡ true → fresh < 2 ^ 32 → is_some named ≡ true → Whole (Said Acceptor (MayAnswer s named rose)) (greeting_text s k fresh)
-    greeting-said k fresh b f h = two-said laws Acceptor (MayAnswer s named rose) (message.Status k) (challenge_message s fresh) (laws.sayings.says_status Acceptor k b) tt tt (laws.sayings.says_challenge _ fresh _ _ fit.name) (fit.flags, f, fit.creation) (h, refl, refl, refl)
+    -- ---- the challenge, after a status or alone
 
-    pub ack-said : (p : List ℕ) (challenge : ℕ) → is_some rose ≡ true → Whole (Said Acceptor (MayAnswer s named rose)) (ack_text s p challenge)
-    ack-said p challenge h = message-said laws Acceptor (MayAnswer s named rose) (ack_message s p challenge) (laws.sayings.says_ack _ (digest-length s p challenge)) (digest-length s p challenge) h
+    module _ (fresh : ℕ) (f : fresh < 2 ^ 32) (h : is_some named ≡ true) where
+      new-challenge-said : both_six s other ≡ true → Whole (Said Acceptor May) (said (new_challenge_message s fresh ∷ []))
+      new-challenge-said v = message-said laws Acceptor May (new_challenge_message s fresh) (laws.sayings.says_challenge _ fresh _ _ fit.name) (fit.flags, f, fit.creation) (h, v, refl, refl, refl)
+
+      old-challenge-said : both_six s other ≡ false → Whole (Said Acceptor May) (said (old_challenge_message s fresh ∷ []))
+      old-challenge-said v = message-said laws Acceptor May (old_challenge_message s fresh) (laws.sayings.says_old_challenge _ fresh _ fit.name) ((let g = fit.flags in omega arith), f) (h, v, refl, refl)
+
+      pub challenge-said : (o : Form) → both_six s other ≡ is_newer o → Whole (Said Acceptor May) (challenge_text s o fresh)
+      challenge-said form.New v = new-challenge-said v
+      challenge-said form.Old v = new-challenge-said v
+      challenge-said form.Five v = old-challenge-said v
+
+    after-status : (k : Status) (m : Message) → is_said_by k Acceptor ≡ true → Whole (Said Acceptor May) (said (m ∷ [])) → Whole (Said Acceptor May) (said (message.Status k ∷ m ∷ []))
+    after-status k m b w = whole-append (Said Acceptor May) (frame_of (message.Status k)) (said (m ∷ [])) (message-said laws Acceptor May (message.Status k) (laws.sayings.says_status Acceptor k b) tt tt) w
+
+    pub greeting-said : (k : Status) (fresh : ℕ) (o : Form) → is_said_by k Acceptor ≡ true → fresh < 2 ^ 32 → is_some named ≡ true → both_six s other ≡ is_newer o → Whole (Said Acceptor May) (greeting_text s k o fresh)
+    greeting-said k fresh form.New b f h v = after-status k (new_challenge_message s fresh) b (new-challenge-said fresh f h v)
+    greeting-said k fresh form.Old b f h v = after-status k (new_challenge_message s fresh) b (new-challenge-said fresh f h v)
+    greeting-said k fresh form.Five b f h v = after-status k (old_challenge_message s fresh) b (old-challenge-said fresh f h v)
+
+    pub ack-said : (p : List ℕ) (challenge : ℕ) → is_some rose ≡ true → Whole (Said Acceptor May) (ack_text s p challenge)
+    ack-said p challenge h = message-said laws Acceptor May (ack_message s p challenge) (laws.sayings.says_ack _ (digest-length s p challenge)) (digest-length s p challenge) h

@@ -1,13 +1,12 @@
 -- An end that counts its peer as up: its connection, and the record that it keeps.
 use Rattle.std.proofs.Common.{◌≡◌, ℕ, true, false, not, Option, Some, None, refl, sym, ap, ◌∙◌, subst, is_some, slice_get}
 use Rattle.std.proofs.lemmas.Bool.{false≢true}
-use Rattle.dist_names.specs.Flags.{announced}
 use Rattle.dist_messages.specs.declared.message.Side.{Side}
 use Rattle.dist_messages.specs.declared.message.Side.TheVariants.{Dialler, Acceptor}
 use Rattle.dist_setup.specs.declared.setup.Setup.{Setup}
 use Rattle.dist_ends.specs.declared.known.End.{End}
 use Rattle.dist_ends.specs.declared.known.End.TheVariants as ends
-use Rattle.dist_setup.specs.Rules.{announced_by}
+use Rattle.dist_setup.specs.Rules.{announced_in, announced_by}
 use Rattle.dist_agreement.specs.Rows.{EndRow, past, is_dialler}
 use Rattle.dist_agreement.specs.World.{World, Life, Conn, runs, row_of_life, end_of_life}
 use Rattle.dist_agreement.specs.Agreement.{IsUp}
@@ -23,7 +22,7 @@ use Rattle.dist_agreement.proofs.Linking.{RowOf, ConnOf, IsEndOf}
 use Rattle.dist_agreement.proofs.Seats.{Seat, Line, IsOpen}
 use Rattle.dist_agreement.specs.NodeLaws.{NodeLaws}
 
-pub announced-is : (s : Setup) → announced_by s ≡ announced s.flags.0
+pub announced-is : (s : Setup) → announced_by s ≡ announced_in s.version s.flags.0
 unfolding announced_by
 announced-is s = refl
 

@@ -1,12 +1,13 @@
 -- AGREEMENT: what two running nodes have in common that each count the other as up.
-use Rattle.std.specs.Prelude.{◌≡◌, ◌≢◌, ℕ, ◌<◌, ◌^◌, ◌⊎◌, List, Some, slice_get}
+use Rattle.std.specs.Prelude.{◌≡◌, ◌≢◌, ℕ, ◌<◌, ◌^◌, Bool, ◌&&◌, if◌then◌else◌, ◌⊎◌, List, Option, Some, None, slice_get}
 use Rattle.std.specs.List.{AllByRecursion}
 use Rattle.dist_names.specs.NodeName.{IsNodeName}
-use Rattle.dist_names.specs.Flags.{announced, common}
+use Rattle.dist_names.specs.Flags.{common}
+use Rattle.dist_names.specs.declared.creation.Creation.{Creation}
 use Rattle.dist_setup.specs.declared.setup.Setup.{Setup}
 use Rattle.dist_ends.specs.declared.known.UpRecord.{UpRecord}
 use Rattle.dist_ends.specs.declared.known.End.TheVariants as ends
-use Rattle.dist_setup.specs.Rules.{own_digest}
+use Rattle.dist_setup.specs.Rules.{announced_in, knows_six, own_digest}
 use Rattle.dist_agreement.specs.declared.happening.Happening.{Happening}
 use Rattle.dist_agreement.specs.declared.happening.Happening.TheVariants as happening
 use Rattle.dist_agreement.specs.Rows.{EndRow}
@@ -42,11 +43,19 @@ pub record Counts (w : World) (a b : ℕ) : Type 0 where
   pub named : slice_get w.setups b ≡ Some other
   pub peer : kept.peer ≡ other.name
 
--- the record has the flags that both announced, the other's creation, and the digest of the own cookie for the other and
+-- both know version 6
+abbrev pub both_six : Setup → Setup → Bool
+both_six own other = knows_six own && knows_six other
+
+-- THE OTHER'S CREATION WHERE KNOWN: where both know version 6
+abbrev pub known_creation : Setup → Setup → Option Creation
+known_creation own other = if both_six own other then Some other.creation else None
+
+-- the record has the flags that both announced, the other's creation where known, and the digest of the own cookie for the other and
 -- the own challenge
 pub record IsAgreed (own other : Setup) (kept : UpRecord) : Type 0 where
-  pub flags : kept.common.0 ≡ common (announced own.flags.0) (announced other.flags.0)
-  pub creation : kept.creation ≡ other.creation
+  pub flags : kept.common.0 ≡ common (announced_in own.version own.flags.0) (announced_in other.version other.flags.0)
+  pub creation : kept.creation ≡ known_creation own other
   pub digest : kept.digest_received ≡ own_digest own kept.peer kept.challenge
 
 -- the connection was dialled by end x of incarnation i, leads to incarnation j, and its end y was accepted there

@@ -1,6 +1,7 @@
 -- WHAT THE LAWS OF WORLDS TAKE FROM ONE NODE: each is a contract of a crate below.
-use Rattle.std.specs.Prelude.{◌≡◌, ℕ, ◌<◌, ◌≤◌, ◌^◌, true, List, length, Some, Ok, slice_get}
+use Rattle.std.specs.Prelude.{◌≡◌, ℕ, ◌<◌, ◌≤◌, ◌^◌, ◌&&◌, true, false, List, length, Some, Ok, slice_get}
 use Rattle.dist_names.specs.NodeName.{IsNodeName}
+use Rattle.dist_names.specs.Flags.{low_half, common, has_all, handshake_23}
 use Rattle.dist_names.specs.Order.{Name, same_name}
 use Rattle.dist_names.specs.declared.flags.Flags.{Flags}
 use Rattle.dist_names.specs.declared.creation.Creation.{Creation}
@@ -17,7 +18,7 @@ use Rattle.dist_ends.specs.declared.known.End.{End}
 use Rattle.dist_ends.specs.Change.{IsThere, view_after}
 use Rattle.dist_ends.specs.Ends.{AreLegal}
 use Rattle.dist_setup.specs.declared.setup.Setup.{Setup}
-use Rattle.dist_setup.specs.Rules.{announced_by}
+use Rattle.dist_setup.specs.Rules.{announced_by, knows_six}
 use Rattle.dist_setup.specs.Saying.{CanBeSaid}
 use Rattle.dist_core.specs.declared.event.Event.{Event}
 use Rattle.dist_core.specs.declared.effect.Effect.{Effect}
@@ -32,17 +33,21 @@ pub record NameLaws : Type 0 where
   pub one_name : (p q : Name) → same_name p q ≡ true → p ≡ q
   pub itself : (p : Name) → same_name p p ≡ true
 
--- each message that a node says can be said, and is read as the message that it is
+-- each message that a node says can be said, and is read as the message that it is; the lower half of announced flags tells
+-- the version, and is all that two nodes have in common of which one knows version 5 alone
 pub record SayingLaws : Type 0 where
   pub says_status : (side : Side) (s : Status) → is_said_by s side ≡ true → CanBeSaid side (message.Status s)
   pub says_new_name : (flags : Flags) (c : Creation) (name : Name) → IsNodeName name → CanBeSaid Dialler (message.NewName flags c name)
   pub says_old_name : (flags : ℕ) (name : Name) → IsNodeName name → CanBeSaid Dialler (message.OldName flags name)
   pub says_challenge : (flags : Flags) (n : ℕ) (c : Creation) (name : Name) → IsNodeName name → CanBeSaid Acceptor (message.NewChallenge flags n c name)
+  pub says_old_challenge : (flags n : ℕ) (name : Name) → IsNodeName name → CanBeSaid Acceptor (message.OldChallenge flags n name)
   pub says_complement : (high : ℕ) (c : Creation) → CanBeSaid Dialler (message.Complement high c)
   pub says_reply : (n : ℕ) (digest : List ℕ) → length digest ≡ 16 → CanBeSaid Dialler (message.Reply n digest)
   pub says_ack : (digest : List ℕ) → length digest ≡ 16 → CanBeSaid Acceptor (message.Ack digest)
   pub read_back : (side : Side) (m : Message) → Fits m → CanBeSaid side m → read side (canonical m) ≡ Ok m
   pub announced : (s : Setup) → announced_by s < 2 ^ 64
+  pub versions : (s : Setup) → has_all (low_half (announced_by s)) handshake_23 ≡ knows_six s
+  pub halves : (own other : Setup) → (knows_six own && knows_six other) ≡ false → common (announced_by own) (low_half (announced_by other)) ≡ common (announced_by own) (announced_by other)
 
 -- THE LAWS OF ONE STEP: it is a row of the tables; legal ends stay legal; its reply is of the end that was told; the other
 -- end that it changes is another one, which is there; what stands at each place afterwards

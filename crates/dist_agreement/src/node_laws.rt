@@ -7,7 +7,10 @@ use dist_laws::{
     two_ends_change_at_most,
 };
 use dist_names::order_of_names;
-use dist_setup::{announced_flags_fit, messages_can_be_said, what_is_said_is_read};
+use dist_setup::{
+    announced_flags_fit, flags_tell_versions, low_halves_suffice, messages_can_be_said,
+    what_is_said_is_read,
+};
 
 /// Every node keeps the laws of one step, of names and of what is said: each is the contract of a crate below, and nothing
 /// else is taken from there.
@@ -18,6 +21,8 @@ pub fn nodes_keep_laws()
     messages_can_be_said();
     what_is_said_is_read();
     announced_flags_fit();
+    flags_tell_versions();
+    low_halves_suffice();
     ends_after_a_change();
     steps_are_rows();
     entries_are_whole();

@@ -11,11 +11,14 @@ returns c = record {
     says_new_name = c.messages_can_be_said.ensures.new_name;
     says_old_name = c.messages_can_be_said.ensures.old_name;
     says_challenge = c.messages_can_be_said.ensures.challenge;
+    says_old_challenge = c.messages_can_be_said.ensures.old_challenge;
     says_complement = c.messages_can_be_said.ensures.complement;
     says_reply = c.messages_can_be_said.ensures.reply;
     says_ack = c.messages_can_be_said.ensures.ack;
     read_back = c.what_is_said_is_read.ensures.read;
     announced = c.announced_flags_fit.ensures;
+    versions = c.flags_tell_versions.ensures;
+    halves = c.low_halves_suffice.ensures;
   };
   row = c.steps_are_rows.ensures;
   opening_legal = c.entries_are_whole.ensures.first;
