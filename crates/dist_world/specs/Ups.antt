@@ -8,9 +8,10 @@ use Rattle.dist_ends.specs.Ends.{IsUpWith}
 use Rattle.dist_agreement.specs.Rows.{EndRow}
 use Rattle.dist_agreement.specs.World.{World, Life}
 use Rattle.dist_agreement.specs.Happenings.{conn_of}
-use Rattle.dist_names.specs.Flags.{announced, common}
-use Rattle.dist_names.specs.declared.creation.Creation.{Creation}
-use Rattle.dist_agreement.specs.Agreement.{IsUp, AreAgreed}
+use Rattle.dist_names.specs.Flags.{common}
+use Rattle.dist_setup.specs.declared.setup.Setup.{Setup}
+use Rattle.dist_setup.specs.Rules.{announced_in}
+use Rattle.dist_agreement.specs.Agreement.{IsUp, AreAgreed, known_creation}
 use Rattle.dist_world.specs.declared.agreement.Agreement.{Agreement}
 
 -- what was found is a connection on which node a counts node b as up, and the record there
@@ -33,20 +34,22 @@ abbrev pub FindsBoth : World → ℕ → ℕ → Option Agreement → Type 0
 FindsBoth w a b None = Unit {0}
 FindsBoth w a b (Some g) = (a ≢ b) × ((d : ℕ) × (x : IsUp w a b g.conn) × (y : IsUp w b a d) × (g ≡ agreed g.conn x.kept y.kept))
 
-abbrev pub flags_of : {w : World} {a b c : ℕ} → IsUp w a b c → ℕ
-flags_of x = let s = x.life in s.node.setup.flags.0
+-- the setup of the incarnation that runs
+abbrev pub setup_of : {w : World} {a b c : ℕ} → IsUp w a b c → Setup
+setup_of x = let s = x.life in s.node.setup
 
--- the creation of the incarnation that runs
-abbrev pub creation_of : {w : World} {a b c : ℕ} → IsUp w a b c → Creation
-creation_of x = let s = x.life in s.node.setup.creation
+-- the flags that it announces
+abbrev pub flags_of : {w : World} {a b c : ℕ} → IsUp w a b c → ℕ
+flags_of x = let s = x.life in announced_in s.node.setup.version s.node.setup.flags.0
 
 -- what was told is what the two nodes agree on: both ends are those of that connection, both records have the flags that
--- both announced, each the other's creation, and each bears the digest of its own cookie and challenge
+-- both announced, each the other's creation where known, and each bears the digest of its own cookie for the other and its
+-- own challenge
 abbrev pub FindsAgreed : World → ℕ → ℕ → Option Agreement → Type 0
 FindsAgreed w a b None = Unit {0}
 FindsAgreed w a b (Some g) = (d : ℕ) × (x : IsUp w a b g.conn) × (y : IsUp w b a d) × AreAgreed w a b g.conn d x y
-    × (g.common.0 ≡ common (announced (flags_of x)) (announced (flags_of y)))
-    × (g.creation_a ≡ creation_of x) × (g.creation_b ≡ creation_of y)
+    × (g.common.0 ≡ common (flags_of x) (flags_of y))
+    × (g.creation_a ≡ known_creation (setup_of y) (setup_of x)) × (g.creation_b ≡ known_creation (setup_of x) (setup_of y))
 
 -- these two records were told, on whatever connection
 abbrev pub IsTold : Option Agreement → UpRecord → UpRecord → Type 0

@@ -15,10 +15,11 @@ pub struct Agreement {
     pub conn: usize,
     /// The flags that both announced, as each has them in its record.
     pub common: Flags,
-    /// The creation of the first one's running incarnation, as the other one has it in its record.
-    pub creation_a: Creation,
+    /// The creation of the first one's running incarnation, as the other one has it in its record, where both know version
+    /// 6.
+    pub creation_a: Option<Creation>,
     /// The creation of the other one's, as the first one has it.
-    pub creation_b: Creation,
+    pub creation_b: Option<Creation>,
 }
 
 fn agreed_of(

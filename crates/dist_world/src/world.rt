@@ -71,7 +71,7 @@ impl World {
         ensures decided { AllLives Decided self.new }
 
         // Two running nodes that each count the other as up do so over one connection, with the flags that both announced
-        // and each other's creation, each bearing the digest of its own cookie and challenge.
+        // and each other's creation where known, each bearing the digest of its own cookie for the other and its challenge.
         ensures agree { NodesAgree self.new }
     {
         worlds_are_reached();
