@@ -1,7 +1,7 @@
 //! The registry behind the port mapper's answers.
 
 ghost use Rattle.std.specs.Prelude.{◌≡◌, ◌∷◌, ◌++◌, IfOk, OnOk, OnErr, IsTrue, flat_map, option_copied};
-ghost use Rattle.dist_epmd.specs.Book.{Book, opening, is_accepted, after_request, after_closed, answer_to, found, line_of, names_text, IsLegal};
+ghost use Rattle.dist_epmd.specs.Book.{Book, opening, is_accepted, after_request, after_closed, answer_to, given, refused, found, line_of, names_text, IsLegal};
 
 use crate::message::{AliveReq, Answer, PortInfo};
 use crate::row::Row;
@@ -16,8 +16,42 @@ use std::marker::Model;
 // The most registrations at a time.
 const MOST: usize = 1024;
 
-// The least that a node's highest version of the handshake may be.
-const LEAST_VERSION: u16 = 6;
+// The least version of the handshake that has creations of 32 bits.
+const NEWER: u16 = 6;
+
+// The answer that bears this creation, by the node's highest version.
+fn given(request: &AliveReq, creation: u32) -> Answer
+    ensures { result ≡ given request.now creation }
+{
+    if request.highest < NEWER {
+        Answer::Alive {
+            result_code: 0,
+            creation: ((creation as u64 + 2) % 3 + 1) as u16,
+        }
+    } else {
+        Answer::AliveX {
+            result_code: 0,
+            creation,
+        }
+    }
+}
+
+// The answer that refuses.
+fn refused(request: &AliveReq) -> Answer
+    ensures { result ≡ refused request.now }
+{
+    if request.highest < NEWER {
+        Answer::Alive {
+            result_code: 1,
+            creation: 0,
+        }
+    } else {
+        Answer::AliveX {
+            result_code: 1,
+            creation: 0,
+        }
+    }
+}
 
 /// The nodes that are registered with a port mapper, each as long as its connection lasts.
 ///
@@ -67,7 +101,6 @@ impl Registry {
             && !has_conn(&self.rows, conn)
             && has_fewer(&self.rows, MOST)
             && self.next <= u32::MAX as u64
-            && request.highest >= LEAST_VERSION
     }
 
     /// Registers a node as long as the connection lasts, and answers it.
@@ -77,10 +110,10 @@ impl Registry {
     /// - the name is registered,
     /// - the connection has a registration,
     /// - 1,024 nodes are registered,
-    /// - the creations are used up,
-    /// - the highest version is below 6.
+    /// - the creations are used up.
     ///
-    /// A highest version below 6 is answered with `Alive`, any other with `AliveX`. A refusal changes nothing and takes no
+    /// A highest version below 6 is answered with `Alive`, any other with `AliveX`. `Alive` bears one of 1 to 3 in place of
+    /// the creation: the remainder of the creation and 2 by 3, and 1 more (our own choice). A refusal changes nothing and takes no
     /// creation. An `Err` is want of memory, and changes nothing.
     pub fn alive(
         &mut self,
@@ -95,17 +128,8 @@ impl Registry {
         ensures lacks { OnErr result (IsTrue (is_accepted conn request.now self.old)) }
         ensures err { OnErr result (self.new ≡ self.old) }
     {
-        if request.highest < LEAST_VERSION {
-            return Ok(Answer::Alive {
-                result_code: 1,
-                creation: 0,
-            });
-        }
         if !self.accepts(conn, request) {
-            return Ok(Answer::AliveX {
-                result_code: 1,
-                creation: 0,
-            });
+            return Ok(refused(request));
         }
         let info = request.try_clone(alloc)?;
         let creation = self.next as u32;
@@ -117,10 +141,7 @@ impl Registry {
         };
         put(&mut self.rows, name, row)?;
         self.next += 1;
-        Ok(Answer::AliveX {
-            result_code: 0,
-            creation,
-        })
+        Ok(given(request, creation))
     }
 
     /// What the node of this name told of itself, as it came. It takes no memory.
