@@ -9,7 +9,8 @@ use Rattle.dist_plan.specs.declared.plan.NodePlan.{NodePlan}
 use Rattle.dist_plan.specs.declared.plan.DialPlan.{DialPlan}
 use Rattle.dist_plan.specs.declared.plan.Plan.{Plan}
 use Rattle.dist_secret.specs.Cookies.{CookieTable}
-use Rattle.dist_plan.specs.Values.{number_in, name_in, cookie_in, cookies_in, flags_in, names_in, all_some, array_in}
+use Rattle.dist_setup.specs.declared.version.Version.TheVariants as versions
+use Rattle.dist_plan.specs.Values.{number_in, name_in, cookie_in, cookies_in, version_in, flags_in, names_in, all_some, array_in}
 
 -- what a value says, where there is one
 infixl 10 ◌>>=◌
@@ -40,7 +41,7 @@ or_usual says usual (Some value) = says value
 
 -- the keys of a node
 abbrev pub node_keys : List (List ℕ)
-node_keys = codes "name" ∷ codes "cookie" ∷ codes "cookies" ∷ codes "flags" ∷ codes "required" ∷ codes "listen" ∷ codes "allow" ∷ []
+node_keys = codes "name" ∷ codes "cookie" ∷ codes "cookies" ∷ codes "version" ∷ codes "flags" ∷ codes "required" ∷ codes "listen" ∷ codes "allow" ∷ []
 
 -- a port
 abbrev pub port_in : Data → Option ℕ
@@ -56,11 +57,12 @@ node_of table =
     needed name_in (codes "name") table >>= (λ name.
     needed cookie_in (codes "cookie") table >>= (λ cookie.
     or_usual (cookies_in (usual_alone cookie)) (usual_alone cookie) (get_member (codes "cookies") table) >>= (λ cookies.
+    or_usual version_in versions.Six (get_member (codes "version") table) >>= (λ version.
     needed flags_in (codes "flags") table >>= (λ flags.
     or_usual flags_in (record { 0 = 0 }) (get_member (codes "required") table) >>= (λ required.
     or_usual port_in 0 (get_member (codes "listen") table) >>= (λ listen.
     or_usual (λ value. option_map Some (names_in value)) None (get_member (codes "allow") table) >>= (λ allow.
-    Some (record { name = name; cookie = cookie; cookies = cookies; flags = flags; required = required; listen = listen; allow = allow }))))))))
+    Some (record { name = name; cookie = cookie; cookies = cookies; version = version; flags = flags; required = required; listen = listen; allow = allow })))))))))
 
 -- a table that is a node
 abbrev pub node_in : Data → Option NodePlan

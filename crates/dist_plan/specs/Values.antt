@@ -1,5 +1,5 @@
 -- What a single value of a TOML tree says in a nodes file.
-use Rattle.std.specs.Prelude.{ℕ, Bool, ◌&&◌, nat_le, nat_lt, if◌then◌else◌, List, [], ◌∷◌, length, map, pos, Option, Some, None, option_map, option_and_then}
+use Rattle.std.specs.Prelude.{ℕ, Bool, ◌&&◌, nat_le, nat_lt, ◌==◌, if◌then◌else◌, List, [], ◌∷◌, length, map, pos, Option, Some, None, option_map, option_and_then}
 use Rattle.std.specs.Result.{result_ok}
 use Rattle.std.specs.Char.{digit_value}
 use Rattle.std.specs.Str.Parse.{digits_value}
@@ -7,6 +7,8 @@ use Rattle.std.specs.List.{list_all}
 use Rattle.toml.specs.Data.{Data, integer, Items, no_items, item, Members, no_members, member, as_str, as_array, as_table}
 use Rattle.dist_names.specs.NodeName.{named}
 use Rattle.dist_names.specs.declared.flags.Flags.{Flags}
+use Rattle.dist_setup.specs.declared.version.Version.{Version}
+use Rattle.dist_setup.specs.declared.version.Version.TheVariants as version
 use Rattle.dist_secret.specs.Cookie.{is_cookie_byte, cookie_of}
 use Rattle.dist_secret.specs.Cookies.{CookieTable, is_full_for, with_cookie}
 
@@ -36,6 +38,10 @@ cookies_of cookies (member key value rest) = option_and_then (λ more. cookies_o
 -- these cookies, and then those of a value that is a table
 abbrev pub cookies_in : CookieTable → Data → Option CookieTable
 cookies_in cookies value = option_and_then (cookies_of cookies) (as_table value)
+
+-- a version, 5 or 6
+abbrev pub version_in : Data → Option Version
+version_in value = option_map (λ n. if n == 5 then version.Five else version.Six) (number_in 5 6 value)
 
 -- a hexadecimal digit, of either case
 abbrev pub is_digit : ℕ → Bool

@@ -10,12 +10,12 @@ ghost use Rattle.dist_names.specs.NodeName.{named};
 ghost use Rattle.dist_secret.specs.Cookie.{is_cookie_byte, cookie_of};
 ghost use Rattle.dist_plan.specs.declared.plan_error.PlanError.TheVariants.{Bad, NoMemory};
 ghost use Rattle.dist_plan.specs.Answer.{Reads, ReadsPlainly};
-ghost use Rattle.dist_plan.specs.Values.{number_in, name_in, cookie_in, cookie_added, cookies_of, cookies_in, is_digit, are_flags, flags_written, flags_in, names_in, array_in, all_some};
+ghost use Rattle.dist_plan.specs.Values.{number_in, name_in, cookie_in, cookie_added, cookies_of, cookies_in, version_in, is_digit, are_flags, flags_written, flags_in, names_in, array_in, all_some};
 
 use crate::plan_error::PlanError;
 use dist_names::{Flags, NameError, NodeName};
 use dist_secret::{Cookie, CookieError, Cookies, CookiesError};
-use dist_setup::NameList;
+use dist_setup::{NameList, Version};
 use std::alloc::Global;
 use toml::{Table, Value};
 
@@ -53,6 +53,17 @@ pub fn port_of(value: &Value) -> Result<u16, PlanError>
 {
     match value.as_integer() {
         Some(number) if 0 <= number && number <= 65535 => Ok(number as u16),
+        _ => Err(PlanError::Bad),
+    }
+}
+
+/// A version of the handshake, 5 or 6.
+pub fn version_of(value: &Value) -> Result<Version, PlanError>
+    ensures { ReadsPlainly result (version_in (view value.now)) }
+{
+    match value.as_integer() {
+        Some(5) => Ok(Version::Five),
+        Some(6) => Ok(Version::Six),
         _ => Err(PlanError::Bad),
     }
 }

@@ -3,7 +3,7 @@
 use crate::lists::{DialList, NodeList};
 use dist_names::{Flags, NodeName};
 use dist_secret::{Cookie, Cookies};
-use dist_setup::NameList;
+use dist_setup::{NameList, Version};
 
 /// What a nodes file says.
 #[derive(Drop)]
@@ -28,6 +28,8 @@ pub struct NodePlan {
     pub cookie: Cookie,
     /// That secret, and the cookies of peers that have their own: at most 1,024, none where the file doesn't say.
     pub cookies: Cookies,
+    /// The highest version of the handshake that it knows: 5 or 6, 6 where the file doesn't say.
+    pub version: Version,
     /// What it announces, beside what every node does.
     pub flags: Flags,
     /// What it asks of a peer, beside what every node does. Nothing where the file doesn't say.

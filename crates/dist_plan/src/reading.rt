@@ -9,11 +9,12 @@ ghost use Rattle.dist_names.specs.Order.{same_name};
 ghost use Rattle.dist_names.specs.NodeName.{short_of};
 ghost use Rattle.dist_plan.specs.declared.plan_error.PlanError.TheVariants.{Bad};
 ghost use Rattle.dist_plan.specs.Answer.{Reads, ReadsPlainly};
-ghost use Rattle.dist_plan.specs.Values.{number_in, names_in, flags_in, name_in, cookie_in, cookies_in, all_some};
+ghost use Rattle.dist_plan.specs.Values.{number_in, names_in, flags_in, name_in, cookie_in, cookies_in, version_in, all_some};
 ghost use Rattle.dist_plan.specs.Plans.{or_usual, usual_alone, needed, port_in, node_of, node_in, dial_of, dial_in, are_within, nodes_in, dials_in, are_apart, are_made_by, parts_of, whole, plan_in, plan_of};
 
 use crate::fields::{
     array_of, cookie_of, cookies_in, flags_of, name_of, names_of, port_of, table_of, turns_of,
+    version_of,
 };
 use crate::keys::{has_only, value_at};
 use crate::lists::{DialList, NodeList};
@@ -21,7 +22,7 @@ use crate::plan::{DialPlan, NodePlan, Plan};
 use crate::plan_error::PlanError;
 use dist_names::{Flags, NodeName};
 use dist_secret::{Cookie, Cookies};
-use dist_setup::NameList;
+use dist_setup::{NameList, Version};
 use std::alloc::Global;
 use toml::{Table, Value};
 
@@ -61,6 +62,16 @@ fn turns_or_usual(value: Option<&Value>) -> Result<u32, PlanError>
     match value {
         Some(value) => turns_of(value),
         None => Ok(TURNS),
+    }
+}
+
+// A version, or the usual one.
+fn version_or_usual(value: Option<&Value>) -> Result<Version, PlanError>
+    ensures { ReadsPlainly result (or_usual version_in Version.Six (option_map (λ v. view v.now) value.entry)) }
+{
+    match value {
+        Some(value) => version_of(value),
+        None => Ok(Version::Six),
     }
 }
 
@@ -106,6 +117,7 @@ fn node_of(alloc: Global, table: &Table) -> Result<NodePlan, PlanError>
     let name = name_of(alloc, value_of(table, "name")?)?;
     let cookie = cookie_of(alloc, value_of(table, "cookie")?)?;
     let cookies = cookies_or_one(alloc, &cookie, value_at(table, "cookies"))?;
+    let version = version_or_usual(value_at(table, "version"))?;
     let flags = flags_of(value_of(table, "flags")?)?;
     let required = flags_or_none(value_at(table, "required"))?;
     let listen = port_or_any(value_at(table, "listen"))?;
@@ -114,6 +126,7 @@ fn node_of(alloc: Global, table: &Table) -> Result<NodePlan, PlanError>
         name,
         cookie,
         cookies,
+        version,
         flags,
         required,
         listen,
@@ -129,7 +142,7 @@ fn node_in(alloc: Global, value: &Value) -> Result<NodePlan, PlanError>
     if has_only(
         table,
         &[
-            "name", "cookie", "cookies", "flags", "required", "listen", "allow",
+            "name", "cookie", "cookies", "version", "flags", "required", "listen", "allow",
         ],
     ) {
         node_of(alloc, table)
