@@ -3,7 +3,7 @@
 use crate::run_error::RunError;
 use crate::seats::{SEATS, SharedOut, shared_out};
 use crate::sockets::{connected, listening};
-use dist_core::Setup;
+use dist_core::{Setup, Version};
 use dist_drive::{SocketStream, register};
 use dist_epmd::AliveReq;
 use dist_locked::{LockedNode, Tickets};
@@ -19,8 +19,8 @@ const NORMAL: u8 = 77;
 /// The protocol of TCP over IPv4.
 const TCP: u8 = 0;
 
-/// The highest version of the handshake, which is also the lowest with the `N` opening.
-const HIGHEST: u16 = 6;
+/// The version of the handshake that has the `N` opening.
+const NEWER: u16 = 6;
 
 /// The lowest version of the handshake.
 const LOWEST: u16 = 5;
@@ -34,14 +34,22 @@ pub struct Host {
     pub registered: SocketStream,
 }
 
-fn registration(alloc: Global, name: &NodeName, port: u16) -> Result<AliveReq, AllocError> {
+// The number of the highest version that a node knows.
+fn highest(version: Version) -> u16 {
+    match version {
+        Version::Five => LOWEST,
+        Version::Six => NEWER,
+    }
+}
+
+fn registration(alloc: Global, plan: &NodePlan, port: u16) -> Result<AliveReq, AllocError> {
     Ok(AliveReq {
         port,
         node_type: NORMAL,
         protocol: TCP,
-        highest: HIGHEST,
+        highest: highest(plan.version),
         lowest: LOWEST,
-        name: ByteString::from_slice(alloc, name.short())?,
+        name: ByteString::from_slice(alloc, plan.name.short())?,
         extra: ByteString::new(alloc),
     })
 }
@@ -68,6 +76,7 @@ fn setup_of(plan: NodePlan, creation: Creation) -> Setup {
     Setup {
         name: plan.name,
         cookies: plan.cookies,
+        version: plan.version,
         flags: plan.flags,
         required: plan.required,
         creation,
@@ -88,7 +97,7 @@ pub fn started<R: Net<Listener = TcpListener, Stream = TcpStream>>(
     let Ok((listener, port)) = listening(rt, plan.listen) else {
         return Err(RunError::ListenFailed);
     };
-    let request = registration(alloc, &plan.name, port)?;
+    let request = registration(alloc, &plan, port)?;
     let (stream, creation) = registered(rt, alloc, mapper_port, &request, turns)?;
     let setup = setup_of(plan, creation);
     let tickets = Arc::try_clone(tickets)?;
