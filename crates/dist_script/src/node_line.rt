@@ -5,7 +5,7 @@ ghost use Rattle.dist_words.specs.Words.{ReadsNext};
 ghost use Rattle.dist_words.specs.Digits.{AreFlags, flags_of};
 
 use crate::lines::{name_word, number_word};
-use dist_core::{NameList, Setup};
+use dist_core::{NameList, Setup, Version};
 use dist_names::{Creation, Flags, NodeName};
 use dist_secret::{Cookie, CookieError, Cookies, CookiesError};
 use dist_words::{LineFault, Words, flags_value};
@@ -73,6 +73,18 @@ fn allowed(alloc: Global, words: &mut Words<'_>) -> Result<Option<NameList>, Lin
     }
 }
 
+// The version, 5, behind `version`. Without it the node knows version 6.
+fn version(words: &mut Words<'_>) -> Result<Version, LineFault> {
+    if !words.skip(b"version") {
+        return Ok(Version::Six);
+    }
+    if words.skip(b"5") {
+        Ok(Version::Five)
+    } else {
+        Err(LineFault::Bad)
+    }
+}
+
 // The flags that are required, behind `require`. Without it none are.
 fn required(words: &mut Words<'_>) -> Result<Flags, LineFault> {
     if words.skip(b"require") {
@@ -88,12 +100,14 @@ pub fn setup_of(alloc: Global, words: &mut Words<'_>) -> Result<Setup, LineFault
     let cookie = cookie_word(alloc, words)?;
     let flags = flags_word(words)?;
     let creation = Creation(number_word(words)?);
+    let version = version(words)?;
     let required = required(words)?;
     let cookies = cookies(alloc, cookie, words)?;
     let allow = allowed(alloc, words)?;
     Ok(Setup {
         name,
         cookies,
+        version,
         flags,
         required,
         creation,
