@@ -2,7 +2,7 @@
 
 use crate::pieces::{Paper, Straight, decimal, flags, hex_digits};
 use dist_core::{Node, Reply, StepError, UpRecord, Why};
-use dist_names::NodeName;
+use dist_names::{Creation, NodeName};
 use dist_peers::{EndId, Entry};
 use dist_world::Agreement;
 use std::io;
@@ -47,6 +47,14 @@ fn closed<P: Paper>(paper: &mut P, closed: Option<(EndId, Why)>) -> Result<(), P
     }
 }
 
+// A creation, where it is known.
+fn creation<P: Paper>(paper: &mut P, creation: Option<Creation>) -> Result<(), P::Fault> {
+    match creation {
+        Some(creation) => decimal(paper, u64::from(creation.0)),
+        None => paper.put(b"unknown"),
+    }
+}
+
 fn came_up<P: Paper>(paper: &mut P, up: &Option<UpRecord>) -> Result<(), P::Fault> {
     let Some(record) = up else {
         return paper.put(b" up -\n");
@@ -56,7 +64,7 @@ fn came_up<P: Paper>(paper: &mut P, up: &Option<UpRecord>) -> Result<(), P::Faul
     paper.put(b" ")?;
     flags(paper, record.common.0)?;
     paper.put(b" ")?;
-    decimal(paper, u64::from(record.creation.0))?;
+    creation(paper, record.creation)?;
     paper.put(b"\n")
 }
 
@@ -126,7 +134,7 @@ fn record<P: Paper>(paper: &mut P, record: &UpRecord) -> Result<(), P::Fault> {
     paper.put(b" common ")?;
     flags(paper, record.common.0)?;
     paper.put(b" creation ")?;
-    decimal(paper, u64::from(record.creation.0))
+    creation(paper, record.creation)
 }
 
 // A row of the table, with the record of the end that is up.
@@ -209,8 +217,8 @@ pub(crate) fn agreement<P: Paper>(
     paper.put(b" common ")?;
     flags(paper, found.common.0)?;
     paper.put(b" creations ")?;
-    decimal(paper, u64::from(found.creation_a.0))?;
+    creation(paper, found.creation_a)?;
     paper.put(b" ")?;
-    decimal(paper, u64::from(found.creation_b.0))?;
+    creation(paper, found.creation_b)?;
     paper.put(b"\n")
 }
