@@ -1,6 +1,6 @@
 //! Nodes, and events, from lines of text.
 
-use dist_core::{Event, Node, Opening, Setup, Why};
+use dist_core::{Event, Node, Opening, Setup, Version, Why};
 use dist_names::{ByteString, Creation, Flags, NodeName};
 use dist_peers::EndId;
 use dist_secret::{Cookie, Cookies};
@@ -13,6 +13,7 @@ pub fn node_b(alloc: Global) -> Option<Node> {
     let setup = Setup {
         name: NodeName::new(alloc, b"b@127.0.0.1").ok()?,
         cookies: Cookies::new(alloc, Cookie::from_bytes(alloc, COOKIE.as_bytes()).ok()?),
+        version: Version::Six,
         flags: Flags(0x101000104),
         required: Flags(0),
         creation: Creation(6),

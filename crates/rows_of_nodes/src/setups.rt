@@ -2,7 +2,7 @@
 
 use dist_names::{Creation, Flags, NodeName};
 use dist_secret::{Cookie, Cookies};
-use dist_setup::{NameList, Setup};
+use dist_setup::{NameList, Setup, Version};
 use std::alloc::Global;
 use std::test::*;
 
@@ -31,6 +31,7 @@ fn setup(alloc: Global) -> Option<Setup> {
     Some(Setup {
         name,
         cookies,
+        version: Version::Six,
         flags: Flags(0x101000104),
         required: Flags(0x4),
         creation: Creation(6),

@@ -1,5 +1,6 @@
 //! What a world shows, as text: one line to a node and one to an end, each line ended by a slash. `None`: memory was refused.
 use dist_core::{Node, UpRecord, Why};
+use dist_names::Creation;
 use dist_peers::{EndId, Entry};
 use dist_world::World;
 use std::alloc::Global;
@@ -42,9 +43,25 @@ fn put_flags(alloc: Global, out: &mut String, flags: u64) -> Option<()> {
     put(out, &digits)
 }
 
+// A creation, where it is known.
+fn put_creation(
+    alloc: Global,
+    out: &mut String,
+    word: &str,
+    creation: Option<Creation>,
+) -> Option<()> {
+    match creation {
+        Some(creation) => put_number(alloc, out, word, creation.0 as u64),
+        None => {
+            put(out, word)?;
+            put(out, "unknown")
+        }
+    }
+}
+
 fn put_record(alloc: Global, out: &mut String, kept: &UpRecord) -> Option<()> {
     put_flags(alloc, out, kept.common.0)?;
-    put_number(alloc, out, "creation", kept.creation.0 as u64)
+    put_creation(alloc, out, "creation", kept.creation)
 }
 
 fn put_node(alloc: Global, out: &mut String, node: &Node) -> Option<()> {
@@ -74,8 +91,8 @@ fn put_agreement(alloc: Global, out: &mut String, world: &World, a: usize, b: us
     put_number(alloc, out, "with", b as u64)?;
     put_number(alloc, out, "conn", found.conn as u64)?;
     put_flags(alloc, out, found.common.0)?;
-    put_number(alloc, out, "creation", found.creation_a.0 as u64)?;
-    put_number(alloc, out, "and", found.creation_b.0 as u64)?;
+    put_creation(alloc, out, "creation", found.creation_a)?;
+    put_creation(alloc, out, "and", found.creation_b)?;
     put_end(out)
 }
 

@@ -1,5 +1,5 @@
 //! Worlds and happenings from text. `None`: memory was refused, or the text is wrong.
-use dist_core::{Opening, Setup, Why};
+use dist_core::{Opening, Setup, Version, Why};
 use dist_names::{Creation, Flags, NodeName};
 use dist_peers::EndId;
 use dist_secret::{Cookie, Cookies};
@@ -16,6 +16,7 @@ fn setup(alloc: Global, name: &str, flags: u64) -> Option<Setup> {
     Some(Setup {
         name: NodeName::new(alloc, name.as_bytes()).ok()?,
         cookies: Cookies::new(alloc, Cookie::from_bytes(alloc, COOKIE.as_bytes()).ok()?),
+        version: Version::Six,
         flags: Flags(flags),
         required: Flags(0),
         creation: Creation(0),
