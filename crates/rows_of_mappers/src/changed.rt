@@ -10,7 +10,7 @@ const VALUES: &[u8] = b"\x00\x7f\x80\xff";
 
 // A request, and what becomes of it by byte and value. The node `b` is registered.
 //
-// R: registered, X: refused, O: refused in the answer to an older node, K: `b` is known, U: unknown, L: all names;
+// R: registered, X: refused, O: registered in the answer to an older node, K: `b` is known, U: unknown, L: all names;
 // M: malformed, E: the stream ended inside it.
 const REQUESTS: &str = "\
 request 000e7823294d00000600050001610000 REEE MEEE MMMM RRRR RRRR RRRR RRRR RRRR ORRR RRRR RRRR RMMM MMMM XXXX RMMM RMMM

@@ -29,7 +29,7 @@ fn wanted_of(letter: u8) -> &'static str {
     match letter {
         b'R' => "Registered 760000000002",
         b'X' => "Answered 760100000000",
-        b'O' => "Answered 79010000",
+        b'O' => "Registered 79000002",
         b'K' => "Answered 770023294d00000600050001620000",
         b'U' => "Answered 7701",
         b'L' => "Answered 000011116e616d65206220617420706f727420393030310a",
