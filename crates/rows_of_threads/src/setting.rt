@@ -1,6 +1,6 @@
 //! What the rows share: two nodes, what each says in a handshake, and where a driven call's challenges come from.
 
-use dist_core::{Event, Node, Opening, Setup};
+use dist_core::{Event, Node, Opening, Setup, Version};
 use dist_drive::{Draws, MemoryDesk};
 use dist_names::{Creation, Flags, NodeName};
 use dist_peers::EndId;
@@ -41,6 +41,7 @@ fn setup(alloc: Global, name: &str, flags: u64, creation: u32) -> Option<Setup> 
     Some(Setup {
         name: NodeName::new(alloc, name.as_bytes()).ok()?,
         cookies: Cookies::new(alloc, Cookie::from_bytes(alloc, COOKIE.as_bytes()).ok()?),
+        version: Version::Six,
         flags: Flags(flags),
         required: Flags(0),
         creation: Creation(creation),
