@@ -68,7 +68,7 @@ fn alter_up(up: &mut Option<UpRecord>, change: Change) {
     if let Some(record) = up {
         match change {
             Change::UpFlags => record.common.0 ^= 1,
-            _ => record.creation.0 ^= 1,
+            _ => record.creation = None,
         }
     }
 }

@@ -113,8 +113,8 @@ pub fn answer(alloc: Global, all: &[Closed], conn: usize) -> &'static str {
     let agreed = Agreement {
         conn,
         common: Flags(0x1000004),
-        creation_a: Creation(5),
-        creation_b: Creation(6),
+        creation_a: Some(Creation(5)),
+        creation_b: Some(Creation(6)),
     };
     match world.both_up(0, 1) {
         Some(found) if found == agreed => "agreed",

@@ -1,6 +1,6 @@
 //! Nodes a and b under locks, with what was said to each end.
 
-use dist_core::Setup;
+use dist_core::{Setup, Version};
 use dist_frames::Frames;
 use dist_locked::{LockedNode, Seat, Tickets};
 use dist_names::{Creation, Flags, NodeName};
@@ -46,6 +46,7 @@ fn setup_of(alloc: Global, node: usize) -> Option<Setup> {
     Some(Setup {
         name: name_of(alloc, node)?,
         cookies: Cookies::new(alloc, Cookie::from_bytes(alloc, COOKIE.as_bytes()).ok()?),
+        version: Version::Six,
         flags: Flags(flags),
         required: Flags(0),
         creation: Creation(creation),
