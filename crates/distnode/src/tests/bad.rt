@@ -99,7 +99,11 @@ bad line 1: node b@h c 1 1 cookie a@h x cookie a@h x
 bad line 1: node b@h c 1 1 cookie a@h \u{7f}
 bad line 1: node b@h c 1 1 cookie a@h x require 1
 bad line 1: node b@h c 1 1 allow a@h cookie a@h x
-bad line 1: node b@h c 1 1 version 5
+bad line 1: node b@h c 1 1 version
+bad line 1: node b@h c 1 1 version 6
+bad line 1: node b@h c 1 1 version 7
+bad line 1: node b@h c 1 1 require 1 version 5
+bad line 1: node b@h c 1 1 version 5 version 5
 bad line 42: {b};;;;;;;;;;;;;;;;;;;;;;;;;;;;;;;;;;;;;;;;;x
 ";
 

@@ -224,14 +224,74 @@ end 0 say {OK}{CB} closed - up -
 end 0 {-}
 end 0 say {ACK} closed - up a@127.0.0.1 {COM} 7
 a@127.0.0.1 up 0 common {COM} creation 7
-=== old opening without the flag of the newer handshake
+=== the name of a peer that knows version 5 alone
 {b}
 incoming 1
-bytes 0 00126e00050000000461403132372e302e302e31 {X}
+bytes 0 {FIVEA} {X}
+bytes 0 {R} 0
+---
+end 0 {-}
+end 0 say {OK}{OLDCB} closed - up -
+end 0 say {ACK} closed - up a@127.0.0.1 0000000000000004 unknown
+a@127.0.0.1 up 0 common 0000000000000004 creation unknown
+=== version 5 where the flag of the newer handshake is required
+{b} require 1000000
+incoming 1
+bytes 0 {FIVEA} {X}
 ---
 end 0 {-}
 end 0 say {REFUSE} closed 0 Refused up -
 no peers
+=== version 5 where a flag of the higher half is required
+{b} require 400000000
+incoming 1
+bytes 0 {FIVEA} {X}
+---
+end 0 {-}
+end 0 say {REFUSE} closed 0 Refused up -
+no peers
+=== a node that knows version 5 alone dials
+{a} version 5
+dial b@127.0.0.1 new
+opened 0 1
+bytes 0 {OK} 0
+bytes 0 {OLDCB} {X}
+bytes 0 {ACK} 0
+---
+end 0 {-}
+end 0 say {FIVEA} closed - up -
+end 0 {-}
+end 0 say {R} closed - up -
+end 0 say - closed - up b@127.0.0.1 0000000000000004 unknown
+b@127.0.0.1 up 0 common 0000000000000004 creation unknown
+=== an old opening that is answered in version 5
+{a}
+dial b@127.0.0.1 old
+opened 0 1
+bytes 0 {OK} 0
+bytes 0 {OLDCA} {X}
+bytes 0 {ACK} 0
+---
+end 0 {-}
+end 0 say {OLDA} closed - up -
+end 0 {-}
+end 0 say {R} closed - up -
+end 0 say - closed - up b@127.0.0.1 0000000000000004 unknown
+b@127.0.0.1 up 0 common 0000000000000004 creation unknown
+=== a node that knows version 5 alone takes no newer name
+{b} version 5
+incoming 1
+bytes 0 {NA} {X}
+incoming 2
+bytes 1 {OLDA} {X}
+bytes 1 {R} 0
+---
+end 0 {-}
+end 0 say - closed 0 Unexpected up -
+end 1 {-}
+end 1 say {OK}00166e000500000104075bcd1562403132372e302e302e31 closed - up -
+end 1 say {ACK} closed - up a@127.0.0.1 0000000000000004 unknown
+a@127.0.0.1 up 1 common 0000000000000004 creation unknown
 === a cookie of its own for the peer that is dialled
 node a@127.0.0.1 wrong 401000004 5 cookie b@127.0.0.1 {K}
 dial b@127.0.0.1 new

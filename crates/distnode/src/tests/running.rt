@@ -32,6 +32,14 @@ agree a@127.0.0.1 b@127.0.0.1 conn 0 common 0000000001000004 creations 1 2
 audit holds
 ";
 
+const FIVE_TABLES: &str = "node a@127.0.0.1 running 1
+b@127.0.0.1 up 0 common 0000000000000004 creation unknown
+node b@127.0.0.1 running 2
+a@127.0.0.1 up 0 common 0000000000000004 creation unknown
+agree a@127.0.0.1 b@127.0.0.1 conn 0 common 0000000000000004 creations unknown unknown
+audit holds
+";
+
 const NOBODY_IS_UP: &str = "order 0 NotThere
 node a@127.0.0.1 running 1
 no peers
@@ -53,6 +61,10 @@ cookie = "secret" -> cookie = "secret";cookies = {} -> both
 cookie = "secret" -> cookie = "secret";cookies = { "b" = "secret" } -> bad
 cookie = "secret" -> cookie = "secret";cookies = { "b@127.0.0.1" = 1 } -> bad
 cookie = "secret" -> cookie = "secret";cookies = "secret" -> bad
+"101000104" -> "101000104";version = 5 -> five
+"101000104" -> "101000104";version = 6 -> both
+"101000104" -> "101000104";version = 7 -> bad
+"101000104" -> "101000104";version = "5" -> bad
 "b@127.0.0.1";cookie -> "a@127.0.0.2";cookie -> bad
 from = "a@ -> from = "q@ -> bad
 "#;
@@ -61,6 +73,7 @@ from = "a@ -> from = "q@ -> bad
 fn wanted_of(kind: &str) -> (u8, &'static str, &'static str) {
     match kind {
         "both" => (0, TWO_TABLES, ""),
+        "five" => (0, FIVE_TABLES, ""),
         "nobody" => (0, NOBODY_IS_UP, ""),
         _ => (2, "", BAD),
     }
