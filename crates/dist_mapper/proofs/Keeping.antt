@@ -1,14 +1,14 @@
 -- What is kept of the registrations that were lent.
-use Rattle.std.proofs.Common.{◌≡◌, ℕ, Bool, true, false, not, ◌&&◌, cond, ltb, Result, Ok, Err, refl, sym, ap, subst, ◌∙◌, inl, inr}
-use Rattle.std.specs.List.{list_any, position_or_len}
-use Rattle.std.proofs.lemmas.Bool.{eq-eqb, leb-true, le-ltb}
+use Rattle.std.proofs.Common.{◌≡◌, ℕ, Bool, true, false, not, cond, ltb, Result, Ok, Err, refl, sym, ap, subst, ◌∙◌, inl, inr}
+use Rattle.std.specs.List.{position_or_len}
+use Rattle.std.proofs.lemmas.Bool.{eq-eqb}
 use Rattle.dist_epmd.specs.declared.message.NodeInfo.{NodeInfo}
 use Rattle.dist_epmd.specs.declared.message.Request.{Request}
 use Rattle.dist_epmd.specs.declared.message.Request.TheVariants as request
 use Rattle.dist_epmd.specs.declared.message.Answer.{Answer}
 use Rattle.dist_epmd.specs.declared.message.Answer.TheVariants as answer
 use Rattle.dist_epmd.specs.declared.row.Row.{Row}
-use Rattle.dist_epmd.specs.Book.{Book, IsLegal, is_accepted, is_short_name, is_named, is_of, is_behind, registered, with_row, after_request, after_closed, answer_to}
+use Rattle.dist_epmd.specs.Book.{Book, IsLegal, is_accepted, is_of, is_behind, registered, with_row, after_request, after_closed, given, refused, short_creation, answer_to}
 use Rattle.dist_epmd.specs.History.{IsIn}
 use Rattle.dist_epmd.proofs.Histories.{in_insert, in_filter}
 use Rattle.dist_epmd.proofs.Legal.{registered_legal, closed_legal}
@@ -56,25 +56,14 @@ IsOld before after = (row : Row) → IsIn row after.rows → IsIn row before.row
 old_as : (before after same : Book) → after ≡ same → IsOld before same → IsOld before after
 old_as before after same e h = subst (λ (b : Book). IsOld before b) (sym e) h
 
-second : (a b : Bool) → (a && b) ≡ true → b ≡ true
-second true b e = e
-second false b e = absurd cc
+-- an answer that bears a creation has result 0, in either form
+given_well : (old : Bool) (info : NodeInfo) (short next : ℕ) → served_as (request.Alive info) (cond old (answer.Alive 0 short) (answer.AliveX 0 next)) ≡ served.Registered
+given_well true info short next = refl
+given_well false info short next = refl
 
--- an accepted registration is of version 6, and so is answered with result 0
-version : (conn : ℕ) (info : NodeInfo) (book : Book) → is_accepted conn info book ≡ true → ltb info.highest 6 ≡ false
-version conn info book e =
-    let named = second (is_short_name info.name) _ e in
-    let free = second (not (list_any (is_named info.name) book.rows)) _ named in
-    let alone = second (not (list_any (is_of conn) book.rows)) _ free in
-    let few = second _ _ alone in
-    let some = second _ _ few in
-    le-ltb info.highest 6 (leb-true 6 info.highest some)
-
-answered : (v : Bool) (next highest : ℕ) → ltb highest 6 ≡ false → v ≡ true → cond (ltb highest 6) (answer.Alive 1 0) (cond v (answer.AliveX 0 next) (answer.AliveX 1 0)) ≡ answer.AliveX 0 next
-answered v next highest low e = ap (λ (b : Bool). cond b (answer.Alive 1 0) (cond v (answer.AliveX 0 next) (answer.AliveX 1 0))) low ∙ ap (λ (b : Bool). cond b (answer.AliveX 0 next) (answer.AliveX 1 0)) e
-
+-- so an accepted registration is answered with result 0
 is_registered : (conn : ℕ) (info : NodeInfo) (book : Book) → is_accepted conn info book ≡ true → served_as (request.Alive info) (answer_to conn info book) ≡ served.Registered
-is_registered conn info book e = ap (λ (a : Answer). served_as (request.Alive info) a) (answered (is_accepted conn info book) book.next info.highest (version conn info book e) e)
+is_registered conn info book e = ap (λ (b : Bool). served_as (request.Alive info) (cond b (given info book.next) (refused info))) e ∙ given_well (ltb info.highest 6) info (short_creation book.next) book.next
 
 refused_old : (conn : ℕ) (info : NodeInfo) (book : Book) (v : Bool) → is_accepted conn info book ≡ v → (v ≡ true → ⊥) → IsOld book (cond v (registered conn info book) book)
 refused_old conn info book true e unless = absurd (unless refl)
