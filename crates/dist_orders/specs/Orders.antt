@@ -1,5 +1,5 @@
 -- Orders that two workers take, each in its turn.
-use Rattle.std.specs.Prelude.{◌≡◌, ℕ, ◌+◌, ◌<◌, ◌≤◌, ◌==◌, if◌then◌else◌, nat_lt, List, [], ◌∷◌, ◌++◌, length, Some, slice_get, All, AllPairs, count_by}
+use Rattle.std.specs.Prelude.{◌≡◌, ℕ, zero, suc, ◌+◌, ◌<◌, ◌≤◌, ◌==◌, if◌then◌else◌, nat_lt, List, [], ◌∷◌, ◌++◌, length, Some, slice_get, All, AllPairs, count_by}
 use Rattle.dist_orders.specs.declared.rule.DialOrder.{DialOrder}
 
 -- an order with the place that it had among all that were put
@@ -32,3 +32,12 @@ AreLeft put a b left = (t : ℕ) × AreInTurn put a b t × (left + t ≡ length 
 -- a worker took this order, at some place, and no other
 abbrev pub TakesOne : List Taken → List Taken → DialOrder → Type 0
 TakesOne before after order = (place : ℕ) × (after ≡ before ++ (place, order) ∷ [])
+
+-- the orders below a number, in turn
+abbrev pub numbered : ℕ → List DialOrder
+numbered zero = []
+numbered (suc n) = numbered n ++ record { 0 = n } ∷ []
+
+-- the orders of a run: those below a number, and a last one for each worker
+abbrev pub orders_of : ℕ → List DialOrder
+orders_of count = (numbered count ++ record { 0 = 4294967295 } ∷ []) ++ record { 0 = 4294967295 } ∷ []

@@ -1,6 +1,7 @@
 //! The orders of a run.
 
-ghost use Rattle.std.specs.Prelude.{◌≡◌, ◌+◌, ◌≤◌, [], length};
+ghost use Rattle.std.specs.Prelude.{◌≡◌, ◌+◌, ◌≤◌, ◌∷◌, ◌++◌, [], length};
+ghost use Rattle.dist_orders.specs.Orders.{orders_of};
 
 use crate::queue::{Orders, PutPass};
 use crate::rule::DialOrder;
@@ -20,7 +21,8 @@ fn put_one<R: Wait>(rt: &R, orders: &Orders, pass: &mut PutPass, order: DialOrde
     requires own { pass.old.table ≡ orders.now.table }
     requires room { length pass.old.put + 1 ≤ orders.now.capacity }
     ensures own { pass.new.table ≡ pass.old.table }
-    ensures put { length pass.new.put ≡ length pass.old.put + 1 }
+    ensures put { pass.new.put ≡ pass.old.put ++ order ∷ [] }
+    ensures longer { length pass.new.put ≡ length pass.old.put + 1 }
 {
     let _ = orders.put(rt, pass, order);
 }
@@ -32,7 +34,7 @@ pub fn dispatch<R: Wait>(rt: &R, orders: &Orders, pass: PutPass, count: u32) -> 
     requires new { pass.put ≡ [] }
     requires room { count + 2 ≤ orders.now.capacity }
     ensures own { result.table ≡ pass.table }
-    ensures put { length result.put ≡ count + 2 }
+    ensures put { result.put ≡ orders_of count }
 {
     let mut pass = pass;
     for number in 0..count {
