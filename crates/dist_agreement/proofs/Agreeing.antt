@@ -1,5 +1,6 @@
 -- THE AGREEMENT OF EVERY WORLD.
 use Rattle.std.proofs.Common.{◌≡◌, ◌≢◌, ℕ, true, List, Option, Some, inl, inr, refl, sym, ap, ◌∙◌, subst, slice_get}
+use Rattle.std.proofs.lemmas.Nat.{and_comm}
 use Rattle.std.specs.Cmp.Lexicographic.{same_text}
 use Rattle.dist_names.specs.Flags.{common}
 use Rattle.dist_messages.specs.declared.message.Side.{Side}
@@ -7,7 +8,7 @@ use Rattle.dist_setup.specs.declared.setup.Setup.{Setup}
 use Rattle.dist_ends.specs.declared.known.UpRecord.{UpRecord}
 use Rattle.dist_ends.specs.declared.known.End.{End}
 use Rattle.dist_ends.specs.declared.known.End.TheVariants as ends
-use Rattle.dist_setup.specs.Rules.{own_digest}
+use Rattle.dist_setup.specs.Rules.{announced_by, own_digest}
 use Rattle.dist_agreement.specs.declared.happening.Happening.{Happening}
 use Rattle.dist_agreement.specs.Rows.{EndRow}
 use Rattle.dist_agreement.specs.World.{World, Life, Conn, runs, row_of_life, empty}
@@ -141,6 +142,9 @@ module _ (laws : NodeLaws) where
         agreed-by : (own away : Setup) (kept : UpRecord) → Noted own away (ends.Up kept) → kept.digest_received ≡ own_digest own kept.peer kept.challenge → IsAgreed own away kept
         agreed-by own away kept n e = record { flags = n.0 ∙ (λ i. common (announced-is own i) (announced-is away i)); creation = n.1; digest = e }
 
+        shared-by : Noted sx sy (ends.Up x.kept) → Noted sy sx (ends.Up y.kept) → x.kept.common.0 ≡ y.kept.common.0
+        shared-by n m = n.0 ∙ and_comm (announced_by sx) (announced_by sy) ∙ sym m.0
+
         setup-x : x.life.node.setup ≡ record y.other { creation = x.life.node.setup.creation }
         setup-x = setup-by x.place a x.life y.other x.lives y.named (let r = (running-is laws w h) x in r.0)
 
@@ -153,7 +157,7 @@ module _ (laws : NodeLaws) where
             let wi = h.wires c k ak sx sy ((setup-is laws w h) x k.life p) ((setup-is laws w h) y k.target q) in
             let nx : Noted sx sy (ends.Up x.kept) = (let P : Option End → Type 0 = λ o. NotedAt sx sy o in subst P ((end-is laws w h) x k.life k.dialler p i) wi.noted_back) in
             let ny : Noted sy sx (ends.Up y.kept) = (let P : Option End → Type 0 = λ o. NotedAt sy sx o in subst P (ap (far (end_in w.lives k.target)) j ∙ (end-is laws w h) y k.target y.id q refl) wi.noted_there) in
-            record { same = e; conn = k; there = ak; joined = inl (record { life = sym p; dialler = sym i; target = sym q; accepted = j }); setup_a = setup-x; setup_b = setup-y; at_a = agreed-by sx sy x.kept nx digest-x; at_b = agreed-by sy sx y.kept ny digest-y }
+            record { same = e; conn = k; there = ak; joined = inl (record { life = sym p; dialler = sym i; target = sym q; accepted = j }); setup_a = setup-x; setup_b = setup-y; at_a = agreed-by sx sy x.kept nx digest-x; at_b = agreed-by sy sx y.kept ny digest-y; shared = shared-by nx ny }
 
         -- b dialled, and a accepted
         back : c ≡ d → (k : Conn) → slice_get w.conns c ≡ Some k → y.place ≡ k.life → y.id ≡ k.dialler → x.place ≡ k.target → k.accepted ≡ Some x.id → AreAgreed w a b c d x y
@@ -161,7 +165,7 @@ module _ (laws : NodeLaws) where
             let wi = h.wires c k ak sy sx ((setup-is laws w h) y k.life p) ((setup-is laws w h) x k.target q) in
             let ny : Noted sy sx (ends.Up y.kept) = (let P : Option End → Type 0 = λ o. NotedAt sy sx o in subst P ((end-is laws w h) y k.life k.dialler p i) wi.noted_back) in
             let nx : Noted sx sy (ends.Up x.kept) = (let P : Option End → Type 0 = λ o. NotedAt sx sy o in subst P (ap (far (end_in w.lives k.target)) j ∙ (end-is laws w h) x k.target x.id q refl) wi.noted_there) in
-            record { same = e; conn = k; there = ak; joined = inr (record { life = sym p; dialler = sym i; target = sym q; accepted = j }); setup_a = setup-x; setup_b = setup-y; at_a = agreed-by sx sy x.kept nx digest-x; at_b = agreed-by sy sx y.kept ny digest-y }
+            record { same = e; conn = k; there = ak; joined = inr (record { life = sym p; dialler = sym i; target = sym q; accepted = j }); setup_a = setup-x; setup_b = setup-y; at_a = agreed-by sx sy x.kept nx digest-x; at_b = agreed-by sy sx y.kept ny digest-y; shared = shared-by nx ny }
 
         on-one : c ≡ d → (k m : Conn) → slice_get w.conns c ≡ Some k → slice_get w.conns d ≡ Some m → (Stands_on laws w h) x k → (Stands_on laws w h) y m → AreAgreed w a b c d x y
         on-one e k m ak am s t = by (same k m (let z : Some k ≡ Some m = sym ak ∙ ap (slice_get w.conns) e ∙ am in cc)) s t

@@ -1,12 +1,12 @@
 -- The order of numbers on a connection, and of incarnations, in the words of the definitions.
-use Rattle.std.proofs.Common.{◌≡◌, ℕ, ◌+◌, ◌<◌, ◌≤◌, true, List, Option, Some, None, refl, sym, ap, ◌∙◌, arith, is_some, slice_get}
+use Rattle.std.proofs.Common.{◌≡◌, ℕ, ◌+◌, ◌<◌, ◌≤◌, true, not, List, Option, Some, None, refl, sym, ap, ◌∙◌, arith, is_some, slice_get}
 use Rattle.std.proofs.lemmas.Bool.{false≢true}
 use Rattle.dist_setup.specs.declared.setup.Setup.{Setup}
 use Rattle.dist_agreement.specs.declared.happening.Happening.{Happening}
 use Rattle.dist_agreement.specs.Rows.{EndRow, past}
 use Rattle.dist_agreement.specs.World.{World, Life, Conn, row_of_life, empty}
 use Rattle.dist_agreement.specs.Run.{run}
-use Rattle.dist_agreement.specs.Order.{Numbers, AreAbove, Accepted, InOrder, AreInOrder}
+use Rattle.dist_agreement.specs.Order.{Numbers, AreAbove, Accepted, InOrder, AreInOrder, OnlyLastRuns}
 use Rattle.dist_agreement.specs.Agreement.{AreSetups, AllFit}
 use Rattle.dist_agreement.proofs.Stands.{Below}
 use Rattle.dist_agreement.proofs.Ways.{on_way}
@@ -100,3 +100,6 @@ above w h i j a b p q x y lt aa ab who ax ay =
 module _ (laws : NodeLaws) where
   pub above_worlds : (ss : List Setup) (hs : List Happening) → AreAbove (run hs (empty ss))
   above_worlds ss hs = above (run hs (empty ss)) (timely laws ss hs)
+
+  pub only_last_runs : (ss : List Setup) (hs : List Happening) → OnlyLastRuns (run hs (empty ss))
+  only_last_runs ss hs i j a b lt aa ab who = let t = timely laws ss hs in let o = t.order i j a b lt aa ab who in ap (λ x. not (is_some x)) o.1

@@ -1,8 +1,5 @@
 -- What a node says is whole frames of messages that it may say.
 use Rattle.std.proofs.Common.{◌≡◌, ℕ, ◌/◌, ◌^◌, ◌<◌, true, false, cond, List, [], ◌∷◌, ◌++◌, length, Option, Ok, refl, sym, ◌∙◌, subst, arith, is_some, length-append, lit<}
-use Rattle.std.specs.Int.{w32, to_le_bytes}
-use Rattle.md5.specs.Md5.{md5, digest_bytes, hash_after, padded_message}
-use Rattle.std.specs.Prelude.{slice_index}
 use Rattle.dist_names.specs.NodeName.{IsNodeName}
 use Rattle.dist_messages.specs.Spelling.{Fits, is_said_by}
 use Rattle.dist_messages.specs.Canonical.{canonical}
@@ -29,17 +26,9 @@ pub record IsFit (s : Setup) : Type 0 where
   pub creation : s.creation.0 < 2 ^ 32
 
 -- a digest has 16 bytes
-digest-bytes : (h : List ℕ) → length (digest_bytes h 4) ≡ 16
-unfolding digest_bytes
-digest-bytes h = omega (arith, length-append (((([] ++ to_le_bytes w32 (slice_index h 0)) ++ to_le_bytes w32 (slice_index h 1)) ++ to_le_bytes w32 (slice_index h 2))) (to_le_bytes w32 (slice_index h 3)), length-append ((([] ++ to_le_bytes w32 (slice_index h 0)) ++ to_le_bytes w32 (slice_index h 1))) (to_le_bytes w32 (slice_index h 2)), length-append (([] ++ to_le_bytes w32 (slice_index h 0))) (to_le_bytes w32 (slice_index h 1)))
-
-md5-length : (m : List ℕ) → length (md5 m) ≡ 16
-unfolding md5
-md5-length m = digest-bytes (hash_after (padded_message m) (length (padded_message m) / 64))
-
-digest-length : (s : Setup) (p : List ℕ) (n : ℕ) → length (own_digest s p n) ≡ 16
+digest-length : NodeLaws → (s : Setup) (p : List ℕ) (n : ℕ) → length (own_digest s p n) ≡ 16
 unfolding own_digest
-digest-length s p n = md5-length _
+digest-length laws s p n = laws.sayings.digest_len _ n
 
 -- ---- one message
 
@@ -88,9 +77,9 @@ module _ (laws : NodeLaws) where
     name-said form.Five = old-name-said
 
     pub reply-said : (o : Form) (p : List ℕ) (fresh challenge : ℕ) → fresh < 2 ^ 32 → is_some replied ≡ true → Whole (Said Dialler (MaySay s replied)) (reply_text s o p fresh challenge)
-    reply-said form.New p fresh challenge f h = message-said laws Dialler (MaySay s replied) (reply_message s p fresh challenge) (laws.sayings.says_reply fresh _ (digest-length s p challenge)) (f, digest-length s p challenge) h
-    reply-said form.Old p fresh challenge f h = two-said laws Dialler (MaySay s replied) (complement_message s) (reply_message s p fresh challenge) (laws.sayings.says_complement _ _) ((let g = fit.flags in omega arith), fit.creation) (refl, refl) (laws.sayings.says_reply fresh _ (digest-length s p challenge)) (f, digest-length s p challenge) h
-    reply-said form.Five p fresh challenge f h = message-said laws Dialler (MaySay s replied) (reply_message s p fresh challenge) (laws.sayings.says_reply fresh _ (digest-length s p challenge)) (f, digest-length s p challenge) h
+    reply-said form.New p fresh challenge f h = message-said laws Dialler (MaySay s replied) (reply_message s p fresh challenge) (laws.sayings.says_reply fresh _ (digest-length laws s p challenge)) (f, digest-length laws s p challenge) h
+    reply-said form.Old p fresh challenge f h = two-said laws Dialler (MaySay s replied) (complement_message s) (reply_message s p fresh challenge) (laws.sayings.says_complement _ _) ((let g = fit.flags in omega arith), fit.creation) (refl, refl) (laws.sayings.says_reply fresh _ (digest-length laws s p challenge)) (f, digest-length laws s p challenge) h
+    reply-said form.Five p fresh challenge f h = message-said laws Dialler (MaySay s replied) (reply_message s p fresh challenge) (laws.sayings.says_reply fresh _ (digest-length laws s p challenge)) (f, digest-length laws s p challenge) h
 
   -- ---- the accepting side
 
@@ -121,4 +110,4 @@ module _ (laws : NodeLaws) where
     greeting-said k fresh form.Five b f h v = after-status k (old_challenge_message s fresh) b (old-challenge-said fresh f h v)
 
     pub ack-said : (p : List ℕ) (challenge : ℕ) → is_some rose ≡ true → Whole (Said Acceptor May) (ack_text s p challenge)
-    ack-said p challenge h = message-said laws Acceptor May (ack_message s p challenge) (laws.sayings.says_ack _ (digest-length s p challenge)) (digest-length s p challenge) h
+    ack-said p challenge h = message-said laws Acceptor May (ack_message s p challenge) (laws.sayings.says_ack _ (digest-length laws s p challenge)) (digest-length laws s p challenge) h

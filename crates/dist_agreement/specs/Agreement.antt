@@ -76,6 +76,8 @@ pub record AreAgreed (w : World) (a b c d : ℕ) (x : IsUp w a b c) (y : IsUp w 
   pub setup_b : y.life.node.setup ≡ record x.other { creation = y.life.node.setup.creation }
   pub at_a : IsAgreed x.life.node.setup y.life.node.setup x.kept
   pub at_b : IsAgreed y.life.node.setup x.life.node.setup y.kept
+  -- the two records have the same common flags
+  pub shared : x.kept.common.0 ≡ y.kept.common.0
 
 -- THE AGREEMENT of a world: any two nodes that each count the other as up
 abbrev pub Agreement : World → Type 0

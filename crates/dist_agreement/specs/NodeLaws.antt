@@ -20,6 +20,7 @@ use Rattle.dist_ends.specs.Ends.{AreLegal}
 use Rattle.dist_setup.specs.declared.setup.Setup.{Setup}
 use Rattle.dist_setup.specs.Rules.{announced_by, knows_six}
 use Rattle.dist_setup.specs.Saying.{CanBeSaid}
+use Rattle.dist_secret.specs.Digest.{digest_of}
 use Rattle.dist_core.specs.declared.event.Event.{Event}
 use Rattle.dist_core.specs.declared.effect.Effect.{Effect}
 use Rattle.dist_laws.specs.Laws.{IsOther}
@@ -33,7 +34,7 @@ pub record NameLaws : Type 0 where
   pub one_name : (p q : Name) → same_name p q ≡ true → p ≡ q
   pub itself : (p : Name) → same_name p p ≡ true
 
--- each message that a node says can be said, and is read as the message that it is; the lower half of announced flags tells
+-- each message that a node says can be said, and is read as the message that it is; a digest has 16 bytes; the lower half of announced flags tells
 -- the version, and is all that two nodes have in common of which one knows version 5 alone
 pub record SayingLaws : Type 0 where
   pub says_status : (side : Side) (s : Status) → is_said_by s side ≡ true → CanBeSaid side (message.Status s)
@@ -46,6 +47,7 @@ pub record SayingLaws : Type 0 where
   pub says_ack : (digest : List ℕ) → length digest ≡ 16 → CanBeSaid Acceptor (message.Ack digest)
   pub read_back : (side : Side) (m : Message) → Fits m → CanBeSaid side m → read side (canonical m) ≡ Ok m
   pub announced : (s : Setup) → announced_by s < 2 ^ 64
+  pub digest_len : (cookie : List ℕ) (challenge : ℕ) → length (digest_of cookie challenge) ≡ 16
   pub versions : (s : Setup) → has_all (low_half (announced_by s)) handshake_23 ≡ knows_six s
   pub halves : (own other : Setup) → (knows_six own && knows_six other) ≡ false → common (announced_by own) (low_half (announced_by other)) ≡ common (announced_by own) (announced_by other)
 

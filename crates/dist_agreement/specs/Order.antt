@@ -1,7 +1,7 @@
 -- THE ORDER OF NUMBERS, of incarnations and on connections.
-use Rattle.std.specs.Prelude.{◌≡◌, ℕ, ◌<◌, Some, slice_get}
+use Rattle.std.specs.Prelude.{◌≡◌, ℕ, ◌<◌, false, Some, slice_get}
 use Rattle.dist_agreement.specs.Rows.{EndRow}
-use Rattle.dist_agreement.specs.World.{World, Life, Conn}
+use Rattle.dist_agreement.specs.World.{World, Life, Conn, runs}
 
 -- each number of a row is such a number
 pub record Numbers (P : ℕ → Type 0) (row : EndRow) : Type 0 where
@@ -15,6 +15,10 @@ pub record Numbers (P : ℕ → Type 0) (row : EndRow) : Type 0 where
 -- ALL NUMBERS OF AN INCARNATION ARE ABOVE those of the same node's earlier ones
 abbrev pub AreAbove : World → Type 0
 AreAbove w = (i j : ℕ) (a b : Life) (p q : ℕ) (x y : EndRow) → i < j → slice_get w.lives i ≡ Some a → slice_get w.lives j ≡ Some b → a.who ≡ b.who → slice_get a.rows p ≡ Some x → slice_get b.rows q ≡ Some y → Numbers (λ m. Numbers (λ n. n < m) x) y
+
+-- OF A NODE'S INCARNATIONS at most the last one runs
+abbrev pub OnlyLastRuns : World → Type 0
+OnlyLastRuns w = (i j : ℕ) (a b : Life) → i < j → slice_get w.lives i ≡ Some a → slice_get w.lives j ≡ Some b → a.who ≡ b.who → runs a ≡ false
 
 -- the end accepted on a connection that leads to incarnation b, and its row
 pub record Accepted (k : Conn) (b : Life) : Type 0 where

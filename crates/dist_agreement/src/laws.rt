@@ -6,7 +6,7 @@ ghost use Rattle.dist_agreement.specs.declared.happening.Happening.{Happening};
 ghost use Rattle.dist_agreement.specs.World.{World, empty};
 ghost use Rattle.dist_agreement.specs.Run.{run};
 ghost use Rattle.dist_agreement.specs.Laws.{AllLives, Alone, Apart, Decided, InTurn, OwnDigests, UpsAreLinked};
-ghost use Rattle.dist_agreement.specs.Order.{AreAbove, AreInOrder};
+ghost use Rattle.dist_agreement.specs.Order.{AreAbove, AreInOrder, OnlyLastRuns};
 ghost use Rattle.dist_agreement.specs.Agreement.{Agreement, AreSetups, AllFit, IsReached, Counts, IsUp};
 
 use crate::node_laws::nodes_keep_laws;
@@ -55,9 +55,10 @@ pub fn connections_are_in_order()
     nodes_keep_laws();
 }
 
-/// All numbers of an incarnation are above those of the same node's earlier ones.
+/// All numbers of an incarnation are above those of the same node's earlier ones, and at most the last one runs.
 pub fn incarnations_are_in_order()
-    ensures { (setups : List Setup) (happenings : List Happening) → AreAbove (run happenings (empty setups)) }
+    ensures above { (setups : List Setup) (happenings : List Happening) → AreAbove (run happenings (empty setups)) }
+    ensures last { (setups : List Setup) (happenings : List Happening) → OnlyLastRuns (run happenings (empty setups)) }
 {
     nodes_keep_laws();
 }

@@ -7,6 +7,7 @@ use dist_laws::{
     two_ends_change_at_most,
 };
 use dist_names::order_of_names;
+use dist_secret::length_of_digest;
 use dist_setup::{
     announced_flags_fit, flags_tell_versions, low_halves_suffice, messages_can_be_said,
     what_is_said_is_read,
@@ -21,6 +22,7 @@ pub fn nodes_keep_laws()
     messages_can_be_said();
     what_is_said_is_read();
     announced_flags_fit();
+    length_of_digest();
     flags_tell_versions();
     low_halves_suffice();
     ends_after_a_change();

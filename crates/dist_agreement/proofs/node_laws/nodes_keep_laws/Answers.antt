@@ -17,6 +17,7 @@ returns c = record {
     says_ack = c.messages_can_be_said.ensures.ack;
     read_back = c.what_is_said_is_read.ensures.read;
     announced = c.announced_flags_fit.ensures;
+    digest_len = c.length_of_digest.ensures;
     versions = c.flags_tell_versions.ensures;
     halves = c.low_halves_suffice.ensures;
   };
