@@ -5,7 +5,7 @@ use dist_commands::order_of;
 
 // What is printed or told, the challenge, and the file, in which `;` stands for LF.
 const COOKIES: &str = "\
-cookie of 53 bytes, digest of 123456789 is d174ab98d277d9f5a5611c2c9f419d9f: 123456789: {K};
+cookie of 53 bytes, digest of 123456789 is d174ab98d277d9f5a5611c2c9f419d9f: 123456789: ABCDEFGHIJKLMNOPQRSTUVWXYZabcdefghijklmnopqrstuvwxyz0;
 cookie of 70 bytes, digest of 1234567890 is 57edf4a22be3c955ac49da2e2107b67a: 1234567890: 1234567890123456789012345678901234567890123456789012345678901234567890
 cookie of 6 bytes, digest of 0 is 175ec77a7f63082590987d0d8b051aff: 0: secret\r;
 cookie of 5 bytes, digest of 99 is 5eb4ad392a848f6f59c08cd976458b2c: 99: AB C \r;
@@ -39,7 +39,6 @@ fn is_row_told(alloc: Global, row: &str) -> Option<bool> {
     let (front, file) = row.rsplit_once(": ")?;
     let (wanted, challenge) = front.rsplit_once(": ")?;
     let challenge = challenge.parse::<u32>().ok()?;
-    let file = expanded(alloc, file)?;
     let file = file.replace(alloc, ';', "\n").ok()?;
     Some(is_cookie_told(alloc, file.as_bytes(), challenge, wanted))
 }

@@ -65,9 +65,20 @@ impl Write for Sink {
     }
 }
 
-const SCRIPT: &str = "{b}\nincoming 1\nbytes 0 {NA} {X}\n";
+const NODE: &str =
+    "node b@127.0.0.1 ABCDEFGHIJKLMNOPQRSTUVWXYZabcdefghijklmnopqrstuvwxyz0 101000104 6\n";
 
-const PRINTED: &str = "end 0 {-}\nend 0 say {OK}{CB} closed - up -\na@127.0.0.1 in 0\n";
+const SCRIPT: &str = "\
+node b@127.0.0.1 ABCDEFGHIJKLMNOPQRSTUVWXYZabcdefghijklmnopqrstuvwxyz0 101000104 6
+incoming 1
+bytes 0 001a4e000000040100000400000005000b61403132372e302e302e31 123456789
+";
+
+const PRINTED: &str = "\
+end 0 say - closed - up -
+end 0 say 0003736f6b001e4e0000000101000104075bcd1500000006000b62403132372e302e302e31 closed - up -
+a@127.0.0.1 in 0
+";
 
 // Enacts what a source gives.
 fn enacted_from(alloc: Global, rest: &[u8], piece: usize, fault: Option<ErrorKind>) -> Ran {
@@ -78,25 +89,22 @@ fn enacted_from(alloc: Global, rest: &[u8], piece: usize, fault: Option<ErrorKin
 }
 
 // Whether the script is enacted that comes in pieces of so many bytes.
-fn is_enacted_in(alloc: Global, piece: usize) -> Option<bool> {
-    let script = expanded(alloc, SCRIPT)?;
-    let printed = expanded(alloc, PRINTED)?;
-    let ran = enacted_from(alloc, script.as_bytes(), piece, None);
-    Some(has_left(&ran, (0, printed.as_str(), "")))
+fn is_enacted_in(alloc: Global, piece: usize) -> bool {
+    let ran = enacted_from(alloc, SCRIPT.as_bytes(), piece, None);
+    has_left(&ran, (0, PRINTED, ""))
 }
 
 // Whether a read is told that fails behind this text.
-fn is_failed_read_told(alloc: Global, given: &str, kind: ErrorKind) -> Option<bool> {
-    let given = expanded(alloc, given)?;
+fn is_failed_read_told(alloc: Global, given: &str, kind: ErrorKind) -> bool {
     let ran = enacted_from(alloc, given.as_bytes(), 7, Some(kind));
-    Some(has_left(&ran, (1, "", "distnode: ReadFailed\n")))
+    has_left(&ran, (1, "", "distnode: ReadFailed\n"))
 }
 
 #[test]
 fn a_script_comes_in_any_pieces_and_a_read_that_fails_is_told(rt: HostRuntime) {
     let alloc = rt.alloc();
     for piece in [1usize, 2, 3, 64, 5000] {
-        assert!(rt; is_enacted_in(alloc, piece) == Some(true), "{piece}");
+        assert!(rt; is_enacted_in(alloc, piece), "{piece}");
     }
     for given in ["", "n", SCRIPT] {
         for kind in [
@@ -105,7 +113,7 @@ fn a_script_comes_in_any_pieces_and_a_read_that_fails_is_told(rt: HostRuntime) {
             ErrorKind::WouldBlock,
         ] {
             let told = is_failed_read_told(alloc, given, kind);
-            assert!(rt; told == Some(true), "{kind:?} behind {given}");
+            assert!(rt; told, "{kind:?} behind {given}");
         }
     }
 }
@@ -125,15 +133,13 @@ fn written(alloc: Global, script: &[u8], room: usize) -> Option<Vec<u8>> {
 
 // Whether what was written is the beginning of what is printed.
 fn is_beginning_written(alloc: Global, room: usize) -> Option<bool> {
-    let script = expanded(alloc, SCRIPT)?;
-    let printed = expanded(alloc, PRINTED)?;
-    let taken = written(alloc, script.as_bytes(), room)?;
-    Some(printed.as_bytes().starts_with(&taken))
+    let taken = written(alloc, SCRIPT.as_bytes(), room)?;
+    Some(PRINTED.as_bytes().starts_with(&taken))
 }
 
 // More than a buffer holds is written, so that a write fails while the script is enacted. How much was written.
 fn written_of_many(alloc: Global) -> Option<usize> {
-    let mut script = expanded(alloc, "{b}\n")?;
+    let mut script = String::from_str(alloc, NODE).ok()?;
     for _ in 0..1000 {
         script.push_str("incoming 1\n").ok()?;
     }
