@@ -38,20 +38,19 @@ const DIGESTS: &str = "\
 78*255 4294967295 841dc05e13c05568df27ea53b6da158b
 ";
 
-// Whether a copy of the cookie has this digest.
-fn has_digest(alloc: Global, cookie: &Cookie, challenge: u32, wanted: &str) -> Option<bool> {
-    let copy = cookie.try_clone(alloc).ok()?;
-    let digits = digits_of(alloc, &digest(&copy, challenge))?;
-    Some(digits.as_str() == wanted && copy.bytes() == cookie.bytes())
-}
-
+// Whether a copy of the cookie is like it, and has this digest.
 fn is_so(alloc: Global, row: &str) -> Option<bool> {
     let (text, rest) = row.split_once(' ')?;
     let (challenge, wanted) = rest.split_once(' ')?;
     let challenge = challenge.parse::<u32>().ok()?;
     let text = bytes_of(alloc, text)?;
-    let cookie = Cookie::from_bytes(alloc, &text).ok()?;
-    Some(has_digest(alloc, &cookie, challenge, wanted)? && cookie.len() == text.len())
+    let copy = Cookie::from_bytes(alloc, &text)
+        .ok()?
+        .try_clone(alloc)
+        .ok()?;
+    let digits = digits_of(alloc, &digest(&copy, challenge))?;
+    let is_alike = copy.bytes() == text.as_slice() && copy.len() == text.len();
+    Some(is_alike && digits.as_str() == wanted)
 }
 
 #[test]

@@ -1,6 +1,6 @@
-//! Nodes, and events, from lines of text.
+//! A node, and events from lines of text.
 
-use dist_core::{Event, Node, Opening, Setup, Version, Why};
+use dist_core::{Event, Node, Setup, Version};
 use dist_names::{ByteString, Creation, Flags, NodeName};
 use dist_peers::EndId;
 use dist_secret::{Cookie, Cookies};
@@ -22,28 +22,22 @@ pub fn node_b(alloc: Global) -> Option<Node> {
     Some(Node::new(alloc, setup))
 }
 
-/// The event of a line `VERB END ARGUMENT`, where some verbs have no end, or no argument. `None`
-/// where memory is short.
+/// A handshake at the first end of that node, with 123456789 as its challenge, and a tick.
+pub const HANDSHAKE: &str = "\
+incoming
+4e000000040100000400000005000b61403132372e302e302e31
+72075bcd15d174ab98d277d9f5a5611c2c9f419d9f
+tick";
+
+/// The event at the first end that a line says: `incoming`, `tick`, or the body of a frame. `None` where memory is short.
 pub fn event_of(alloc: Global, line: &str) -> Option<Event> {
-    let mut words = line.split(' ');
-    let verb = words.next().unwrap_or("");
-    let end_ = EndId(words.next().unwrap_or("0").parse::<u32>().ok()?);
-    let argument = words.next().unwrap_or("");
-    Some(match verb {
-        "dial" => Event::Dial {
-            peer: NodeName::new(alloc, argument.as_bytes()).ok()?,
-            opening: Opening::New,
-        },
-        "opened" => Event::Opened { end_, link: 1 },
+    let end_ = EndId(0);
+    Some(match line {
         "incoming" => Event::Incoming { link: 1 },
-        "frame" => Event::Frame {
-            end_,
-            body: ByteString::from_vec(hex::decode(alloc, argument).ok()?),
-        },
         "tick" => Event::Tick { end_ },
-        _ => Event::Lost {
+        digits => Event::Frame {
             end_,
-            why: Why::DialFailed,
+            body: ByteString::from_vec(hex::decode(alloc, digits).ok()?),
         },
     })
 }

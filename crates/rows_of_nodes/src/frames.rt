@@ -19,11 +19,6 @@ pub fn is_next(alloc: Global, frames: &mut Frames, wanted: &str) -> Option<bool>
     is_body(alloc, body.as_deref(), wanted)
 }
 
-fn feed(alloc: Global, frames: &mut Frames, digits: &str) -> Option<()> {
-    let bytes = bytes_of(alloc, digits)?;
-    frames.feed(&bytes).ok()
-}
-
 // Whether a reader answers so where it is fed these bytes or asked this; nothing where there is nothing to answer.
 fn is_answered(alloc: Global, frames: &mut Frames, ask: &str, wanted: &str) -> Option<bool> {
     match ask {
@@ -32,7 +27,7 @@ fn is_answered(alloc: Global, frames: &mut Frames, ask: &str, wanted: &str) -> O
         "skip" => return Some(wanted.parse::<usize>().ok() == Some(frames.skip_long())),
         "drop" => frames.drop_front(),
         "link" => frames.to_linked(),
-        digits => feed(alloc, frames, digits)?,
+        digits => frames.feed(&bytes_of(alloc, digits)?).ok()?,
     }
     Some(wanted.is_empty())
 }
@@ -101,40 +96,23 @@ const STREAMS: &str = "\
 001a4e000000040100000400000005000b61403132372e302e302e310001 4e000000040100000400000005000b61403132372e302e302e31,
 ";
 
-fn put_body(alloc: Global, frames: &mut Frames, told: &mut String) -> Option<()> {
-    let body = frames.next_short().ok()??;
-    let digits = digits_of(alloc, body.as_slice())?;
-    told.push_str(&digits).ok()?;
-    told.push_str(",").ok()
-}
-
 fn put_bodies(alloc: Global, frames: &mut Frames, told: &mut String) -> Option<()> {
     for _ in 0..4 {
-        if frames.front().is_some() {
-            put_body(alloc, frames, told)?;
+        if let Some(body) = frames.next_short().ok()? {
+            told.push_str(&digits_of(alloc, &body)?).ok()?;
+            told.push_str(",").ok()?;
         }
     }
     Some(())
 }
 
-// The bodies of a stream that comes in pieces of so many bytes.
-fn put_pieces(
-    alloc: Global,
-    frames: &mut Frames,
-    stream: &[u8],
-    size: usize,
-    told: &mut String,
-) -> Option<()> {
-    for piece in stream.chunks(size.max(1)) {
-        frames.feed(piece).ok()?;
-        put_bodies(alloc, frames, told)?;
-    }
-    Some(())
-}
-
+// Whether these are the bodies of a stream that comes in pieces of so many bytes.
 fn are_bodies(alloc: Global, stream: &[u8], size: usize, wanted: &str) -> Option<bool> {
     let (mut frames, mut told) = (Frames::new(alloc), String::new(alloc));
-    put_pieces(alloc, &mut frames, stream, size, &mut told)?;
+    for piece in stream.chunks(size.max(1)) {
+        frames.feed(piece).ok()?;
+        put_bodies(alloc, &mut frames, &mut told)?;
+    }
     Some(told.as_str() == wanted)
 }
 

@@ -1,48 +1,19 @@
 //! Each allocation failing in turn: `rt try --test --fail-alloc N`. With ample memory each step succeeds.
 
-use crate::events::{event_of, node_b};
+use crate::events::{HANDSHAKE, event_of, node_b};
 use dist_core::{Event, Node, StepError, Still, Why};
-use dist_names::NodeName;
 use dist_peers::{EndId, Entry};
 use std::alloc::Global;
 use std::test::*;
 
-const HANDSHAKE: &str = "\
-incoming 0
-frame 0 4e000000040100000400000005000b61403132372e302e302e31
-frame 0 72075bcd15d174ab98d277d9f5a5611c2c9f419d9f
-tick 0
-";
-
-// A node's peer, and what the node is told.
-#[derive(Drop)]
-struct Told {
-    peer: NodeName,
-    events: Vec<Event>,
-}
-
-fn put_event(alloc: Global, events: &mut Vec<Event>, line: &str) -> bool {
-    match event_of(alloc, line) {
-        Some(event) => events.push(event).is_ok(),
-        None => false,
-    }
-}
-
-fn handshake(alloc: Global) -> Option<Told> {
-    let peer = NodeName::new(alloc, b"a@127.0.0.1").ok()?;
-    let mut events = Vec::new(alloc);
-    for line in HANDSHAKE.lines() {
-        if !put_event(alloc, &mut events, line) {
-            return None;
-        }
-    }
-    Some(Told { peer, events })
-}
-
-// How the node stands: its entries, which ends are up, and how its first end is.
-fn standing(node: &Node, peer: &NodeName) -> (Option<Entry>, usize, usize, usize, Still) {
+// How the node stands: its first entry, how many there are, how many ends are up and open, and how its first end is.
+fn standing(node: &Node) -> (Option<Entry>, usize, usize, usize, Still) {
+    let first = match node.entry_at(0) {
+        Some((_, entry)) => Some(entry),
+        None => None,
+    };
     (
-        node.entry_of(peer),
+        first,
         node.entries(),
         node.ups(),
         node.open_ends(),
@@ -51,53 +22,21 @@ fn standing(node: &Node, peer: &NodeName) -> (Option<Entry>, usize, usize, usize
 }
 
 // Whether a refused step left the node as it was, and succeeds once there is memory.
-fn is_taken(alloc: Global, node: &mut Node, peer: &NodeName, event: &Event) -> bool {
-    let before = standing(node, peer);
+fn is_taken(alloc: Global, node: &mut Node, event: &Event) -> bool {
+    let before = standing(node);
     match node.step(alloc, event, 123456789) {
         Ok(_) => true,
         Err(StepError::NoMemory) => {
-            standing(node, peer) == before && node.step(alloc, event, 123456789).is_ok()
+            standing(node) == before && node.step(alloc, event, 123456789).is_ok()
         }
         Err(_) => false,
     }
 }
 
-// The place of the first event of a handshake that is not taken, where there was memory for them all.
-fn refused_in_handshake(alloc: Global, node: &mut Node) -> Option<Option<usize>> {
-    let told = handshake(alloc)?;
-    Some(first_refused(alloc, node, &told))
-}
-
-fn first_refused(alloc: Global, node: &mut Node, told: &Told) -> Option<usize> {
-    for (place, event) in told.events.iter().enumerate() {
-        if !is_taken(alloc, node, &told.peer, event) {
-            return Some(place);
-        }
-    }
-    None
-}
-
-fn is_lost(alloc: Global, node: &mut Node, end: u32) -> bool {
-    let (end_, why) = (EndId(end), Why::Ended);
-    node.step(alloc, &Event::Lost { end_, why }, 0).is_ok()
-}
-
-// A second connection comes, or memory lacks for it.
-fn come_again(alloc: Global, node: &mut Node) {
-    let _ = node.step(alloc, &Event::Incoming { link: 2 }, 0);
-}
-
-// The first end whose loss is refused.
-fn first_kept(alloc: Global, node: &mut Node) -> Option<u32> {
-    for end in 0..4096u32 {
-        if node.still(EndId(end)) == Still::NoSuchEnd {
-            return None;
-        }
-        if !is_lost(alloc, node, end) {
-            return Some(end);
-        }
-    }
-    None
+// Whether the loss of an end succeeds at once, where it was given out.
+fn is_lost(alloc: Global, node: &mut Node, end_: EndId) -> bool {
+    let why = Why::Ended;
+    node.still(end_) == Still::NoSuchEnd || node.step(alloc, &Event::Lost { end_, why }, 0).is_ok()
 }
 
 #[test]
@@ -107,14 +46,18 @@ fn memory_refused(rt: HostRuntime) {
     let Some(mut node) = node_b(alloc) else {
         return;
     };
-    let Some(refused) = refused_in_handshake(alloc, &mut node) else {
-        return;
-    };
-    assert_eq!(rt; refused, None);
+    for line in HANDSHAKE.lines() {
+        let Some(event) = event_of(alloc, line) else {
+            return;
+        };
+        assert!(rt; is_taken(alloc, &mut node, &event), "{line}");
+    }
     assert_eq!(rt; (node.still(EndId(0)), node.ups()), (Still::Up, 1));
 
-    // A loss asks for none: whichever request is refused, it succeeds at once.
-    come_again(alloc, &mut node);
-    assert_eq!(rt; first_kept(alloc, &mut node), None);
+    // A second connection comes, or memory lacks for it. A loss asks for none: whichever request is refused, it succeeds.
+    let _ = node.step(alloc, &Event::Incoming { link: 2 }, 0);
+    for end in 0..2u32 {
+        assert!(rt; is_lost(alloc, &mut node, EndId(end)), "{end}");
+    }
     assert_eq!(rt; (node.open_ends(), node.entries()), (0, 0));
 }

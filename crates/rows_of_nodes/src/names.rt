@@ -53,17 +53,13 @@ fn is_name_so(alloc: Global, row: &str) -> Option<bool> {
     }
 }
 
-// Whether the name of these bytes, which is the longest, is like its copy.
-fn is_longest_so(alloc: Global, bytes: &[u8]) -> Option<bool> {
-    let name = NodeName::new(alloc, bytes).ok()?;
-    let copy = name.try_clone(alloc).ok()?;
-    let is_alike = copy == name && copy.is_same(&name) && copy.has_bytes(bytes);
-    Some(is_alike && name.short().len() == 253 && name.host() == b"h".as_slice())
-}
-
-fn is_there_a_longest(alloc: Global) -> Option<bool> {
+// Whether the longest name is like its copy.
+fn is_longest_so(alloc: Global) -> Option<bool> {
     let bytes = bytes_of(alloc, "78*253+4068")?;
-    is_longest_so(alloc, &bytes)
+    let name = NodeName::new(alloc, &bytes).ok()?;
+    let copy = name.try_clone(alloc).ok()?;
+    let is_alike = copy == name && copy.is_same(&name) && copy.has_bytes(&bytes);
+    Some(is_alike && name.short().len() == 253 && name.host() == b"h".as_slice())
 }
 
 #[test]
@@ -71,7 +67,7 @@ fn bytes_are_a_name_or_the_first_reason_is_told(rt: HostRuntime) {
     for row in NAMES.lines() {
         assert!(rt; is_name_so(rt.alloc(), row) == Some(true), "{row}");
     }
-    assert!(rt; is_there_a_longest(rt.alloc()) == Some(true));
+    assert!(rt; is_longest_so(rt.alloc()) == Some(true));
 }
 
 // The lesser name and the greater one.
@@ -111,15 +107,10 @@ fn flags_have_halves_and_two_bits_are_fixed(rt: HostRuntime) {
     assert_eq!(rt; Flags(0x400000000).required().0, 0x401000000);
 }
 
-// Three bytes, of which the last was appended.
-fn three_bytes(alloc: Global) -> Option<ByteString> {
+// Whether a copy is like its row of three bytes, of which the last was appended.
+fn is_copied(alloc: Global) -> Option<bool> {
     let mut row = ByteString::from_slice(alloc, b"ab").ok()?;
     row.append(b"c").ok()?;
-    Some(row)
-}
-
-fn is_copied(alloc: Global) -> Option<bool> {
-    let row = three_bytes(alloc)?;
     let copy = row.try_clone(alloc).ok()?;
     let is_alike = copy == row && copy.is_same(&row) && row.len() == 3;
     Some(is_alike && copy.into_vec().as_slice() == b"abc".as_slice())

@@ -7,28 +7,23 @@ use dist_messages::{Side, decode};
 use std::alloc::Global;
 use std::test::*;
 
-// Whether a body is refused so, or, where there is no refusal, is read.
-fn is_refused(alloc: Global, side: Side, body: &[u8], refusal: &str) -> bool {
+// Why a body is refused; nothing where it is read.
+fn refusal_of(alloc: Global, side: Side, body: &[u8]) -> &'static str {
     match decode(alloc, side, body) {
-        Ok(_) => refusal.is_empty(),
-        Err(why) => name_of(why) == refusal,
+        Ok(_) => "",
+        Err(why) => name_of(why),
     }
 }
 
-// What the front of a body is told to be, of which a front of `whole` bytes and each longer one is a message.
-fn refusal_of_front(len: usize, whole: usize) -> &'static str {
-    if len == 0 {
-        "Empty"
-    } else if len < whole {
-        "Short"
-    } else {
-        ""
-    }
-}
-
+// Whether the front of no byte is empty, and each that is shorter than `whole` is short, and no other is refused.
 fn are_fronts_so(alloc: Global, side: Side, body: &[u8], whole: usize) -> bool {
     for len in 0..=body.len() {
-        if !is_refused(alloc, side, &body[..len], refusal_of_front(len, whole)) {
+        let wanted = match len {
+            0 => "Empty",
+            some if some < whole => "Short",
+            _ => "",
+        };
+        if refusal_of(alloc, side, &body[..len]) != wanted {
             return false;
         }
     }
@@ -42,15 +37,6 @@ fn is_cut_so(alloc: Global, row: &str) -> Option<bool> {
     let whole = whole.parse::<usize>().ok()?;
     let body = bytes_of(alloc, text)?;
     Some(are_fronts_so(alloc, side_of(side), &body, whole))
-}
-
-#[test]
-fn a_body_that_is_cut_is_short_up_to_its_last_field(rt: HostRuntime) {
-    for row in SPELLED.lines() {
-        if !row.contains('*') && !row.contains("status") {
-            assert!(rt; is_cut_so(rt.alloc(), row) == Some(true), "{row}");
-        }
-    }
 }
 
 // The side, a body, and its refusal.
@@ -82,12 +68,17 @@ fn is_row_refused(alloc: Global, row: &str) -> Option<bool> {
     let (side, rest) = row.split_once(' ')?;
     let (text, wanted) = rest.split_once(' ')?;
     let body = bytes_of(alloc, text)?;
-    Some(is_refused(alloc, side_of(side), &body, wanted))
+    Some(refusal_of(alloc, side_of(side), &body) == wanted)
 }
 
 #[test]
-fn each_refusal_has_its_bodies(rt: HostRuntime) {
+fn each_refusal_has_its_bodies_and_a_body_that_is_cut_is_short(rt: HostRuntime) {
     for row in REFUSED.lines() {
         assert!(rt; is_row_refused(rt.alloc(), row) == Some(true), "{row}");
+    }
+    for row in SPELLED.lines() {
+        if !row.contains('*') && !row.contains("status") {
+            assert!(rt; is_cut_so(rt.alloc(), row) == Some(true), "{row}");
+        }
     }
 }

@@ -6,20 +6,12 @@ use dist_setup::{NameList, Setup, Version};
 use std::alloc::Global;
 use std::test::*;
 
-fn put_name(alloc: Global, names: &mut Vec<NodeName>, name: &str) -> bool {
-    match NodeName::new(alloc, name.as_bytes()) {
-        Ok(name) => names.push(name).is_ok(),
-        Err(_) => false,
-    }
-}
-
 // A list of these names, with blanks between them.
 fn listed(alloc: Global, text: &str) -> Option<NameList> {
     let mut names = Vec::new(alloc);
     for name in text.split(' ') {
-        if !put_name(alloc, &mut names, name) {
-            return None;
-        }
+        let name = NodeName::new(alloc, name.as_bytes()).ok()?;
+        names.push(name).ok()?;
     }
     Some(NameList::from_vec(names))
 }
@@ -43,36 +35,17 @@ fn copied(alloc: Global) -> Option<Setup> {
     setup(alloc)?.try_clone(alloc).ok()
 }
 
-// Whether a node of this name may connect.
-fn may_connect(setup: &Setup, name: &str) -> bool {
-    match &setup.allow {
-        Some(allow) => allow.lists(name.as_bytes()),
-        None => true,
-    }
-}
-
-// How many names a list has, where there is one.
-fn names_of(allow: Option<NameList>) -> Option<usize> {
-    match allow {
-        Some(allow) => Some(allow.into_vec().len()),
-        None => None,
-    }
-}
-
 #[test]
-fn a_copied_setup_has_the_names_that_may_connect(rt: HostRuntime) {
-    let Some(copy) = copied(rt.alloc()) else {
-        panic!(rt; "no memory");
-    };
+fn a_copied_setup_has_the_names_that_may_connect(rt: HostRuntime) -> Result<(), Fail> {
+    let copy = copied(rt.alloc()).ok_or("no memory")?;
     assert!(rt; copy.name.has_bytes(b"b@127.0.0.1"), "own name");
     assert_eq!(rt; copy.creation, Creation(6), "creation");
-    assert!(rt; may_connect(&copy, "a@127.0.0.1"), "first name");
-    assert!(rt; may_connect(&copy, "c@127.0.0.1"), "second name");
-    assert!(rt;
-        !may_connect(&copy, "b@127.0.0.1"),
-        "a name that is not listed"
-    );
-    assert_eq!(rt; names_of(copy.allow), Some(2), "names");
+    let allow = copy.allow.ok_or("no list")?;
+    assert!(rt; allow.lists(b"a@127.0.0.1"), "first name");
+    assert!(rt; allow.lists(b"c@127.0.0.1"), "second name");
+    assert!(rt; !allow.lists(b"b@127.0.0.1"), "a name that is not listed");
+    assert_eq!(rt; allow.into_vec().len(), 2, "names");
+    Ok(())
 }
 
 // Four names, of which two are long.

@@ -1,51 +1,88 @@
 //! A run that want of memory cuts off.
-use crate::rows::ROWS;
-use crate::shown::put_world;
-use crate::worlds::{happenings, world};
+use dist_play::{print_agreements, print_nodes};
+use dist_script::{Script, script_of};
 use dist_world::{Happening, Stopped, World};
 use std::alloc::Global;
 use std::test::*;
 
-fn shown(alloc: Global, world: &World) -> Option<String> {
-    let mut out = String::new(alloc);
-    put_world(alloc, &mut out, world)?;
+// Two dials that cross.
+const CROSSING: &str = "\
+node a@127.0.0.1 ABCDEFGHIJKLMNOPQRSTUVWXYZabcdefghijklmnopqrstuvwxyz0 401000004 5
+node b@127.0.0.1 ABCDEFGHIJKLMNOPQRSTUVWXYZabcdefghijklmnopqrstuvwxyz0 101000104 6
+begin 0 5
+begin 1 6
+dial 0 b@127.0.0.1 new
+dial 1 a@127.0.0.1 new
+reach 0 0 1
+reach 1 0 0
+opened 0 0
+opened 1 0
+accept 0
+accept 1
+deliver 1 1 999
+take 1 1 1
+deliver 0 1 999
+take 0 1 7
+deliver 0 0 999
+take 0 0 0
+deliver 1 0 999
+take 1 0 0
+take 1 0 8
+deliver 0 1 999
+take 0 1 0
+deliver 1 0 999
+take 1 0 0
+";
+
+const CROSSED: &str = "\
+node a@127.0.0.1 running 5
+b@127.0.0.1 up 1 common 0000000001000004 creation 6
+node b@127.0.0.1 running 6
+a@127.0.0.1 up 0 common 0000000001000004 creation 5
+agree a@127.0.0.1 b@127.0.0.1 conn 1 common 0000000001000004 creations 5 6
+";
+
+// A world in which nothing happened, and what is to happen in it.
+fn crossing(alloc: Global) -> Option<(World, Vec<Happening>)> {
+    match script_of(alloc, CROSSING.as_bytes()).ok()? {
+        Script::Happenings { nodes, lines } => Some((World::new(alloc, nodes).ok()?, lines)),
+        Script::Events { .. } => None,
+    }
+}
+
+// What a world shows.
+fn shown(alloc: Global, world: &World) -> Option<Vec<u8>> {
+    let mut out = Vec::new(alloc);
+    print_nodes(world, &mut out).ok()?;
+    print_agreements(alloc, world, &mut out).ok()?;
     Some(out)
 }
 
 // Whether a world shows what another shows after these happenings.
 fn is_after(alloc: Global, cut_off: &World, done: &[Happening]) -> Option<bool> {
-    let mut other = world(alloc)?;
+    let (mut other, _) = crossing(alloc)?;
     let _ = other.run(alloc, done).ok()?;
     let there = shown(alloc, &other)?;
-    Some(shown(alloc, cut_off)?.as_str() == there.as_str())
+    Some(shown(alloc, cut_off)?.as_slice() == there.as_slice())
 }
 
-// Whether the world shows what the row says once the rest has happened.
-fn comes_to(alloc: Global, cut_off: &mut World, rest: &[Happening], end: &str) -> Option<bool> {
+// Whether the world shows two nodes that crossed once the rest has happened.
+fn comes_to_its_end(alloc: Global, cut_off: &mut World, rest: &[Happening]) -> Option<bool> {
     let _ = cut_off.run(alloc, rest).ok()?;
-    Some(end.ends_with(shown(alloc, cut_off)?.as_str()))
+    Some(shown(alloc, cut_off)?.as_slice() == CROSSED.as_bytes())
 }
 
-// Where one run of a list stops, the world shows what another shows after as many happenings, and once the rest has happened
-// it shows what the row says.
-fn stands_where_it_stopped(alloc: Global, list: &[Happening], end: &str) -> Option<bool> {
-    let mut cut_off = world(alloc)?;
-    let done = match cut_off.run(alloc, list) {
+// A crossing in one run: where it stops, the world shows what another shows after as many happenings, and comes to its end
+// once the rest has happened. `None`: memory was refused to the test itself.
+fn a_crossing_stands(alloc: Global) -> Option<bool> {
+    let (mut cut_off, list) = crossing(alloc)?;
+    let done = match cut_off.run(alloc, &list) {
         Ok(_) => list.len(),
         Err(Stopped { done }) => done,
     };
     let (before, rest) = list.split_at_checked(done)?;
     let is_there = is_after(alloc, &cut_off, before)?;
-    Some(is_there && comes_to(alloc, &mut cut_off, rest, end)?)
-}
-
-// A crossing in one run. `None`: memory was refused to the test itself.
-fn a_crossing_stands(alloc: Global) -> Option<bool> {
-    let row = ROWS.split('\n').next()?;
-    let (_, rest) = row.split_once('|')?;
-    let (script, end) = rest.split_once('|')?;
-    let list = happenings(alloc, script, 999)?;
-    stands_where_it_stopped(alloc, &list, end)
+    Some(is_there && comes_to_its_end(alloc, &mut cut_off, rest)?)
 }
 
 // One request alone is refused, so it is tried twice.
