@@ -1,98 +1,92 @@
 //! Each allocation failing in turn: `rt try --test --fail-alloc N`. With ample memory each call succeeds.
 
-use crate::talks::{how, node_of, over};
-use dist_epmd::Registry;
-use dist_mapper::{LookupError, ask_names, lookup, register, serve_registry};
+use crate::sockets::REGISTRATION;
+use crate::streams::over;
+use dist_epmd::{EpmdError, NodeInfo, Registry};
+use dist_mapper::{LookupError, Served, ask_names, lookup, register, serve_registry};
+use dist_names::ByteString;
 use std::alloc::Global;
 use std::test::*;
 
-// A registration of `a`, a lookup of it, and the question for all names, in their frames.
-const REGISTRATION: &[u8] = b"\x00\x0e\x78\x23\x29\x4d\x00\x00\x06\x00\x05\x00\x01a\x00\x00";
-
+// A lookup of `a`, and the question for all names, in their frames.
 const LOOKUP: &[u8] = b"\x00\x02\x7aa";
 
 const NAMES: &[u8] = b"\x00\x01\x6e";
 
 // What a lookup, a registration and a question for all names are answered.
-const PORT_OF_A: &[u8] = b"\x77\x00\x23\x29\x4d\x00\x00\x06\x00\x05\x00\x01a\x00\x00";
+const ANSWERS: [&[u8]; 3] = [
+    b"\x77\x00\x23\x29\x4d\x00\x00\x06\x00\x05\x00\x01a\x00\x00",
+    b"\x76\x00\x00\x00\x00\x01",
+    b"\x00\x00\x00\x00\x01",
+];
 
-const CREATION: &[u8] = b"\x76\x00\x00\x00\x00\x01";
-
-const LISTED: &[u8] = b"\x00\x00\x00\x00\x01";
-
-// Served as it should be, or refused for want of memory (a stream in memory fails to write where it lacks it).
-fn is_fine(how: &str, is_written: bool, wanted: &str) -> bool {
-    if is_written {
-        how == wanted
-    } else {
-        how == "NoMemory" || how == "WriteFailed"
-    }
-}
-
-// How a request is served, and whether an answer was written. `None`: the stream itself lacks memory, here and below.
-fn told(
+// Serves a request: whether it is served so, or lacks memory and nothing is changed (a stream in memory fails to write where
+// it lacks it). `None`: the stream itself lacks memory, here and below.
+fn is_served(
     alloc: Global,
     registry: &mut Registry,
     conn: u64,
     frame: &[u8],
-) -> Option<(&'static str, bool)> {
-    let mut stream = over(alloc, frame, false)?;
-    let how = how(serve_registry(alloc, &mut stream, registry, conn, 100));
-    Some((how, !stream.written().is_empty()))
-}
-
-// Whether a question is served so, and the registration stands as it stood.
-fn is_answered(
-    alloc: Global,
-    registry: &mut Registry,
-    conn: u64,
-    frame: &[u8],
-    is_kept: bool,
+    wanted: Served,
 ) -> Option<bool> {
-    let (how, is_written) = told(alloc, registry, conn, frame)?;
-    let still = registry.port_please(b"a").is_some();
-    Some(is_fine(how, is_written, "Answered") && still == is_kept)
+    let mut stream = over(alloc, frame)?;
+    let was_kept = registry.port_please(b"a").is_some();
+    let served = serve_registry(alloc, &mut stream, registry, conn, 100);
+    let is_kept = registry.port_please(b"a").is_some();
+    Some(match served {
+        Ok(Served::Registered) => wanted == Served::Registered && is_kept && !was_kept,
+        Ok(Served::Answered) => wanted == Served::Answered && is_kept == was_kept,
+        Err(LookupError::NoMemory | LookupError::WriteFailed) => {
+            stream.written().is_empty() && is_kept == was_kept
+        }
+        Err(_) => false,
+    })
 }
 
-// Whether the frames are served so, and a registration is kept just where it was answered.
+// A registration of `a`, a lookup of it, and the question for all names.
 fn are_served(alloc: Global) -> Option<bool> {
     let mut registry = Registry::new(alloc, 4369, 1);
-    let (how, is_written) = told(alloc, &mut registry, 1, REGISTRATION)?;
-    let is_kept = registry.port_please(b"a").is_some();
-    let is_registered = is_fine(how, is_written, "Registered") && is_kept == is_written;
-    let is_found = is_answered(alloc, &mut registry, 2, LOOKUP, is_kept)?;
-    let is_listed = is_answered(alloc, &mut registry, 3, NAMES, is_kept)?;
+    let is_registered = is_served(alloc, &mut registry, 1, REGISTRATION, Served::Registered)?;
+    let is_found = is_served(alloc, &mut registry, 2, LOOKUP, Served::Answered)?;
+    let is_listed = is_served(alloc, &mut registry, 3, NAMES, Served::Answered)?;
     Some(is_registered && is_found && is_listed)
 }
 
-// Whether a call succeeded, or lacked memory.
-fn is_had(fault: Option<LookupError>) -> bool {
-    match fault {
-        None | Some(LookupError::NoMemory | LookupError::WriteFailed) => true,
-        Some(_) => false,
-    }
+fn node_a(alloc: Global) -> Option<NodeInfo> {
+    Some(NodeInfo {
+        port: 9001,
+        node_type: 77,
+        protocol: 0,
+        highest: 6,
+        lowest: 5,
+        name: ByteString::from_slice(alloc, b"a").ok()?,
+        extra: ByteString::new(alloc),
+    })
 }
 
-fn is_looked_up(alloc: Global) -> Option<bool> {
-    let mut stream = over(alloc, PORT_OF_A, false)?;
-    Some(is_had(lookup(alloc, &mut stream, b"a", 100).err()))
-}
-
-fn is_registered(alloc: Global) -> Option<bool> {
-    let node = node_of(alloc, b"a")?;
-    let mut stream = over(alloc, CREATION, false)?;
-    Some(is_had(register(alloc, &mut stream, &node, 100).err()))
-}
-
-fn is_listed(alloc: Global) -> Option<bool> {
-    let mut stream = over(alloc, LISTED, false)?;
-    Some(is_had(ask_names(alloc, &mut stream, 100).err()))
+// Whether the question of this answer succeeds, or lacks memory.
+fn is_had(alloc: Global, answer: &[u8]) -> Option<bool> {
+    let node = node_a(alloc)?;
+    let mut stream = over(alloc, answer)?;
+    let fault = match answer.first() {
+        Some(0x77) => lookup(alloc, &mut stream, b"a", 100).err(),
+        Some(0x76) => register(alloc, &mut stream, &node, 100).err(),
+        _ => ask_names(alloc, &mut stream, 100).err(),
+    };
+    Some(matches!(
+        fault,
+        None | Some(LookupError::NoMemory | LookupError::WriteFailed)
+    ))
 }
 
 // Whether each call, of the server's side and of a client's, succeeded or lacked memory.
 fn are_all_had(alloc: Global) -> Option<bool> {
-    let client = is_looked_up(alloc)? && is_registered(alloc)? && is_listed(alloc)?;
-    Some(client && are_served(alloc)?)
+    for answer in ANSWERS {
+        if !is_had(alloc, answer)? {
+            return Some(false);
+        }
+    }
+    are_served(alloc)
 }
 
 // One request alone is refused, so it is tried twice.
@@ -103,4 +97,5 @@ fn port_mapper_memory_refused(rt: HostRuntime) {
         told => told,
     };
     assert_eq!(rt; are_had, Some(true));
+    assert_eq!(rt; EpmdError::NoMemory.name(), "NoMemory");
 }

@@ -1,6 +1,5 @@
 //! Streams over memory and over sockets, by themselves.
 
-use crate::talks::over;
 use dist_mapper::{FaultStream, Heard, SocketStream, Stream, Took, TurnError};
 use dist_streams::Limited;
 use std::alloc::Global;
@@ -55,50 +54,43 @@ fn a_reset_is_a_failure(rt: HostRuntime) {
     assert_eq!(rt; client.read(&mut room), Heard::Failed);
 }
 
+/// A stream over these bytes, in one piece.
+pub fn over(alloc: Global, input: &[u8]) -> Option<FaultStream> {
+    Some(FaultStream::new(alloc, Vec::from_slice(alloc, input).ok()?))
+}
+
 // Six bytes, of which two come, then none, and so on.
 fn halting(alloc: Global) -> Option<FaultStream> {
-    let mut stream = over(alloc, b"abcdef", false)?;
+    let mut stream = over(alloc, b"abcdef")?;
     stream.read_sizes.push(2).ok()?;
     stream.read_sizes.push(0).ok()?;
     Some(stream)
 }
 
-fn put_heard(alloc: Global, told: &mut String, heard: Heard) -> Option<()> {
-    let word = format!(in alloc; "{heard:?} ").ok()?;
-    told.push_str(&word).ok()
-}
-
-fn put_took(alloc: Global, told: &mut String, took: Took) -> Option<()> {
-    let word = format!(in alloc; "{took:?} ").ok()?;
-    told.push_str(&word).ok()
-}
-
-// What seven reads and then three writes of `gh` answer.
-fn put_turns(alloc: Global, told: &mut String, stream: &mut FaultStream) -> Option<()> {
-    let mut room = [0u8; 8];
-    for _ in 0..7 {
-        put_heard(alloc, told, stream.read(&mut room))?;
-    }
-    stream.fail_write = 2;
-    for _ in 0..3 {
-        put_took(alloc, told, stream.write(b"gh"))?;
-    }
-    Some(())
-}
-
-fn turns_told(alloc: Global) -> Option<String> {
-    let mut stream = halting(alloc)?;
-    let mut told = String::new(alloc);
-    put_turns(alloc, &mut told, &mut stream)?;
-    let is_written = stream.written() == b"ghgh".as_slice();
-    is_written.then_some(told)
-}
+// What seven reads hear of them.
+const HEARD: [Heard; 7] = [
+    Heard::Bytes(2),
+    Heard::Quiet,
+    Heard::Bytes(2),
+    Heard::Quiet,
+    Heard::Bytes(2),
+    Heard::Quiet,
+    Heard::Bytes(0),
+];
 
 #[test]
 fn sizes_start_again_at_their_beginning(rt: HostRuntime) {
-    let wanted = "Bytes(2) Quiet Bytes(2) Quiet Bytes(2) Quiet Bytes(0) Bytes(2) Failed Bytes(2) ";
-    let told = turns_told(rt.alloc());
-    assert_eq!(rt; told.as_deref(), Some(wanted));
+    let Some(mut stream) = halting(rt.alloc()) else {
+        panic!(rt; "no memory");
+    };
+    for heard in HEARD {
+        assert_eq!(rt; stream.read(&mut [0u8; 8]), heard);
+    }
+    stream.fail_write = 2;
+    for took in [Took::Bytes(2), Took::Failed, Took::Bytes(2)] {
+        assert_eq!(rt; stream.write(b"gh"), took);
+    }
+    assert!(rt; stream.written() == b"ghgh".as_slice());
 }
 
 // Whether three bytes take three turns, one of them quiet.

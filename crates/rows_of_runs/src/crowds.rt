@@ -1,28 +1,22 @@
 //! What runs of many nodes tell.
 
-use crate::running::run_of_file;
+use crate::running::{run_of, text_of};
 use crate::sizes::{put_dial, put_nodes};
 use crate::system::Wrong;
-use dist_run::RunError;
 use std::alloc::Global;
 use std::test::*;
 
-// So many places further on, round all nodes.
-fn place_behind(from: usize, nodes: usize, far: &str) -> Option<usize> {
-    let far = far.parse::<usize>().ok()?;
-    Some(from.saturating_add(far) % nodes.max(1))
-}
-
-fn put_dials(text: &mut String, from: usize, nodes: usize, distances: &str) -> Option<()> {
-    for far in distances.split(' ') {
-        let to = place_behind(from, nodes, far)?;
+// Dials by one node, round all nodes.
+fn put_dials(text: &mut String, from: usize, nodes: usize, distances: &[usize]) -> Option<()> {
+    for far in distances {
+        let to = from.saturating_add(*far) % nodes.max(1);
         put_dial(text, from, to)?;
     }
     Some(())
 }
 
 // A file of so many nodes, of which so many dial those that follow them at these distances, the first beside the last.
-fn put_crowd(text: &mut String, nodes: usize, dials: usize, distances: &str) -> Option<()> {
+fn put_crowd(text: &mut String, nodes: usize, dials: usize, distances: &[usize]) -> Option<()> {
     put_nodes(text, nodes)?;
     for from in 0..dials {
         put_dials(text, from, nodes, distances)?;
@@ -30,17 +24,10 @@ fn put_crowd(text: &mut String, nodes: usize, dials: usize, distances: &str) -> 
     Some(())
 }
 
-fn crowd(alloc: Global, nodes: usize, dials: usize, distances: &str) -> Option<String> {
+fn crowd(alloc: Global, nodes: usize, dials: usize, distances: &[usize]) -> Option<String> {
     let mut text = String::new(alloc);
     put_crowd(&mut text, nodes, dials, distances)?;
     Some(text)
-}
-
-fn text_of(ran: &Result<String, RunError>) -> &str {
-    match ran {
-        Ok(text) => text.as_str(),
-        Err(error) => error.name(),
-    }
 }
 
 // Whether each of sixteen nodes is up with four. An order whose peer has dialled and is up already finds the node busy.
@@ -56,8 +43,8 @@ fn are_all_up(text: &str) -> Option<bool> {
 
 #[test]
 fn sixteen_nodes_that_dial_each_other_come_up(rt: HostRuntime) {
-    let nodes = crowd(rt.alloc(), 16, 16, "1 2 14 15");
-    let ran = run_of_file(&rt, rt.alloc(), Wrong::Nothing, nodes);
+    let nodes = crowd(rt.alloc(), 16, 16, &[1, 2, 14, 15]);
+    let ran = run_of(&rt, rt.alloc(), Wrong::Nothing, nodes);
     let text = text_of(&ran);
     assert!(rt; are_all_up(text) == Some(true), "{text}");
 }
@@ -70,8 +57,8 @@ fn is_one_up(text: &str) -> Option<bool> {
 
 #[test]
 fn connections_that_are_cut_leave_one_world(rt: HostRuntime) {
-    let nodes = crowd(rt.alloc(), 5, 1, "1 2 3 4");
-    let ran = run_of_file(&rt, rt.alloc(), Wrong::Cuts, nodes);
+    let nodes = crowd(rt.alloc(), 5, 1, &[1, 2, 3, 4]);
+    let ran = run_of(&rt, rt.alloc(), Wrong::Cuts, nodes);
     let text = text_of(&ran);
     assert!(rt; is_one_up(text) == Some(true), "{text}");
 }

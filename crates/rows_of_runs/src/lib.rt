@@ -4,11 +4,7 @@
 #![tactic(auto)]
 
 #[cfg(test)]
-mod alterations;
-#[cfg(test)]
 mod crowds;
-#[cfg(test)]
-mod forty_lines;
 #[cfg(test)]
 mod histories;
 #[cfg(test)]

@@ -1,6 +1,6 @@
-//! Which texts are nodes files, and what a plan says of one.
+//! Which texts are nodes files.
 
-use dist_plan::{Plan, PlanError, plan_of};
+use dist_plan::{PlanError, plan_of};
 use std::alloc::Global;
 use std::test::*;
 
@@ -17,37 +17,6 @@ flags = \"101000104\"
 from = \"a@127.0.0.1\"
 to = \"b@127.0.0.1\"
 ";
-
-// Whether the nodes of a plan are those of this file.
-fn are_nodes_said(plan: &Plan) -> bool {
-    let [a, b] = plan.node.as_slice() else {
-        return false;
-    };
-    a.name.bytes() == b"a@127.0.0.1".as_slice()
-        && a.flags.0 == 0x401000004
-        && b.cookie.bytes() == b"secret".as_slice()
-        && b.required.0 == 0
-        && b.listen == 0
-        && b.allow.is_none()
-}
-
-// Whether the dials of a plan are those of this file.
-fn are_dials_said(plan: &Plan) -> bool {
-    let [dial] = plan.dial.as_slice() else {
-        return false;
-    };
-    dial.from.bytes() == b"a@127.0.0.1".as_slice() && dial.to.bytes() == b"b@127.0.0.1".as_slice()
-}
-
-#[test]
-fn a_nodes_file_says_nodes_and_dials(rt: HostRuntime) {
-    let Ok(plan) = plan_of(rt.alloc(), TWO_NODES) else {
-        panic!(rt; "no plan");
-    };
-    assert!(rt; plan.port == 0 && plan.turns == 200);
-    assert!(rt; are_nodes_said(&plan));
-    assert!(rt; are_dials_said(&plan));
-}
 
 // A line a case: whether it is a nodes file, a text of the file of two nodes, and what is put in its place. A tilde stands
 // for the end of a line.
@@ -94,16 +63,12 @@ pub fn is_plan(alloc: Global, text: &str) -> Option<bool> {
     }
 }
 
-// The file of two nodes with a text in the place of another.
-fn changed(alloc: Global, old: &str, new: &str) -> Option<String> {
-    let new = new.replace(alloc, "~", "\n").ok()?;
-    TWO_NODES.replacen(alloc, old, &new, 1).ok()
-}
-
+// Whether the file of two nodes, with a text in the place of another, is one just where the line says so.
 fn is_change_so(alloc: Global, line: &str) -> Option<bool> {
     let (answer, change) = line.split_once('|')?;
     let (old, new) = change.split_once('|')?;
-    let text = changed(alloc, old, new)?;
+    let new = new.replace(alloc, "~", "\n").ok()?;
+    let text = TWO_NODES.replacen(alloc, old, &new, 1).ok()?;
     let wanted = Some(answer == "yes");
     Some(TWO_NODES.contains(old) && is_plan(alloc, &text) == wanted)
 }

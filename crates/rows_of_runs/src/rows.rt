@@ -1,8 +1,10 @@
-//! Histories as they were kept, and with other tickets.
+//! Histories as they were kept, and altered in one place.
 
 use crate::histories::{answer, number, played};
 use dist_audit::audit;
-use dist_locked::Closed;
+use dist_core::Event;
+use dist_locked::{Closed, Line};
+use dist_names::ByteString;
 use std::alloc::Global;
 use std::sync::Wait;
 use std::test::*;
@@ -34,19 +36,80 @@ b hears 0 0 1 8
 a hears 1 0 0 0
 b hears 0 0 1 0";
 
-// Sets a ticket: `NODE LINE TICKET`.
-fn set_ticket(all: &mut [Closed], line: &str) -> Option<()> {
-    let one = all.get_mut(number(line, 0)? as usize)?;
-    let kept = one.history.get_mut(number(line, 1)? as usize)?;
-    kept.ticket = u64::from(number(line, 2)?);
+// Four handshakes, a tick at each side, and three losses at each side.
+const FORTY_LINES: &str = "\
+a dials 0 0 0 0
+a opens 0 0 0 0
+b accepts 0 0 0 0
+b hears 0 0 0 123456789
+a hears 0 0 0 0
+a hears 0 0 0 123456789
+b hears 0 0 0 0
+a hears 0 0 0 0
+a loses 0 0 0 0
+b loses 0 0 0 0
+a dials 1 0 1 0
+a opens 1 1 1 0
+b accepts 1 1 1 0
+b hears 1 0 1 123456789
+a hears 1 0 1 0
+a hears 1 0 1 123456789
+b hears 1 0 1 0
+a hears 1 0 1 0
+a loses 1 0 1 0
+b loses 1 0 1 0
+a dials 2 0 2 0
+a opens 2 2 2 0
+b accepts 2 2 2 0
+b hears 2 0 2 123456789
+a hears 2 0 2 0
+a hears 2 0 2 123456789
+b hears 2 0 2 0
+a hears 2 0 2 0
+a loses 2 0 2 0
+b loses 2 0 2 0
+a dials 3 0 3 0
+a opens 3 3 3 0
+b accepts 3 3 3 0
+b hears 3 0 3 123456789
+a hears 3 0 3 0
+a hears 3 0 3 123456789
+b hears 3 0 3 0
+a hears 3 0 3 0
+a ticks 3 0 3 0
+b ticks 3 0 3 0";
+
+// Alters the first byte. The same alteration once more undoes it.
+fn flip(alloc: Global, text: &mut ByteString) -> Option<()> {
+    let mut bytes = Vec::from_slice(alloc, text.as_slice()).ok()?;
+    *bytes.first_mut()? ^= 1;
+    *text = ByteString::from_vec(bytes);
     Some(())
 }
 
-// Whether the audit answers so, or a ticket is set.
-fn is_so(alloc: Global, all: &mut [Closed], line: &str) -> bool {
-    match line.split_once("? ") {
+// Alters the link of a connection that came, the body of a frame, or what was said; or else sets the ticket.
+fn alter(alloc: Global, line: &mut Line, what: &str) -> Option<()> {
+    match (what, &mut line.event) {
+        ("link", Event::Incoming { link }) => *link ^= 1024,
+        ("body", Event::Frame { body, .. }) => return flip(alloc, body),
+        ("say", _) => return flip(alloc, &mut line.reply.say),
+        (ticket, _) => line.ticket = ticket.parse::<u64>().ok()?,
+    }
+    Some(())
+}
+
+// Alters a line of a history: `NODE LINE WHAT`.
+fn alter_at(alloc: Global, all: &mut [Closed], row: &str) -> Option<()> {
+    let one = all.get_mut(number(row, 0)? as usize)?;
+    let line = one.history.get_mut(number(row, 1)? as usize)?;
+    alter(alloc, line, row.split(' ').nth(2)?)
+}
+
+// Whether the audit answers so, or a line is altered.
+fn is_so(alloc: Global, all: &mut [Closed], row: &str) -> bool {
+    match row.split_once("? ") {
         Some((_, wanted)) => answer(alloc, all, 0) == wanted,
-        None => set_ticket(all, line).is_some(),
+        None => alter_at(alloc, all, row).is_some(),
     }
 }
 
@@ -60,8 +123,9 @@ fn first_wrong(alloc: Global, all: &mut [Closed], text: &'static str) -> Option<
     None
 }
 
-// A ticket of the other node, and two tickets exchanged.
-const TICKETS: &str = "\
+// A ticket of the other node; two tickets exchanged; the link of the connection that came, a byte of a frame's body, and a
+// byte of what was said last, each undone.
+const ALTERED: &str = "\
 ? agreed
 0 2 3
 ? TicketTwice
@@ -70,6 +134,16 @@ const TICKETS: &str = "\
 ? TicketFalls
 0 2 4
 0 3 5
+? agreed
+1 0 link
+? Unpaired
+1 0 link
+1 1 body
+? NotSent
+1 1 body
+1 2 say
+? OtherReply
+1 2 say
 ? agreed";
 
 // Leaves out the last line of node a.
@@ -84,7 +158,7 @@ fn audited_handshake(rt: HostRuntime) {
     let Some(mut all) = played(&rt, rt.alloc(), HANDSHAKE) else {
         panic!(rt; "no history");
     };
-    assert_eq!(rt; first_wrong(rt.alloc(), &mut all, TICKETS), None);
+    assert_eq!(rt; first_wrong(rt.alloc(), &mut all, ALTERED), None);
     shorten(&mut all);
     assert_eq!(rt; answer(rt.alloc(), &all, 0), "OtherReply");
 }
@@ -153,6 +227,7 @@ fn audit_memory_refused(rt: HostRuntime) {
 }
 
 #[test]
-fn a_crossing_is_audited(rt: HostRuntime) {
+fn crossings_and_later_handshakes_are_audited(rt: HostRuntime) {
     assert_eq!(rt; is_agreed(&rt, rt.alloc(), CROSSING, 1), Some(true));
+    assert_eq!(rt; is_agreed(&rt, rt.alloc(), FORTY_LINES, 3), Some(true));
 }

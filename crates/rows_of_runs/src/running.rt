@@ -13,13 +13,10 @@ use std::sync::Wait;
 use std::thread::Threads;
 use std::time::Clock;
 
-fn write_fault(text: &mut String, number: u32, word: &str) -> Option<()> {
-    write!(text, "order {number} {word}, ").ok()
-}
-
 fn write_faults(text: &mut String, ran: &Ran) -> Option<()> {
     for fault in ran.faults.iter() {
-        write_fault(text, fault.number, fault.refusal.name())?;
+        let (number, word) = (fault.number, fault.refusal.name());
+        write!(text, "order {number} {word}, ").ok()?;
     }
     text.push_str("up").ok()
 }
@@ -32,14 +29,13 @@ fn write_ups(text: &mut String, ran: &Ran) -> Option<()> {
     Some(())
 }
 
-fn write_refusal(text: &mut String, number: u32, word: &str) -> Option<()> {
-    write!(text, ", audit refused {number} {word}").ok()
-}
-
 fn write_audit(text: &mut String, alloc: Global, ran: &Ran) -> Option<()> {
     match audit(alloc, ran.closed.as_slice()) {
         Ok(_) => text.push_str(", audit holds").ok(),
-        Err(error) => write_refusal(text, error.number(), error.name()),
+        Err(error) => {
+            let (number, word) = (error.number(), error.name());
+            write!(text, ", audit refused {number} {word}").ok()
+        }
     }
 }
 
@@ -51,28 +47,9 @@ fn told(alloc: Global, ran: &Ran) -> Option<String> {
     Some(text)
 }
 
-/// Runs the nodes of a text on a system with something wrong. What is no nodes file is told as want of memory.
-pub fn run_of<R>(rt: &R, alloc: Global, wrong: Wrong, nodes: &str) -> Result<String, RunError>
-where
-    R: Net<Listener = TcpListener, Stream = TcpStream>
-        + Threads
-        + Wait
-        + Clock
-        + RandomSource
-        + Sync,
-{
-    let Ok(plan) = plan_of(alloc, nodes) else {
-        return Err(RunError::NoMemory);
-    };
-    let system = System::new(rt, wrong);
-    match run_plan(&system, alloc, plan, &system) {
-        Ok(ran) => told(alloc, &ran).ok_or(RunError::NoMemory),
-        Err(error) => Err(error),
-    }
-}
-
-/// Runs the nodes of a text, if there was memory for it.
-pub fn run_of_file<R>(
+/// Runs the nodes of a text on a system with something wrong. What is no nodes file is told as want of memory, as where there
+/// was none for the text.
+pub fn run_of<R>(
     rt: &R,
     alloc: Global,
     wrong: Wrong,
@@ -86,17 +63,22 @@ where
         + RandomSource
         + Sync,
 {
-    match nodes {
-        Some(text) => run_of(rt, alloc, wrong, &text),
-        None => Err(RunError::NoMemory),
+    let text = nodes.ok_or(RunError::NoMemory)?;
+    let Ok(plan) = plan_of(alloc, &text) else {
+        return Err(RunError::NoMemory);
+    };
+    let system = System::new(rt, wrong);
+    match run_plan(&system, alloc, plan, &system) {
+        Ok(ran) => told(alloc, &ran).ok_or(RunError::NoMemory),
+        Err(error) => Err(error),
     }
 }
 
-/// Whether a run told this, or was refused so.
-pub fn tells(ran: &Result<String, RunError>, wanted: &str) -> bool {
+/// What a run told, or why it was refused.
+pub fn text_of(ran: &Result<String, RunError>) -> &str {
     match ran {
-        Ok(text) => text.as_str() == wanted,
-        Err(error) => error.name() == wanted,
+        Ok(text) => text.as_str(),
+        Err(error) => error.name(),
     }
 }
 
@@ -125,28 +107,9 @@ pub const EACH_OTHER: &str = r#"dial = [
 ]
 "#;
 
-// A file of these nodes, the second of which takes this peer, and of these dials.
-fn file_of(alloc: Global, peer: &str, dials: &str) -> Option<String> {
+/// A file of those nodes, the second of which takes this peer, and of these dials.
+pub fn file_of(alloc: Global, peer: &str, dials: &str) -> Option<String> {
     let mut text = NODES.replacen(alloc, "PEER", peer, 1).ok()?;
     text.push_str(dials).ok()?;
     Some(text)
-}
-
-/// Runs those nodes, the second of which takes this peer, and these dials.
-pub fn run_of_two<R>(
-    rt: &R,
-    alloc: Global,
-    wrong: Wrong,
-    peer: &str,
-    dials: &str,
-) -> Result<String, RunError>
-where
-    R: Net<Listener = TcpListener, Stream = TcpStream>
-        + Threads
-        + Wait
-        + Clock
-        + RandomSource
-        + Sync,
-{
-    run_of_file(rt, alloc, wrong, file_of(alloc, peer, dials))
 }

@@ -25,7 +25,7 @@ fn prepare(stream: &mut FaultStream) -> bool {
 // A stream whose third write in a handshake fails. Its output has room for more than is written, so that no write of a call
 // asks for memory.
 fn stream(alloc: Global) -> Option<FaultStream> {
-    let input = bytes_of(alloc, NAME_OF_A, REPLY)?;
+    let input = bytes_of(alloc, &[NAME_OF_A, REPLY])?;
     let mut stream = FaultStream::new(alloc, input);
     if prepare(&mut stream) {
         Some(stream)

@@ -44,18 +44,12 @@ fn event(alloc: Global, words: &str) -> Option<Event> {
     })
 }
 
-// The refusal's name, or why the end is closed.
-fn refusal_word(error: StepError) -> &'static str {
-    match error {
-        StepError::Gone(why) => why.name(),
-        _ => error.name(),
-    }
-}
-
+// That the event was taken, why the end is closed, or the refusal's name.
 fn answer_word(answer: Result<(), StepError>) -> &'static str {
     match answer {
         Ok(()) => "taken",
-        Err(error) => refusal_word(error),
+        Err(StepError::Gone(why)) => why.name(),
+        Err(error) => error.name(),
     }
 }
 

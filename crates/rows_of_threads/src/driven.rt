@@ -60,37 +60,15 @@ fn desk_of(alloc: Global, side: &str) -> Option<MemoryDesk> {
     }
 }
 
-// What the other side says in a whole handshake.
-fn handshake(alloc: Global, side: &str) -> Option<Vec<u8>> {
-    if side == "dialled" {
-        return bytes_of(alloc, GREETING_OF_B, ACKNOWLEDGEMENT);
-    }
-    bytes_of(alloc, NAME_OF_A, REPLY)
-}
-
-fn with_packets(alloc: Global, mut input: Vec<u8>) -> Option<Vec<u8>> {
-    let packets = bytes_of(alloc, PACKETS, "")?;
-    match input.extend_from_slice(&packets) {
-        Ok(_) => Some(input),
-        Err(_) => None,
-    }
-}
-
 /// What the other side says: `nok`, a whole `handshake`, or else a handshake and packets behind it.
 pub fn input_of(alloc: Global, side: &str, what: &str) -> Option<Vec<u8>> {
-    match what {
-        "nok" => bytes_of(alloc, STATUS_NOK, ""),
-        "handshake" => handshake(alloc, side),
-        _ => with_packets(alloc, handshake(alloc, side)?),
-    }
-}
-
-/// What the end says in a whole handshake.
-pub fn whole_text(alloc: Global, side: &str) -> Option<Vec<u8>> {
-    if side == "dialled" {
-        return bytes_of(alloc, NAME_OF_A, REPLY);
-    }
-    bytes_of(alloc, GREETING_OF_B, ACKNOWLEDGEMENT)
+    let (first, second) = match (side, what) {
+        (_, "nok") => (STATUS_NOK, ""),
+        ("dialled", _) => (GREETING_OF_B, ACKNOWLEDGEMENT),
+        _ => (NAME_OF_A, REPLY),
+    };
+    let packets = if what == "packets" { PACKETS } else { "" };
+    bytes_of(alloc, &[first, second, packets])
 }
 
 /// A number, or one that no row has.

@@ -8,12 +8,7 @@ use std::alloc::Global;
 use std::test::*;
 
 fn word(row: &str, place: usize) -> &str {
-    for (i, word) in row.split(' ').enumerate() {
-        if i == place {
-            return word;
-        }
-    }
-    ""
+    row.split(' ').nth(place).unwrap_or("")
 }
 
 // The sizes and the faults of a row.
@@ -25,7 +20,9 @@ fn set_faults(stream: &mut FaultStream, row: &str) -> bool {
 }
 
 fn stream_of(alloc: Global, row: &str) -> Option<FaultStream> {
-    let input = input_of(alloc, word(row, 0), word(row, 1))?;
+    let (what, cut) = word(row, 1).split_once(':').unwrap_or((word(row, 1), ""));
+    let mut input = input_of(alloc, word(row, 0), what)?;
+    input.truncate(number(cut) as usize);
     let mut stream = FaultStream::new(alloc, input);
     if set_faults(&mut stream, row) {
         Some(stream)
@@ -45,11 +42,12 @@ fn played(alloc: Global, row: &str) -> Option<Seen> {
     )
 }
 
-fn played_in_words(alloc: Global, row: &str) -> Option<String> {
+/// What is seen of the call of a row, in words.
+pub fn played_in_words(alloc: Global, row: &str) -> Option<String> {
     in_words(alloc, played(alloc, row)?)
 }
 
-// The side, what it hears, the most bytes of each read and of each write in turn, 0 where the stream is quiet, which read
+// The side, what it hears (and how many bytes of it, where it is cut), the most bytes of each read and of each write in turn, 0 where the stream is quiet, which read
 // and which write fails, and the limit; then what is seen. Packets behind a handshake are not sent; what the last turn read
 // is still handed on; the loss of the end that is gone was told before the call, and of one that its node doesn't know nobody
 // can be told: its first frame is refused.

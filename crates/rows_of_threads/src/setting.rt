@@ -86,20 +86,17 @@ pub fn dialled(alloc: Global) -> Option<MemoryDesk> {
     }
 }
 
-// Adds the bytes that digits write. Whether that was done.
-fn put_bytes(alloc: Global, all: &mut Vec<u8>, digits: &str) -> bool {
-    match hex::decode(alloc, digits) {
-        Ok(bytes) => all.extend_from_slice(&bytes).is_ok(),
-        Err(_) => false,
-    }
+fn put_bytes(alloc: Global, all: &mut Vec<u8>, digits: &str) -> Option<()> {
+    let bytes = hex::decode(alloc, digits).ok()?;
+    all.extend_from_slice(&bytes).ok()?;
+    Some(())
 }
 
-/// The bytes that the digits of both texts write, one behind the other.
-pub fn bytes_of(alloc: Global, first: &str, second: &str) -> Option<Vec<u8>> {
+/// The bytes that the digits of these texts write, one behind the other.
+pub fn bytes_of(alloc: Global, texts: &[&str]) -> Option<Vec<u8>> {
     let mut all = Vec::new(alloc);
-    if put_bytes(alloc, &mut all, first) && put_bytes(alloc, &mut all, second) {
-        Some(all)
-    } else {
-        None
+    for digits in texts {
+        put_bytes(alloc, &mut all, digits)?;
     }
+    Some(all)
 }

@@ -31,21 +31,17 @@ pub fn still_word(still: Still) -> &'static str {
     }
 }
 
-// How many frames were handed on: the steps, but for a loss that was told.
-fn frames_of(seen: Seen) -> usize {
-    match seen.told {
-        Some(_) => seen.steps.saturating_sub(1),
-        None => seen.steps,
-    }
-}
-
 /// How the call ended, which loss was told, how many frames were handed on before it, how many bytes were written, how many
 /// reads and writes were made, how the end stands then, and how many entries its node has.
 pub fn in_words(alloc: Global, seen: Seen) -> Option<String> {
     let how = outcome_word(seen.outcome);
     let told = told_word(seen.told);
     let still = still_word(seen.still);
-    let frames = frames_of(seen);
+    // The steps, but for a loss that was told.
+    let frames = match seen.told {
+        Some(_) => seen.steps.saturating_sub(1),
+        None => seen.steps,
+    };
     let (written, calls, entries) = (seen.written, seen.calls, seen.entries);
     format!(in alloc;
         "{how}, told {told}, {frames} frames, {written} written, {calls} calls, {still}, {entries} entries"

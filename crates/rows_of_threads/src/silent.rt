@@ -85,7 +85,7 @@ fn shaking<R: Wait>(
     node: &LockedNode,
     seat: Seat,
 ) -> Option<(Seat, Outcome)> {
-    let mut stream = FaultStream::new(alloc, bytes_of(alloc, NAME_OF_A, REPLY)?);
+    let mut stream = FaultStream::new(alloc, bytes_of(alloc, &[NAME_OF_A, REPLY])?);
     driven(rt, alloc, node, seat, &mut stream, EndId(1))
 }
 
