@@ -13,8 +13,13 @@ use std::alloc::Global;
 pub fn read_told(alloc: Global, case: &str) -> Option<String> {
     let bytes = bytes_in(alloc, word(case, 2))?;
     let told = match again(alloc, word(case, 1), &bytes) {
-        Ok(written) if written.as_slice() == bytes.as_slice() => "same",
-        Ok(_) => "other",
+        Ok(written) => {
+            if written.as_slice() == bytes.as_slice() {
+                "same"
+            } else {
+                "other"
+            }
+        }
         Err(error) => error.name(),
     };
     String::from_str(alloc, told).ok()
