@@ -14,6 +14,10 @@ const PACKETS: &str = "00000000000000050102030405";
 
 const STATUS_NOK: &str = "0004736e6f6b";
 
+// The frame of the name of node a that knows version 5 alone, written by hand from the ERTS User's Guide, Distribution
+// Handshake: a tag, the version 5, the flags 4 in four bytes, the name.
+const OLD_NAME_OF_A: &str = "00126e00050000000461403132372e302e302e31";
+
 /// What is seen of a call.
 #[derive(Clone, Copy)]
 pub struct Seen {
@@ -60,10 +64,12 @@ fn desk_of(alloc: Global, side: &str) -> Option<MemoryDesk> {
     }
 }
 
-/// What the other side says: `nok`, a whole `handshake`, or else a handshake and packets behind it.
+/// What the other side says: `nok`, a whole `handshake`, one of a peer that knows `version_5` alone, or else a handshake and
+/// packets behind it.
 pub fn input_of(alloc: Global, side: &str, what: &str) -> Option<Vec<u8>> {
     let (first, second) = match (side, what) {
         (_, "nok") => (STATUS_NOK, ""),
+        (_, "version_5") => (OLD_NAME_OF_A, REPLY),
         ("dialled", _) => (GREETING_OF_B, ACKNOWLEDGEMENT),
         _ => (NAME_OF_A, REPLY),
     };

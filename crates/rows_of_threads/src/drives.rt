@@ -72,6 +72,8 @@ accepted packets 28,0,0,0 - 0 0 1: Limit, told nothing, 1 frames, 0 written, 1 c
 accepted packets 28,23,13,0 - 0 0 6: Limit, told nothing, 2 frames, 56 written, 6 calls, Up, 1 entries
 gone packets - - 0 0 100: Replaced, told Replaced, 0 frames, 0 written, 0 calls, Replaced, 0 entries
 unknown packets - - 0 0 100: GaveUp, told nothing, 0 frames, 0 written, 1 calls, NoSuchEnd, 0 entries
+accepted version_5 20,23 - 0 0 100: Ended, told Ended, 2 frames, 48 written, 5 calls, Ended, 0 entries
+accepted version_5 20,23,0,0 - 0 0 6: Limit, told nothing, 2 frames, 48 written, 6 calls, Up, 1 entries
 dialled nok - - 0 0 100: StatusRefused, told nothing, 1 frames, 28 written, 2 calls, StatusRefused, 0 entries";
 
 #[test]
