@@ -1,114 +1,120 @@
 //! The lines of a script that say what happens in a world.
 
-ghost use Rattle.std.specs.Prelude.{◌≡◌, drop};
-ghost use Rattle.std.specs.Str.Parse.{digits_value};
-ghost use Rattle.dist_words.specs.Words.{ReadsNext, IsDecimal};
-
-use crate::lines::{end_word, name_word, number_word, opening_word, why_word};
+use crate::fields::{line_end, meaning_of, name_of, number_word, opening_word, why_word};
+use dist_agreement::Happening;
 use dist_names::Creation;
+use dist_peers::EndId;
 use dist_words::{LineFault, Words};
-use dist_world::Happening;
 use std::alloc::Global;
 
-// The place of a node, the number of a connection, or a count of bytes, which the next word is.
-fn place_word(words: &mut Words<'_>) -> Result<usize, LineFault>
-    ensures reads { ReadsNext result words.old (IsDecimal 32) (digits_value 10) }
-    ensures rest { words.new ≡ drop 1 words.old }
-{
-    Ok(number_word(words)? as usize)
+#[derive(Clone, Copy)]
+enum Kind {
+    Begin,
+    Halt,
+    Dial,
+    Reach,
+    Opened,
+    Accept,
+    Deliver,
+    Take,
+    Lose,
+    Tick,
 }
 
-fn begin(words: &mut Words<'_>) -> Result<Happening, LineFault> {
-    Ok(Happening::Begin {
-        node: place_word(words)?,
-        creation: Creation(number_word(words)?),
-    })
-}
+// The first word of each line, and how many numbers stand behind it.
+const KINDS: [(&str, (Kind, usize)); 10] = [
+    ("begin", (Kind::Begin, 2)),
+    ("halt", (Kind::Halt, 1)),
+    ("dial", (Kind::Dial, 1)),
+    ("reach", (Kind::Reach, 3)),
+    ("opened", (Kind::Opened, 2)),
+    ("accept", (Kind::Accept, 1)),
+    ("deliver", (Kind::Deliver, 3)),
+    ("take", (Kind::Take, 3)),
+    ("lose", (Kind::Lose, 2)),
+    ("tick", (Kind::Tick, 2)),
+];
 
-fn dial(alloc: Global, words: &mut Words<'_>) -> Result<Happening, LineFault> {
-    Ok(Happening::Dial {
-        node: place_word(words)?,
-        peer: name_word(alloc, words)?,
-        opening: opening_word(words)?,
-    })
-}
-
-fn reach(words: &mut Words<'_>) -> Result<Happening, LineFault> {
-    Ok(Happening::Reach {
-        node: place_word(words)?,
-        end_: end_word(words)?,
-        target: place_word(words)?,
-    })
-}
-
-fn deliver(words: &mut Words<'_>) -> Result<Happening, LineFault> {
-    Ok(Happening::Deliver {
-        node: place_word(words)?,
-        end_: end_word(words)?,
-        bytes: place_word(words)?,
-    })
-}
-
-fn take(words: &mut Words<'_>) -> Result<Happening, LineFault> {
-    Ok(Happening::Take {
-        node: place_word(words)?,
-        end_: end_word(words)?,
-        fresh: number_word(words)?,
-    })
-}
-
-fn lose(words: &mut Words<'_>) -> Result<Happening, LineFault> {
-    Ok(Happening::Lose {
-        node: place_word(words)?,
-        end_: end_word(words)?,
-        why: why_word(words)?,
-    })
-}
-
-fn opened(words: &mut Words<'_>) -> Result<Happening, LineFault> {
-    Ok(Happening::Opened {
-        node: place_word(words)?,
-        end_: end_word(words)?,
-    })
-}
-
-fn tick(words: &mut Words<'_>) -> Result<Happening, LineFault> {
-    Ok(Happening::Tick {
-        node: place_word(words)?,
-        end_: end_word(words)?,
-    })
-}
-
-fn happening(alloc: Global, kind: &[u8], words: &mut Words<'_>) -> Result<Happening, LineFault> {
-    match kind {
-        b"begin" => begin(words),
-        b"halt" => Ok(Happening::Halt {
-            node: place_word(words)?,
-        }),
-        b"dial" => dial(alloc, words),
-        b"reach" => reach(words),
-        b"opened" => opened(words),
-        b"accept" => Ok(Happening::Accept {
-            conn: place_word(words)?,
-        }),
-        b"deliver" => deliver(words),
-        b"take" => take(words),
-        b"lose" => lose(words),
-        b"tick" => tick(words),
-        _ => Err(LineFault::Bad),
+// So many of the next words as numbers below 2^32, and 0 for the others.
+fn numbers(words: &mut Words<'_>, count: usize) -> Option<[u32; 3]> {
+    let mut numbers = [0u32; 3];
+    for number in numbers.iter_mut().take(count) {
+        *number = number_word(words)?;
     }
+    Some(numbers)
+}
+
+fn dial(alloc: Global, node: usize, words: &mut Words<'_>) -> Result<Happening, LineFault> {
+    let peer = words.word()?;
+    let opening = opening_word(words).ok_or(LineFault::Bad)?;
+    let peer = name_of(alloc, peer)?;
+    Ok(Happening::Dial {
+        node,
+        peer,
+        opening,
+    })
+}
+
+fn lose(node: usize, end_: EndId, words: &mut Words<'_>) -> Result<Happening, LineFault> {
+    match why_word(words) {
+        Some(why) => Ok(Happening::Lose { node, end_, why }),
+        None => Err(LineFault::Bad),
+    }
+}
+
+// What happens, by the numbers: the place of a node or the number of a connection, mostly the number of an end, and what
+// else there is.
+fn happening(
+    alloc: Global,
+    kind: Kind,
+    [first, second, third]: [u32; 3],
+    words: &mut Words<'_>,
+) -> Result<Happening, LineFault> {
+    let (node, end_) = (first as usize, EndId(second));
+    Ok(match kind {
+        Kind::Dial => return dial(alloc, node, words),
+        Kind::Lose => return lose(node, end_, words),
+        Kind::Begin => Happening::Begin {
+            node,
+            creation: Creation(second),
+        },
+        Kind::Halt => Happening::Halt { node },
+        Kind::Reach => Happening::Reach {
+            node,
+            end_,
+            target: third as usize,
+        },
+        Kind::Opened => Happening::Opened { node, end_ },
+        Kind::Accept => Happening::Accept {
+            conn: first as usize,
+        },
+        Kind::Deliver => Happening::Deliver {
+            node,
+            end_,
+            bytes: third as usize,
+        },
+        Kind::Take => Happening::Take {
+            node,
+            end_,
+            fresh: third,
+        },
+        Kind::Tick => Happening::Tick { node, end_ },
+    })
 }
 
 /// What a line says that happens, from its first word and those behind it.
 pub fn happening_of(
     alloc: Global,
-    kind: &[u8],
+    word: &[u8],
     words: &mut Words<'_>,
 ) -> Result<Happening, LineFault> {
-    let happening = happening(alloc, kind, words)?;
-    if words.is_done() {
-        Ok(happening)
-    } else {
-        Err(LineFault::Bad)
-    }
+    let Some((kind, count)) = meaning_of(&KINDS, word) else {
+        return Err(LineFault::Bad);
+    };
+    let Some(numbers) = numbers(words, count) else {
+        return Err(LineFault::Bad);
+    };
+    let happening = happening(alloc, kind, numbers, words)?;
+    line_end(words)?;
+    Ok(happening)
 }

@@ -3,6 +3,7 @@
 //! Nothing is played here, and no file is opened: the script is a text. Its language is in docs/PROTOCOL.md, section 8.
 #![tactic(auto)]
 
+mod fields;
 mod happenings;
 mod lines;
 mod node_line;

@@ -1,31 +1,28 @@
 //! The line of a script that sets the node up.
 
 ghost use Rattle.std.specs.Prelude.{◌≡◌, drop};
-ghost use Rattle.dist_words.specs.Words.{ReadsNext};
+ghost use Rattle.dist_script.specs.Fields.{FoundNext};
 ghost use Rattle.dist_words.specs.Digits.{AreFlags, flags_of};
 
-use crate::lines::{name_word, number_word};
+use crate::fields::{line_end, name_of, name_word, number_word};
 use dist_core::{NameList, Setup, Version};
 use dist_names::{Creation, Flags, NodeName};
 use dist_secret::{Cookie, CookieError, Cookies, CookiesError};
 use dist_words::{LineFault, Words, flags_value};
 use std::alloc::Global;
 
-fn flags_word(words: &mut Words<'_>) -> Result<Flags, LineFault>
-    ensures { ReadsNext result words.old AreFlags flags_of }
+fn flags_word(words: &mut Words<'_>) -> Option<Flags>
+    ensures { FoundNext result words.old AreFlags flags_of }
 {
-    let value = flags_value(words.word()?).ok_or(LineFault::Bad)?;
-    Ok(Flags(value))
+    Some(Flags(flags_value(words.next()?)?))
 }
 
 fn are_cookie_bytes(word: &[u8]) -> bool {
     word.iter().all(|byte| 0x21 <= *byte && *byte <= 0x7E)
 }
 
-fn cookie_word(alloc: Global, words: &mut Words<'_>) -> Result<Cookie, LineFault>
-    ensures { words.new ≡ drop 1 words.old }
-{
-    let word = words.word()?;
+// The cookie that a word is.
+fn cookie_of(alloc: Global, word: &[u8]) -> Result<Cookie, LineFault> {
     if !are_cookie_bytes(word) {
         return Err(LineFault::Bad);
     }
@@ -46,13 +43,21 @@ fn set_cookie(cookies: &mut Cookies, peer: NodeName, cookie: Cookie) -> Result<(
     }
 }
 
+// The next two words: a peer, and the cookie for it.
+fn add_cookie(alloc: Global, cookies: &mut Cookies, words: &mut Words<'_>) -> Result<(), LineFault>
+    ensures { words.new ≡ drop 2 words.old }
+{
+    let peer = words.word()?;
+    let cookie = words.word()?;
+    let peer = name_of(alloc, peer)?;
+    set_cookie(cookies, peer, cookie_of(alloc, cookie)?)
+}
+
 // The usual cookie, and the cookies of peers that have their own, each behind `cookie` and the peer's name.
-fn cookies(alloc: Global, usual: Cookie, words: &mut Words<'_>) -> Result<Cookies, LineFault> {
-    let mut cookies = Cookies::new(alloc, usual);
+fn cookies(alloc: Global, usual: &[u8], words: &mut Words<'_>) -> Result<Cookies, LineFault> {
+    let mut cookies = Cookies::new(alloc, cookie_of(alloc, usual)?);
     'cookies: while words.skip(b"cookie") {
-        let peer = name_word(alloc, words)?;
-        let cookie = cookie_word(alloc, words)?;
-        set_cookie(&mut cookies, peer, cookie)?;
+        add_cookie(alloc, &mut cookies, words)?;
     }
     Ok(cookies)
 }
@@ -66,51 +71,68 @@ fn allowed(alloc: Global, words: &mut Words<'_>) -> Result<Option<NameList>, Lin
     'names: while words.skip(b"allow") {
         names.push(name_word(alloc, words)?)?;
     }
-    if words.is_done() {
-        Ok(Some(NameList::from_vec(names)))
-    } else {
-        Err(LineFault::Bad)
-    }
+    line_end(words)?;
+    Ok(Some(NameList::from_vec(names)))
 }
 
 // The version, 5, behind `version`. Without it the node knows version 6.
-fn version(words: &mut Words<'_>) -> Result<Version, LineFault> {
+fn version(words: &mut Words<'_>) -> Option<Version> {
     if !words.skip(b"version") {
-        return Ok(Version::Six);
+        return Some(Version::Six);
     }
     if words.skip(b"5") {
-        Ok(Version::Five)
+        Some(Version::Five)
     } else {
-        Err(LineFault::Bad)
+        None
     }
 }
 
 // The flags that are required, behind `require`. Without it none are.
-fn required(words: &mut Words<'_>) -> Result<Flags, LineFault> {
+fn required(words: &mut Words<'_>) -> Option<Flags> {
     if words.skip(b"require") {
         flags_word(words)
     } else {
-        Ok(Flags(0))
+        Some(Flags(0))
     }
+}
+
+// What such a line says before its cookies of peers and its names.
+#[derive(Clone, Copy)]
+struct Head<'a> {
+    name: &'a [u8],
+    cookie: &'a [u8],
+    flags: Flags,
+    creation: Creation,
+    version: Version,
+    required: Flags,
+}
+
+fn read_head<'a>(words: &mut Words<'a>) -> Option<Head<'a>> {
+    Some(Head {
+        name: words.next()?,
+        cookie: words.next()?,
+        flags: flags_word(words)?,
+        creation: Creation(number_word(words)?),
+        version: version(words)?,
+        required: required(words)?,
+    })
 }
 
 /// What a node is set up with, from the words behind `node`.
 pub fn setup_of(alloc: Global, words: &mut Words<'_>) -> Result<Setup, LineFault> {
-    let name = name_word(alloc, words)?;
-    let cookie = cookie_word(alloc, words)?;
-    let flags = flags_word(words)?;
-    let creation = Creation(number_word(words)?);
-    let version = version(words)?;
-    let required = required(words)?;
-    let cookies = cookies(alloc, cookie, words)?;
+    let Some(head) = read_head(words) else {
+        return Err(LineFault::Bad);
+    };
+    let cookies = cookies(alloc, head.cookie, words)?;
     let allow = allowed(alloc, words)?;
+    let name = name_of(alloc, head.name)?;
     Ok(Setup {
         name,
         cookies,
-        version,
-        flags,
-        required,
-        creation,
+        version: head.version,
+        flags: head.flags,
+        required: head.required,
+        creation: head.creation,
         allow,
     })
 }

@@ -3,11 +3,11 @@
 use crate::happenings::happening_of;
 use crate::lines::line_of;
 use crate::node_line::setup_of;
+use dist_agreement::Happening;
 use dist_core::{Event, Setup};
 use dist_names::ByteString;
 use dist_peers::EndId;
 use dist_words::{LineFault, ScriptFault, Words, first_line, is_skipped};
-use dist_world::Happening;
 use std::alloc::Global;
 
 /// What a line tells the one node of a script.
@@ -66,12 +66,24 @@ impl Draft {
         }
         self.has_lines = true;
         match self.nodes.len() {
-            0 => is_line(alloc, text)?,
-            1 => self.events.push(line_of(alloc, kind, &mut words)?)?,
-            _ => self
-                .happenings
-                .push(happening_of(alloc, kind, &mut words)?)?,
+            0 => is_line(alloc, text),
+            1 => self.tell(alloc, kind, &mut words),
+            _ => self.happen(alloc, kind, &mut words),
         }
+    }
+
+    fn tell(&mut self, alloc: Global, kind: &[u8], words: &mut Words<'_>) -> Result<(), LineFault> {
+        self.events.push(line_of(alloc, kind, words)?)?;
+        Ok(())
+    }
+
+    fn happen(
+        &mut self,
+        alloc: Global,
+        kind: &[u8],
+        words: &mut Words<'_>,
+    ) -> Result<(), LineFault> {
+        self.happenings.push(happening_of(alloc, kind, words)?)?;
         Ok(())
     }
 
@@ -80,10 +92,11 @@ impl Draft {
         if is_skipped(text) {
             return Ok(());
         }
-        self.take(alloc, text).map_err(|fault| match fault {
-            LineFault::Bad => ScriptFault::BadLine(number),
-            LineFault::NoMemory => ScriptFault::NoMemory,
-        })
+        match self.take(alloc, text) {
+            Ok(()) => Ok(()),
+            Err(LineFault::Bad) => Err(ScriptFault::BadLine(number)),
+            Err(LineFault::NoMemory) => Err(ScriptFault::NoMemory),
+        }
     }
 
     fn set_up(&mut self, alloc: Global, words: &mut Words<'_>) -> Result<(), LineFault> {
@@ -107,7 +120,8 @@ fn is_line(alloc: Global, text: &[u8]) -> Result<(), LineFault> {
 
 fn is_happening(alloc: Global, text: &[u8]) -> Result<(), LineFault> {
     let mut words = Words::new(text);
-    happening_of(alloc, words.word()?, &mut words).map(|_| ())
+    happening_of(alloc, words.word()?, &mut words)?;
+    Ok(())
 }
 
 fn draft_of(alloc: Global, text: &[u8]) -> Result<Draft, ScriptFault> {
@@ -131,16 +145,17 @@ pub fn script_of(alloc: Global, text: &[u8]) -> Result<Script, ScriptFault> {
         events,
         happenings,
     } = draft_of(alloc, text)?;
-    let last = nodes.pop().ok_or(ScriptFault::NoNode)?;
-    if nodes.is_empty() {
-        return Ok(Script::Events {
-            node: last,
-            lines: events,
+    if nodes.len() > 1 {
+        return Ok(Script::Happenings {
+            nodes,
+            lines: happenings,
         });
     }
-    nodes.push(last).map_err(|_| ScriptFault::NoMemory)?;
-    Ok(Script::Happenings {
-        nodes,
-        lines: happenings,
-    })
+    match nodes.pop() {
+        Some(node) => Ok(Script::Events {
+            node,
+            lines: events,
+        }),
+        None => Err(ScriptFault::NoNode),
+    }
 }
