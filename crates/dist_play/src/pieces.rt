@@ -1,74 +1,68 @@
-//! Pieces of printed text: words, numbers and digits.
+//! Pieces of printed lines: words, numbers and digits.
 
 ghost use Rattle.std.specs.Prelude.{◌≤◌, length};
 
+use dist_names::Flags;
 use dist_words::write_digits;
 use itoa::Buffer;
-use std::alloc::AllocError;
 use std::io;
 use std::io::Write;
 
 /// The most bytes whose digits are written at once.
 const MOST_BYTES: usize = 32;
 
-/// Where printed text goes, piece by piece.
-pub trait Paper {
-    /// Why a piece could not be put.
-    type Fault: Drop;
-
-    /// Puts a piece behind the others.
-    fn put(&mut self, text: &[u8]) -> Result<(), Self::Fault>;
+/// A piece of a printed line.
+#[derive(Clone, Copy)]
+pub enum Piece<'a> {
+    /// These bytes as they stand.
+    Text(&'a [u8]),
+    /// A number in decimal digits.
+    Number(u64),
+    /// Flags in 16 hexadecimal digits of lower case.
+    Flags(Flags),
+    /// Bytes as hexadecimal digits of lower case.
+    Digits(&'a [u8]),
 }
 
-impl Paper for Vec<u8> {
-    type Fault = AllocError;
-
-    fn put(&mut self, text: &[u8]) -> Result<(), AllocError> {
-        self.extend_from_slice(text)
+/// Writes these pieces, one behind the other.
+pub fn put<W: Write>(out: &mut W, pieces: &[Piece<'_>]) -> io::Result<()> {
+    for piece in pieces {
+        put_piece(out, *piece)?;
     }
+    Ok(())
 }
 
-/// A writer, to which each piece goes at once.
-#[derive(Drop)]
-pub struct Straight<'a, W> {
-    pub out: &'a mut W,
-}
-
-impl<'a, W: Write> Paper for Straight<'a, W> {
-    type Fault = io::Error;
-
-    fn put(&mut self, text: &[u8]) -> io::Result<()> {
-        self.out.write_all(text)
+fn put_piece<W: Write>(out: &mut W, piece: Piece<'_>) -> io::Result<()> {
+    match piece {
+        Piece::Text(text) => out.write_all(text),
+        Piece::Number(value) => number(out, value),
+        Piece::Flags(flags) => short_hex(out, &flags.0.to_be_bytes()),
+        Piece::Digits(bytes) => lower_hex(out, bytes),
     }
 }
 
 /// A number in decimal digits.
-pub fn decimal<P: Paper>(paper: &mut P, number: u64) -> Result<(), P::Fault> {
+pub fn number<W: Write>(out: &mut W, number: u64) -> io::Result<()> {
     let mut room = Buffer::new();
-    paper.put(room.format(number).as_bytes())
+    out.write_all(room.format(number).as_bytes())
 }
 
-/// Flags in 16 hexadecimal digits of lower case.
-pub fn flags<P: Paper>(paper: &mut P, flags: u64) -> Result<(), P::Fault> {
-    short_hex(paper, &flags.to_be_bytes())
-}
-
-/// The bytes as hexadecimal digits of lower case.
-pub fn hex_digits<P: Paper>(paper: &mut P, bytes: &[u8]) -> Result<(), P::Fault> {
+/// The bytes as lower-case hexadecimal digits.
+pub fn lower_hex<W: Write>(out: &mut W, bytes: &[u8]) -> io::Result<()> {
     let mut rest = bytes;
     while !rest.is_empty() {
         let (piece, behind) = rest.split_at(rest.len().min(MOST_BYTES));
-        short_hex(paper, piece)?;
+        short_hex(out, piece)?;
         rest = behind;
     }
     Ok(())
 }
 
-fn short_hex<P: Paper>(paper: &mut P, bytes: &[u8]) -> Result<(), P::Fault>
+fn short_hex<W: Write>(out: &mut W, bytes: &[u8]) -> io::Result<()>
     requires { length bytes.now ≤ 32 }
 {
     let mut room = [0u8; 2 * MOST_BYTES];
     let digits = &mut room[..2 * bytes.len()];
     write_digits(bytes, digits);
-    paper.put(digits)
+    out.write_all(digits)
 }

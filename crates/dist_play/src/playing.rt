@@ -4,20 +4,18 @@ ghost use Rattle.std.specs.Prelude.{◌≤◌};
 
 use crate::scene::Scene;
 use crate::stage;
-use dist_core::Setup;
 use dist_script::{Line, Script, script_of};
-use dist_words::{ScriptFault, read_text};
+use dist_words::{ScriptFault, read_text, written};
 use std::alloc::Global;
 use std::io::{BufWriter, Read, Write};
 
 // What one node is told, and its table at the end.
 fn tell_all<W: Write>(
     alloc: Global,
-    node: Setup,
+    scene: &mut Scene,
     lines: &[Line],
     out: &mut W,
 ) -> Result<(), ScriptFault> {
-    let mut scene = Scene::new(alloc, node);
     for line in lines {
         scene.tell(alloc, line, out)?;
     }
@@ -26,9 +24,22 @@ fn tell_all<W: Write>(
 
 fn play<W: Write>(alloc: Global, script: Script, out: &mut W) -> Result<(), ScriptFault> {
     match script {
-        Script::Events { node, lines } => tell_all(alloc, node, &lines, out),
+        Script::Events { node, lines } => {
+            tell_all(alloc, &mut Scene::new(alloc, node), &lines, out)
+        }
         Script::Happenings { nodes, lines } => stage::play(alloc, nodes, &lines, out),
     }
+}
+
+// Plays a script to its end or the first fault. What was printed until then is written out.
+fn print<W: Write>(alloc: Global, script: Script, out: &mut W) -> Result<(), ScriptFault> {
+    let Ok(mut out) = BufWriter::new(alloc, out) else {
+        return Err(ScriptFault::NoMemory);
+    };
+    let played = play(alloc, script, &mut out);
+    let flushed = written(out.flush());
+    played?;
+    flushed
 }
 
 fn perform<R: Read, W: Write>(
@@ -38,11 +49,7 @@ fn perform<R: Read, W: Write>(
 ) -> Result<(), ScriptFault> {
     let text = read_text(alloc, input)?;
     let script = script_of(alloc, &text)?;
-    let mut out = BufWriter::new(alloc, out).map_err(|_| ScriptFault::NoMemory)?;
-    let played = play(alloc, script, &mut out);
-    let flushed = out.flush();
-    played?;
-    flushed.map_err(|_| ScriptFault::WriteFailed)
+    print(alloc, script, out)
 }
 
 /// Reads a script, checks it whole, and plays it. With one node it prints for each line what the node answers, and the table

@@ -1,6 +1,7 @@
 //! The lines that a script prints: what a node answers, which ends a world closes, and how all stand at the end.
 
-use crate::pieces::{Paper, Straight, decimal, flags, hex_digits};
+use crate::pieces::{Piece, put};
+pub use crate::pieces::{lower_hex, number};
 use dist_core::{Node, Reply, StepError, UpRecord, Why};
 use dist_names::{Creation, NodeName};
 use dist_peers::{EndId, Entry};
@@ -8,217 +9,269 @@ use dist_world::Agreement;
 use std::io;
 use std::io::Write;
 
-/// The bytes as lower-case hexadecimal digits.
-pub fn lower_hex<W: Write>(out: &mut W, bytes: &[u8]) -> io::Result<()> {
-    hex_digits(&mut Straight { out }, bytes)
+fn end_number(id: EndId) -> Piece<'static> {
+    Piece::Number(u64::from(id.0))
 }
 
-/// A number in decimal digits.
-pub fn number<W: Write>(out: &mut W, number: u64) -> io::Result<()> {
-    decimal(&mut Straight { out }, number)
-}
-
-// The number of an end behind some text.
-fn end_number<P: Paper>(paper: &mut P, before: &[u8], id: EndId) -> Result<(), P::Fault> {
-    paper.put(before)?;
-    decimal(paper, u64::from(id.0))
-}
-
-fn why_name<P: Paper>(paper: &mut P, why: Why) -> Result<(), P::Fault> {
-    paper.put(b" ")?;
-    paper.put(why.name().as_bytes())
-}
-
-fn said<P: Paper>(paper: &mut P, say: &[u8]) -> Result<(), P::Fault> {
-    paper.put(b" say ")?;
-    if say.is_empty() {
-        return paper.put(b"-");
-    }
-    hex_digits(paper, say)
-}
-
-fn closed<P: Paper>(paper: &mut P, closed: Option<(EndId, Why)>) -> Result<(), P::Fault> {
-    match closed {
-        Some((id, why)) => {
-            end_number(paper, b" closed ", id)?;
-            why_name(paper, why)
-        }
-        None => paper.put(b" closed -"),
-    }
+fn why_name(why: Why) -> Piece<'static> {
+    Piece::Text(why.name().as_bytes())
 }
 
 // A creation, where it is known.
-fn creation<P: Paper>(paper: &mut P, creation: Option<Creation>) -> Result<(), P::Fault> {
+fn creation(creation: Option<Creation>) -> Piece<'static> {
     match creation {
-        Some(creation) => decimal(paper, u64::from(creation.0)),
-        None => paper.put(b"unknown"),
+        Some(creation) => Piece::Number(u64::from(creation.0)),
+        None => Piece::Text(b"unknown"),
     }
 }
 
-fn came_up<P: Paper>(paper: &mut P, up: &Option<UpRecord>) -> Result<(), P::Fault> {
-    let Some(record) = up else {
-        return paper.put(b" up -\n");
-    };
-    paper.put(b" up ")?;
-    paper.put(record.peer.bytes())?;
-    paper.put(b" ")?;
-    flags(paper, record.common.0)?;
-    paper.put(b" ")?;
-    creation(paper, record.creation)?;
-    paper.put(b"\n")
+fn said(say: &[u8]) -> Piece<'_> {
+    if say.is_empty() {
+        Piece::Text(b"-")
+    } else {
+        Piece::Digits(say)
+    }
+}
+
+fn closed<W: Write>(out: &mut W, closed: Option<(EndId, Why)>) -> io::Result<()> {
+    match closed {
+        Some((id, why)) => put(
+            out,
+            &[
+                Piece::Text(b" closed "),
+                end_number(id),
+                Piece::Text(b" "),
+                why_name(why),
+            ],
+        ),
+        None => out.write_all(b" closed -"),
+    }
+}
+
+fn came_up<W: Write>(out: &mut W, up: Option<&UpRecord>) -> io::Result<()> {
+    match up {
+        Some(record) => put(
+            out,
+            &[
+                Piece::Text(b" up "),
+                Piece::Text(record.peer.bytes()),
+                Piece::Text(b" "),
+                Piece::Flags(record.common),
+                Piece::Text(b" "),
+                creation(record.creation),
+                Piece::Text(b"\n"),
+            ],
+        ),
+        None => out.write_all(b" up -\n"),
+    }
 }
 
 /// What a step answered.
-pub(crate) fn reply<P: Paper>(paper: &mut P, reply: &Reply) -> Result<(), P::Fault> {
-    end_number(paper, b"end ", reply.end_)?;
-    said(paper, reply.say.as_slice())?;
-    closed(paper, reply.closed)?;
-    came_up(paper, &reply.up)
+pub(crate) fn reply<W: Write>(out: &mut W, reply: &Reply) -> io::Result<()> {
+    put(
+        out,
+        &[
+            Piece::Text(b"end "),
+            end_number(reply.end_),
+            Piece::Text(b" say "),
+            said(reply.say.as_slice()),
+        ],
+    )?;
+    closed(out, reply.closed)?;
+    came_up(out, reply.up.as_ref())
 }
 
-fn busy<P: Paper>(paper: &mut P, entry: Entry) -> Result<(), P::Fault> {
+// The number of an end behind a word.
+fn end_behind<W: Write>(out: &mut W, word: &[u8], id: EndId) -> io::Result<()> {
+    put(out, &[Piece::Text(word), end_number(id)])
+}
+
+// The number of the end that is up behind a word, and that of the end by which it is challenged behind another.
+fn ends_behind<W: Write>(
+    out: &mut W,
+    (word, up): (&'static [u8], EndId),
+    (behind, by_): (&'static [u8], EndId),
+) -> io::Result<()> {
+    put(
+        out,
+        &[
+            Piece::Text(word),
+            end_number(up),
+            Piece::Text(behind),
+            end_number(by_),
+        ],
+    )
+}
+
+fn busy<W: Write>(out: &mut W, entry: Entry) -> io::Result<()> {
     match entry {
-        Entry::Out(id) => end_number(paper, b" Out ", id),
-        Entry::In(id) => end_number(paper, b" In ", id),
-        Entry::Up(id) => end_number(paper, b" Up ", id),
-        Entry::Challenged { up, by_ } => {
-            end_number(paper, b" Challenged ", up)?;
-            end_number(paper, b" ", by_)
-        }
+        Entry::Out(id) => end_behind(out, b" Out ", id),
+        Entry::In(id) => end_behind(out, b" In ", id),
+        Entry::Up(id) => end_behind(out, b" Up ", id),
+        Entry::Challenged { up, by_ } => ends_behind(out, (b" Challenged ", up), (b" ", by_)),
     }
 }
 
 /// Why a step was refused.
-pub(crate) fn refused<P: Paper>(paper: &mut P, error: StepError) -> Result<(), P::Fault> {
-    paper.put(b"refused ")?;
-    paper.put(error.name().as_bytes())?;
+pub(crate) fn refused<W: Write>(out: &mut W, error: StepError) -> io::Result<()> {
+    let name = Piece::Text(error.name().as_bytes());
+    put(out, &[Piece::Text(b"refused "), name])?;
     match error {
-        StepError::Busy(entry) => busy(paper, entry)?,
-        StepError::Gone(why) => why_name(paper, why)?,
+        StepError::Busy(entry) => busy(out, entry)?,
+        StepError::Gone(why) => put(out, &[Piece::Text(b" "), why_name(why)])?,
         _ => {}
     }
-    paper.put(b"\n")
+    out.write_all(b"\n")
 }
 
 /// How many packets of a linked stream ended.
-pub(crate) fn skipped<P: Paper>(paper: &mut P, count: usize) -> Result<(), P::Fault> {
-    paper.put(b"skipped ")?;
-    decimal(paper, count as u64)?;
-    paper.put(b"\n")
+pub(crate) fn skipped<W: Write>(out: &mut W, count: usize) -> io::Result<()> {
+    put(
+        out,
+        &[
+            Piece::Text(b"skipped "),
+            Piece::Number(count as u64),
+            Piece::Text(b"\n"),
+        ],
+    )
 }
 
-// How a row stands. Answers the end that is up, where the peer has one.
-fn standing<P: Paper>(paper: &mut P, entry: Entry) -> Result<Option<EndId>, P::Fault> {
+fn standing<W: Write>(out: &mut W, entry: Entry) -> io::Result<()> {
     match entry {
-        Entry::Out(id) => {
-            end_number(paper, b" out ", id)?;
-            Ok(None)
-        }
-        Entry::In(id) => {
-            end_number(paper, b" in ", id)?;
-            Ok(None)
-        }
-        Entry::Up(id) => {
-            end_number(paper, b" up ", id)?;
-            Ok(Some(id))
-        }
-        Entry::Challenged { up, by_ } => {
-            end_number(paper, b" up ", up)?;
-            end_number(paper, b" challenged ", by_)?;
-            Ok(Some(up))
-        }
+        Entry::Out(id) => end_behind(out, b" out ", id),
+        Entry::In(id) => end_behind(out, b" in ", id),
+        Entry::Up(id) => end_behind(out, b" up ", id),
+        Entry::Challenged { up, by_ } => ends_behind(out, (b" up ", up), (b" challenged ", by_)),
     }
 }
 
-fn record<P: Paper>(paper: &mut P, record: &UpRecord) -> Result<(), P::Fault> {
-    paper.put(b" common ")?;
-    flags(paper, record.common.0)?;
-    paper.put(b" creation ")?;
-    creation(paper, record.creation)
+// The record of the end that is up, where the peer has one, and the end of the line.
+fn record<W: Write>(out: &mut W, record: Option<&UpRecord>) -> io::Result<()> {
+    match record {
+        Some(record) => put(
+            out,
+            &[
+                Piece::Text(b" common "),
+                Piece::Flags(record.common),
+                Piece::Text(b" creation "),
+                creation(record.creation),
+                Piece::Text(b"\n"),
+            ],
+        ),
+        None => out.write_all(b"\n"),
+    }
 }
 
-// A row of the table, with the record of the end that is up.
-fn row<P: Paper>(
-    paper: &mut P,
-    node: &Node,
-    peer: &NodeName,
-    entry: Entry,
-) -> Result<(), P::Fault> {
-    paper.put(peer.bytes())?;
-    if let Some(id) = standing(paper, entry)?
-        && let Some(kept) = node.record_of(id)
-    {
-        record(paper, kept)?;
+// A row of the table.
+fn row<W: Write>(out: &mut W, node: &Node, peer: &NodeName, entry: Entry) -> io::Result<()> {
+    out.write_all(peer.bytes())?;
+    standing(out, entry)?;
+    match entry.up() {
+        Some(id) => record(out, node.record_of(id)),
+        None => record(out, None),
     }
-    paper.put(b"\n")
 }
 
 /// The table of the node's peers in name order, or that it has none.
-pub(crate) fn table<P: Paper>(paper: &mut P, node: &Node) -> Result<(), P::Fault> {
+pub(crate) fn table<W: Write>(out: &mut W, node: &Node) -> io::Result<()> {
     if node.entries() == 0 {
-        return paper.put(b"no peers\n");
+        return out.write_all(b"no peers\n");
     }
     for place in 0..node.entries() {
         if let Some((peer, entry)) = node.entry_at(place) {
-            row(paper, node, peer, entry)?;
+            row(out, node, peer, entry)?;
         }
     }
     Ok(())
 }
 
 /// The end of a node that a happening closed, and why.
-pub(crate) fn closed_end<P: Paper>(
-    paper: &mut P,
+pub(crate) fn closed_end<W: Write>(
+    out: &mut W,
     node: usize,
     id: EndId,
     why: Why,
-) -> Result<(), P::Fault> {
-    paper.put(b"closed ")?;
-    decimal(paper, node as u64)?;
-    end_number(paper, b" ", id)?;
-    why_name(paper, why)?;
-    paper.put(b"\n")
+) -> io::Result<()> {
+    put(
+        out,
+        &[
+            Piece::Text(b"closed "),
+            Piece::Number(node as u64),
+            Piece::Text(b" "),
+            end_number(id),
+            Piece::Text(b" "),
+            why_name(why),
+            Piece::Text(b"\n"),
+        ],
+    )
 }
 
-fn put_node<P: Paper>(
-    paper: &mut P,
-    name: &NodeName,
-    running: Option<&Node>,
-) -> Result<(), P::Fault> {
-    paper.put(b"node ")?;
-    paper.put(name.bytes())?;
-    let Some(node) = running else {
-        return paper.put(b" halted\n");
-    };
-    paper.put(b" running ")?;
-    decimal(paper, u64::from(node.creation().0))?;
-    paper.put(b"\n")?;
-    table(paper, node)
+/// How many happenings of a script applied.
+pub(crate) fn applied<W: Write>(out: &mut W, applied: usize, all: usize) -> io::Result<()> {
+    put(
+        out,
+        &[
+            Piece::Text(b"applied "),
+            Piece::Number(applied as u64),
+            Piece::Text(b" of "),
+            Piece::Number(all as u64),
+            Piece::Text(b"\n"),
+        ],
+    )
+}
+
+fn running<W: Write>(out: &mut W, name: &NodeName, node: &Node) -> io::Result<()> {
+    put(
+        out,
+        &[
+            Piece::Text(b"node "),
+            Piece::Text(name.bytes()),
+            Piece::Text(b" running "),
+            Piece::Number(u64::from(node.creation().0)),
+            Piece::Text(b"\n"),
+        ],
+    )?;
+    table(out, node)
 }
 
 /// How a node of a world stands: the creation and the table of its running incarnation, or that it is halted.
-pub fn node<W: Write>(out: &mut W, name: &NodeName, running: Option<&Node>) -> io::Result<()> {
-    put_node(&mut Straight { out }, name, running)
+pub fn node<W: Write>(out: &mut W, name: &NodeName, incarnation: Option<&Node>) -> io::Result<()> {
+    match incarnation {
+        Some(node) => running(out, name, node),
+        None => put(
+            out,
+            &[
+                Piece::Text(b"node "),
+                Piece::Text(name.bytes()),
+                Piece::Text(b" halted\n"),
+            ],
+        ),
+    }
 }
 
 /// What two nodes have in common that are up with one another.
-pub(crate) fn agreement<P: Paper>(
-    paper: &mut P,
-    a: &NodeName,
-    b: &NodeName,
+pub(crate) fn agreement<'n, W: Write>(
+    out: &mut W,
+    a: &'n NodeName,
+    b: &'n NodeName,
     found: &Agreement,
-) -> Result<(), P::Fault> {
-    paper.put(b"agree ")?;
-    paper.put(a.bytes())?;
-    paper.put(b" ")?;
-    paper.put(b.bytes())?;
-    paper.put(b" conn ")?;
-    decimal(paper, found.conn as u64)?;
-    paper.put(b" common ")?;
-    flags(paper, found.common.0)?;
-    paper.put(b" creations ")?;
-    creation(paper, found.creation_a)?;
-    paper.put(b" ")?;
-    creation(paper, found.creation_b)?;
-    paper.put(b"\n")
+) -> io::Result<()> {
+    put(
+        out,
+        &[
+            Piece::Text(b"agree "),
+            Piece::Text(a.bytes()),
+            Piece::Text(b" "),
+            Piece::Text(b.bytes()),
+            Piece::Text(b" conn "),
+            Piece::Number(found.conn as u64),
+            Piece::Text(b" common "),
+            Piece::Flags(found.common),
+            Piece::Text(b" creations "),
+            creation(found.creation_a),
+            Piece::Text(b" "),
+            creation(found.creation_b),
+            Piece::Text(b"\n"),
+        ],
+    )
 }

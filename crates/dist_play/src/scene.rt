@@ -3,7 +3,6 @@
 ghost use Rattle.std.specs.Prelude.{◌≡◌, ◌≤◌, [], ◌∷◌, length, IfOk, MatchOption};
 ghost use Rattle.dist_frames.specs.Reader.{to_come};
 
-use crate::pieces::Straight;
 use crate::print;
 use crate::readers::Readers;
 use dist_core::{Event, Node, Reply, Setup, StepError, Still};
@@ -15,12 +14,11 @@ use dist_words::{ScriptFault, written};
 use std::alloc::Global;
 use std::io::Write;
 
-/// The node, a reader for each open end to which bytes came, and the text of the last line that was printed.
+/// The node, and a reader for each open end to which bytes came.
 #[derive(Drop)]
 pub struct Scene {
     node: Node,
     readers: Readers,
-    text: Vec<u8>,
 }
 
 // What is left of a reply once it was printed.
@@ -40,46 +38,11 @@ fn told_of(reply: &Reply) -> Told {
     }
 }
 
-fn print_reply<W: Write>(
-    text: &mut Vec<u8>,
-    reply: &Reply,
-    out: &mut W,
-) -> Result<(), ScriptFault> {
-    text.clear();
-    print::reply(text, reply)?;
-    written(out.write_all(text))
-}
-
-fn print_refusal<W: Write>(
-    text: &mut Vec<u8>,
-    error: StepError,
-    out: &mut W,
-) -> Result<(), ScriptFault> {
-    text.clear();
-    print::refused(text, error)?;
-    written(out.write_all(text))
-}
-
-// Makes a step and prints what comes of it. Want of memory ends the run; another refusal is printed and answered `None`.
-fn step<W: Write>(
-    alloc: Global,
-    node: &mut Node,
-    text: &mut Vec<u8>,
-    event: &Event,
-    fresh: u32,
-    out: &mut W,
-) -> Result<Option<Told>, ScriptFault> {
-    let stepped = node.step(alloc, event, fresh);
-    match &stepped {
-        Ok(reply) => {
-            print_reply(text, reply, out)?;
-            Ok(Some(told_of(reply)))
-        }
-        Err(StepError::NoMemory) => Err(ScriptFault::NoMemory),
-        Err(error) => {
-            print_refusal(text, *error, out)?;
-            Ok(None)
-        }
+// Prints why a step was refused. Want of memory ends the run.
+fn print_refusal<W: Write>(error: StepError, out: &mut W) -> Result<(), ScriptFault> {
+    match error {
+        StepError::NoMemory => Err(ScriptFault::NoMemory),
+        _ => written(print::refused(out, error)),
     }
 }
 
@@ -110,7 +73,6 @@ impl Scene {
         Scene {
             node: Node::new(alloc, setup),
             readers: Readers::new(alloc),
-            text: Vec::new(alloc),
         }
     }
 
@@ -123,13 +85,12 @@ impl Scene {
     ) -> Result<(), ScriptFault> {
         match line {
             Line::Event(event) => {
-                let told = step(alloc, &mut self.node, &mut self.text, event, 0, out)?;
-                self.forget(told);
+                self.step(alloc, event, 0, out)?;
                 Ok(())
             }
             Line::Bytes { end_, bytes, fresh } => match self.node.still(*end_) {
-                Still::NoSuchEnd => print_refusal(&mut self.text, StepError::NoSuchEnd, out),
-                Still::Gone(why) => print_refusal(&mut self.text, StepError::Gone(why), out),
+                Still::NoSuchEnd => print_refusal(StepError::NoSuchEnd, out),
+                Still::Gone(why) => print_refusal(StepError::Gone(why), out),
                 Still::Pending | Still::Up => self.hear(alloc, *end_, bytes, *fresh, out),
             },
         }
@@ -137,16 +98,38 @@ impl Scene {
 
     /// Prints the table of the node's peers.
     pub fn print_table<W: Write>(&self, out: &mut W) -> Result<(), ScriptFault> {
-        written(print::table(&mut Straight { out }, &self.node))
+        written(print::table(out, &self.node))
     }
 
-    // Drops the reader of an end that a step closed.
-    fn forget(&mut self, told: Option<Told>) {
-        if let Some(told) = told
-            && let Some(end_) = told.closed
-        {
+    // Makes a step and prints what comes of it. Answers what is left of a reply.
+    fn step<W: Write>(
+        &mut self,
+        alloc: Global,
+        event: &Event,
+        fresh: u32,
+        out: &mut W,
+    ) -> Result<Option<Told>, ScriptFault> {
+        match self.node.step(alloc, event, fresh) {
+            Ok(reply) => self.print_reply(&reply, out),
+            Err(error) => {
+                print_refusal(error, out)?;
+                Ok(None)
+            }
+        }
+    }
+
+    // Prints a reply, and drops the reader of the end that its step closed.
+    fn print_reply<W: Write>(
+        &mut self,
+        reply: &Reply,
+        out: &mut W,
+    ) -> Result<Option<Told>, ScriptFault> {
+        written(print::reply(out, reply))?;
+        let told = told_of(reply);
+        if let Some(end_) = told.closed {
             self.readers.forget(end_);
         }
+        Ok(Some(told))
     }
 
     // Bytes for an open end.
@@ -158,20 +141,28 @@ impl Scene {
         fresh: u32,
         out: &mut W,
     ) -> Result<(), ScriptFault> {
-        let mut reader = self
-            .readers
-            .take(alloc, end_)
-            .map_err(|_| ScriptFault::NoMemory)?;
-        reader
-            .feed(bytes.as_slice())
-            .map_err(|_| ScriptFault::NoMemory)?;
-        let told = self.hear_frames(alloc, end_, &mut reader, fresh, out)?;
-        let skipped = reader.skip_long();
+        let mut reader = self.readers.take(alloc, end_)?;
+        let heard = self.hear_bytes(alloc, end_, &mut reader, bytes, fresh, out);
         self.readers.put_back(end_, reader);
+        heard
+    }
+
+    // Bytes for the reader of an end.
+    fn hear_bytes<W: Write>(
+        &mut self,
+        alloc: Global,
+        end_: EndId,
+        reader: &mut Frames,
+        bytes: &ByteString,
+        fresh: u32,
+        out: &mut W,
+    ) -> Result<(), ScriptFault> {
+        reader.feed(bytes.as_slice())?;
+        let told = self.hear_frames(alloc, end_, reader, fresh, out)?;
+        let skipped = reader.skip_long();
         if skipped > 0 {
-            return written(print::skipped(&mut Straight { out }, skipped));
-        }
-        if told {
+            written(print::skipped(out, skipped))
+        } else if told {
             Ok(())
         } else {
             written(out.write_all(b"waiting\n"))
@@ -191,9 +182,8 @@ impl Scene {
         while let Some(body) = next_body(reader)? {
             any = true;
             let event = Event::Frame { end_, body };
-            let told = step(alloc, &mut self.node, &mut self.text, &event, fresh, out)?;
+            let told = self.step(alloc, &event, fresh, out)?;
             goes_on(alloc, reader, end_, told);
-            self.forget(told);
         }
         Ok(any)
     }

@@ -1,6 +1,5 @@
 //! A world of nodes that a script tells what happens.
 
-use crate::pieces::Straight;
 use crate::print;
 use dist_core::{Node, Setup};
 use dist_names::NodeName;
@@ -11,10 +10,19 @@ use std::collections::BTreeMap;
 use std::io::Write;
 
 fn world_of(alloc: Global, nodes: Vec<Setup>) -> Result<World, ScriptFault> {
-    World::new(alloc, nodes).map_err(|error| match error {
-        WorldError::SameName => ScriptFault::SameName,
-        WorldError::NoMemory => ScriptFault::NoMemory,
-    })
+    match World::new(alloc, nodes) {
+        Ok(world) => Ok(world),
+        Err(WorldError::SameName) => Err(ScriptFault::SameName),
+        Err(WorldError::NoMemory) => Err(ScriptFault::NoMemory),
+    }
+}
+
+// The end that the last happening closed, where it closed one.
+fn print_closed<W: Write>(world: &World, out: &mut W) -> Result<(), ScriptFault> {
+    match world.last_closed() {
+        Some((node, end_, why)) => written(print::closed_end(out, node, end_, why)),
+        None => Ok(()),
+    }
 }
 
 // Lets one thing happen, and prints the end that its step closed. Answers how many applied.
@@ -24,13 +32,25 @@ fn happen<W: Write>(
     happening: &[Happening],
     out: &mut W,
 ) -> Result<usize, ScriptFault> {
-    let applied = world
-        .run(alloc, happening)
-        .map_err(|_stopped| ScriptFault::NoMemory)?;
-    if applied > 0
-        && let Some((node, end_, why)) = world.last_closed()
-    {
-        written(print::closed_end(&mut Straight { out }, node, end_, why))?;
+    let Ok(applied) = world.run(alloc, happening) else {
+        return Err(ScriptFault::NoMemory);
+    };
+    if applied > 0 {
+        print_closed(world, out)?;
+    }
+    Ok(applied)
+}
+
+// Lets all this happen, one after the other. Answers how many applied.
+fn happen_all<W: Write>(
+    alloc: Global,
+    world: &mut World,
+    happenings: &[Happening],
+    out: &mut W,
+) -> Result<usize, ScriptFault> {
+    let mut applied = 0usize;
+    for happening in happenings.chunks(1) {
+        applied = applied.saturating_add(happen(alloc, world, happening, out)?);
     }
     Ok(applied)
 }
@@ -72,6 +92,39 @@ fn later_ups(
     Ok(later)
 }
 
+// What two nodes have in common, where they are up with one another.
+fn print_agreement<W: Write>(
+    world: &World,
+    a: usize,
+    b: usize,
+    out: &mut W,
+) -> Result<(), ScriptFault> {
+    let setups = world.setups();
+    match (setups.get(a), setups.get(b), world.both_up(a, b)) {
+        (Some(first), Some(second), Some(found)) => {
+            written(print::agreement(out, &first.name, &second.name, &found))
+        }
+        _ => Ok(()),
+    }
+}
+
+// What a node and each one behind it have in common.
+fn print_agreements_of<W: Write>(
+    alloc: Global,
+    world: &World,
+    place: usize,
+    places: &BTreeMap<NodeName, usize>,
+    out: &mut W,
+) -> Result<(), ScriptFault> {
+    let Some(node) = world.node(place) else {
+        return Ok(());
+    };
+    for other in later_ups(alloc, place, node, places)? {
+        print_agreement(world, place, other, out)?;
+    }
+    Ok(())
+}
+
 /// What each two nodes have in common that are up with one another. Only who stands in a node's table can be.
 pub fn print_agreements<W: Write>(
     alloc: Global,
@@ -79,23 +132,24 @@ pub fn print_agreements<W: Write>(
     out: &mut W,
 ) -> Result<(), ScriptFault> {
     let setups = world.setups();
-    let places = places(alloc, setups).map_err(|_| ScriptFault::NoMemory)?;
-    for (a, first) in setups.iter().enumerate() {
-        let Some(node) = world.node(a) else { continue };
-        for b in later_ups(alloc, a, node, &places).map_err(|_| ScriptFault::NoMemory)? {
-            if let Some(found) = world.both_up(a, b)
-                && let Some(second) = setups.get(b)
-            {
-                written(print::agreement(
-                    &mut Straight { out },
-                    &first.name,
-                    &second.name,
-                    &found,
-                ))?;
-            }
-        }
+    let places = places(alloc, setups)?;
+    for place in 0..setups.len() {
+        print_agreements_of(alloc, world, place, &places, out)?;
     }
     Ok(())
+}
+
+// How many happenings applied, and how the world stands.
+fn print_end<W: Write>(
+    alloc: Global,
+    world: &World,
+    applied: usize,
+    all: usize,
+    out: &mut W,
+) -> Result<(), ScriptFault> {
+    written(print::applied(out, applied, all))?;
+    print_nodes(world, out)?;
+    print_agreements(alloc, world, out)
 }
 
 /// Lets what a script says happen, and prints at once which end each happening closes; at the end how many applied, how
@@ -110,12 +164,6 @@ pub fn play<W: Write>(
     out: &mut W,
 ) -> Result<(), ScriptFault> {
     let mut world = world_of(alloc, nodes)?;
-    let mut applied = 0usize;
-    for happening in happenings.chunks(1) {
-        applied = applied.saturating_add(happen(alloc, &mut world, happening, out)?);
-    }
-    let all = happenings.len();
-    written(writeln!(out, "applied {applied} of {all}"))?;
-    print_nodes(&world, out)?;
-    print_agreements(alloc, &world, out)
+    let applied = happen_all(alloc, &mut world, happenings, out)?;
+    print_end(alloc, &world, applied, happenings.len(), out)
 }
