@@ -4,8 +4,8 @@ ghost use Rattle.std.specs.Prelude.{◌≡◌};
 ghost use Rattle.dist_faults.specs.Fault.{status_of};
 
 use dist_commands::OrderError;
+use dist_hosts::RunError;
 use dist_mapper::LookupError;
-use dist_run::RunError;
 use dist_secret::CookieError;
 use dist_words::ScriptFault;
 use std::io::Write;
