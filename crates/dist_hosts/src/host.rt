@@ -1,5 +1,8 @@
 //! A node that listens and is registered.
 
+ghost use Rattle.std.specs.Prelude.{◌≡◌, [], IfOk};
+ghost use Rattle.dist_names.specs.NodeName.{short_of};
+
 use crate::run_error::RunError;
 use crate::seats::{SEATS, SharedOut, shared_out};
 use crate::sockets::{connected, listening};
@@ -12,6 +15,7 @@ use dist_plan::NodePlan;
 use std::alloc::{AllocError, Global};
 use std::net::{Net, TcpListener, TcpStream};
 use std::sync::Arc;
+use std::sync::atomic::AtomicUsize;
 
 /// The node type of a node that is not hidden (ERTS User's Guide, Distribution Protocol, EPMD Protocol).
 const NORMAL: u8 = 77;
@@ -25,6 +29,25 @@ const NEWER: u16 = 6;
 /// The lowest version of the handshake.
 const LOWEST: u16 = 5;
 
+/// The last connection for which no thread could be made, by the thread that had it: its number there. Nobody's is the
+/// highest number.
+#[derive(Drop)]
+pub struct Refused {
+    pub accepting: AtomicUsize,
+    pub first: AtomicUsize,
+    pub second: AtomicUsize,
+}
+
+impl Refused {
+    fn nobody() -> Refused {
+        Refused {
+            accepting: AtomicUsize::new(usize::MAX),
+            first: AtomicUsize::new(usize::MAX),
+            second: AtomicUsize::new(usize::MAX),
+        }
+    }
+}
+
 /// A node under its lock, with the socket that it listens on, and the connection that keeps it registered.
 #[derive(Drop)]
 pub struct Host {
@@ -32,17 +55,26 @@ pub struct Host {
     pub listener: TcpListener,
     pub port: u16,
     pub registered: SocketStream,
+    pub refused: Refused,
 }
 
 // The number of the highest version that a node knows.
-fn highest(version: Version) -> u16 {
+fn highest(version: Version) -> u16
+    ensures six { version ≡ Version.Six → result ≡ 6 }
+    ensures five { version ≡ Version.Five → result ≡ 5 }
+{
     match version {
         Version::Five => LOWEST,
         Version::Six => NEWER,
     }
 }
 
-fn registration(alloc: Global, plan: &NodePlan, port: u16) -> Result<AliveReq, AllocError> {
+// What the port mapper is told of a node.
+fn registration(alloc: Global, plan: &NodePlan, port: u16) -> Result<AliveReq, AllocError>
+    ensures told { IfOk result (λ r. r ≡ record { port = port; node_type = 77; protocol = 0; highest = r.highest; lowest = 5; name = short_of plan.now.name; extra = [] }) }
+    ensures six { IfOk result (λ r. plan.now.version ≡ Version.Six → r.highest ≡ 6) }
+    ensures five { IfOk result (λ r. plan.now.version ≡ Version.Five → r.highest ≡ 5) }
+{
     Ok(AliveReq {
         port,
         node_type: NORMAL,
@@ -54,8 +86,8 @@ fn registration(alloc: Global, plan: &NodePlan, port: u16) -> Result<AliveReq, A
     })
 }
 
-// Registers a node, over a connection that is kept.
-fn registered<R: Net<Listener = TcpListener, Stream = TcpStream>>(
+// Asks for the registration of a node, over a connection that is kept.
+fn asked<R: Net<Listener = TcpListener, Stream = TcpStream>>(
     rt: &R,
     alloc: Global,
     mapper_port: u16,
@@ -72,7 +104,9 @@ fn registered<R: Net<Listener = TcpListener, Stream = TcpStream>>(
     }
 }
 
-fn setup_of(plan: NodePlan, creation: Creation) -> Setup {
+fn setup_of(plan: NodePlan, creation: Creation) -> Setup
+    ensures { result ≡ record { name = plan.name; cookies = plan.cookies; version = plan.version; flags = plan.flags; required = plan.required; creation = creation; allow = plan.allow } }
+{
     Setup {
         name: plan.name,
         cookies: plan.cookies,
@@ -82,6 +116,31 @@ fn setup_of(plan: NodePlan, creation: Creation) -> Setup {
         creation,
         allow: plan.allow,
     }
+}
+
+// Registers a node that listens at a port. Its setup has the creation that it got.
+fn registered<R: Net<Listener = TcpListener, Stream = TcpStream>>(
+    rt: &R,
+    alloc: Global,
+    mapper_port: u16,
+    plan: NodePlan,
+    port: u16,
+    turns: usize,
+) -> Result<(SocketStream, Setup), RunError> {
+    let request = registration(alloc, &plan, port)?;
+    let (stream, creation) = asked(rt, alloc, mapper_port, &request, turns)?;
+    Ok((stream, setup_of(plan, creation)))
+}
+
+// The node of a setup under its lock, with its seats.
+fn locked(
+    alloc: Global,
+    setup: Setup,
+    tickets: &Arc<Tickets, Global>,
+) -> Result<(LockedNode, SharedOut), AllocError> {
+    let tickets = Arc::try_clone(tickets)?;
+    let (node, seats) = LockedNode::new(alloc, setup, tickets, SEATS)?;
+    Ok((node, shared_out(seats)?))
 }
 
 /// Starts a node: it listens, and the port mapper gives it its creation. Refusals, in order: ListenFailed, ConnectFailed,
@@ -97,16 +156,14 @@ pub fn started<R: Net<Listener = TcpListener, Stream = TcpStream>>(
     let Ok((listener, port)) = listening(rt, plan.listen) else {
         return Err(RunError::ListenFailed);
     };
-    let request = registration(alloc, &plan, port)?;
-    let (stream, creation) = registered(rt, alloc, mapper_port, &request, turns)?;
-    let setup = setup_of(plan, creation);
-    let tickets = Arc::try_clone(tickets)?;
-    let (node, seats) = LockedNode::new(alloc, setup, tickets, SEATS)?;
+    let (registered, setup) = registered(rt, alloc, mapper_port, plan, port, turns)?;
+    let (node, shares) = locked(alloc, setup, tickets)?;
     let host = Host {
         node,
         listener,
         port,
-        registered: stream,
+        registered,
+        refused: Refused::nobody(),
     };
-    Ok((host, shared_out(seats)?))
+    Ok((host, shares))
 }

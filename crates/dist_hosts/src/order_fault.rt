@@ -7,7 +7,7 @@ use dist_core::StepError;
 use dist_drive::LookupError;
 
 /// Why an order made no `Dial` step.
-#[derive(Clone, Copy, Debug, PartialEq, Eq)]
+#[derive(Clone, Copy)]
 pub enum OrderRefusal {
     /// The port mapper couldn't be connected to.
     NoRegistry,
@@ -31,7 +31,7 @@ impl OrderRefusal {
 }
 
 /// An order that made no `Dial` step.
-#[derive(Clone, Copy, Debug, PartialEq, Eq)]
+#[derive(Clone, Copy)]
 pub struct OrderFault {
     /// The number of the order, from 0 in the order of the file.
     pub number: u32,

@@ -7,31 +7,25 @@ ghost use Rattle.dist_hosts.specs.Words.{run_error_name};
 use dist_drive::LookupError;
 use dist_locked::CloseError;
 use std::alloc::{AllocError, AllocFailed};
-use thiserror::Error;
+use std::error::Error;
+use std::fmt;
 
 /// What ends a run before its work is done. All its threads have ended when it is told.
-#[derive(Clone, Copy, Debug, PartialEq, Eq, Error)]
+#[derive(Clone, Copy, Debug, PartialEq, Eq)]
 pub enum RunError {
     /// The system gave no random bytes to seed the challenges with.
-    #[error("no random bytes")]
     NoRandomBytes,
     /// The system gave no socket to listen on, or not at the port of the file.
-    #[error("a listener was refused")]
     ListenFailed,
     /// The port mapper of this run couldn't be connected to.
-    #[error("a connection to the port mapper was refused")]
     ConnectFailed,
     /// The port mapper of this run didn't register a node.
-    #[error("a node was not registered")]
     NotRegistered(LookupError),
     /// The system gave no thread to the port mapper or to a node.
-    #[error("a thread was refused")]
     ThreadFailed,
     /// The receipts of a node's steps are not those of its history. It never comes where the threads kept to their seats.
-    #[error("the receipts of a node are not its history's")]
     NotClosed(CloseError),
     /// No memory was left.
-    #[error("out of memory")]
     NoMemory,
 }
 
@@ -52,6 +46,14 @@ impl RunError {
         }
     }
 }
+
+impl fmt::Display for RunError {
+    fn fmt<W: fmt::Write>(&self, f: &mut fmt::Formatter<W>) -> fmt::Result {
+        f.write_str(self.name())
+    }
+}
+
+impl Error for RunError {}
 
 impl From<AllocError> for RunError {
     ghost from_gives = { λ _ error. error ≡ NoMemory };

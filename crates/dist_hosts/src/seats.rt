@@ -1,6 +1,6 @@
 //! How the seats of a node are shared out.
 
-ghost use Rattle.std.specs.Prelude.{◌≡◌, ◌<◌, vec_len};
+ghost use Rattle.std.specs.Prelude.{◌≡◌, ◌<◌, ◌+◌, IfOk, vec_len};
 
 use dist_locked::Seat;
 use std::alloc::AllocError;
@@ -32,6 +32,7 @@ pub struct SharedOut {
 fn pool_of(seats: Vec<Seat>) -> Pool
     // Each thread gets some of the 64.
     requires { 0 < vec_len seats }
+    ensures { vec_len result.free + 1 ≡ vec_len seats }
 {
     let mut free = seats;
     match free.pop() {
@@ -44,6 +45,7 @@ fn pool_of(seats: Vec<Seat>) -> Pool
 pub fn shared_out(seats: Vec<Seat>) -> Result<SharedOut, AllocError>
     // A locked node is made with that many seats.
     requires { vec_len seats ≡ 64 }
+    ensures { IfOk result (λ shares. (vec_len shares.accepting.free ≡ 31) × (vec_len shares.first.free ≡ 15) × (vec_len shares.second.free ≡ 15)) }
 {
     let mut accepting = seats;
     let mut first = accepting.split_off(OF_ACCEPTING)?;

@@ -1,5 +1,7 @@
 //! Sockets whose calls wait for one turn.
 
+ghost use Rattle.std.specs.Prelude.{◌≡◌, ◌+◌, ◌*◌};
+
 use dist_drive::SocketStream;
 use std::net::{Ipv4Addr, Net, Shutdown, SocketAddr, TcpListener, TcpStream};
 use std::time::{Clock, Duration};
@@ -75,6 +77,8 @@ pub fn accepted<R: Clock>(rt: &R, listener: &TcpListener) -> Option<Connection> 
 }
 
 /// The number of a connection between two nodes: which ports it joins.
-pub fn link_of(dialler_port: u16, listening_port: u16) -> u64 {
+pub fn link_of(dialler_port: u16, listening_port: u16) -> u64
+    ensures { result ≡ dialler_port * 65536 + listening_port }
+{
     u64::from(dialler_port) * 65_536 + u64::from(listening_port)
 }

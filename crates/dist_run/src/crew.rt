@@ -1,13 +1,13 @@
 //! The threads for connections that one thread starts at one node.
 
 use crate::connection::{Job, Left, lose};
+use crate::site::Site;
 use dist_core::{Event, StepError, Why};
 use dist_drive::SocketStream;
-use dist_hosts::{Challenges, Connection, Host, Pool, RunError, say_goodbye};
+use dist_hosts::{Challenges, Connection, Host, Pool, say_goodbye};
 use dist_locked::{Receipt, Seat};
 use dist_names::ByteString;
 use dist_peers::EndId;
-use std::alloc::Global;
 use std::mem;
 use std::sync::Wait;
 use std::sync::atomic::{AtomicUsize, Ordering};
@@ -15,15 +15,15 @@ use std::thread::{JoinHandle, Scope, Threads};
 
 /// Threads that were started and not joined yet, with what is left of the others.
 #[derive(Drop)]
-pub struct Crew<'a> {
-    alloc: Global,
-    host: &'a Host,
+pub struct Crew<'s, E, R, G> {
+    scope: &'s Scope<'s, E>,
+    site: &'s Site<'s, R, G>,
+    host: &'s Host,
+    refused: &'s AtomicUsize,
     pool: Pool,
     challenges: Challenges,
-    turns: usize,
     handles: Vec<JoinHandle<Left>>,
     streams: Vec<SocketStream>,
-    is_short: bool,
 }
 
 /// What a crew leaves: its seats, and its streams.
@@ -33,61 +33,76 @@ pub struct Rest {
     pub streams: Vec<SocketStream>,
 }
 
-impl<'a> Crew<'a> {
+// The end of a step, and what it says.
+fn said(receipt: Receipt) -> (EndId, ByteString) {
+    let line = receipt.line;
+    let reply = line.reply;
+    (reply.end_, reply.say)
+}
+
+impl<'s, E, R: Threads + Wait + Sync, G> Crew<'s, E, R, G> {
     /// A crew that has started nothing.
     pub fn new(
-        alloc: Global,
-        host: &'a Host,
+        scope: &'s Scope<'s, E>,
+        site: &'s Site<'s, R, G>,
+        host: &'s Host,
+        refused: &'s AtomicUsize,
         pool: Pool,
         challenges: Challenges,
-        turns: usize,
-    ) -> Crew<'a> {
+    ) -> Crew<'s, E, R, G> {
         Crew {
-            alloc,
+            scope,
+            site,
             host,
+            refused,
             pool,
             challenges,
-            turns,
-            handles: Vec::new(alloc),
-            streams: Vec::new(alloc),
-            is_short: false,
+            handles: Vec::new(site.alloc),
+            streams: Vec::new(site.alloc),
         }
     }
 
     /// The node.
-    pub fn host(&self) -> &'a Host {
+    pub fn host(&self) -> &'s Host {
         self.host
     }
 
-    /// Makes a step of the crew's own.
-    pub fn step<R: Wait>(&mut self, rt: &R, event: &Event) -> Result<Receipt, StepError> {
-        self.host.node.step(rt, &mut self.pool.own, event, 0)
+    /// What all threads of the run share.
+    pub fn site(&self) -> &'s Site<'s, R, G> {
+        self.site
+    }
+
+    /// Makes a step of the crew's own. The end, and what it says.
+    pub fn step(&mut self, event: &Event) -> Result<(EndId, ByteString), StepError> {
+        let own = &mut self.pool.own;
+        match self.host.node.step(self.site.rt, own, event, 0) {
+            Ok(receipt) => Ok(said(receipt)),
+            Err(error) => Err(error),
+        }
     }
 
     /// Loses an end.
-    pub fn lose<R: Wait>(&mut self, rt: &R, end_: EndId, why: Why) {
-        lose(rt, &self.host.node, &mut self.pool.own, end_, why);
-    }
-
-    // Keeps a stream to the end of the run. Where memory is short it is closed now, and the run ends with NoMemory.
-    fn keep(&mut self, stream: SocketStream) {
-        if self.streams.push(stream).is_err() {
-            self.is_short = true;
-        }
+    pub fn lose(&mut self, end_: EndId, why: Why) {
+        let own = &mut self.pool.own;
+        lose(self.site.rt, &self.host.node, own, end_, why);
     }
 
     /// Keeps a connection that has no open end to the end of the run.
     pub fn keep_closed(&mut self, connection: Connection) {
         say_goodbye(&connection.stream);
-        self.keep(connection.stream);
+        self.site.keep(&mut self.streams, connection.stream);
+    }
+
+    /// Loses an end, whose connection is kept.
+    pub fn give_up(&mut self, end_: EndId, why: Why, connection: Connection) {
+        self.lose(end_, why);
+        self.keep_closed(connection);
     }
 
     // Keeps what is left of a job. The seat comes back to its place.
     fn keep_left(&mut self, left: Left) {
-        if self.pool.free.push(left.seat).is_err() {
-            self.is_short = true;
-        }
-        self.keep(left.stream);
+        self.site.keep(&mut self.pool.free, left.seat);
+        self.site.keep(&mut self.streams, left.stream);
     }
 
     // A seat and room for a thread, or why an end gets none.
@@ -99,50 +114,33 @@ impl<'a> Crew<'a> {
     }
 
     /// Starts a thread that drives an end. Where no seat is left, or no thread can be made, the end is lost.
-    pub fn start<'s, E, R: Threads + Wait + Sync>(
-        &mut self,
-        scope: &'s Scope<'s, E>,
-        rt: &'s R,
-        refused: &'s AtomicUsize,
-        number: usize,
-        end_: EndId,
-        first: ByteString,
-        connection: Connection,
-    )
-    where
-        'a: 's,
-    {
-        let seat = match self.seat() {
-            Ok(seat) => seat,
-            Err(why) => {
-                self.lose(rt, end_, why);
-                self.keep_closed(connection);
-                return;
+    pub fn start(&mut self, number: usize, end_: EndId, first: ByteString, connection: Connection) {
+        match self.seat() {
+            Ok(seat) => {
+                let job = Job {
+                    number,
+                    host: self.host,
+                    end_,
+                    seat,
+                    stream: connection.stream,
+                    first,
+                    challenges: self.challenges.fork(),
+                    turns: self.site.turns,
+                };
+                self.spawn(job);
             }
-        };
-        let job = Job {
-            number,
-            host: self.host,
-            end_,
-            seat,
-            stream: connection.stream,
-            first,
-            challenges: self.challenges.fork(),
-            turns: self.turns,
-        };
-        self.spawn(scope, rt, refused, job);
+            Err(why) => self.give_up(end_, why, connection),
+        }
     }
 
-    fn spawn<'s, E, R: Threads + Wait + Sync>(
-        &mut self,
-        scope: &'s Scope<'s, E>,
-        rt: &'s R,
-        refused: &'s AtomicUsize,
-        job: Job<'s>,
-    ) {
-        let alloc = self.alloc;
-        let number = job.number;
-        match scope.spawn(move || job.run(rt, alloc, refused)) {
+    fn spawn(&mut self, job: Job<'s>) {
+        let (rt, alloc, refused, number) = (
+            self.site.rt,
+            self.site.alloc,
+            self.refused,
+            job.number,
+        );
+        match self.scope.spawn(move || job.run(rt, alloc, refused)) {
             Ok(handle) => {
                 if let Err(failed) = self.handles.push(handle) {
                     self.keep_left(failed.value.join(rt));
@@ -157,22 +155,19 @@ impl<'a> Crew<'a> {
     }
 
     // Joins all threads.
-    fn join_all<R: Threads>(&mut self, rt: &R) {
-        let handles = mem::replace(&mut self.handles, Vec::new(self.alloc));
+    fn join_all(&mut self) {
+        let handles = mem::replace(&mut self.handles, Vec::new(self.site.alloc));
         for handle in handles {
-            self.keep_left(handle.join(rt));
+            self.keep_left(handle.join(self.site.rt));
         }
     }
 
-    /// Joins all threads. NoMemory where something could not be kept.
-    pub fn joined<R: Threads>(mut self, rt: &R) -> Result<Rest, RunError> {
-        self.join_all(rt);
-        if self.is_short {
-            return Err(RunError::NoMemory);
-        }
-        Ok(Rest {
+    /// Joins all threads.
+    pub fn joined(mut self) -> Rest {
+        self.join_all();
+        Rest {
             pool: self.pool,
             streams: self.streams,
-        })
+        }
     }
 }

@@ -3,46 +3,30 @@
 ghost use Rattle.std.specs.Prelude.{◌≡◌};
 
 use crate::crew::{Crew, Rest};
-use crate::gathering::added;
-use dist_core::{Event, StepError, Why};
+use crate::site::Site;
+use dist_core::{Event, Opening, StepError, Why};
 use dist_drive::{lookup, opening_for};
-use dist_epmd::PortInfo;
 use dist_hosts::{
     Challenges, Connection, Host, OrderFault, OrderRefusal, Pool, RunError, connected, link_of,
 };
-use dist_locked::{Gate, Moment, Orders, Receipt, TakePass};
+use dist_locked::{Gate, Moment, Orders, TakePass};
 use dist_names::{ByteString, NodeName};
 use dist_orders::LAST_ORDER;
 use dist_peers::EndId;
-use std::alloc::Global;
 use std::net::{Net, TcpListener, TcpStream};
 use std::sync::Wait;
 use std::sync::atomic::AtomicUsize;
 use std::thread;
 use std::thread::{Scope, Threads};
 
-/// A dial that is ordered: which node makes it, and to whom.
+/// What a worker is given: its right to take orders, and for each node its seats.
 #[derive(Drop)]
-pub struct Dial {
-    /// The place of the node among the nodes of the plan.
-    pub from: usize,
-    /// The name of the peer.
-    pub to: NodeName,
-}
-
-/// What all threads of a run share.
-#[derive(Drop)]
-pub struct Site<'a, G> {
-    /// The nodes, in the order of the plan.
-    pub hosts: &'a [Host],
-    /// The dials, in the order of the plan.
-    pub dials: &'a [Dial],
-    /// The port of the port mapper.
-    pub mapper_port: u16,
-    /// The most turns of a connection and of a lookup.
-    pub turns: usize,
-    /// Where the workers ask whether to go on.
-    pub gate: &'a G,
+pub struct Shift {
+    /// 0 or 1: which worker it is.
+    pub worker: u32,
+    pub pass: TakePass,
+    pub pools: Vec<Pool>,
+    pub challenges: Challenges,
 }
 
 /// What a worker leaves: what is left at each node, and the orders that made no `Dial` step.
@@ -52,248 +36,212 @@ pub struct Worked {
     pub faults: Vec<OrderFault>,
 }
 
-// The orders of a worker that made no `Dial` step so far, where memory was left to keep them.
-type Faults = Result<Vec<OrderFault>, RunError>;
+// Where a peer listens, and how it is spoken to.
+#[derive(Clone, Copy)]
+struct Peer {
+    port: u16,
+    opening: Opening,
+}
 
 // Asks the port mapper where a peer listens.
-fn looked_up<R: Net<Listener = TcpListener, Stream = TcpStream>>(
-    rt: &R,
-    alloc: Global,
-    mapper_port: u16,
+fn looked_up<R: Net<Listener = TcpListener, Stream = TcpStream>, G>(
+    site: &Site<'_, R, G>,
     to: &NodeName,
-    turns: usize,
-) -> Result<PortInfo, OrderRefusal> {
-    let Ok(connection) = connected(rt, mapper_port) else {
+) -> Result<Peer, OrderRefusal> {
+    let Ok(connection) = connected(site.rt, site.mapper_port) else {
         return Err(OrderRefusal::NoRegistry);
     };
     let mut stream = connection.stream;
-    lookup(alloc, &mut stream, to.short(), turns).map_err(OrderRefusal::Lookup)
+    match lookup(site.alloc, &mut stream, to.short(), site.turns) {
+        Ok(peer) => Ok(Peer {
+            port: peer.port,
+            opening: opening_for(&peer),
+        }),
+        Err(error) => Err(OrderRefusal::Lookup(error)),
+    }
 }
 
 // The step that begins a dial.
-fn begun<R: Wait>(
-    rt: &R,
-    alloc: Global,
-    crew: &mut Crew<'_>,
+fn begun<'s, E, R: Threads + Wait + Sync, G>(
+    crew: &mut Crew<'s, E, R, G>,
     to: &NodeName,
-    peer: &PortInfo,
+    opening: Opening,
 ) -> Result<EndId, OrderRefusal> {
-    let Ok(name) = to.try_clone(alloc) else {
+    let Ok(peer) = to.try_clone(crew.site().alloc) else {
         return Err(OrderRefusal::Step(StepError::NoMemory));
     };
-    let event = Event::Dial {
-        peer: name,
-        opening: opening_for(peer),
-    };
-    match crew.step(rt, &event) {
-        Ok(receipt) => Ok(receipt.line.reply.end_),
+    match crew.step(&Event::Dial { peer, opening }) {
+        Ok((end_, _)) => Ok(end_),
         Err(error) => Err(OrderRefusal::Step(error)),
     }
 }
 
-// What the end said at its step.
-fn said(receipt: Receipt) -> ByteString {
-    let line = receipt.line;
-    let reply = line.reply;
-    reply.say
-}
-
-// Opens the end of a connection between the two moments of the gate, and starts a thread for it.
-fn open<'s, 'a: 's, E, R: Threads + Wait + Sync, G: Gate>(
-    scope: &'s Scope<'s, E>,
-    rt: &'s R,
-    refused: &'s AtomicUsize,
+// Tells the node of a connection, between the two moments of the gate: what its end says, or why it is to be lost.
+fn opened<'s, E, R: Threads + Wait + Sync, G: Gate>(
+    crew: &mut Crew<'s, E, R, G>,
     worker: u32,
-    gate: &G,
-    number: u32,
     end_: EndId,
     link: u64,
-    connection: Connection,
-    crew: &mut Crew<'a>,
-) {
+) -> Result<ByteString, Why> {
+    let gate = crew.site().gate;
     if !gate.at(worker, Moment::BeforeStep) {
-        crew.lose(rt, end_, Why::GaveUp);
-        crew.keep_closed(connection);
-        return;
+        return Err(Why::GaveUp);
     }
-    let opened = crew.step(rt, &Event::Opened { end_, link });
+    let opened = crew.step(&Event::Opened { end_, link });
     if !gate.at(worker, Moment::AfterStep) {
-        crew.lose(rt, end_, Why::GaveUp);
-        crew.keep_closed(connection);
-        return;
+        return Err(Why::GaveUp);
     }
     match opened {
-        Ok(receipt) => {
-            let first = said(receipt);
-            crew.start(scope, rt, refused, number as usize, end_, first, connection);
-        }
-        Err(_) => {
-            crew.lose(rt, end_, Why::NoMemory);
-            crew.keep_closed(connection);
-        }
+        Ok((_, first)) => Ok(first),
+        Err(_) => Err(Why::NoMemory),
+    }
+}
+
+// Opens the end of a connection, and starts a thread for it.
+fn open<'s, E, R: Threads + Wait + Sync, G: Gate>(
+    crew: &mut Crew<'s, E, R, G>,
+    worker: u32,
+    number: u32,
+    end_: EndId,
+    port: u16,
+    connection: Connection,
+) {
+    let link = link_of(connection.dialler_port, port);
+    match opened(crew, worker, end_, link) {
+        Ok(first) => crew.start(number as usize, end_, first, connection),
+        Err(why) => crew.give_up(end_, why, connection),
     }
 }
 
 // Does what an order says.
-fn make_dial<'s, 'a: 's, E, R, G: Gate>(
-    scope: &'s Scope<'s, E>,
-    rt: &'s R,
-    alloc: Global,
-    refused: &'s AtomicUsize,
+fn make_dial<'s, E, R, G: Gate>(
+    crew: &mut Crew<'s, E, R, G>,
     worker: u32,
-    site: &Site<'_, G>,
     number: u32,
     to: &NodeName,
-    crew: &mut Crew<'a>,
 ) -> Result<(), OrderRefusal>
 where
     R: Net<Listener = TcpListener, Stream = TcpStream> + Threads + Wait + Sync,
 {
-    let peer = looked_up(rt, alloc, site.mapper_port, to, site.turns)?;
-    let end_ = begun(rt, alloc, crew, to, &peer)?;
-    match connected(rt, peer.port) {
-        Ok(connection) => {
-            let link = link_of(connection.dialler_port, peer.port);
-            open(
-                scope, rt, refused, worker, site.gate, number, end_, link, connection, crew,
-            );
-        }
-        Err(_) => crew.lose(rt, end_, Why::DialFailed),
+    let site = crew.site();
+    let peer = looked_up(site, to)?;
+    let end_ = begun(crew, to, peer.opening)?;
+    match connected(site.rt, peer.port) {
+        Ok(connection) => open(crew, worker, number, end_, peer.port, connection),
+        Err(_) => crew.lose(end_, Why::DialFailed),
     }
     Ok(())
 }
 
 // Finds what an order says, and does it.
-fn obey<'s, 'a: 's, E, R, G: Gate>(
-    scope: &'s Scope<'s, E>,
-    rt: &'s R,
-    alloc: Global,
-    refused: &'s AtomicUsize,
+fn obey<'s, E, R, G: Gate>(
+    site: &Site<'_, R, G>,
+    crews: &mut [Crew<'s, E, R, G>],
     worker: u32,
-    site: &Site<'_, G>,
     number: u32,
-    crews: &mut [Crew<'a>],
 ) -> Result<(), OrderRefusal>
 where
     R: Net<Listener = TcpListener, Stream = TcpStream> + Threads + Wait + Sync,
 {
-    let Some(order) = site.dials.get(number as usize) else {
+    let Some(dial) = site.dials.get(number as usize) else {
         return Ok(());
     };
-    let Some(crew) = crews.get_mut(order.from) else {
-        return Ok(());
-    };
-    make_dial(
-        scope, rt, alloc, refused, worker, site, number, &order.to, crew,
-    )
+    match crews.get_mut(dial.from) {
+        Some(crew) => make_dial(crew, worker, number, &dial.to),
+        None => Ok(()),
+    }
 }
 
-// Takes orders up to the last.
-fn take_all<'s, 'a: 's, E, R, G: Gate>(
-    scope: &'s Scope<'s, E>,
-    rt: &'s R,
-    alloc: Global,
-    refused: &'s AtomicUsize,
-    worker: u32,
+// Takes orders up to the last. Those that made no `Dial` step.
+fn take_all<'s, E, R, G: Gate>(
+    site: &Site<'_, R, G>,
     orders: &Orders,
-    site: &Site<'_, G>,
-    mut pass: TakePass,
-    crews: &mut [Crew<'a>],
-    mut faults: Faults,
-) -> (TakePass, Faults)
+    worker: u32,
+    pass: &mut TakePass,
+    crews: &mut [Crew<'s, E, R, G>],
+) -> Vec<OrderFault>
 where
     R: Net<Listener = TcpListener, Stream = TcpStream> + Threads + Wait + Sync,
-    requires { pass.table ≡ orders.now.table }
-    ensures { (result.0.table ≡ pass.table) × (result.0.second ≡ pass.second) }
+    requires { pass.old.table ≡ orders.now.table }
+    ensures { (pass.new.table ≡ pass.old.table) × (pass.new.second ≡ pass.old.second) }
 {
-    for _ in rt.forever() {
-        match orders.take(rt, &mut pass) {
+    let mut faults = Vec::new(site.alloc);
+    for _ in site.rt.forever() {
+        match orders.take(site.rt, pass) {
             Some(order) => {
                 if order == LAST_ORDER {
                     break;
                 }
                 let number = order.0;
-                if let Err(refusal) = obey(scope, rt, alloc, refused, worker, site, number, crews) {
-                    faults = added(faults, Ok(OrderFault { number, refusal }));
+                if let Err(refusal) = obey(site, crews, worker, number) {
+                    site.keep(&mut faults, OrderFault { number, refusal });
                 }
             }
             None => thread::yield_now(),
         }
     }
-    (pass, faults)
+    faults
 }
 
-/// Takes orders up to the last, and does what they say. Then joins the threads that were started.
-pub fn work_on<'s, 'a: 's, E, R, G>(
-    scope: &'s Scope<'s, E>,
-    rt: &'s R,
-    alloc: Global,
-    refused: &'s AtomicUsize,
-    worker: u32,
-    orders: &Orders,
-    site: &Site<'a, G>,
-    pass: TakePass,
-    pools: Vec<Pool>,
-    challenges: Challenges,
-) -> (TakePass, Result<Worked, RunError>)
-where
-    R: Net<Listener = TcpListener, Stream = TcpStream> + Threads + Wait + Sync,
-    G: Gate + Sync,
-    requires { pass.table ≡ orders.now.table }
-    ensures { (result.0.table ≡ pass.table) × (result.0.second ≡ pass.second) }
-{
-    let mut crews = match crews_of(alloc, site.hosts, pools, challenges, site.turns) {
-        Ok(crews) => crews,
-        Err(error) => return (pass, Err(error)),
-    };
-    let faults = Ok(Vec::new(alloc));
-    let (pass, faults) = take_all(
-        scope,
-        rt,
-        alloc,
-        refused,
-        worker,
-        orders,
-        site,
-        pass,
-        crews.as_mut_slice(),
-        faults,
-    );
-    (pass, all_kept(rests_of(rt, alloc, crews), faults))
-}
-
-// What a worker leaves, where nothing was lost.
-fn all_kept(rests: Result<Vec<Rest>, RunError>, faults: Faults) -> Result<Worked, RunError> {
-    Ok(Worked {
-        rests: rests?,
-        faults: faults?,
-    })
+// Where a worker notes at a node which connection got no thread.
+fn refused_of(host: &Host, worker: u32) -> &AtomicUsize {
+    match worker {
+        0 => &host.refused.first,
+        _ => &host.refused.second,
+    }
 }
 
 // A crew for each node, that has started nothing.
-fn crews_of<'a>(
-    alloc: Global,
-    hosts: &'a [Host],
+fn crews_of<'s, E, R: Threads + Wait + Sync, G>(
+    scope: &'s Scope<'s, E>,
+    site: &'s Site<'s, R, G>,
+    worker: u32,
     pools: Vec<Pool>,
     mut challenges: Challenges,
-    turns: usize,
-) -> Result<Vec<Crew<'a>>, RunError> {
-    let mut crews = Vec::new(alloc);
-    for (host, pool) in hosts.iter().zip(pools) {
-        crews.push(Crew::new(alloc, host, pool, challenges.fork(), turns))?;
+) -> Result<Vec<Crew<'s, E, R, G>>, RunError> {
+    let mut crews = Vec::new(site.alloc);
+    let mut pools = pools.into_iter();
+    for host in site.hosts {
+        let Some(pool) = pools.next() else {
+            break;
+        };
+        let refused = refused_of(host, worker);
+        crews.push(Crew::new(scope, site, host, refused, pool, challenges.fork()))?;
     }
     Ok(crews)
 }
 
 // Joins the threads of all crews.
-fn rests_of<R: Threads>(
-    rt: &R,
-    alloc: Global,
-    crews: Vec<Crew<'_>>,
-) -> Result<Vec<Rest>, RunError> {
-    let mut rests = Ok(Vec::new(alloc));
+fn rests_of<'s, E, R: Threads + Wait + Sync, G>(
+    site: &Site<'_, R, G>,
+    crews: Vec<Crew<'s, E, R, G>>,
+) -> Vec<Rest> {
+    let mut rests = Vec::new(site.alloc);
     for crew in crews {
-        rests = added(rests, crew.joined(rt));
+        site.keep(&mut rests, crew.joined());
     }
     rests
+}
+
+/// Takes orders up to the last, and does what they say. Then joins the threads that were started.
+pub fn work_on<'s, E, R, G: Gate>(
+    scope: &'s Scope<'s, E>,
+    site: &'s Site<'s, R, G>,
+    orders: &Orders,
+    shift: Shift,
+) -> Result<Worked, RunError>
+where
+    R: Net<Listener = TcpListener, Stream = TcpStream> + Threads + Wait + Sync,
+    requires { shift.pass.table ≡ orders.now.table }
+{
+    let Shift {
+        worker,
+        mut pass,
+        pools,
+        challenges,
+    } = shift;
+    let mut crews = crews_of(scope, site, worker, pools, challenges)?;
+    let faults = take_all(site, orders, worker, &mut pass, crews.as_mut_slice());
+    let rests = rests_of(site, crews);
+    Ok(Worked { rests, faults })
 }

@@ -10,8 +10,8 @@ mod accepting;
 mod connection;
 mod crew;
 mod dialling;
-mod gathering;
 mod running;
+mod site;
 mod threads;
 
 pub use dist_drive::opening_for;

@@ -1,14 +1,13 @@
 //! A run, from its plan to its closed nodes.
 
 use crate::crew::Rest;
-use crate::dialling::{Dial, Site};
+use crate::site::{Dial, Site};
 use crate::threads::{Ended, Pools, run_threads};
-use dist_drive::SocketStream;
 use dist_epmd::Registry;
 use dist_hosts::{
     Challenges, Host, OrderFault, Pool, RunError, SharedOut, listening, serve_all, started,
 };
-use dist_locked::{Closed, Gate, LockedRegistry, Seat, Tickets, close};
+use dist_locked::{Book, Closed, Gate, LockedRegistry, Seat, Tickets, close};
 use dist_plan::{DialPlan, NodePlan, Plan};
 use rand::make_rng;
 use rand::rngs::StdRng;
@@ -20,6 +19,7 @@ use std::sync::{Arc, Wait};
 use std::thread;
 use std::thread::Threads;
 use std::time::Clock;
+use std::vec::IntoIter;
 
 /// The first creation that the port mapper gives.
 const FIRST_CREATION: u32 = 1;
@@ -40,6 +40,13 @@ struct Started {
     pools: Pools,
 }
 
+impl Started {
+    fn add(&mut self, host: Host, shares: SharedOut) -> Result<(), RunError> {
+        self.hosts.push(host)?;
+        self.pools.add(shares)
+    }
+}
+
 // Starts each node.
 fn start_all<R: Net<Listener = TcpListener, Stream = TcpStream>>(
     rt: &R,
@@ -49,25 +56,15 @@ fn start_all<R: Net<Listener = TcpListener, Stream = TcpStream>>(
     turns: usize,
 ) -> Result<Started, RunError> {
     let tickets = Arc::new(alloc, Tickets::new())?;
-    let mut hosts = Vec::new(alloc);
-    let mut pools = Pools {
-        accepting: Vec::new(alloc),
-        first: Vec::new(alloc),
-        second: Vec::new(alloc),
+    let mut all = Started {
+        hosts: Vec::new(alloc),
+        pools: Pools::new(alloc),
     };
     for plan in plans {
         let (host, shares) = started(rt, alloc, plan, mapper_port, turns, &tickets)?;
-        let SharedOut {
-            accepting,
-            first,
-            second,
-        } = shares;
-        hosts.push(host)?;
-        pools.accepting.push(accepting)?;
-        pools.first.push(first)?;
-        pools.second.push(second)?;
+        all.add(host, shares)?;
     }
-    Ok(Started { hosts, pools })
+    Ok(all)
 }
 
 // The place of the node that makes a dial. A plan has no dial by another.
@@ -92,77 +89,92 @@ fn dials_of(
     Ok(dials)
 }
 
-// Takes the seats out of what is left of a thread, and hands out its streams.
-fn gather(seats: &mut Vec<Seat>, rest: Option<Rest>) -> Result<Vec<SocketStream>, RunError> {
+// What is left of all threads, in the order of the nodes.
+#[derive(Drop)]
+struct Rests {
+    accepting: IntoIter<Rest>,
+    first: IntoIter<Rest>,
+    second: IntoIter<Rest>,
+}
+
+// Takes the seats out of what is left of a thread.
+fn gather(seats: &mut Vec<Seat>, rest: Option<Rest>) -> Result<(), RunError> {
     let Some(rest) = rest else {
         return Err(RunError::NoMemory);
     };
-    let Rest { pool, streams } = rest;
-    let Pool { own, free } = pool;
+    let Pool { own, mut free } = rest.pool;
     seats.push(own)?;
-    for seat in free {
-        seats.push(seat)?;
-    }
-    Ok(streams)
+    seats.append(&mut free)?;
+    Ok(())
 }
 
-// Closes a node with its seats.
-fn closed(
-    alloc: Global,
-    host: Host,
-    rests: (Option<Rest>, Option<Rest>, Option<Rest>),
-) -> Result<Closed, RunError> {
+// All seats of the next node.
+fn next_seats(alloc: Global, rests: &mut Rests) -> Result<Vec<Seat>, RunError> {
     let mut seats = Vec::new(alloc);
-    let (accepting, first, second) = rests;
-    let _a = gather(&mut seats, accepting)?;
-    let _b = gather(&mut seats, first)?;
-    let _c = gather(&mut seats, second)?;
-    let Host {
-        node,
-        listener: _,
-        port: _,
-        registered: _,
-    } = host;
-    match close(node.into_book(), seats) {
+    gather(&mut seats, rests.accepting.next())?;
+    gather(&mut seats, rests.first.next())?;
+    gather(&mut seats, rests.second.next())?;
+    Ok(seats)
+}
+
+fn book_of(host: Host) -> Book {
+    host.node.into_book()
+}
+
+// Closes a book with its seats.
+fn closed(book: Book, seats: Vec<Seat>) -> Result<Closed, RunError> {
+    match close(book, seats) {
         Ok(closed) => Ok(closed),
         Err((error, _, _)) => Err(RunError::NotClosed(error)),
     }
 }
 
+// Closes the next node.
+fn close_next(alloc: Global, host: Host, rests: &mut Rests) -> Result<Closed, RunError> {
+    let seats = next_seats(alloc, rests)?;
+    closed(book_of(host), seats)
+}
+
+// Closes all nodes.
+fn closed_all(alloc: Global, hosts: Vec<Host>, mut rests: Rests) -> Result<Vec<Closed>, RunError> {
+    let mut all = Vec::new(alloc);
+    for host in hosts {
+        all.push(close_next(alloc, host, &mut rests)?)?;
+    }
+    Ok(all)
+}
+
 // The faults of both workers, in the order of their numbers.
 fn faults_of(first: Vec<OrderFault>, second: Vec<OrderFault>) -> Result<Vec<OrderFault>, RunError> {
     let mut faults = first;
-    for fault in second {
-        faults.push(fault)?;
-    }
+    let mut second = second;
+    faults.append(&mut second)?;
     faults
         .as_mut_slice()
         .sort_unstable_by_key(|fault| fault.number);
     Ok(faults)
 }
 
-// Closes all nodes.
-fn closed_all(alloc: Global, hosts: Vec<Host>, ended: Ended) -> Result<Ran, RunError> {
+// What is left of the nodes, closed.
+fn ran_of(alloc: Global, hosts: Vec<Host>, ended: Ended) -> Result<Ran, RunError> {
     let Ended {
         accepting,
         first,
         second,
     } = ended;
-    let mut accepting = accepting.into_iter();
-    let mut firsts = first.rests.into_iter();
-    let mut seconds = second.rests.into_iter();
-    let mut all = Vec::new(alloc);
-    for host in hosts {
-        let rests = (accepting.next(), firsts.next(), seconds.next());
-        all.push(closed(alloc, host, rests)?)?;
-    }
+    let rests = Rests {
+        accepting: accepting.into_iter(),
+        first: first.rests.into_iter(),
+        second: second.rests.into_iter(),
+    };
+    let closed = closed_all(alloc, hosts, rests)?;
     Ok(Ran {
         faults: faults_of(first.faults, second.faults)?,
-        closed: all,
+        closed,
     })
 }
 
-// Starts the nodes and runs their threads.
+// Starts the nodes, runs their threads, and closes what is left of them.
 fn run_hosts<R, G>(
     rt: &R,
     alloc: Global,
@@ -170,30 +182,57 @@ fn run_hosts<R, G>(
     mapper_port: u16,
     gate: &G,
     challenges: Challenges,
-) -> Result<(Vec<Host>, Ended), RunError>
+) -> Result<Ran, RunError>
 where
     R: Net<Listener = TcpListener, Stream = TcpStream> + Threads + Wait + Clock + Sync,
     G: Gate + Sync,
 {
-    let Plan {
-        port: _,
-        turns,
-        node,
-        dial,
-    } = plan;
-    let turns = turns as usize;
-    let nodes = node.into_vec();
-    let dials = dials_of(alloc, nodes.as_slice(), dial.into_vec())?;
+    let turns = plan.turns as usize;
+    let nodes = plan.node.into_vec();
+    let dials = dials_of(alloc, nodes.as_slice(), plan.dial.into_vec())?;
     let Started { hosts, pools } = start_all(rt, alloc, nodes, mapper_port, turns)?;
     let site = Site {
+        rt,
+        alloc,
         hosts: hosts.as_slice(),
         dials: dials.as_slice(),
         mapper_port,
         turns,
         gate,
+        failed: AtomicBool::new(false),
     };
-    let ended = run_threads(rt, alloc, &site, pools, challenges)?;
-    Ok((hosts, ended))
+    let ended = run_threads(site, pools, challenges)?;
+    ran_of(alloc, hosts, ended)
+}
+
+// Serves the port mapper while the nodes run.
+fn run_beside<R, G>(
+    rt: &R,
+    alloc: Global,
+    listener: &TcpListener,
+    port: u16,
+    plan: Plan,
+    gate: &G,
+    challenges: Challenges,
+) -> Result<Ran, RunError>
+where
+    R: Net<Listener = TcpListener, Stream = TcpStream> + Threads + Wait + Clock + Sync,
+    G: Gate + Sync,
+{
+    let registry = LockedRegistry::new(Registry::new(alloc, port, FIRST_CREATION));
+    let stop = AtomicBool::new(false);
+    let (registry, stop) = (&registry, &stop);
+    let turns = plan.turns as usize;
+    thread::scope(thread::scope_env(), rt, move |scope| {
+        let serving = scope.spawn(move || serve_all(rt, alloc, listener, registry, turns, stop));
+        let Ok(handle) = serving else {
+            return Err(RunError::ThreadFailed);
+        };
+        let ran = run_hosts(rt, alloc, plan, port, gate, challenges);
+        stop.store(true, Ordering::SeqCst);
+        let _kept = handle.join(rt);
+        ran
+    })
 }
 
 /// Runs a plan to its end: until each node's accepting thread was quiet for as many turns as the plan says, and all
@@ -217,20 +256,5 @@ where
     let Ok((listener, port)) = listening(rt, plan.port) else {
         return Err(RunError::ListenFailed);
     };
-    let registry = LockedRegistry::new(Registry::new(alloc, port, FIRST_CREATION));
-    let stop = AtomicBool::new(false);
-    let (listener, registry, stop) = (&listener, &registry, &stop);
-    let turns = plan.turns as usize;
-    let ran = thread::scope(thread::scope_env(), rt, move |scope| {
-        let serving = scope.spawn(move || serve_all(rt, alloc, listener, registry, turns, stop));
-        let Ok(handle) = serving else {
-            return Err(RunError::ThreadFailed);
-        };
-        let ran = run_hosts(rt, alloc, plan, port, gate, challenges);
-        stop.store(true, Ordering::SeqCst);
-        let kept = handle.join(rt);
-        Ok((ran?, kept))
-    });
-    let ((hosts, ended), _kept) = ran?;
-    closed_all(alloc, hosts, ended)
+    run_beside(rt, alloc, &listener, port, plan, gate, challenges)
 }

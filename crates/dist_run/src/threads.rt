@@ -4,15 +4,14 @@ ghost use Rattle.std.specs.Prelude.{◌≡◌, ◌≤◌};
 
 use crate::accepting::accept_all;
 use crate::crew::Rest;
-use crate::dialling::{Dial, Site, Worked, work_on};
-use crate::gathering::added;
-use dist_hosts::{Challenges, Pool, RunError};
-use dist_locked::{Gate, Orders, TakePass};
+use crate::dialling::{Shift, Worked, work_on};
+use crate::site::{Dial, Site};
+use dist_hosts::{Challenges, Pool, RunError, SharedOut};
+use dist_locked::{Gate, Orders};
 use dist_orders::{CAPACITY, MOST_ORDERS, dispatch};
 use std::alloc::Global;
 use std::net::{Net, TcpListener, TcpStream};
 use std::sync::Wait;
-use std::sync::atomic::{AtomicBool, AtomicUsize, Ordering};
 use std::thread;
 use std::thread::{JoinHandle, Scope, Threads};
 use std::time::Clock;
@@ -23,6 +22,25 @@ pub struct Pools {
     pub accepting: Vec<Pool>,
     pub first: Vec<Pool>,
     pub second: Vec<Pool>,
+}
+
+impl Pools {
+    /// The seats of no node.
+    pub fn new(alloc: Global) -> Pools {
+        Pools {
+            accepting: Vec::new(alloc),
+            first: Vec::new(alloc),
+            second: Vec::new(alloc),
+        }
+    }
+
+    /// Adds the seats of the next node.
+    pub fn add(&mut self, shares: SharedOut) -> Result<(), RunError> {
+        self.accepting.push(shares.accepting)?;
+        self.first.push(shares.first)?;
+        self.second.push(shares.second)?;
+        Ok(())
+    }
 }
 
 /// What the threads of the nodes leave.
@@ -43,123 +61,125 @@ fn count_of(dials: &[Dial]) -> u32
     }
 }
 
-// Both workers.
-fn work_both<'s, 'a: 's, E, R, G>(
+// What both workers leave, where they had memory to begin.
+fn both<T: Drop>(
+    first: Result<T, RunError>,
+    second: Result<T, RunError>,
+) -> Result<(T, T), RunError> {
+    Ok((first?, second?))
+}
+
+// Both workers, until all orders are taken and all their connections have ended.
+fn work_both<'s, E, R, G>(
     scope: &'s Scope<'s, E>,
-    rt: &'s R,
-    alloc: Global,
-    refused: (&'s AtomicUsize, &'s AtomicUsize),
+    site: &'s Site<'s, R, G>,
     orders: &Orders,
-    site: &Site<'a, G>,
-    one: TakePass,
-    two: TakePass,
+    one: Shift,
+    two: Shift,
+) -> Result<(Worked, Worked), RunError>
+where
+    R: Net<Listener = TcpListener, Stream = TcpStream> + Threads + Wait + Sync,
+    G: Gate + Sync,
+    requires { (one.pass.table ≡ orders.now.table) × (two.pass.table ≡ orders.now.table) }
+{
+    let (first, second) = thread::join(
+        site.rt,
+        move || -> Result<Worked, RunError>
+            requires { one.pass.table ≡ orders.now.table }
+        { work_on(scope, site, orders, one) },
+        move || -> Result<Worked, RunError>
+            requires { two.pass.table ≡ orders.now.table }
+        { work_on(scope, site, orders, two) },
+    );
+    both(first, second)
+}
+
+// The dispatcher and both workers.
+fn work_all<'s, E, R, G>(
+    scope: &'s Scope<'s, E>,
+    site: &'s Site<'s, R, G>,
     first: Vec<Pool>,
     second: Vec<Pool>,
     mut challenges: Challenges,
-) -> (
-    (TakePass, Result<Worked, RunError>),
-    (TakePass, Result<Worked, RunError>),
-)
+) -> Result<(Worked, Worked), RunError>
 where
     R: Net<Listener = TcpListener, Stream = TcpStream> + Threads + Wait + Sync,
     G: Gate + Sync,
-    requires { (one.table ≡ orders.now.table) × (two.table ≡ orders.now.table) }
 {
-    let mine = challenges.fork();
-    let (mark, other) = refused;
-    thread::join(
-        rt,
-        move || -> (TakePass, Result<Worked, RunError>)
-            requires { one.table ≡ orders.now.table }
-        { work_on(scope, rt, alloc, mark, 0, orders, site, one, first, mine) },
-        move || -> (TakePass, Result<Worked, RunError>)
-            requires { two.table ≡ orders.now.table }
-        {
-            work_on(
-                scope, rt, alloc, other, 1, orders, site, two, second, challenges,
-            )
-        },
-    )
+    let (orders, put, one, two) = Orders::new(site.alloc, CAPACITY)?;
+    let _put = dispatch(site.rt, &orders, put, count_of(site.dials));
+    let one = Shift {
+        worker: 0,
+        pass: one,
+        pools: first,
+        challenges: challenges.fork(),
+    };
+    let two = Shift {
+        worker: 1,
+        pass: two,
+        pools: second,
+        challenges,
+    };
+    work_both(scope, site, &orders, one, two)
 }
 
-// The dispatcher and both workers, until all orders are taken and all their connections have ended.
-fn work_in<'s, 'a: 's, E, R, G>(
+// Starts the accepting threads. A node that gets none has no handle.
+fn accept_on<'s, E, R: Threads + Wait + Clock + Sync, G: Sync>(
     scope: &'s Scope<'s, E>,
-    rt: &'s R,
-    alloc: Global,
-    refused: (&'s AtomicUsize, &'s AtomicUsize),
-    site: &Site<'a, G>,
-    first: Vec<Pool>,
-    second: Vec<Pool>,
-    challenges: Challenges,
-) -> Result<(Worked, Worked), RunError>
-where
-    R: Net<Listener = TcpListener, Stream = TcpStream> + Threads + Wait + Sync,
-    G: Gate + Sync,
-{
-    let (orders, put, one, two) = Orders::new(alloc, CAPACITY)?;
-    let shared = &orders;
-    let _put = dispatch(rt, shared, put, count_of(site.dials));
-    let ((_one, a), (_two, b)) = work_both(
-        scope, rt, alloc, refused, shared, site, one, two, first, second, challenges,
-    );
-    Ok((a?, b?))
-}
-
-// The same, in a scope for the threads of their connections.
-fn work_all<R, G>(
-    rt: &R,
-    alloc: Global,
-    site: &Site<'_, G>,
-    first: Vec<Pool>,
-    second: Vec<Pool>,
-    challenges: Challenges,
-) -> Result<(Worked, Worked), RunError>
-where
-    R: Net<Listener = TcpListener, Stream = TcpStream> + Threads + Wait + Sync,
-    G: Gate + Sync,
-{
-    let mark = AtomicUsize::new(usize::MAX);
-    let other = AtomicUsize::new(usize::MAX);
-    let refused = (&mark, &other);
-    thread::scope(
-        thread::scope_env(),
-        rt,
-        move |scope| work_in(scope, rt, alloc, refused, site, first, second, challenges),
-    )
+    site: &'s Site<'s, R, G>,
+    pools: Vec<Pool>,
+    challenges: &mut Challenges,
+) -> Result<Vec<JoinHandle<Rest>>, RunError> {
+    let mut handles = Vec::with_capacity(site.alloc, site.hosts.len())?;
+    let mut pools = pools.into_iter();
+    for host in site.hosts {
+        let Some(pool) = pools.next() else {
+            break;
+        };
+        let mine = challenges.fork();
+        if let Ok(handle) = scope.spawn(move || accept_all(scope, site, host, pool, mine)) {
+            handles.push(handle)?;
+        }
+    }
+    Ok(handles)
 }
 
 // Joins the accepting threads.
-fn rests_of<R: Threads>(
-    rt: &R,
-    alloc: Global,
-    handles: Vec<JoinHandle<Result<Rest, RunError>>>,
-) -> Result<Vec<Rest>, RunError> {
-    let mut rests = Ok(Vec::new(alloc));
+fn rests_of<R: Threads, G>(site: &Site<'_, R, G>, handles: Vec<JoinHandle<Rest>>) -> Vec<Rest> {
+    let mut rests = Vec::new(site.alloc);
     for handle in handles {
-        rests = added(rests, handle.join(rt));
+        site.keep(&mut rests, handle.join(site.rt));
     }
     rests
 }
 
-// What the threads leave, where nothing was lost.
-fn all_kept(
-    accepting: Result<Vec<Rest>, RunError>,
-    worked: Result<(Worked, Worked), RunError>,
-) -> Result<Ended, RunError> {
-    let (first, second) = worked?;
-    Ok(Ended {
-        accepting: accepting?,
-        first,
-        second,
-    })
+// Has the workers work while the nodes accept, if each has a thread for that.
+fn work_beside<'s, E, R, G>(
+    scope: &'s Scope<'s, E>,
+    site: &'s Site<'s, R, G>,
+    handles: Vec<JoinHandle<Rest>>,
+    first: Vec<Pool>,
+    second: Vec<Pool>,
+    challenges: Challenges,
+) -> (Vec<Rest>, Result<(Worked, Worked), RunError>)
+where
+    R: Net<Listener = TcpListener, Stream = TcpStream> + Threads + Wait + Clock + Sync,
+    G: Gate + Sync,
+{
+    let worked = if handles.len() == site.hosts.len() {
+        work_all(scope, site, first, second, challenges)
+    } else {
+        Err(RunError::ThreadFailed)
+    };
+    if worked.is_err() {
+        site.fail();
+    }
+    (rests_of(site, handles), worked)
 }
 
-/// Starts all threads of the nodes, and answers once they have ended. ThreadFailed comes where a node gets none.
-pub fn run_threads<R, G>(
-    rt: &R,
-    alloc: Global,
-    site: &Site<'_, G>,
+fn run_in<'s, E, R, G>(
+    scope: &'s Scope<'s, E>,
+    site: &'s Site<'s, R, G>,
     pools: Pools,
     mut challenges: Challenges,
 ) -> Result<Ended, RunError>
@@ -167,30 +187,41 @@ where
     R: Net<Listener = TcpListener, Stream = TcpStream> + Threads + Wait + Clock + Sync,
     G: Gate + Sync,
 {
-    let Pools {
-        accepting,
-        first,
-        second,
-    } = pools;
-    let stop = AtomicBool::new(false);
-    let stop = &stop;
-    thread::scope(thread::scope_env(), rt, move |scope| {
-        let turns = site.turns;
-        let mut handles = Vec::with_capacity(alloc, site.hosts.len())?;
-        for (host, pool) in site.hosts.iter().zip(accepting) {
-            let mine = challenges.fork();
-            if let Ok(handle) = scope.spawn(move || accept_all(
-                rt, alloc, host, pool, mine, turns, stop,
-            )) {
-                handles.push(handle)?;
-            }
-        }
-        let worked = if handles.len() == site.hosts.len() {
-            work_all(rt, alloc, site, first, second, challenges)
-        } else {
-            Err(RunError::ThreadFailed)
-        };
-        stop.store(worked.is_err(), Ordering::SeqCst);
-        all_kept(rests_of(rt, alloc, handles), worked)
-    })
+    let handles = accept_on(scope, site, pools.accepting, &mut challenges)?;
+    let (accepting, worked) = work_beside(
+        scope,
+        site,
+        handles,
+        pools.first,
+        pools.second,
+        challenges,
+    );
+    match worked {
+        Ok(_) if site.has_failed() => Err(RunError::NoMemory),
+        Ok((first, second)) => Ok(Ended {
+            accepting,
+            first,
+            second,
+        }),
+        Err(error) => Err(error),
+    }
+}
+
+/// Starts all threads of the nodes, and answers once they have ended. ThreadFailed comes where a node gets none, NoMemory
+/// where something could not be kept.
+pub fn run_threads<R, G>(
+    site: Site<'_, R, G>,
+    pools: Pools,
+    challenges: Challenges,
+) -> Result<Ended, RunError>
+where
+    R: Net<Listener = TcpListener, Stream = TcpStream> + Threads + Wait + Clock + Sync,
+    G: Gate + Sync,
+{
+    let site = &site;
+    thread::scope(
+        thread::scope_env(),
+        site.rt,
+        move |scope| run_in(scope, site, pools, challenges),
+    )
 }
