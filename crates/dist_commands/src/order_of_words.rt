@@ -13,7 +13,7 @@ use clap::error::ErrorKind;
 use std::alloc::{AllocError, Global};
 
 /// What the program is asked to do.
-#[derive(Clone, Copy, Debug, PartialEq, Eq)]
+#[derive(Clone, Copy, Debug)]
 pub enum Order<'a> {
     /// Enact the script on standard input.
     Enact,
@@ -26,7 +26,7 @@ pub enum Order<'a> {
 }
 
 /// Why the words ask for nothing.
-#[derive(Clone, Copy, Debug, PartialEq, Eq)]
+#[derive(Clone, Copy, Debug)]
 pub enum OrderError {
     /// They are no command of this program. Asking for help or the version is none.
     Bad,
