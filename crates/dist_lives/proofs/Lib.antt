@@ -1,3 +1,5 @@
+pub mod Texts
+pub mod Places
 pub mod Edits
 pub mod Writing
 pub mod Told

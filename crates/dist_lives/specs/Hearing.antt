@@ -16,7 +16,7 @@ use Rattle.dist_agreement.specs.Rows.{EndRow, peer_by, once, takes_name, says_re
 use Rattle.dist_agreement.specs.World.{Life, Conn}
 use Rattle.dist_agreement.specs.Delivery.{says}
 use Rattle.dist_agreement.specs.Happenings.{lived, shut_row}
-use Rattle.dist_wires.specs.Wires.{is_quiet_at}
+use Rattle.dist_lives.specs.Wires.{is_quiet_at}
 use Rattle.dist_lives.specs.declared.hearing.Heard.{Heard}
 
 -- ---- the rows that a reply changes, one by one

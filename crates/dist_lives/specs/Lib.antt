@@ -1,3 +1,5 @@
+pub mod Wires
+pub mod Reading
 pub mod Hearing
 pub mod Telling
 pub mod Index

@@ -7,7 +7,7 @@ use crate::life::Life;
 use dist_core::{Event, StepError};
 use dist_laws::a_reply_is_of_its_end;
 use dist_messages::Side;
-use dist_wires::Connections;
+use crate::Connections;
 use std::alloc::{AllocError, Global};
 
 // Which side of which connection the end of an event is.

@@ -12,7 +12,7 @@ use dist_core::{Event, Node, Note, Reply, StepError, Why};
 use dist_messages::Side;
 use dist_names::ByteString;
 use dist_peers::EndId;
-use dist_wires::Connections;
+use crate::Connections;
 use std::alloc::{AllocError, Global};
 
 /// What is left of a reply once its words are on their way and the rows have what it writes.

@@ -16,7 +16,7 @@ use dist_core::{Event, Node, Setup};
 use dist_messages::Side;
 use dist_names::Creation;
 use dist_peers::EndId;
-use dist_wires::Connections;
+use crate::Connections;
 use std::alloc::{AllocError, Global};
 use std::marker::Model;
 

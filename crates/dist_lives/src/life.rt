@@ -17,7 +17,7 @@ use dist_core::{Event, Node, Setup, StepError, Still, UpRecord};
 use dist_messages::Side;
 use dist_names::{Creation, NodeName};
 use dist_peers::EndId;
-use dist_wires::Connections;
+use crate::Connections;
 use std::alloc::{AllocError, Global};
 use std::marker::Model;
 

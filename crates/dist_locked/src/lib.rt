@@ -6,19 +6,27 @@
 //! receipt. At the end `close` compares the receipts with the book. A lock is held for one step and no longer, and never
 //! while anything is read or written.
 //!
+//! Beside it stands the queue of dial orders: one dispatcher puts numbers in, two workers take them out. What was put and
+//! what each worker took is known to proofs alone, through the passes that come with a queue.
+//!
 //! It starts no thread and knows no socket. It promises no order between threads, no fairness and no end of waiting.
 #![tactic(auto)]
 
+mod dispatching;
 mod driven;
 mod gate;
 mod locked_node;
+mod queue;
+mod rule;
 mod seat_desk;
 mod shared;
 
 pub use dist_books::{Book, CloseError, Closed, Line, Receipt, Seat, close, step_on};
-pub use dist_orders::{DialOrder, Orders, PutPass, TakePass};
+pub use dispatching::{CAPACITY, LAST_ORDER, MOST_ORDERS, dispatch};
 pub use driven::{Driven, drive_end};
 pub use gate::{Gate, Moment, Open};
 pub use locked_node::{LockedNode, Tickets};
+pub use queue::{Orders, PutPass, TakePass};
+pub use rule::DialOrder;
 pub use seat_desk::SeatDesk;
 pub use shared::{LockedRegistry, SharedMapper};

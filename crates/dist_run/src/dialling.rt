@@ -9,9 +9,8 @@ use dist_drive::{lookup, opening_for};
 use dist_hosts::{
     Challenges, Connection, Host, OrderFault, OrderRefusal, Pool, RunError, connected, link_of,
 };
-use dist_locked::{Gate, Moment, Orders, TakePass};
+use dist_locked::{Gate, LAST_ORDER, Moment, Orders, TakePass};
 use dist_names::{ByteString, NodeName};
-use dist_orders::LAST_ORDER;
 use dist_peers::EndId;
 use std::net::{Net, TcpListener, TcpStream};
 use std::sync::Wait;

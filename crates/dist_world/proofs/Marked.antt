@@ -16,7 +16,7 @@ use Rattle.dist_agreement.specs.Delivery.{says, spoken, change_to, body_taken}
 use Rattle.dist_agreement.specs.Happenings.{lived, told, told_in, answered, unclosed, accepted, accepted_by, next_end, taken_by, taken_on, taken_from, taken_body, take_next}
 use Rattle.dist_lives.specs.Hearing.{wire_of, said_at}
 use Rattle.dist_lives.specs.Telling.{wire_at, HasTold}
-use Rattle.dist_wires.specs.Wires.{unaccepted, front_at}
+use Rattle.dist_lives.specs.Wires.{unaccepted, front_at}
 use Rattle.dist_lives.specs.declared.hearing.Heard.{Heard}
 use Rattle.dist_lives.proofs.Wired.{AreOwn, as_wired}
 

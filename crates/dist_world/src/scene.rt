@@ -11,9 +11,8 @@ ghost use Rattle.dist_agreement.specs.Agreement.{AreSetups, IsUp};
 use crate::setups::are_good;
 use crate::world_error::WorldError;
 use dist_core::{Node, Setup, UpRecord, Why};
-use dist_lives::Lives;
+use dist_lives::{Connections, Lives};
 use dist_peers::EndId;
-use dist_wires::Connections;
 use std::alloc::Global;
 use std::marker::Model;
 

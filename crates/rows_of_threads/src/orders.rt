@@ -1,7 +1,7 @@
 //! The queue of dial orders.
 ghost use Rattle.std.specs.Prelude.{◌≡◌, true, false};
 
-use dist_orders::{DialOrder, Orders, PutPass, TakePass};
+use dist_locked::{DialOrder, Orders, PutPass, TakePass};
 use std::alloc::Global;
 use std::sync::Wait;
 use std::test::*;

@@ -1,7 +1,7 @@
 use Rattle.std.proofs.Common.{◌≡◌, ◌∙◌, ℕ, List, Some, slice_get, ap, sym}
 use Rattle.dist_agreement.specs.World.{World, row_of_life}
 use Rattle.dist_lives.specs.Hearing.{wire_of}
-use Rattle.dist_wires.specs.Wires.{front_at}
+use Rattle.dist_lives.specs.Wires.{front_at}
 use Rattle.dist_world.proofs.Marked.{taken_is}
 use Rattle.dist_world.proofs.scene.Scene.take.Goals as goal
 

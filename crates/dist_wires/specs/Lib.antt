@@ -1,2 +1,0 @@
-pub mod Wires
-pub mod Reading
