@@ -8,7 +8,7 @@ use std::collections::BTreeMap;
 use std::marker::Model;
 
 /// A line, and the place of its node among all.
-#[derive(Debug, Drop)]
+#[derive(Drop)]
 pub struct Told<'a> {
     node: usize,
     line: &'a Line,

@@ -11,7 +11,7 @@ use dist_setup::{Setup, announced_by};
 use std::alloc::{AllocError, Global};
 
 /// What a step does. A word of the contracts: no public call takes or gives it.
-#[derive(Debug, Drop)]
+#[derive(Drop)]
 pub struct Effect {
     /// What is answered.
     pub reply: Reply,

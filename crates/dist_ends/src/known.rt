@@ -8,7 +8,7 @@ use dist_names::{Creation, Flags, NodeName};
 use std::alloc::{AllocError, Global};
 
 /// An end whose peer is known and that isn't up.
-#[derive(Debug, Drop)]
+#[derive(Drop)]
 pub struct Attempt {
     /// The name that was dialled, or that came.
     pub peer: NodeName,
@@ -40,7 +40,7 @@ pub struct UpRecord {
 }
 
 /// An end of a connection, at one node.
-#[derive(Debug, Drop)]
+#[derive(Drop)]
 pub enum End {
     /// Accepted, and no name has come.
     Unnamed,

@@ -4,7 +4,7 @@ use crate::why::Why;
 
 /// Where the handshake of an end stands whose peer is known: named for what the end awaits. Beside each, the function of
 /// OTP's `dist_util` that waits there.
-#[derive(Clone, Copy, Debug, PartialEq, Eq)]
+#[derive(Clone, Copy, PartialEq, Eq)]
 pub enum Phase {
     /// Dialled: no connection is there yet.
     Dialing,
@@ -27,7 +27,7 @@ pub enum Phase {
 }
 
 /// How an end holds its peer.
-#[derive(Clone, Copy, Debug, PartialEq, Eq)]
+#[derive(Clone, Copy, PartialEq, Eq)]
 pub enum Kind {
     /// Dialled and not up.
     Out,
@@ -51,7 +51,7 @@ pub enum Still {
 }
 
 /// Why no open end has a number.
-#[derive(Clone, Copy, Debug, PartialEq, Eq)]
+#[derive(Clone, Copy, PartialEq, Eq)]
 pub enum Absent {
     /// The number was never given out.
     NoSuchEnd,

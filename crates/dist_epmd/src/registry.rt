@@ -58,7 +58,7 @@ fn refused(request: &AliveReq) -> Answer
 /// It has at most 1,024 of them (our own limit), in byte order of their names, and no two of one name or of one
 /// connection. It keeps them in a map from the name, so that a lookup is quick. The caller gives each connection a number
 /// that it uses for no other, and calls `closed` once the connection is over. Nothing here waits, reads or writes.
-#[derive(Debug, Drop)]
+#[derive(Drop)]
 pub struct Registry {
     port: u16,
     next: u64,

@@ -10,7 +10,7 @@ use std::marker::Model;
 
 /// The bytes that came and were not moved out. Those before the mark were; they stay where they are until the next bytes
 /// would make the vector grow.
-#[derive(Debug, Drop)]
+#[derive(Drop)]
 pub struct Buffer {
     bytes: Vec<u8>,
     // Where those begin that were not moved out.

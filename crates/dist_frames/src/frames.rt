@@ -11,7 +11,7 @@ use std::marker::Model;
 ///
 /// The bodies do not depend on the cuts between the pieces. Contracts see what is still to come, and not what is kept: of
 /// short frames the bytes that were not moved out, of packets no bytes.
-#[derive(Debug, Drop)]
+#[derive(Drop)]
 pub struct Frames {
     // Where the bodies that are moved out are copied to.
     alloc: Global,
@@ -19,7 +19,7 @@ pub struct Frames {
 }
 
 // What comes next, and what is kept for it.
-#[derive(Debug, Drop)]
+#[derive(Drop)]
 enum Stage {
     // Short frames: the bytes that were not moved out.
     Short(Buffer),

@@ -18,7 +18,7 @@ pub fn tick() -> [u8; 4]
 }
 
 /// What came of the packet that has not ended: at most three bytes of its length, or how many bytes are still to come.
-#[derive(Debug, Drop)]
+#[derive(Drop)]
 pub struct Partial {
     // How many bytes are still to come, once the length has come.
     owed: u32,

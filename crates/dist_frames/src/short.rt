@@ -45,7 +45,7 @@ pub fn write_short(alloc: Global, body: &[u8]) -> Result<Vec<u8>, FrameError>
     if body.len() > MOST {
         return Err(FrameError::TooLong);
     }
-    let mut frame = Vec::new(alloc);
+    let mut frame = Vec::with_capacity(alloc, body.len() + 2)?;
     frame.extend_from_slice(&(body.len() as u16).to_be_bytes())?;
     frame.extend_from_slice(body)?;
     Ok(frame)

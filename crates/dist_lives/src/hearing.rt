@@ -16,7 +16,7 @@ use crate::Connections;
 use std::alloc::{AllocError, Global};
 
 /// What is left of a reply once its words are on their way and the rows have what it writes.
-#[derive(Clone, Copy, Debug)]
+#[derive(Clone, Copy)]
 pub struct Heard {
     /// The event's end, or the one that was given out.
     pub end_: EndId,

@@ -11,7 +11,7 @@ use std::marker::Model;
 
 /// What stays of an end for ever, also once it is closed and its node has ended. The numbers are of happenings that applied,
 /// counted from 0.
-#[derive(Debug, Drop)]
+#[derive(Drop)]
 pub struct EndRow {
     side: Side,
     peer: Option<NodeName>,

@@ -15,7 +15,7 @@ use std::alloc::{AllocError, Global};
 fn complement(alloc: Global, high: u32, creation: Creation) -> Result<Vec<u8>, AllocError>
     ensures { IfOk result (λ v. v.items ≡ canonical (message.Complement high creation)) }
 {
-    let mut body = Vec::new(alloc);
+    let mut body = Vec::with_capacity(alloc, 9)?;
     body.push(b'c')?;
     body.extend_from_slice(&high.to_be_bytes())?;
     body.extend_from_slice(&creation.0.to_be_bytes())?;
@@ -25,7 +25,7 @@ fn complement(alloc: Global, high: u32, creation: Creation) -> Result<Vec<u8>, A
 fn reply(alloc: Global, challenge: u32, digest: &[u8]) -> Result<Vec<u8>, AllocError>
     ensures { IfOk result (λ v. v.items ≡ canonical (message.Reply challenge digest.now)) }
 {
-    let mut body = Vec::new(alloc);
+    let mut body = Vec::with_capacity(alloc, 21)?;
     body.push(b'r')?;
     body.extend_from_slice(&challenge.to_be_bytes())?;
     body.extend_from_slice(digest)?;
@@ -35,7 +35,7 @@ fn reply(alloc: Global, challenge: u32, digest: &[u8]) -> Result<Vec<u8>, AllocE
 fn tagged(alloc: Global, tag: u8, text: &[u8]) -> Result<Vec<u8>, AllocError>
     ensures { IfOk result (λ v. v.items ≡ tag ∷ text.now) }
 {
-    let mut body = Vec::new(alloc);
+    let mut body = Vec::with_capacity(alloc, text.len().saturating_add(1))?;
     body.push(tag)?;
     body.extend_from_slice(text)?;
     Ok(body)

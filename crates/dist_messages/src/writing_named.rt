@@ -27,7 +27,7 @@ pub fn old_name(alloc: Global, flags: u32, name: &[u8]) -> Result<Vec<u8>, Messa
     if !fits(name) {
         return Err(MessageError::BadName);
     }
-    let mut body = Vec::new(alloc);
+    let mut body = Vec::with_capacity(alloc, name.len() + 7)?;
     body.push(b'n')?;
     body.extend_from_slice(&VERSION.to_be_bytes())?;
     body.extend_from_slice(&flags.to_be_bytes())?;
@@ -46,7 +46,7 @@ pub fn new_name(
     if !fits(name) {
         return Err(MessageError::BadName);
     }
-    let mut body = Vec::new(alloc);
+    let mut body = Vec::with_capacity(alloc, name.len() + 15)?;
     body.push(b'N')?;
     body.extend_from_slice(&flags.0.to_be_bytes())?;
     body.extend_from_slice(&creation.0.to_be_bytes())?;
@@ -66,7 +66,7 @@ pub fn old_challenge(
     if !fits(name) {
         return Err(MessageError::BadName);
     }
-    let mut body = Vec::new(alloc);
+    let mut body = Vec::with_capacity(alloc, name.len() + 11)?;
     body.push(b'n')?;
     body.extend_from_slice(&VERSION.to_be_bytes())?;
     body.extend_from_slice(&flags.to_be_bytes())?;
@@ -88,7 +88,7 @@ pub fn new_challenge(
     if !fits(name) {
         return Err(MessageError::BadName);
     }
-    let mut body = Vec::new(alloc);
+    let mut body = Vec::with_capacity(alloc, name.len() + 19)?;
     body.push(b'N')?;
     body.extend_from_slice(&flags.0.to_be_bytes())?;
     body.extend_from_slice(&challenge.to_be_bytes())?;

@@ -73,6 +73,24 @@ pub fn set_row(entries: &mut BTreeMap<NodeName, Entry>, name: &NodeName, entry: 
     }
 }
 
+/// Gives a name that has an entry another, and answers the one that it had. It takes no memory.
+pub fn change_row(
+    entries: &mut BTreeMap<NodeName, Entry>,
+    name: &NodeName,
+    entry: Entry,
+) -> Option<Entry>
+    requires there { IsSome (get name_cmp entries.old name.now) }
+    ensures was { result ≡ get name_cmp entries.old name.now }
+    ensures changed { Updates name_cmp entries.old entries.new name.now (Some entry) }
+    ensures len { btree_map_len entries.new ≡ btree_map_len entries.old }
+    ensures ordered { IsOrdered name_cmp entries.new }
+{
+    let place = entries.get_mut(name)?;
+    let was = *place;
+    *place = entry;
+    Some(was)
+}
+
 /// Takes out the row of a name, where there is one. It takes no memory.
 pub fn drop_row(entries: &mut BTreeMap<NodeName, Entry>, name: &NodeName)
     ensures changed { Updates name_cmp entries.old entries.new name.now None }

@@ -5,9 +5,9 @@ ghost use Rattle.dist_names.specs.Order.{same_name};
 ghost use Rattle.dist_peers.specs.Table.{entry_of, is_waiting, replaced_by, left_by, with_entry, up_ids, OthersStay};
 ghost use Rattle.dist_peers.specs.Verdicts.{is_full, is_greater, dialled, named, verdict_on, Does};
 
-use crate::by_name::{drop_row, entry_in, put_row, row_at, set_row, up_count, up_in};
+use crate::by_name::{change_row, drop_row, entry_in, put_row, row_at, set_row, up_count, up_in};
 use crate::entry::{EndId, Entry, PeersError, Verdict};
-use crate::verdict::{left_over, replaced, ruling_of, waits_for};
+use crate::verdict::{left_over, replaced, ruling_of, verdict_by, waits_for};
 use dist_names::NodeName;
 use std::alloc::{AllocError, Global};
 use std::collections::BTreeMap;
@@ -19,7 +19,7 @@ const MOST: usize = 1024;
 /// The entries of the peers that aren't idle, at most 1,024.
 ///
 /// Contracts see a finite map from names to entries, and `at` shows it in the order of the names.
-#[derive(Debug, Drop)]
+#[derive(Drop)]
 pub struct Peers {
     alloc: Global,
     by_name: BTreeMap<NodeName, Entry>,
@@ -93,7 +93,14 @@ impl Peers {
     pub fn is_full_for(&self, peer: &NodeName) -> bool
         ensures { result ≡ is_full self.now (entry_of self.now peer.now) }
     {
-        match self.entry(peer) {
+        self.is_full_with(self.entry(peer))
+    }
+
+    // Whether a further entry would be needed for a peer that has this one, and 1,024 are there.
+    fn is_full_with(&self, entry: Option<Entry>) -> bool
+        ensures { result ≡ is_full self.now entry }
+    {
+        match entry {
             Some(_) => false,
             None => self.len() >= MOST,
         }
@@ -110,7 +117,7 @@ impl Peers {
     pub fn verdict(&self, me: &NodeName, peer: &NodeName, id: EndId) -> Verdict
         ensures { result ≡ verdict_on self.now me.now peer.now id }
     {
-        ruling_of(me.cmp(peer).is_gt(), id, self.entry(peer)).verdict
+        verdict_by(me, peer, id, self.entry(peer))
     }
 
     /// A dial to this peer begins on this end: the idle peer's entry becomes `Out`.
@@ -151,10 +158,11 @@ impl Peers {
         ensures others { OthersStay peer.now self.old self.new }
         ensures unchanged { OnErr result (self.new ≡ self.old) }
     {
-        if self.is_full_for(peer) {
+        let entry = self.entry(peer);
+        if self.is_full_with(entry) {
             return Err(PeersError::Full);
         }
-        let ruling = ruling_of(me.cmp(peer).is_gt(), id, self.entry(peer));
+        let ruling = ruling_of(me.cmp(peer).is_gt(), id, entry);
         match self.put(peer, ruling.entry) {
             Ok(()) => Ok(ruling.verdict),
             Err(_) => Err(PeersError::NoMemory),
@@ -170,9 +178,7 @@ impl Peers {
         ensures entry { self.new ≡ map.insert self.old peer.now (Entry.Up id) }
         ensures others { OthersStay peer.now self.old self.new }
     {
-        let entry = self.entry(peer);
-        self.set(peer, Entry::Up(id));
-        replaced(entry)
+        replaced(self.change(peer, Entry::Up(id)))
     }
 
     /// This end is lost, or was closed by its own message. Changes nothing where the peer's entry does not name it.
@@ -203,6 +209,15 @@ impl Peers {
         ensures { self.new ≡ map.insert self.old peer.now entry }
     {
         set_row(&mut self.by_name, peer, entry);
+    }
+
+    // Gives a peer that has an entry another, and answers the one that it had.
+    fn change(&mut self, peer: &NodeName, entry: Entry) -> Option<Entry>
+        requires { IsSome (entry_of self.old peer.now) }
+        ensures was { result ≡ entry_of self.old peer.now }
+        ensures changed { self.new ≡ map.insert self.old peer.now entry }
+    {
+        change_row(&mut self.by_name, peer, entry)
     }
 
     // A peer becomes idle.

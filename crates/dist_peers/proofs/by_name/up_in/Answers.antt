@@ -1,7 +1,6 @@
 use Rattle.std.proofs.Common.{rules, tests, ◌≡◌, ◌∙◌, Option, Some, None, refl}
 use Rattle.std.specs.Option.{option_map}
 use Rattle.std.proofs.lemmas.Iterator.Consumers.{nth_from_yields_List, YieldsList-from_filter_map, YieldsList-from_rest, YieldsList-at}
-use Rattle.dist_peers.specs.Table.{up_id}
 use Rattle.dist_peers.proofs.by_name.up_in.Goals as goal
 
 same-option : {X : Type 0} (o : Option X) → o ≡ option_map (λ x. x) o
