@@ -1,45 +1,60 @@
-//! Plays rows of the port mapper over streams in memory: bytes that come, and what a registry, a client or the codec makes
-//! of them. The rows are files in the folder that the program runs in.
+//! Plays rows of bytes: what comes of names, cookies and their digests, frames and handshake messages, and over streams in
+//! memory what a registry, a client or the codec of the port mapper makes of them. The rows are files in the folder that the
+//! program runs in.
 //!
-//! What the rows expect is typed from the ERTS User's Guide (EPMD Protocol) and from the rules of `docs/PROTOCOL.md`. Each
-//! file is played with its bytes in one piece and then byte by byte, but for the rows that say how their bytes come.
+//! What the rows expect is typed from the ERTS User's Guide (EPMD Protocol, Distribution Protocol), from captured handshakes,
+//! from other programs (digests) and from the rules of `docs/PROTOCOL.md`. Each file is played with its bytes in one piece
+//! and then byte by byte, but for the rows that say how their bytes come.
 #![tactic(auto)]
 
 mod asked;
+mod cookies;
 mod digits;
+mod frames;
+mod handshake;
+mod names;
+mod readers;
 mod reading;
+mod refusals;
 mod rows;
 mod served;
 mod streams;
 
+use rows::Subject;
 use std::process::ExitCode;
 use std::{fs, io};
 
-/// The files of rows.
-const FILES: [&str; 7] = [
-    "registry_session",
-    "cut_registration",
-    "port_mapper_client",
-    "cut_answers",
-    "changed_messages",
-    "messages",
-    "full_registry",
+/// The files of rows, and what they are about.
+const FILES: [(&str, Subject); 13] = [
+    ("node_names", Subject::Names),
+    ("cookies", Subject::Cookies),
+    ("digests", Subject::Cookies),
+    ("frames", Subject::Frames),
+    ("handshake_messages", Subject::Handshake),
+    ("sentences", Subject::Refusals),
+    ("registry_session", Subject::PortMapper),
+    ("cut_registration", Subject::PortMapper),
+    ("port_mapper_client", Subject::PortMapper),
+    ("cut_answers", Subject::PortMapper),
+    ("changed_messages", Subject::PortMapper),
+    ("messages", Subject::PortMapper),
+    ("full_registry", Subject::PortMapper),
 ];
 
 /// Prints how many rows each file has, or the first row that goes otherwise.
 fn main(rt: HostRuntime) -> ExitCode {
-    for name in FILES {
-        if !matches!(is_file_so(&rt, name), Ok(true)) {
+    for (name, subject) in FILES {
+        if !matches!(is_file_so(&rt, name, subject), Ok(true)) {
             return ExitCode::FAILURE;
         }
     }
     ExitCode::SUCCESS
 }
 
-fn is_file_so(rt: &HostRuntime, name: &str) -> io::Result<bool> {
+fn is_file_so(rt: &HostRuntime, name: &str, subject: Subject) -> io::Result<bool> {
     let text = fs::read_to_string(rt, name)?;
     for pieces in ["whole", "bytes"] {
-        if let Err(row) = rows::play(rt.alloc(), &text, pieces) {
+        if let Err(row) = rows::play(rt.alloc(), subject, &text, pieces) {
             println!(rt; "{name}, {pieces}: {row}")?;
             return Ok(false);
         }
