@@ -127,6 +127,17 @@ pub fn cookie_of(alloc: Global, value: &Value) -> Result<Cookie, PlanError>
     }
 }
 
+// Adds a cookie, where there is room for it.
+fn set_cookie(cookies: &mut Cookies, name: NodeName, cookie: Cookie) -> Result<(), PlanError>
+    ensures { MatchResult result (λ _. cookie_added cookies.old (Some name) (Some cookie) ≡ Some cookies.new) (λ error. error ≡ Bad → cookie_added cookies.old (Some name) (Some cookie) ≡ None) }
+{
+    match cookies.set(name, cookie) {
+        Ok(()) => Ok(()),
+        Err(CookiesError::Full) => Err(PlanError::Bad),
+        Err(CookiesError::NoMemory) => Err(PlanError::NoMemory),
+    }
+}
+
 // Adds the cookie of a key.
 fn add_cookie(
     alloc: Global,
@@ -138,31 +149,30 @@ fn add_cookie(
 {
     let name = name_from(alloc, key.as_bytes())?;
     let cookie = cookie_of(alloc, value)?;
-    match cookies.set(name, cookie) {
-        Ok(()) => Ok(()),
-        Err(CookiesError::Full) => Err(PlanError::Bad),
-        Err(CookiesError::NoMemory) => Err(PlanError::NoMemory),
-    }
+    set_cookie(cookies, name, cookie)
 }
 
-// These cookies, and then those of a table.
-fn cookies_of(alloc: Global, usual: Cookies, table: &Table) -> Result<Cookies, PlanError>
-    ensures { Reads result (cookies_of usual (table_view table.now)) }
+// Adds the cookies of a table.
+fn add_cookies(alloc: Global, cookies: &mut Cookies, table: &Table) -> Result<(), PlanError>
+    ensures { MatchResult result (λ _. cookies_of cookies.old (table_view table.now) ≡ Some cookies.new) (λ error. error ≡ Bad → cookies_of cookies.old (table_view table.now) ≡ None) }
 {
-    let mut cookies = usual;
     for row in table.iter() {
         let (key, value) = row;
-        add_cookie(alloc, &mut cookies, key.as_str(), value)?;
+        add_cookie(alloc, cookies, key.as_str(), value)?;
     }
-    Ok(cookies)
+    Ok(())
 }
 
-/// These cookies, and then those of a value: a table from names to cookies, with room for each.
-pub fn cookies_in(alloc: Global, usual: Cookies, value: &Value) -> Result<Cookies, PlanError>
-    ensures { Reads result (cookies_in usual (view value.now)) }
+/// Adds the cookies of a value: a table from names to cookies, with room for each.
+pub fn add_cookies_in(
+    alloc: Global,
+    cookies: &mut Cookies,
+    value: &Value,
+) -> Result<(), PlanError>
+    ensures { MatchResult result (λ _. cookies_in cookies.old (view value.now) ≡ Some cookies.new) (λ error. error ≡ Bad → cookies_in cookies.old (view value.now) ≡ None) }
 {
     let table = table_of(value)?;
-    cookies_of(alloc, usual, table)
+    add_cookies(alloc, cookies, table)
 }
 
 // Whether all bytes are hexadecimal digits.
@@ -211,20 +221,20 @@ pub fn flags_of(value: &Value) -> Result<Flags, PlanError>
 }
 
 // A name for each value.
-fn all_names(alloc: Global, values: &[Value]) -> Result<Vec<NodeName>, PlanError>
-    ensures { MatchResult result (λ names. all_some (map name_in (map view values.now)) ≡ Some names.items) (λ error. error ≡ Bad → all_some (map name_in (map view values.now)) ≡ None) }
+fn all_names(alloc: Global, values: &[Value]) -> Result<NameList, PlanError>
+    ensures { Reads result (all_some (map name_in (map view values.now))) }
 {
     let mut names = Vec::new(alloc);
     for value in values {
         names.push(name_of(alloc, value)?)?;
     }
-    Ok(names)
+    Ok(NameList::from_vec(names))
 }
 
 /// The names of an array, in order. One may stand there twice.
 pub fn names_of(alloc: Global, value: &Value) -> Result<NameList, PlanError>
     ensures { Reads result (names_in (view value.now)) }
 {
-    let names = all_names(alloc, array_of(value)?)?;
-    Ok(NameList::from_vec(names))
+    let values = array_of(value)?;
+    all_names(alloc, values)
 }
