@@ -101,7 +101,12 @@ pub fn name_of(alloc: Global, value: &Value) -> Result<NodeName, PlanError>
 fn are_cookie_bytes(text: &[u8]) -> bool
     ensures { result ≡ list_all is_cookie_byte text.now }
 {
-    text.iter().all(|byte| 0x20 <= *byte && *byte <= 0x7E)
+    for byte in text {
+        if *byte < 0x20 || 0x7E < *byte {
+            return false;
+        }
+    }
+    true
 }
 
 // The cookie of a text.
@@ -179,8 +184,12 @@ pub fn add_cookies_in(
 fn are_digits(text: &[u8]) -> bool
     ensures { result ≡ list_all is_digit text.now }
 {
-    text.iter()
-        .all(|byte| (*byte as char).to_digit(16).is_some())
+    for byte in text {
+        if (*byte as char).to_digit(16).is_none() {
+            return false;
+        }
+    }
+    true
 }
 
 // Whether these are 1 to 16 hexadecimal digits.

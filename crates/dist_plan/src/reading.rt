@@ -300,9 +300,12 @@ fn is_same_short(one: &NodeName, other: &NodeName) -> bool
 fn is_apart(node: &NodePlan, others: &[NodePlan]) -> bool
     ensures { result ≡ list_all (λ other. not (same_name (short_of other.name) (short_of node.now.name))) others.now }
 {
-    others
-        .iter()
-        .all(|other| !is_same_short(&other.name, &node.name))
+    for other in others {
+        if is_same_short(&other.name, &node.name) {
+            return false;
+        }
+    }
+    true
 }
 
 // Whether no two nodes have one short name. Their names differ then too.
@@ -319,14 +322,24 @@ fn are_apart(nodes: &[NodePlan]) -> bool
 fn is_there(nodes: &[NodePlan], name: &NodeName) -> bool
     ensures { result ≡ list_any (λ node. same_name node.name name.now) nodes.now }
 {
-    nodes.iter().any(|node| node.name.is_same(name))
+    for node in nodes {
+        if node.name.is_same(name) {
+            return true;
+        }
+    }
+    false
 }
 
 // Whether each dial is made by one of the nodes.
 fn are_made_by(nodes: &[NodePlan], dials: &[DialPlan]) -> bool
     ensures { result ≡ are_made_by nodes.now dials.now }
 {
-    dials.iter().all(|dial| is_there(nodes, &dial.from))
+    for dial in dials {
+        if !is_there(nodes, &dial.from) {
+            return false;
+        }
+    }
+    true
 }
 
 // What the keys of the file say.
