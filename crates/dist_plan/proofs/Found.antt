@@ -1,25 +1,11 @@
--- Lists of values that are read one at a time, and the keys of a table.
-use Rattle.std.proofs.Common.{◌≡◌, ℕ, suc, ◌+◌, ◌<◌, ◌≤◌, List, [], ◌∷◌, ◌++◌, length, map, get_or, drop, Option, Some, None, option_map, String, Global, Bor, string_bytes, refl, sym, ap, ◌∙◌}
-use Rattle.std.specs.List.{list_all, list_any}
-use Rattle.std.specs.Map.{keys_of}
+-- Lists of values that are read one at a time.
+use Rattle.std.proofs.Common.{◌≡◌, ℕ, suc, ◌+◌, ◌<◌, ◌≤◌, List, [], ◌∷◌, ◌++◌, length, map, get_or, drop, Option, Some, None, option_map, refl, sym, ap, ◌∙◌}
 use Rattle.std.proofs.lemmas.List.{append-nil, append_assoc, drop_more}
 use Rattle.std.proofs.Math.ListN.{drop_of_length-le}
 use Rattle.toml.specs.Data.{Data}
-use Rattle.toml.specs.View.{view, items_view, members_view}
+use Rattle.toml.specs.View.{view, items_view}
 use Rattle.toml.specs.declared.value.Value.{Value}
-use Rattle.dist_names.specs.Order.{same_name}
 use Rattle.dist_plan.specs.Values.{all_some, list_of}
-use Rattle.dist_plan.specs.Plans.{has_only, is_one_of}
-
--- the keys that are looked for, behind references
-any_key : (keys : List (Bor (List ℕ))) (key : List ℕ) → list_any (λ one. same_name one.now key) keys ≡ is_one_of (map (λ k. k.now) keys) key
-any_key [] key = refl
-any_key (k ∷ keys) key = rw (any_key keys key)
-
--- the keys of the entries are those of the members
-pub only_keys : (keys : List (Bor (List ℕ))) (es : List (String Global × Value)) → list_all (λ k. list_any (λ one. same_name one.now (string_bytes k)) keys) (keys_of es) ≡ has_only (map (λ k. k.now) keys) (members_view es)
-only_keys keys [] = refl
-only_keys keys (e ∷ es) = rw (any_key keys (string_bytes e.0), only_keys keys es)
 
 -- the items of values that are seen
 pub list_of_view : (vs : List Value) → list_of (items_view vs) ≡ map view vs

@@ -6,6 +6,8 @@ use Rattle.toml.specs.Parse.{parse_document}
 use Rattle.dist_names.specs.NodeName.{short_of}
 use Rattle.dist_names.specs.Order.{same_name}
 use Rattle.dist_plan.specs.declared.plan.NodePlan.{NodePlan}
+use Rattle.dist_plan.specs.declared.plan.Identity.{Identity}
+use Rattle.dist_plan.specs.declared.plan.Terms.{Terms}
 use Rattle.dist_plan.specs.declared.plan.DialPlan.{DialPlan}
 use Rattle.dist_plan.specs.declared.plan.Plan.{Plan}
 use Rattle.dist_secret.specs.Cookies.{CookieTable}
@@ -51,18 +53,34 @@ port_in = number_in 0 65535
 abbrev pub usual_alone : List ℕ → CookieTable
 usual_alone cookie = record { usual = cookie; own = [] }
 
--- the node of a table whose keys are a node's
-abbrev pub node_of : Members → Option NodePlan
-node_of table =
+-- who the node of a table is, and its secrets
+abbrev pub identity_of : Members → Option Identity
+identity_of table =
     needed name_in (codes "name") table >>= (λ name.
     needed cookie_in (codes "cookie") table >>= (λ cookie.
     or_usual (cookies_in (usual_alone cookie)) (usual_alone cookie) (get_member (codes "cookies") table) >>= (λ cookies.
+    Some (record { name = name; cookie = cookie; cookies = cookies }))))
+
+-- how the node of a table is met
+abbrev pub terms_of : Members → Option Terms
+terms_of table =
     or_usual version_in versions.Six (get_member (codes "version") table) >>= (λ version.
     needed flags_in (codes "flags") table >>= (λ flags.
     or_usual flags_in (record { 0 = 0 }) (get_member (codes "required") table) >>= (λ required.
     or_usual port_in 0 (get_member (codes "listen") table) >>= (λ listen.
-    or_usual (λ value. option_map Some (names_in value)) None (get_member (codes "allow") table) >>= (λ allow.
-    Some (record { name = name; cookie = cookie; cookies = cookies; version = version; flags = flags; required = required; listen = listen; allow = allow })))))))))
+    Some (record { version = version; flags = flags; required = required; listen = listen })))))
+
+-- the peers that may connect, where there is a list of them
+abbrev pub allowed_of : Members → Option (Option (List (List ℕ)))
+allowed_of table = or_usual (λ value. option_map Some (names_in value)) None (get_member (codes "allow") table)
+
+-- the node of a table whose keys are a node's
+abbrev pub node_of : Members → Option NodePlan
+node_of table =
+    identity_of table >>= (λ i.
+    terms_of table >>= (λ t.
+    allowed_of table >>= (λ allow.
+    Some (record { name = i.name; cookie = i.cookie; cookies = i.cookies; version = t.version; flags = t.flags; required = t.required; listen = t.listen; allow = allow }))))
 
 -- a table that is a node
 abbrev pub node_in : Data → Option NodePlan

@@ -101,7 +101,12 @@ pub fn name_of(alloc: Global, value: &Value) -> Result<NodeName, PlanError>
 fn are_cookie_bytes(text: &[u8]) -> bool
     ensures { result ≡ list_all is_cookie_byte text.now }
 {
-    text.iter().all(|byte| 0x20 <= *byte && *byte <= 0x7E)
+    for byte in text {
+        if *byte < 0x20 || 0x7E < *byte {
+            return false;
+        }
+    }
+    true
 }
 
 // The cookie of a text.
@@ -127,6 +132,17 @@ pub fn cookie_of(alloc: Global, value: &Value) -> Result<Cookie, PlanError>
     }
 }
 
+// Adds a cookie, where there is room for it.
+fn set_cookie(cookies: &mut Cookies, name: NodeName, cookie: Cookie) -> Result<(), PlanError>
+    ensures { MatchResult result (λ _. cookie_added cookies.old (Some name) (Some cookie) ≡ Some cookies.new) (λ error. error ≡ Bad → cookie_added cookies.old (Some name) (Some cookie) ≡ None) }
+{
+    match cookies.set(name, cookie) {
+        Ok(()) => Ok(()),
+        Err(CookiesError::Full) => Err(PlanError::Bad),
+        Err(CookiesError::NoMemory) => Err(PlanError::NoMemory),
+    }
+}
+
 // Adds the cookie of a key.
 fn add_cookie(
     alloc: Global,
@@ -138,39 +154,42 @@ fn add_cookie(
 {
     let name = name_from(alloc, key.as_bytes())?;
     let cookie = cookie_of(alloc, value)?;
-    match cookies.set(name, cookie) {
-        Ok(()) => Ok(()),
-        Err(CookiesError::Full) => Err(PlanError::Bad),
-        Err(CookiesError::NoMemory) => Err(PlanError::NoMemory),
-    }
+    set_cookie(cookies, name, cookie)
 }
 
-// These cookies, and then those of a table.
-fn cookies_of(alloc: Global, usual: Cookies, table: &Table) -> Result<Cookies, PlanError>
-    ensures { Reads result (cookies_of usual (table_view table.now)) }
+// Adds the cookies of a table.
+fn add_cookies(alloc: Global, cookies: &mut Cookies, table: &Table) -> Result<(), PlanError>
+    ensures { MatchResult result (λ _. cookies_of cookies.old (table_view table.now) ≡ Some cookies.new) (λ error. error ≡ Bad → cookies_of cookies.old (table_view table.now) ≡ None) }
 {
-    let mut cookies = usual;
     for row in table.iter() {
         let (key, value) = row;
-        add_cookie(alloc, &mut cookies, key.as_str(), value)?;
+        add_cookie(alloc, cookies, key.as_str(), value)?;
     }
-    Ok(cookies)
+    Ok(())
 }
 
-/// These cookies, and then those of a value: a table from names to cookies, with room for each.
-pub fn cookies_in(alloc: Global, usual: Cookies, value: &Value) -> Result<Cookies, PlanError>
-    ensures { Reads result (cookies_in usual (view value.now)) }
+/// Adds the cookies of a value: a table from names to cookies, with room for each.
+pub fn add_cookies_in(
+    alloc: Global,
+    cookies: &mut Cookies,
+    value: &Value,
+) -> Result<(), PlanError>
+    ensures { MatchResult result (λ _. cookies_in cookies.old (view value.now) ≡ Some cookies.new) (λ error. error ≡ Bad → cookies_in cookies.old (view value.now) ≡ None) }
 {
     let table = table_of(value)?;
-    cookies_of(alloc, usual, table)
+    add_cookies(alloc, cookies, table)
 }
 
 // Whether all bytes are hexadecimal digits.
 fn are_digits(text: &[u8]) -> bool
     ensures { result ≡ list_all is_digit text.now }
 {
-    text.iter()
-        .all(|byte| (*byte as char).to_digit(16).is_some())
+    for byte in text {
+        if (*byte as char).to_digit(16).is_none() {
+            return false;
+        }
+    }
+    true
 }
 
 // Whether these are 1 to 16 hexadecimal digits.
@@ -211,20 +230,20 @@ pub fn flags_of(value: &Value) -> Result<Flags, PlanError>
 }
 
 // A name for each value.
-fn all_names(alloc: Global, values: &[Value]) -> Result<Vec<NodeName>, PlanError>
-    ensures { MatchResult result (λ names. all_some (map name_in (map view values.now)) ≡ Some names.items) (λ error. error ≡ Bad → all_some (map name_in (map view values.now)) ≡ None) }
+fn all_names(alloc: Global, values: &[Value]) -> Result<NameList, PlanError>
+    ensures { Reads result (all_some (map name_in (map view values.now))) }
 {
     let mut names = Vec::new(alloc);
     for value in values {
         names.push(name_of(alloc, value)?)?;
     }
-    Ok(names)
+    Ok(NameList::from_vec(names))
 }
 
 /// The names of an array, in order. One may stand there twice.
 pub fn names_of(alloc: Global, value: &Value) -> Result<NameList, PlanError>
     ensures { Reads result (names_in (view value.now)) }
 {
-    let names = all_names(alloc, array_of(value)?)?;
-    Ok(NameList::from_vec(names))
+    let values = array_of(value)?;
+    all_names(alloc, values)
 }

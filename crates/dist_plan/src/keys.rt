@@ -4,8 +4,7 @@ ghost use Rattle.std.specs.Prelude.{◌≡◌, option_map, map};
 ghost use Rattle.toml.specs.Data.{get_member};
 ghost use Rattle.toml.specs.View.{view, table_view};
 ghost use Rattle.dist_names.specs.Order.{same_name};
-ghost use Rattle.std.specs.List.{list_any};
-ghost use Rattle.dist_plan.specs.Plans.{has_only};
+ghost use Rattle.dist_plan.specs.Plans.{is_one_of, has_only};
 
 use toml::{Table, Value};
 
@@ -18,17 +17,27 @@ fn is_same(one: &str, key: &str) -> bool
 
 // Whether the key is one of these.
 fn is_one_of(key: &str, keys: &[&str]) -> bool
-    ensures { result ≡ list_any (λ one. same_name one.now key.now) keys.now }
+    ensures { result ≡ is_one_of (map (λ k. k.now) keys.now) key.now }
 {
-    keys.iter().any(|one| is_same(one, key))
+    for one in keys {
+        if is_same(one, key) {
+            return true;
+        }
+    }
+    false
 }
 
 /// Whether all keys of a table are among these.
-#[tactic(auto, using(crate::proofs::Found::only_keys))]
 pub fn has_only(table: &Table, keys: &[&str]) -> bool
     ensures { result ≡ has_only (map (λ k. k.now) keys.now) (table_view table.now) }
 {
-    table.keys().all(|key| is_one_of(key.as_str(), keys))
+    for row in table.iter() {
+        let (key, _) = row;
+        if !is_one_of(key.as_str(), keys) {
+            return false;
+        }
+    }
+    true
 }
 
 /// The value at a key.

@@ -40,6 +40,30 @@ pub struct NodePlan {
     pub allow: Option<NameList>,
 }
 
+/// Who a node is, and its secrets.
+#[derive(Drop)]
+pub struct Identity {
+    /// Its name.
+    pub name: NodeName,
+    /// The secret that it shares with peers that have no cookie of their own.
+    pub cookie: Cookie,
+    /// That secret, and the cookies of peers that have their own.
+    pub cookies: Cookies,
+}
+
+/// How a node is met: what it announces and asks for, and where it listens.
+#[derive(Clone, Copy)]
+pub struct Terms {
+    /// The highest version of the handshake that it knows.
+    pub version: Version,
+    /// What it announces.
+    pub flags: Flags,
+    /// What it asks of a peer.
+    pub required: Flags,
+    /// The port at which it listens, 0 for any.
+    pub listen: u16,
+}
+
 /// A node that dials a peer.
 #[derive(Drop)]
 pub struct DialPlan {

@@ -10,15 +10,15 @@ ghost use Rattle.dist_names.specs.NodeName.{short_of};
 ghost use Rattle.dist_plan.specs.declared.plan_error.PlanError.TheVariants.{Bad};
 ghost use Rattle.dist_plan.specs.Answer.{Reads, ReadsPlainly};
 ghost use Rattle.dist_plan.specs.Values.{number_in, names_in, flags_in, name_in, cookie_in, cookies_in, version_in, all_some};
-ghost use Rattle.dist_plan.specs.Plans.{or_usual, usual_alone, needed, port_in, node_of, node_in, dial_of, dial_in, are_within, nodes_in, dials_in, are_apart, are_made_by, parts_of, whole, plan_in, plan_of};
+ghost use Rattle.dist_plan.specs.Plans.{or_usual, usual_alone, needed, port_in, identity_of, terms_of, allowed_of, node_of, node_in, dial_of, dial_in, are_within, nodes_in, dials_in, are_apart, are_made_by, parts_of, whole, plan_in, plan_of};
 
 use crate::fields::{
-    array_of, cookie_of, cookies_in, flags_of, name_of, names_of, port_of, table_of, turns_of,
+    add_cookies_in, array_of, cookie_of, flags_of, name_of, names_of, port_of, table_of, turns_of,
     version_of,
 };
 use crate::keys::{has_only, value_at};
 use crate::lists::{DialList, NodeList};
-use crate::plan::{DialPlan, NodePlan, Plan};
+use crate::plan::{DialPlan, Identity, NodePlan, Plan, Terms};
 use crate::plan_error::PlanError;
 use dist_names::{Flags, NodeName};
 use dist_secret::{Cookie, Cookies};
@@ -45,91 +45,136 @@ fn value_of<'a>(table: &'a Table, key: &str) -> Result<&'a Value, PlanError>
     }
 }
 
-// A port, or 0 for any.
-fn port_or_any(value: Option<&Value>) -> Result<u16, PlanError>
-    ensures { ReadsPlainly result (or_usual port_in 0 (option_map (λ v. view v.now) value.entry)) }
+// The name at a key.
+fn name_at(alloc: Global, table: &Table, key: &str) -> Result<NodeName, PlanError>
+    ensures { Reads result (needed name_in key.now (table_view table.now)) }
 {
-    match value {
+    let value = value_of(table, key)?;
+    name_of(alloc, value)
+}
+
+// The port at a key, or 0 for any.
+fn port_at(table: &Table, key: &str) -> Result<u16, PlanError>
+    ensures { ReadsPlainly result (or_usual port_in 0 (get_member key.now (table_view table.now))) }
+{
+    match value_at(table, key) {
         Some(value) => port_of(value),
         None => Ok(0),
     }
 }
 
-// A number of turns, or the usual one.
-fn turns_or_usual(value: Option<&Value>) -> Result<u32, PlanError>
-    ensures { ReadsPlainly result (or_usual (number_in 1 1000000) 200 (option_map (λ v. view v.now) value.entry)) }
+// The number of turns, or the usual one.
+fn turns_at(table: &Table) -> Result<u32, PlanError>
+    ensures { ReadsPlainly result (or_usual (number_in 1 1000000) 200 (get_member (codes "turns") (table_view table.now))) }
 {
-    match value {
+    match value_at(table, "turns") {
         Some(value) => turns_of(value),
         None => Ok(TURNS),
     }
 }
 
-// A version, or the usual one.
-fn version_or_usual(value: Option<&Value>) -> Result<Version, PlanError>
-    ensures { ReadsPlainly result (or_usual version_in Version.Six (option_map (λ v. view v.now) value.entry)) }
+// The version, or the usual one.
+fn version_at(table: &Table) -> Result<Version, PlanError>
+    ensures { ReadsPlainly result (or_usual version_in Version.Six (get_member (codes "version") (table_view table.now))) }
 {
-    match value {
+    match value_at(table, "version") {
         Some(value) => version_of(value),
         None => Ok(Version::Six),
     }
 }
 
-// Flags, or no flag.
-fn flags_or_none(value: Option<&Value>) -> Result<Flags, PlanError>
-    ensures { ReadsPlainly result (or_usual flags_in (record { 0 = 0 }) (option_map (λ v. view v.now) value.entry)) }
+// The flags that are asked for, or no flag.
+fn required_at(table: &Table) -> Result<Flags, PlanError>
+    ensures { ReadsPlainly result (or_usual flags_in (record { 0 = 0 }) (get_member (codes "required") (table_view table.now))) }
 {
-    match value {
+    match value_at(table, "required") {
         Some(value) => flags_of(value),
         None => Ok(Flags(0)),
     }
 }
 
-// A list of names, or no limit.
-fn names_or_all(alloc: Global, value: Option<&Value>) -> Result<Option<NameList>, PlanError>
-    ensures { Reads result (or_usual (λ x. option_map Some (names_in x)) None (option_map (λ v. view v.now) value.entry)) }
+// The flags that are announced.
+fn flags_at(table: &Table) -> Result<Flags, PlanError>
+    ensures { ReadsPlainly result (needed flags_in (codes "flags") (table_view table.now)) }
 {
-    match value {
+    let value = value_of(table, "flags")?;
+    flags_of(value)
+}
+
+// The peers that may connect, or no limit.
+fn allowed_at(alloc: Global, table: &Table) -> Result<Option<NameList>, PlanError>
+    ensures { Reads result (allowed_of (table_view table.now)) }
+{
+    match value_at(table, "allow") {
         Some(value) => Ok(Some(names_of(alloc, value)?)),
         None => Ok(None),
     }
 }
 
-// The usual cookie, and the cookies of peers that have their own.
-fn cookies_or_one(
-    alloc: Global,
-    cookie: &Cookie,
-    value: Option<&Value>,
-) -> Result<Cookies, PlanError>
-    ensures { Reads result (or_usual (cookies_in (usual_alone cookie.now)) (usual_alone cookie.now) (option_map (λ v. view v.now) value.entry)) }
+// The node's own secret.
+fn cookie_at(alloc: Global, table: &Table) -> Result<Cookie, PlanError>
+    ensures { Reads result (needed cookie_in (codes "cookie") (table_view table.now)) }
 {
-    let usual = Cookies::new(alloc, cookie.try_clone(alloc)?);
-    match value {
-        Some(value) => cookies_in(alloc, usual, value),
-        None => Ok(usual),
+    let value = value_of(table, "cookie")?;
+    cookie_of(alloc, value)
+}
+
+// The usual cookie, and the cookies of peers that have their own.
+fn cookies_at(alloc: Global, cookie: &Cookie, table: &Table) -> Result<Cookies, PlanError>
+    ensures { Reads result (or_usual (cookies_in (usual_alone cookie.now)) (usual_alone cookie.now) (get_member (codes "cookies") (table_view table.now))) }
+{
+    let mut cookies = Cookies::new(alloc, cookie.try_clone(alloc)?);
+    if let Some(value) = value_at(table, "cookies") {
+        add_cookies_in(alloc, &mut cookies, value)?;
     }
+    Ok(cookies)
+}
+
+// Who the node of a table is, and its secrets.
+fn identity_of(alloc: Global, table: &Table) -> Result<Identity, PlanError>
+    ensures { Reads result (identity_of (table_view table.now)) }
+{
+    let name = name_at(alloc, table, "name")?;
+    let cookie = cookie_at(alloc, table)?;
+    let cookies = cookies_at(alloc, &cookie, table)?;
+    Ok(Identity {
+        name,
+        cookie,
+        cookies,
+    })
+}
+
+// How the node of a table is met.
+fn terms_of(table: &Table) -> Result<Terms, PlanError>
+    ensures { ReadsPlainly result (terms_of (table_view table.now)) }
+{
+    let version = version_at(table)?;
+    let flags = flags_at(table)?;
+    let required = required_at(table)?;
+    let listen = port_at(table, "listen")?;
+    Ok(Terms {
+        version,
+        flags,
+        required,
+        listen,
+    })
 }
 
 // The node of a table whose keys are a node's.
 fn node_of(alloc: Global, table: &Table) -> Result<NodePlan, PlanError>
     ensures { Reads result (node_of (table_view table.now)) }
 {
-    let name = name_of(alloc, value_of(table, "name")?)?;
-    let cookie = cookie_of(alloc, value_of(table, "cookie")?)?;
-    let cookies = cookies_or_one(alloc, &cookie, value_at(table, "cookies"))?;
-    let version = version_or_usual(value_at(table, "version"))?;
-    let flags = flags_of(value_of(table, "flags")?)?;
-    let required = flags_or_none(value_at(table, "required"))?;
-    let listen = port_or_any(value_at(table, "listen"))?;
-    let allow = names_or_all(alloc, value_at(table, "allow"))?;
+    let identity = identity_of(alloc, table)?;
+    let terms = terms_of(table)?;
+    let allow = allowed_at(alloc, table)?;
     Ok(NodePlan {
-        name,
-        cookie,
-        cookies,
-        version,
-        flags,
-        required,
-        listen,
+        name: identity.name,
+        cookie: identity.cookie,
+        cookies: identity.cookies,
+        version: terms.version,
+        flags: terms.flags,
+        required: terms.required,
+        listen: terms.listen,
         allow,
     })
 }
@@ -155,8 +200,8 @@ fn node_in(alloc: Global, value: &Value) -> Result<NodePlan, PlanError>
 fn dial_of(alloc: Global, table: &Table) -> Result<DialPlan, PlanError>
     ensures { Reads result (dial_of (table_view table.now)) }
 {
-    let from = name_of(alloc, value_of(table, "from")?)?;
-    let to = name_of(alloc, value_of(table, "to")?)?;
+    let from = name_at(alloc, table, "from")?;
+    let to = name_at(alloc, table, "to")?;
     Ok(DialPlan { from, to })
 }
 
@@ -173,25 +218,25 @@ fn dial_in(alloc: Global, value: &Value) -> Result<DialPlan, PlanError>
 }
 
 // A node for each value.
-fn all_nodes(alloc: Global, values: &[Value]) -> Result<Vec<NodePlan>, PlanError>
-    ensures { MatchResult result (λ nodes. all_some (map node_in (map view values.now)) ≡ Some nodes.items) (λ error. error ≡ Bad → all_some (map node_in (map view values.now)) ≡ None) }
+fn all_nodes(alloc: Global, values: &[Value]) -> Result<NodeList, PlanError>
+    ensures { Reads result (all_some (map node_in (map view values.now))) }
 {
     let mut nodes = Vec::new(alloc);
     for value in values {
         nodes.push(node_in(alloc, value)?)?;
     }
-    Ok(nodes)
+    Ok(NodeList::from_vec(nodes))
 }
 
 // A dial for each value.
-fn all_dials(alloc: Global, values: &[Value]) -> Result<Vec<DialPlan>, PlanError>
-    ensures { MatchResult result (λ dials. all_some (map dial_in (map view values.now)) ≡ Some dials.items) (λ error. error ≡ Bad → all_some (map dial_in (map view values.now)) ≡ None) }
+fn all_dials(alloc: Global, values: &[Value]) -> Result<DialList, PlanError>
+    ensures { Reads result (all_some (map dial_in (map view values.now))) }
 {
     let mut dials = Vec::new(alloc);
     for value in values {
         dials.push(dial_in(alloc, value)?)?;
     }
-    Ok(dials)
+    Ok(DialList::from_vec(dials))
 }
 
 // Whether there are so many values.
@@ -208,7 +253,7 @@ fn nodes_in(alloc: Global, value: &Value) -> Result<NodeList, PlanError>
 {
     let values = array_of(value)?;
     if are_within(values, 1, MOST_NODES) {
-        Ok(NodeList::from_vec(all_nodes(alloc, values)?))
+        all_nodes(alloc, values)
     } else {
         Err(PlanError::Bad)
     }
@@ -220,17 +265,25 @@ fn dials_in(alloc: Global, value: &Value) -> Result<DialList, PlanError>
 {
     let values = array_of(value)?;
     if are_within(values, 0, MOST_DIALS) {
-        Ok(DialList::from_vec(all_dials(alloc, values)?))
+        all_dials(alloc, values)
     } else {
         Err(PlanError::Bad)
     }
 }
 
-// An array of dials, or no dial.
-fn dials_or_none(alloc: Global, value: Option<&Value>) -> Result<DialList, PlanError>
-    ensures { Reads result (or_usual dials_in [] (option_map (λ v. view v.now) value.entry)) }
+// The nodes of the file.
+fn nodes_at(alloc: Global, table: &Table) -> Result<NodeList, PlanError>
+    ensures { Reads result (needed nodes_in (codes "node") (table_view table.now)) }
 {
-    match value {
+    let value = value_of(table, "node")?;
+    nodes_in(alloc, value)
+}
+
+// The dials of the file, or no dial.
+fn dials_at(alloc: Global, table: &Table) -> Result<DialList, PlanError>
+    ensures { Reads result (or_usual dials_in [] (get_member (codes "dial") (table_view table.now))) }
+{
+    match value_at(table, "dial") {
         Some(value) => dials_in(alloc, value),
         None => Ok(DialList::from_vec(Vec::new(alloc))),
     }
@@ -247,9 +300,12 @@ fn is_same_short(one: &NodeName, other: &NodeName) -> bool
 fn is_apart(node: &NodePlan, others: &[NodePlan]) -> bool
     ensures { result ≡ list_all (λ other. not (same_name (short_of other.name) (short_of node.now.name))) others.now }
 {
-    others
-        .iter()
-        .all(|other| !is_same_short(&other.name, &node.name))
+    for other in others {
+        if is_same_short(&other.name, &node.name) {
+            return false;
+        }
+    }
+    true
 }
 
 // Whether no two nodes have one short name. Their names differ then too.
@@ -266,24 +322,34 @@ fn are_apart(nodes: &[NodePlan]) -> bool
 fn is_there(nodes: &[NodePlan], name: &NodeName) -> bool
     ensures { result ≡ list_any (λ node. same_name node.name name.now) nodes.now }
 {
-    nodes.iter().any(|node| node.name.is_same(name))
+    for node in nodes {
+        if node.name.is_same(name) {
+            return true;
+        }
+    }
+    false
 }
 
 // Whether each dial is made by one of the nodes.
 fn are_made_by(nodes: &[NodePlan], dials: &[DialPlan]) -> bool
     ensures { result ≡ are_made_by nodes.now dials.now }
 {
-    dials.iter().all(|dial| is_there(nodes, &dial.from))
+    for dial in dials {
+        if !is_there(nodes, &dial.from) {
+            return false;
+        }
+    }
+    true
 }
 
 // What the keys of the file say.
 fn parts_of(alloc: Global, table: &Table) -> Result<Plan, PlanError>
     ensures { Reads result (parts_of (table_view table.now)) }
 {
-    let port = port_or_any(value_at(table, "port"))?;
-    let turns = turns_or_usual(value_at(table, "turns"))?;
-    let node = nodes_in(alloc, value_of(table, "node")?)?;
-    let dial = dials_or_none(alloc, value_at(table, "dial"))?;
+    let port = port_at(table, "port")?;
+    let turns = turns_at(table)?;
+    let node = nodes_at(alloc, table)?;
+    let dial = dials_at(alloc, table)?;
     Ok(Plan {
         port,
         turns,

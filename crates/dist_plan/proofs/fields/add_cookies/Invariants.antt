@@ -2,7 +2,7 @@
 use Rattle.std.proofs.Common.{◌≡◌}
 use Rattle.toml.specs.View.{members_view}
 use Rattle.dist_plan.specs.Values.{cookies_of}
-use Rattle.dist_plan.proofs.fields.cookies_of.Given as goal
+use Rattle.dist_plan.proofs.fields.add_cookies.Given as goal
 
 abbrev pub invariant-loop-row : goal.invariant-loop-row
-invariant-loop-row l = cookies_of l.fn.usual (members_view l.table.entries) ≡ cookies_of l.cookies (members_view l.row-iterator)
+invariant-loop-row l = cookies_of l.fn.cookies (members_view l.table.entries) ≡ cookies_of l.cookies (members_view l.row-iterator)
