@@ -1,16 +1,16 @@
 //! What each message does to an accepted end.
 ghost use Rattle.std.specs.Prelude.{◌≡◌, IfOk, true, false, Ok, Err, Some, None, slice_get};
 ghost use Rattle.dist_core.specs.Effects.{superseded_in, superseded, supersedes, held_back};
-ghost use Rattle.dist_core.specs.Accepted.{in_await_true, in_await_complement, in_await_reply, name_taken};
+ghost use Rattle.dist_core.specs.Accepted.{in_await_true, in_await_complement, in_await_reply, name_taken, verdict_text};
 
 use crate::effect::{
-    Effect, attempt_in, closes, comes_up, goes_on, record_of, reply_phase, shuts, shuts_other,
+    Effect, attempt_in, came_up, closes, goes_on, reply_phase, shuts, shuts_other,
 };
 use crate::reply::Note;
 use dist_ends::{Attempt, End, Ends, Phase, Why};
 use dist_messages::{Form, Message, Status};
-use dist_names::{ByteString, Flags};
-use dist_peers::{EndId, Entry, Verdict, replaced};
+use dist_names::{ByteString, Flags, NodeName};
+use dist_peers::{EndId, Entry, Verdict};
 use dist_setup::{
     Setup, ack_frame, challenge_frame, greeting, own_digest, required_of, status_frame,
 };
@@ -42,33 +42,41 @@ fn superseded_at(alloc: Global, ends: &Ends, id: EndId) -> Result<End, AllocErro
 
 // The attempt of a name supersedes another end.
 fn supersedes(
-    alloc: Global,
     id: EndId,
     say: ByteString,
     attempt: Attempt,
+    peer: NodeName,
     x: EndId,
     crossed: End,
-) -> Result<Effect, AllocError>
-    ensures { IfOk result (λ f. f ≡ supersedes id say attempt x crossed) }
+) -> Effect
+    ensures { peer ≡ attempt.peer → result ≡ supersedes id say attempt x crossed }
 {
-    let peer = attempt.peer.try_clone(alloc)?;
     let this = End::Attempt(attempt);
     match crossed {
-        End::Closed(why) => Ok(shuts_other(
-            id,
-            say,
-            this,
-            x,
-            why,
-            Note::NameTaken { peer, dooms: None },
-        )),
+        End::Closed(why) => shuts_other(id, say, this, x, why, taken(peer)),
         doomed => {
             let dooms = Some(x);
             let mut effect = goes_on(id, say, this, Note::NameTaken { peer, dooms });
             effect.other = Some((x, doomed));
-            Ok(effect)
+            effect
         }
     }
+}
+
+// The attempt of a name crossed an own dial, which gives way.
+fn crosses(
+    alloc: Global,
+    ends: &Ends,
+    id: EndId,
+    say: ByteString,
+    attempt: Attempt,
+    peer: NodeName,
+    x: EndId,
+) -> Result<Effect, AllocError>
+    ensures { peer ≡ attempt.peer → IfOk result (λ f. f ≡ supersedes id say attempt x (superseded (slice_get ends.now x.0))) }
+{
+    let crossed = superseded_at(alloc, ends, x)?;
+    Ok(supersedes(id, say, attempt, peer, x, crossed))
 }
 
 // The attempt waits for `true` before the challenge is said.
@@ -82,12 +90,39 @@ fn held_back(attempt: Attempt) -> Attempt
     }
 }
 
-// What is noted of a name that passed all checks.
-fn taken(alloc: Global, attempt: &Attempt) -> Result<Note, AllocError>
-    ensures { IfOk result (λ n. n ≡ Note.NameTaken attempt.now.peer None) }
+// What is noted of a name that passed all checks and dooms no end.
+fn taken(peer: NodeName) -> Note
+    ensures { result ≡ Note.NameTaken peer None }
 {
-    let peer = attempt.peer.try_clone(alloc)?;
-    Ok(Note::NameTaken { peer, dooms: None })
+    Note::NameTaken { peer, dooms: None }
+}
+
+// What is said to a name that passed all checks.
+fn said(
+    alloc: Global,
+    setup: &Setup,
+    attempt: &Attempt,
+    verdict: Verdict,
+) -> Result<ByteString, AllocError>
+    ensures { IfOk result (λ b. b ≡ verdict_text setup.now attempt.now verdict) }
+{
+    let (form, fresh) = (attempt.form, attempt.challenge);
+    match verdict {
+        Verdict::Ok
+        | Verdict::Replaces {
+            drops: _,
+            alive: false,
+        } => { greeting(alloc, setup, Status::Ok, form, fresh) }
+        Verdict::OkSimultaneous { drops: _ } => {
+            greeting(alloc, setup, Status::OkSimultaneous, form, fresh)
+        }
+        Verdict::Nok => status_frame(alloc, Status::Nok),
+        Verdict::Alive
+        | Verdict::Replaces {
+            drops: _,
+            alive: true,
+        } => { status_frame(alloc, Status::Alive) }
+    }
 }
 
 // The effect of a verdict.
@@ -101,33 +136,16 @@ pub fn name_taken(
 ) -> Result<Effect, AllocError>
     ensures { IfOk result (λ f. f ≡ name_taken setup.now ends.now id attempt verdict) }
 {
-    let (form, fresh) = (attempt.form, attempt.challenge);
-    let note = taken(alloc, &attempt)?;
+    let say = said(alloc, setup, &attempt, verdict)?;
+    let peer = attempt.peer.try_clone(alloc)?;
     match verdict {
-        Verdict::Ok => {
-            let say = greeting(alloc, setup, Status::Ok, form, fresh)?;
-            Ok(goes_on(id, say, End::Attempt(attempt), note))
-        }
-        Verdict::OkSimultaneous { drops } => {
-            let say = greeting(alloc, setup, Status::OkSimultaneous, form, fresh)?;
-            let crossed = superseded_at(alloc, ends, drops)?;
-            supersedes(alloc, id, say, attempt, drops, crossed)
-        }
-        Verdict::Nok => {
-            let say = status_frame(alloc, Status::Nok)?;
-            Ok(shuts(id, say, Why::Crossed, note))
-        }
-        Verdict::Alive => {
-            let say = status_frame(alloc, Status::Alive)?;
-            Ok(goes_on(id, say, End::Attempt(held_back(attempt)), note))
-        }
+        Verdict::Ok => Ok(goes_on(id, say, End::Attempt(attempt), taken(peer))),
+        Verdict::OkSimultaneous { drops } => { crosses(alloc, ends, id, say, attempt, peer, drops) }
+        Verdict::Nok => Ok(shuts(id, say, Why::Crossed, taken(peer))),
+        Verdict::Alive => Ok(goes_on(id, say, End::Attempt(held_back(attempt)), taken(peer))),
         Verdict::Replaces { drops, alive } => {
-            let (say, this) = if alive {
-                (status_frame(alloc, Status::Alive)?, held_back(attempt))
-            } else {
-                (greeting(alloc, setup, Status::Ok, form, fresh)?, attempt)
-            };
-            Ok(shuts_other(id, say, End::Attempt(this), drops, Why::Replaced, note))
+            let this = End::Attempt(if alive { held_back(attempt) } else { attempt });
+            Ok(shuts_other(id, say, this, drops, Why::Replaced, taken(peer)))
         }
     }
 }
@@ -210,6 +228,5 @@ pub fn in_await_reply(
         return Ok(closes(alloc, id, Why::WrongDigest));
     }
     let say = ack_frame(alloc, setup, &attempt.peer, *challenge)?;
-    let kept = record_of(alloc, setup, attempt, came)?;
-    comes_up(alloc, id, say, kept, replaced(entry))
+    came_up(alloc, setup, entry, id, say, attempt, came)
 }

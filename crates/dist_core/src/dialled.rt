@@ -1,13 +1,15 @@
 //! What each message does to a dialled end.
 ghost use Rattle.std.specs.Prelude.{◌≡◌, IfOk, Ok, Err, Some, None};
+ghost use Rattle.dist_setup.specs.Saying.{reply_text};
+ghost use Rattle.dist_core.specs.Effects.{goes_on};
 ghost use Rattle.dist_core.specs.Dialled.{in_await_status, in_doomed, challenged, in_await_challenge, in_await_ack};
 
-use crate::effect::{Effect, closes, comes_up, goes_on, moves, record_of, shuts};
+use crate::effect::{Effect, came_up, closes, goes_on, moves, shuts};
 use crate::reply::Note;
 use dist_ends::{Attempt, End, Phase, Why};
 use dist_messages::{Form, Message, Status};
 use dist_names::{ByteString, Creation, Flags};
-use dist_peers::{EndId, Entry, replaced};
+use dist_peers::{EndId, Entry};
 use dist_setup::{Setup, knows_six, opens_new, own_digest, reply_frame, required_of, status_frame};
 use std::alloc::{AllocError, Global};
 
@@ -58,6 +60,36 @@ struct Challenge {
     creation: Option<Creation>,
 }
 
+// A challenge is answered.
+fn answers(
+    alloc: Global,
+    setup: &Setup,
+    id: EndId,
+    fresh: u32,
+    attempt: &Attempt,
+    came: Challenge,
+) -> Result<Effect, AllocError>
+    ensures { IfOk result (λ f. f ≡ goes_on id (reply_text setup.now came.form attempt.now.peer fresh came.challenge) (End.Attempt (record attempt.now { phase = Phase.AwaitAck; challenge = fresh; flags = came.flags; creation = came.creation })) Note.ReplySaid) }
+{
+    let say = reply_frame(
+        alloc,
+        setup,
+        came.form,
+        &attempt.peer,
+        fresh,
+        came.challenge,
+    )?;
+    let copy = attempt.try_clone(alloc)?;
+    let attempt = Attempt {
+        phase: Phase::AwaitAck,
+        challenge: fresh,
+        flags: came.flags,
+        creation: came.creation,
+        ..copy
+    };
+    Ok(goes_on(id, say, End::Attempt(attempt), Note::ReplySaid))
+}
+
 // A challenge is answered, where it is of the name that was dialled and has the flags that are asked for.
 fn challenged(
     alloc: Global,
@@ -70,29 +102,13 @@ fn challenged(
 ) -> Result<Effect, AllocError>
     ensures { IfOk result (λ f. f ≡ challenged setup.now id fresh attempt.now came.form came.required.0 came.flags came.challenge came.creation name.now) }
 {
-    let Challenge {
-        form,
-        required,
-        flags,
-        challenge,
-        creation,
-    } = came;
     if !attempt.peer.has_bytes(name.as_slice()) {
         return Ok(closes(alloc, id, Why::WrongName));
     }
-    if !flags.has(required) {
+    if !came.flags.has(came.required) {
         return Ok(closes(alloc, id, Why::WrongFlags));
     }
-    let say = reply_frame(alloc, setup, form, &attempt.peer, fresh, challenge)?;
-    let copy = attempt.try_clone(alloc)?;
-    let attempt = Attempt {
-        phase: Phase::AwaitAck,
-        challenge: fresh,
-        flags,
-        creation,
-        ..copy
-    };
-    Ok(goes_on(id, say, End::Attempt(attempt), Note::ReplySaid))
+    answers(alloc, setup, id, fresh, attempt, came)
 }
 
 // The end awaits the challenge.
@@ -159,6 +175,13 @@ pub fn in_await_ack(
     if *came != own {
         return Ok(closes(alloc, id, Why::WrongDigest));
     }
-    let kept = record_of(alloc, setup, attempt, came)?;
-    comes_up(alloc, id, ByteString::new(alloc), kept, replaced(entry))
+    came_up(
+        alloc,
+        setup,
+        entry,
+        id,
+        ByteString::new(alloc),
+        attempt,
+        came,
+    )
 }

@@ -1,12 +1,13 @@
 //! What a step does, before it is done.
 ghost use Rattle.std.specs.Prelude.{◌≡◌, IfOk, Ok, Err, Some, None};
+ghost use Rattle.dist_peers.specs.Table.{replaced_by};
 ghost use Rattle.dist_core.specs.Effects.{form_of, reply_phase, goes_on, shuts, shuts_other, comes_up, closes, moves, record_of};
 
 use crate::reply::{Note, Reply};
 use dist_ends::{Attempt, End, Phase, UpRecord, Why};
 use dist_messages::{Form, Opening};
 use dist_names::ByteString;
-use dist_peers::EndId;
+use dist_peers::{EndId, Entry, replaced};
 use dist_setup::{Setup, announced_by};
 use std::alloc::{AllocError, Global};
 
@@ -147,4 +148,20 @@ pub fn record_of(
         challenge: attempt.challenge,
         digest_received: *digest_received,
     })
+}
+
+// The digest of this end's peer was right: the end comes up.
+pub fn came_up(
+    alloc: Global,
+    setup: &Setup,
+    entry: Option<Entry>,
+    id: EndId,
+    say: ByteString,
+    attempt: &Attempt,
+    digest: &[u8; 16],
+) -> Result<Effect, AllocError>
+    ensures { IfOk result (λ f. f ≡ comes_up id say (record_of setup.now attempt.now digest.now) (replaced_by entry)) }
+{
+    let kept = record_of(alloc, setup, attempt, digest)?;
+    comes_up(alloc, id, say, kept, replaced(entry))
 }

@@ -1,6 +1,6 @@
 //! The frames that a node says.
 ghost use Rattle.std.specs.Prelude.{◌≡◌, ◌++◌, IfOk};
-ghost use Rattle.dist_setup.specs.Saying.{frame_of, CanBeSaid, status_text, name_text, challenge_text, greeting_text, reply_text, ack_text};
+ghost use Rattle.dist_setup.specs.Saying.{frame_of, CanBeSaid, status_text, name_text, challenge_text, greeting_text, reply_text, ack_text, reply_message, complement_message};
 
 use crate::checks::{announced_by, opens_new, own_digest};
 use crate::setup::Setup;
@@ -108,9 +108,38 @@ pub fn greeting(
     Ok(say)
 }
 
+// The reply to a challenge, in its frame.
+#[tactic(auto, using(crate::proofs::Sayable::reply))]
+fn answer_frame(
+    alloc: Global,
+    setup: &Setup,
+    peer: &NodeName,
+    fresh: u32,
+    challenge: u32,
+) -> Result<ByteString, AllocError>
+    ensures { IfOk result (λ b. b ≡ frame_of (reply_message setup.now peer.now fresh challenge)) }
+{
+    let message = Message::Reply {
+        challenge: fresh,
+        digest: own_digest(setup, peer, challenge),
+    };
+    frame(alloc, Side::Dialler, &message)
+}
+
+// The complement, in its frame.
+#[tactic(auto, using(crate::proofs::Sayable::complement))]
+fn complement_frame(alloc: Global, setup: &Setup) -> Result<ByteString, AllocError>
+    ensures { IfOk result (λ b. b ≡ frame_of (complement_message setup.now)) }
+{
+    let message = Message::Complement {
+        high: announced_by(setup).high(),
+        creation: setup.creation,
+    };
+    frame(alloc, Side::Dialler, &message)
+}
+
 /// The reply to a challenge, after the complement in a handshake that has one (OTP's `send_challenge_reply`,
 /// `send_complement`).
-#[tactic(auto, using(crate::proofs::Sayable::reply, crate::proofs::Sayable::complement))]
 pub fn reply_frame(
     alloc: Global,
     setup: &Setup,
@@ -121,19 +150,11 @@ pub fn reply_frame(
 ) -> Result<ByteString, AllocError>
     ensures { IfOk result (λ b. b ≡ reply_text setup.now form peer.now fresh challenge) }
 {
-    let message = Message::Reply {
-        challenge: fresh,
-        digest: own_digest(setup, peer, challenge),
-    };
-    let reply = frame(alloc, Side::Dialler, &message)?;
+    let reply = answer_frame(alloc, setup, peer, fresh, challenge)?;
     match form {
         Form::New | Form::Five => Ok(reply),
         Form::Old => {
-            let complement = Message::Complement {
-                high: announced_by(setup).high(),
-                creation: setup.creation,
-            };
-            let mut say = frame(alloc, Side::Dialler, &complement)?;
+            let mut say = complement_frame(alloc, setup)?;
             say.append(reply.as_slice())?;
             Ok(say)
         }

@@ -47,7 +47,7 @@ impl Setup {
 }
 
 /// A list of names, in which one may stand twice.
-#[derive(Debug, Drop)]
+#[derive(Drop)]
 pub struct NameList {
     names: Vec<NodeName>,
 }
