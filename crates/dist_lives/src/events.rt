@@ -2,12 +2,12 @@
 ghost use Rattle.std.specs.Prelude.{◌≡◌, IfOk, OnErr, MatchOption};
 ghost use Rattle.dist_lives.specs.Telling.{wire_at, HasTold, Declines, is_short};
 
+use crate::Connections;
 use crate::hearing::Heard;
 use crate::life::Life;
 use dist_core::{Event, StepError};
 use dist_laws::a_reply_is_of_its_end;
 use dist_messages::Side;
-use crate::Connections;
 use std::alloc::{AllocError, Global};
 
 // Which side of which connection the end of an event is.

@@ -7,12 +7,12 @@ ghost use Rattle.dist_agreement.specs.Rows.{mark, given_by};
 ghost use Rattle.dist_agreement.specs.World.{Conn};
 ghost use Rattle.dist_lives.specs.Hearing.{heard_of, said_at, Says, HasHeard, HasSpoken, is_quiet_on, own_row, shut_by, doomed_by, doomed_of};
 
+use crate::Connections;
 use crate::row::EndRow;
 use dist_core::{Event, Node, Note, Reply, StepError, Why};
 use dist_messages::Side;
 use dist_names::ByteString;
 use dist_peers::EndId;
-use crate::Connections;
 use std::alloc::{AllocError, Global};
 
 /// What is left of a reply once its words are on their way and the rows have what it writes.

@@ -9,6 +9,7 @@ ghost use Rattle.dist_lives.specs.Links.{is_unreached};
 ghost use Rattle.dist_lives.specs.Index.{index_at};
 ghost use Rattle.dist_lives.specs.Telling.{HasTold, Declines};
 
+use crate::Connections;
 use crate::events::tell;
 use crate::hearing::Heard;
 use crate::life::{Life, is_open};
@@ -16,7 +17,6 @@ use dist_core::{Event, Node, Setup};
 use dist_messages::Side;
 use dist_names::Creation;
 use dist_peers::EndId;
-use crate::Connections;
 use std::alloc::{AllocError, Global};
 use std::marker::Model;
 

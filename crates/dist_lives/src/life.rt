@@ -11,13 +11,13 @@ ghost use Rattle.dist_ends.specs.declared.known.End.TheVariants as end;
 ghost use Rattle.dist_lives.specs.Links.{FindsLink, linked, up_on};
 ghost use Rattle.std.specs.Option.{option_map};
 
+use crate::Connections;
 use crate::hearing::{Heard, hear};
 use crate::row::EndRow;
 use dist_core::{Event, Node, Setup, StepError, Still, UpRecord};
 use dist_messages::Side;
 use dist_names::{Creation, NodeName};
 use dist_peers::EndId;
-use crate::Connections;
 use std::alloc::{AllocError, Global};
 use std::marker::Model;
 

@@ -21,8 +21,8 @@ mod rule;
 mod seat_desk;
 mod shared;
 
-pub use dist_books::{Book, CloseError, Closed, Line, Receipt, Seat, close, step_on};
 pub use dispatching::{CAPACITY, LAST_ORDER, MOST_ORDERS, dispatch};
+pub use dist_books::{Book, CloseError, Closed, Line, Receipt, Seat, close, step_on};
 pub use driven::{Driven, drive_end};
 pub use gate::{Gate, Moment, Open};
 pub use locked_node::{LockedNode, Tickets};

@@ -169,11 +169,7 @@ fn add_cookies(alloc: Global, cookies: &mut Cookies, table: &Table) -> Result<()
 }
 
 /// Adds the cookies of a value: a table from names to cookies, with room for each.
-pub fn add_cookies_in(
-    alloc: Global,
-    cookies: &mut Cookies,
-    value: &Value,
-) -> Result<(), PlanError>
+pub fn add_cookies_in(alloc: Global, cookies: &mut Cookies, value: &Value) -> Result<(), PlanError>
     ensures { MatchResult result (λ _. cookies_in cookies.old (view value.now) ≡ Some cookies.new) (λ error. error ≡ Bad → cookies_in cookies.old (view value.now) ≡ None) }
 {
     let table = table_of(value)?;
