@@ -1,0 +1,91 @@
+"""Joins a real Erlang node by examples/c/join.c and by examples/python/join.py, in turn as the one that is dialled and the one
+that dials, both at one time, and sees that all four connections live through the ticks of so many seconds, at a net_ticktime of
+4, and that the end of the Erlang node is noticed. Loopback connections alone, and a port mapper of its own for each pair.
+
+usage: with_erlang.py SECONDS JOIN-PROGRAM
+"""
+
+import os
+import socket
+import subprocess
+import sys
+import time
+
+PYTHON = os.path.join(os.path.dirname(os.path.realpath(__file__)), "../../examples/python/join.py")
+COOKIE = "secretCookie"
+ERL = """true = net_kernel:connect_node('c@127.0.0.1'),
+    Wait = fun(W, 0) -> ok; (W, N) -> case length(nodes(hidden)) of 2 -> ok; _ -> timer:sleep(100), W(W, N - 1) end end,
+    Wait(Wait, 100), io:format("~p ~p~n", [lists:sort(nodes(hidden)), nodes()]),
+    timer:sleep(SECONDS * 1000), io:format("~p~n", [lists:sort(nodes(hidden))]), halt()."""
+
+
+def free_port():
+    with socket.socket() as it:
+        it.bind(("127.0.0.1", 0))
+        return it.getsockname()[1]
+
+
+class Pair:
+    """A port mapper, an Erlang node x, a node c that it dials, and a node d that dials it."""
+
+    def __init__(self, seconds, accepting, dialling):
+        self.port, self.running = free_port(), []
+        self.env = dict(os.environ, ERL_EPMD_PORT=str(self.port), ERL_EPMD_ADDRESS="127.0.0.1")
+        self.start("epmd")
+        for _ in range(100):
+            with socket.socket() as it:
+                if it.connect_ex(("127.0.0.1", self.port)) == 0:
+                    break
+            time.sleep(0.05)
+        self.c = self.start(*accepting("c@127.0.0.1", seconds + 60, None))
+        assert self.c.stdout.readline() == "ready\n"
+        text = ERL.replace("SECONDS", str(seconds))
+        self.x = self.start("erl", "-noinput", "-name", "x@127.0.0.1", "-setcookie", COOKIE, "-kernel", "net_ticktime", "4",
+                            "inet_dist_use_interface", "{127,0,0,1}", "-eval", text)
+        assert self.c.stdout.readline().startswith("up x@127.0.0.1 ")
+        self.d = self.start(*dialling("d@127.0.0.1", seconds + 60, "x@127.0.0.1"))
+        assert self.d.stdout.readline() == "ready\n"
+        assert self.d.stdout.readline().startswith("up x@127.0.0.1 ")
+
+    def start(self, *words):
+        # (the port mapper tells of the connection that looks whether it is there)
+        said = subprocess.DEVNULL if words[0] == "epmd" else None
+        it = subprocess.Popen(words, env=self.env, stdout=subprocess.PIPE, stderr=said, text=True)
+        self.running.append(it)
+        return it
+
+    def end(self):
+        both = "['c@127.0.0.1','d@127.0.0.1']"
+        said = [self.x.stdout.readline().strip(), self.x.stdout.readline().strip()]
+        assert said == [both + " []", both], said
+        self.x.wait(30)
+        for it in (self.c, self.d):
+            line = it.stdout.readline()
+            assert line.lower().startswith("down x@127.0.0.1 ended"), line
+
+    def stop(self):
+        for it in self.running:
+            it.terminate()
+            it.wait()
+
+
+def main(seconds, program):
+    def by_c(name, most, peer):
+        return [program, name, COOKIE, "1", str(most), *([peer] if peer else [])]
+
+    def by_python(name, most, peer):
+        return [sys.executable, "-u", PYTHON, name, COOKIE, "--tick", "1", "--seconds", str(most), *(["--dial", peer] if peer else [])]
+
+    pairs = []
+    try:
+        for kinds in ((by_c, by_python), (by_python, by_c)):
+            pairs.append(Pair(seconds, *kinds))
+        for it in pairs:
+            it.end()
+    finally:
+        for it in pairs:
+            it.stop()
+    print(f"erlang: C and Python, dialled and dialling, stayed up through {seconds} seconds of ticks and saw the node end")
+
+
+main(int(sys.argv[1]), sys.argv[2])

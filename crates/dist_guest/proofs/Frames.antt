@@ -1,0 +1,78 @@
+-- Whether a frame is refused, and why, does not hang on its bytes.
+use Rattle.std.proofs.Common.{◌≡◌, ℕ, Bool, true, false, List, Option, Some, None, Result, Ok, Err, refl, subst, slice_get, cond}
+use Rattle.std.proofs.lemmas.Bool.{false≢true}
+use Rattle.std.specs.Prelude.{IsOk}
+use Rattle.dist_messages.specs.declared.message.Side.{Side}
+use Rattle.dist_peers.specs.declared.entry.EndId.{EndId}
+use Rattle.dist_ends.specs.declared.known.End.{End}
+use Rattle.dist_ends.specs.declared.known.End.TheVariants as ends
+use Rattle.dist_core.specs.declared.effect.Effect.{Effect}
+use Rattle.dist_core.specs.declared.event.Event.{Event}
+use Rattle.dist_core.specs.declared.event.Event.TheVariants as event
+use Rattle.dist_core.specs.declared.reply.Reply.{Reply}
+use Rattle.dist_core.specs.declared.step_error.StepError.{StepError}
+use Rattle.dist_core.specs.declared.step_error.StepError.TheVariants as error
+use Rattle.dist_core.specs.Node.{NodeState, is_spent}
+use Rattle.dist_core.specs.Answers.{Refuses, reply_of}
+use Rattle.dist_core.specs.Step.{step, stepped, effect_of, at_end, framed_from, sender_to}
+
+abbrev Answer : Type 0
+Answer = Result (Reply × NodeState) StepError
+
+-- both are made, or both are refused for one reason
+abbrev Alike : Answer → Answer → Type 0
+Alike (Ok x) t = IsOk t
+Alike (Err e) t = t ≡ Err e
+
+module _ (n : NodeState) (v w : Event) where
+  by_count : (b : Bool) (f g : Effect) → Alike (stepped n v (cond b (Err error.Spent) (Ok f))) (stepped n w (cond b (Err error.Spent) (Ok g)))
+  by_count true f g = refl
+  by_count false f g = refl
+
+module _ (n : NodeState) (id : EndId) (asked body : List ℕ) (fresh : ℕ) where
+  abbrev v : Event
+  v = event.Frame id asked
+
+  abbrev w : Event
+  w = event.Frame id body
+
+  by_side : (e : End) (s : Option Side) → Alike (stepped n v (framed_from n id 0 asked e s)) (stepped n w (framed_from n id fresh body e s))
+  by_side e None = refl
+  by_side e (Some side) = by_count n v w (is_spent n) _ _
+
+  by_end : (o : Option End) → Alike (stepped n v (at_end o (λ e. framed_from n id 0 asked e (sender_to e)))) (stepped n w (at_end o (λ e. framed_from n id fresh body e (sender_to e))))
+  by_end None = refl
+  by_end (Some (ends.Closed c)) = refl
+  by_end (Some ends.Unnamed) = by_side ends.Unnamed (sender_to ends.Unnamed)
+  by_end (Some (ends.Attempt a)) = by_side (ends.Attempt a) (sender_to (ends.Attempt a))
+  by_end (Some (ends.Up r)) = by_side (ends.Up r) (sender_to (ends.Up r))
+
+  alike : Alike (step n v 0) (step n w fresh)
+  unfolding effect_of
+  alike = by_end (slice_get n.ends id.0)
+
+made : (s t : Answer) (r : Reply) → reply_of s ≡ Ok r → Alike s t → IsOk t
+made (Ok x) t r e a = a
+made (Err x) t r e a = absurd cc
+
+at_want : (s t : Answer) → IsOk s → Alike s t → IsOk t
+at_want (Ok x) t o a = a
+at_want (Err x) t o a = absurd (false≢true o)
+
+told : (s t : Answer) (e : StepError) → s ≡ Err e → Alike s t → t ≡ Err e
+told s t e is a = subst (λ (z : Answer). Alike z t) is a
+
+refuses : (e : StepError) (s t : Answer) → Refuses e s → Alike s t → Refuses e t
+refuses error.NoMemory s t h a = at_want s t h a
+refuses error.NoSuchEnd s t h a = told s t error.NoSuchEnd h a
+refuses (error.Gone w) s t h a = told s t (error.Gone w) h a
+refuses error.WrongPhase s t h a = told s t error.WrongPhase h a
+refuses (error.Busy x) s t h a = told s t (error.Busy x) h a
+refuses error.Spent s t h a = told s t error.Spent h a
+refuses error.Full s t h a = told s t error.Full h a
+
+pub no_memory : (n : NodeState) (id : EndId) (asked : List ℕ) (r : Reply) → reply_of (step n (event.Frame id asked) 0) ≡ Ok r → (body : List ℕ) (fresh : ℕ) → IsOk (step n (event.Frame id body) fresh)
+no_memory n id asked r e body fresh = made (step n (event.Frame id asked) 0) (step n (event.Frame id body) fresh) r e (alike n id asked body fresh)
+
+pub same_refusal : (n : NodeState) (id : EndId) (asked : List ℕ) (x : StepError) → Refuses x (step n (event.Frame id asked) 0) → (body : List ℕ) (fresh : ℕ) → Refuses x (step n (event.Frame id body) fresh)
+same_refusal n id asked x h body fresh = refuses x (step n (event.Frame id asked) 0) (step n (event.Frame id body) fresh) h (alike n id asked body fresh)

@@ -1,0 +1,57 @@
+-- What the exports say that write and read the port mapper's messages, and that of a digest.
+use Rattle.std.specs.Prelude.{◌≡◌, ℕ, ◌^◌, ◌≤◌, ◌⊎◌, List, [], length, Result, Ok, Err}
+use Rattle.std.specs.Int.{w16}
+use Rattle.dist_frames.specs.Stream.{framed}
+use Rattle.dist_secret.specs.declared.cookie_error.CookieError.{CookieError}
+use Rattle.dist_secret.specs.Digest.{digest_of}
+use Rattle.dist_epmd.specs.declared.epmd_error.EpmdError.{EpmdError}
+use Rattle.dist_epmd.specs.declared.message.Answer.{Answer}
+use Rattle.dist_epmd.specs.declared.message.Answer.TheVariants as answer
+use Rattle.dist_epmd.specs.declared.message.Request.{Request}
+use Rattle.dist_epmd.specs.declared.message.Request.TheVariants as request
+use Rattle.distnode_c.specs.declared.mapper.DnInfo.{DnInfo}
+use Rattle.distnode_c.specs.Codes.{cookie_code, epmd_code}
+use Rattle.distnode_c.specs.Steps.{Copies}
+
+-- what is told of a text that is not copied: this code, and the room and the length are as they were
+abbrev pub Leaves : ℕ → ℕ → ℕ → ℕ → List ℕ → List ℕ → Type 0
+Leaves wanted code had len old new = (code ≡ wanted) × (len ≡ had) × (new ≡ old)
+
+-- the frame of what is written is copied, or the reason why nothing is
+abbrev pub Asks : Result (List ℕ) EpmdError → ℕ → ℕ → ℕ → List ℕ → List ℕ → Type 0
+Asks (Ok body) code had len old new =
+    Copies (framed w16 body) code len old new ⊎ (Leaves 3 code had len old new ⊎ ((2 ^ 16 ≤ length body) × Leaves 40 code had len old new))
+Asks (Err e) code had len old new = Leaves (epmd_code e) code had len old new
+
+-- the same where a name is copied first
+abbrev pub AsksNamed : Result (List ℕ) EpmdError → ℕ → ℕ → ℕ → List ℕ → List ℕ → Type 0
+AsksNamed written code had len old new = Asks written code had len old new ⊎ Leaves 3 code had len old new
+
+-- the request of a registration
+abbrev pub alive_of : DnInfo → List ℕ → Request
+alive_of i name = request.Alive (record { port = i.port; node_type = i.node_type; protocol = i.protocol; highest = i.highest; lowest = i.lowest; name = name; extra = [] })
+
+-- nothing was told, with this code
+abbrev pub Untold : {X Y : Type 0} → ℕ → ℕ → X → X → Y → Y → Type 0
+Untold wanted code was is had has = (code ≡ wanted) × (is ≡ was) × (has ≡ had)
+
+-- what is told of the answer to a registration, which takes no memory
+abbrev pub AliveTold : Result Answer EpmdError → ℕ → ℕ → ℕ → ℕ → ℕ → Type 0
+AliveTold (Ok (answer.AliveX r c)) code was is had has = (code ≡ 0) × (is ≡ r) × (has ≡ c)
+AliveTold (Ok (answer.Alive r c)) code was is had has = (code ≡ 0) × (is ≡ r) × (has ≡ c)
+AliveTold (Ok other) code was is had has = Untold 40 code was is had has ⊎ Untold 3 code was is had has
+AliveTold (Err e) code was is had has = Untold (epmd_code e) code was is had has
+
+-- what is told of the answer to a lookup: memory may be wanted only for a node
+abbrev pub PortTold : Result Answer EpmdError → ℕ → ℕ → ℕ → DnInfo → DnInfo → Type 0
+PortTold (Ok (answer.Port (Ok i))) code was is had has =
+    ((code ≡ 0) × (is ≡ 0) × (has ≡ record { port = i.port; highest = i.highest; lowest = i.lowest; node_type = i.node_type; protocol = i.protocol }))
+    ⊎ Untold 3 code was is had has
+PortTold (Ok (answer.Port (Err r))) code was is had has = (code ≡ 0) × (is ≡ r) × (has ≡ had)
+PortTold (Ok other) code was is had has = Untold 40 code was is had has ⊎ Untold 3 code was is had has
+PortTold (Err e) code was is had has = Untold (epmd_code e) code was is had has
+
+-- the digest under a cookie, or the reason why there is none
+abbrev pub Digests : Result (List ℕ) CookieError → ℕ → ℕ → List ℕ → List ℕ → Type 0
+Digests (Ok cookie) challenge code old new = ((code ≡ 0) × (new ≡ digest_of cookie challenge)) ⊎ ((code ≡ 3) × (new ≡ old))
+Digests (Err e) challenge code old new = (code ≡ cookie_code e) × (new ≡ old)

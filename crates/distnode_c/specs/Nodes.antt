@@ -1,0 +1,98 @@
+-- What the exports say that make a node, let it go or ask it.
+use Rattle.std.specs.Prelude.{◌≡◌, ℕ, ◌⊎◌, ◌||◌, ◌==◌, if◌then◌else◌, Bool, true, false, List, [], length, nat_le, Option, Some, None, Result, Ok, Err}
+use Rattle.dist_names.specs.Order.{Name}
+use Rattle.dist_names.specs.declared.name_error.NameError.{NameError}
+use Rattle.dist_secret.specs.declared.cookie_error.CookieError.{CookieError}
+use Rattle.dist_peers.specs.declared.entry.EndId.{EndId}
+use Rattle.dist_ends.specs.declared.known.UpRecord.{UpRecord}
+use Rattle.dist_setup.specs.declared.setup.Setup.{Setup}
+use Rattle.dist_setup.specs.declared.version.Version.{Version}
+use Rattle.dist_setup.specs.declared.version.Version.TheVariants.{Five, Six}
+use Rattle.dist_secret.specs.Cookies.{is_full_for}
+use Rattle.dist_core.specs.declared.reply.Reply.{Reply}
+use Rattle.dist_core.specs.Runs.{opening}
+use Rattle.dist_guest.specs.Planning.{allowing, keyed}
+use Rattle.dist_guest.specs.declared.guest.Guest.{Guest}
+use Rattle.distnode_c.specs.declared.nodes.DnSetup.{DnSetup}
+use Rattle.distnode_c.specs.declared.nodes.DnPeer.{DnPeer}
+use Rattle.distnode_c.specs.Codes.{name_code, cookie_code}
+use Rattle.distnode_c.specs.Told.{creation_number, is_known}
+use Rattle.distnode_c.specs.Steps.{Copies, CopiesIf, said}
+
+-- there is a guest of a node without ends, or memory was wanted and there is none
+abbrev pub Makes : Setup → ℕ → Option Guest → Type 0
+Makes setup code new = ((code ≡ 0) × (new ≡ Some (record { node = opening setup; last = None }))) ⊎ ((code ≡ 3) × (new ≡ None))
+
+-- the version of a number: 0 stands for 6
+abbrev pub version_of : ℕ → Option Version
+version_of n = if n == 5 then Some Five else (if (n == 6) || (n == 0) then Some Six else None)
+
+-- no peer may connect that is not allowed later, or every peer may
+abbrev pub limit_of : ℕ → Option (List Name)
+limit_of n = if n == 0 then None else Some []
+
+-- the setup of a name, a cookie for all peers, a version and numbers
+abbrev pub setup_of : Name → List ℕ → Version → DnSetup → Setup
+setup_of name cookie v u = record { name = name; cookies = record { usual = cookie; own = [] }; version = v; flags = record { 0 = u.flags }; required = record { 0 = u.required }; creation = record { 0 = u.creation }; allow = limit_of u.limited }
+
+-- a name and a cookie are read, or the first reason why not; memory is wanted only where there is none
+abbrev pub ReadsBoth : Result (List ℕ × List ℕ) ℕ → Result (List ℕ) NameError → Result (List ℕ) CookieError → Type 0
+ReadsBoth (Ok x) name cookie = (name ≡ Ok x.0) × (cookie ≡ Ok x.1)
+ReadsBoth (Err code) (Err e) cookie = code ≡ name_code e
+ReadsBoth (Err code) (Ok name) (Err e) = code ≡ cookie_code e
+ReadsBoth (Err code) (Ok name) (Ok cookie) = code ≡ 3
+
+-- a new node, or the first reason why there is none; one that is there stays
+abbrev pub News : Option Version → Result (List ℕ) NameError → Result (List ℕ) CookieError → DnSetup → ℕ → Option Guest → Option Guest → Type 0
+News version name cookie u code (Some s) new = (code ≡ 2) × (new ≡ Some s)
+News None name cookie u code None new = (code ≡ 6) × (new ≡ None)
+News (Some v) (Err e) cookie u code None new = (code ≡ name_code e) × (new ≡ None)
+News (Some v) (Ok name) (Err e) u code None new = (code ≡ cookie_code e) × (new ≡ None)
+News (Some v) (Ok name) (Ok cookie) u code None new = Makes (setup_of name cookie v u) code new
+
+-- the guest is a new one of this setup, or there is no room, or memory was wanted
+abbrev pub Plans : Bool → Setup → ℕ → Guest → Guest → Type 0
+Plans true setup code old new = (code ≡ 15) × (new ≡ old)
+Plans false setup code old new = ((code ≡ 0) × (new ≡ record { node = opening setup; last = None })) ⊎ ((code ≡ 3) × (new ≡ old))
+
+-- a peer may connect from now on, at a guest that has made no step; else the first reason why nothing changed
+abbrev pub AllowsAt : Option Reply → Result (List ℕ) NameError → ℕ → Guest → Guest → Type 0
+AllowsAt (Some r) name code old new = (code ≡ 7) × (new ≡ old)
+AllowsAt None (Err e) code old new = (code ≡ name_code e) × (new ≡ old)
+AllowsAt None (Ok p) code old new = Plans false (allowing old.node.setup p) code old new
+
+-- the same of a cookie for a peer; memory may be wanted also where there is no room
+abbrev pub KeysAt : Option Reply → Result (List ℕ) NameError → Result (List ℕ) CookieError → ℕ → Guest → Guest → Type 0
+KeysAt (Some r) name cookie code old new = (code ≡ 7) × (new ≡ old)
+KeysAt None (Err e) cookie code old new = (code ≡ name_code e) × (new ≡ old)
+KeysAt None (Ok p) (Err e) code old new = (code ≡ cookie_code e) × (new ≡ old)
+KeysAt None (Ok p) (Ok c) code old new = Plans (is_full_for old.node.setup.cookies p) (keyed old.node.setup p c) code old new ⊎ ((code ≡ 3) × (new ≡ old))
+
+-- the same at a node that may hold no guest (1)
+abbrev pub AtGuest : (Guest → Guest → Type 0) → ℕ → Option Guest → Option Guest → Type 0
+AtGuest does code None new = (code ≡ 1) × (new ≡ None)
+AtGuest does code (Some old) new = (g : Guest) × (new ≡ Some g) × does old g
+
+-- none is left
+abbrev pub Frees : ℕ → Option Guest → Option Guest → Type 0
+Frees code None new = (code ≡ 1) × (new ≡ None)
+Frees code (Some s) new = (code ≡ 0) × (new ≡ None)
+
+-- what the newest reply says is copied, where there is a guest
+abbrev pub Says : Option Guest → ℕ → ℕ → ℕ → List ℕ → List ℕ → Type 0
+Says None code had len old new = (code ≡ 1) × (len ≡ had) × (new ≡ old)
+Says (Some s) code had len old new = Copies (said s.last) code len old new
+
+-- what is told of a record
+abbrev pub peer_of : EndId → UpRecord → DnPeer
+peer_of id r = record { name = length r.peer; common = r.common.0; id = id.0; creation = creation_number r.creation; has_creation = is_known r.creation }
+
+-- a record is told and its name copied; there is none (6)
+abbrev pub Tells : Option (EndId × UpRecord) → ℕ → DnPeer → DnPeer → List ℕ → List ℕ → Type 0
+Tells None code was is old new = (code ≡ 6) × (is ≡ was) × (new ≡ old)
+Tells (Some x) code was is old new = (is ≡ peer_of x.0 x.1) × CopiesIf (nat_le (length x.1.peer) (length old)) x.1.peer code old new
+
+-- the same at a node that may hold no guest (1)
+abbrev pub TellsAt : (Guest → Option (EndId × UpRecord)) → Option Guest → ℕ → DnPeer → DnPeer → List ℕ → List ℕ → Type 0
+TellsAt find None code was is old new = (code ≡ 1) × (is ≡ was) × (new ≡ old)
+TellsAt find (Some s) code was is old new = Tells (find s) code was is old new

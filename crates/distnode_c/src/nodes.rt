@@ -1,0 +1,310 @@
+//! A node is made, let go, and asked.
+ghost use Rattle.std.specs.Prelude.{◌≡◌, Some, None, Ok};
+ghost use Rattle.std.specs.Option.{option_map};
+ghost use Rattle.std.specs.FinMap as map;
+ghost use Rattle.std.specs.Prelude.{slice_get};
+ghost use Rattle.dist_names.specs.NodeName.{named};
+ghost use Rattle.dist_secret.specs.Cookie.{cookie_of};
+ghost use Rattle.dist_ends.specs.Ends.{up_from, up_ids, table_of, record_in};
+ghost use Rattle.distnode_c.specs.Steps.{Copies, said};
+ghost use Rattle.distnode_c.specs.Nodes.{Makes, News, ReadsBoth, AllowsAt, KeysAt, AtGuest, version_of, limit_of, Frees, Says, Tells, TellsAt};
+
+use crate::codes::{
+    IN_USE, NO_MEMORY, NO_SUCH, NOT_A_NODE, OK, STARTED, cookie_code, name_code, setup_code,
+};
+use crate::copies::copied;
+use crate::held::{DnNode, MARK};
+use crate::told::creation_parts;
+use dist_core::{NameList, Setup, UpRecord, Version};
+use dist_guest::Guest;
+use dist_names::{Creation, Flags, NameError, NodeName};
+use dist_peers::EndId;
+use dist_secret::{Cookie, Cookies};
+use std::alloc::Global;
+use std::mem::size_of;
+
+const _: () = prove!(size_of::<DnSetup>() == 32 && size_of::<DnPeer>() == 32);
+
+/// What a node is set up with, but for its name and its cookie.
+#[repr(C)]
+#[derive(Drop)]
+pub struct DnSetup {
+    /// The flags that it announces.
+    pub flags: u64,
+    /// The flags that it asks of a peer.
+    pub required: u64,
+    /// The number of its incarnation.
+    pub creation: u32,
+    /// The highest version of the handshake that it knows: 5 or 6, and 0 stands for 6.
+    pub version: u32,
+    /// Where it isn't 0, only peers that are allowed may connect.
+    pub limited: u32,
+}
+
+/// A peer that is up.
+#[repr(C)]
+#[derive(Drop)]
+pub struct DnPeer {
+    /// How many bytes its name has.
+    pub name: usize,
+    /// The flags that both nodes announced.
+    pub common: u64,
+    /// The end that is up with it.
+    pub id: u32,
+    /// Its creation, and 0 where it is unknown.
+    pub creation: u32,
+    /// 1 where that is known.
+    pub has_creation: u32,
+}
+
+// Puts a new guest in where there is none.
+fn made(node: &mut DnNode, alloc: Global, setup: Setup) -> u32
+    requires { node.old.slot.guest ≡ None }
+    ensures { Makes setup result node.new.slot.guest }
+{
+    match Box::new(alloc, Guest::new(alloc, setup)) {
+        Ok(guest) => {
+            node.shut(guest);
+            OK
+        }
+        Err(_) => NO_MEMORY,
+    }
+}
+
+fn version_of(number: u32) -> Option<Version>
+    ensures { result ≡ version_of number }
+{
+    match number {
+        5 => Some(Version::Five),
+        0 | 6 => Some(Version::Six),
+        _ => None,
+    }
+}
+
+fn limit_of(alloc: Global, number: u32) -> Option<NameList>
+    ensures { result ≡ limit_of number }
+{
+    if number == 0 {
+        None
+    } else {
+        Some(NameList::from_vec(Vec::new(alloc)))
+    }
+}
+
+// A name and a cookie. That memory is short for the name is told only where the text has a cookie.
+fn read_both(alloc: Global, name: &[u8], cookie: &[u8]) -> Result<(NodeName, Cookie), u32>
+    ensures { ReadsBoth result (named name.now) (cookie_of cookie.now) }
+{
+    let name = match NodeName::new(alloc, name) {
+        Ok(name) => Some(name),
+        Err(NameError::NoMemory) => None,
+        Err(error) => return Err(name_code(error)),
+    };
+    match Cookie::from_bytes(alloc, cookie) {
+        Ok(cookie) => match name {
+            Some(name) => Ok((name, cookie)),
+            None => Err(NO_MEMORY),
+        },
+        Err(error) => Err(cookie_code(error)),
+    }
+}
+
+/// Makes a node without ends, in a struct that holds none.
+#[unsafe(no_mangle)]
+pub extern "C" fn dn_node_new(
+    node: &mut DnNode,
+    alloc: Global,
+    name: &[u8],
+    cookie: &[u8],
+    setup: &DnSetup,
+) -> u32
+    ensures { News (version_of setup.now.version) (named name.now) (cookie_of cookie.now) setup.now result node.old.slot.guest node.new.slot.guest }
+{
+    if node.mark == MARK {
+        return IN_USE;
+    }
+    let Some(version) = version_of(setup.version) else {
+        return NO_SUCH;
+    };
+    match read_both(alloc, name, cookie) {
+        Ok((name, cookie)) => {
+            let setup = Setup {
+                name,
+                cookies: Cookies::new(alloc, cookie),
+                version,
+                flags: Flags(setup.flags),
+                required: Flags(setup.required),
+                creation: Creation(setup.creation),
+                allow: limit_of(alloc, setup.limited),
+            };
+            made(node, alloc, setup)
+        }
+        Err(code) => code,
+    }
+}
+
+fn allowed(guest: &mut Guest, alloc: Global, peer: &[u8]) -> u32
+    ensures { AllowsAt guest.old.last (named peer.now) result guest.old guest.new }
+{
+    if guest.last.is_some() {
+        return STARTED;
+    }
+    match NodeName::new(alloc, peer) {
+        Ok(peer) => match guest.allow(alloc, peer) {
+            Ok(()) => OK,
+            Err(error) => setup_code(error),
+        },
+        Err(error) => name_code(error),
+    }
+}
+
+/// Lets this peer connect, before the first step. From the first such call on only peers that were named so may.
+#[unsafe(no_mangle)]
+pub extern "C" fn dn_node_allow(node: &mut DnNode, alloc: Global, peer: &[u8]) -> u32
+    ensures { AtGuest (λ old new. AllowsAt old.last (named peer.now) result old new) result node.old.slot.guest node.new.slot.guest }
+{
+    let Some(mut guest) = node.open(alloc) else {
+        return NOT_A_NODE;
+    };
+    let code = allowed(&mut guest, alloc, peer);
+    node.shut(guest);
+    code
+}
+
+fn keyed(guest: &mut Guest, alloc: Global, peer: &[u8], cookie: &[u8]) -> u32
+    ensures { KeysAt guest.old.last (named peer.now) (cookie_of cookie.now) result guest.old guest.new }
+{
+    if guest.last.is_some() {
+        return STARTED;
+    }
+    match read_both(alloc, peer, cookie) {
+        Ok((peer, cookie)) => match guest.set_cookie(alloc, peer, cookie) {
+            Ok(()) => OK,
+            Err(error) => setup_code(error),
+        },
+        Err(code) => code,
+    }
+}
+
+/// Keeps a cookie for this peer, before the first step; one that it has of its own is replaced.
+#[unsafe(no_mangle)]
+pub extern "C" fn dn_node_cookie(
+    node: &mut DnNode,
+    alloc: Global,
+    peer: &[u8],
+    cookie: &[u8],
+) -> u32
+    ensures { AtGuest (λ old new. KeysAt old.last (named peer.now) (cookie_of cookie.now) result old new) result node.old.slot.guest node.new.slot.guest }
+{
+    let Some(mut guest) = node.open(alloc) else {
+        return NOT_A_NODE;
+    };
+    let code = keyed(&mut guest, alloc, peer, cookie);
+    node.shut(guest);
+    code
+}
+
+/// Lets a node go, with all its memory.
+#[unsafe(no_mangle)]
+pub extern "C" fn dn_node_free(node: &mut DnNode, alloc: Global) -> u32
+    ensures { Frees result node.old.slot.guest node.new.slot.guest }
+{
+    match node.open(alloc) {
+        Some(guest) => {
+            drop(guest);
+            OK
+        }
+        None => NOT_A_NODE,
+    }
+}
+
+fn say_of(guest: &Guest, room: &mut [u8], len: &mut usize) -> u32
+    ensures { Copies (said guest.now.last) result len.new room.old room.new }
+{
+    match &guest.last {
+        Some(reply) => copied(reply.say.as_slice(), room, len),
+        None => copied(&[], room, len),
+    }
+}
+
+/// Copies the bytes that the newest step says.
+#[unsafe(no_mangle)]
+pub extern "C" fn dn_node_say(
+    node: &mut DnNode,
+    alloc: Global,
+    room: &mut [u8],
+    len: &mut usize,
+) -> u32
+    ensures says { Says node.old.slot.guest result len.old len.new room.old room.new }
+    ensures same { node.new.slot.guest ≡ node.old.slot.guest }
+{
+    let Some(guest) = node.open(alloc) else {
+        return NOT_A_NODE;
+    };
+    let code = say_of(&guest, room, len);
+    node.shut(guest);
+    code
+}
+
+// Tells a record and copies its name, where there is one.
+fn tell(found: Option<(EndId, &UpRecord)>, room: &mut [u8], peer: &mut DnPeer) -> u32
+    ensures { Tells (option_map (λ r. (r.0, r.1.now)) found.entry) result peer.old peer.new room.old room.new }
+{
+    let Some((id, kept)) = found else {
+        return NO_SUCH;
+    };
+    let mut len = 0;
+    let code = copied(kept.peer.bytes(), room, &mut len);
+    let (creation, has_creation) = creation_parts(kept.creation);
+    *peer = DnPeer {
+        name: len,
+        common: kept.common.0,
+        id: id.0,
+        creation,
+        has_creation,
+    };
+    code
+}
+
+/// The up peer at this place, in the order of names, with its name.
+#[unsafe(no_mangle)]
+pub extern "C" fn dn_node_peer_at(
+    node: &mut DnNode,
+    alloc: Global,
+    place: usize,
+    peer: &mut DnPeer,
+    room: &mut [u8],
+) -> u32
+    ensures tells { TellsAt (λ s. up_from s.node.ends (slice_get (up_ids (map.entries (table_of s.node.ends))) place)) node.old.slot.guest result peer.old peer.new room.old room.new }
+    ensures same { node.new.slot.guest ≡ node.old.slot.guest }
+{
+    let Some(guest) = node.open(alloc) else {
+        return NOT_A_NODE;
+    };
+    let code = tell(guest.node.up_at(place), room, peer);
+    node.shut(guest);
+    code
+}
+
+/// The peer that is up on this end, with its name.
+#[unsafe(no_mangle)]
+pub extern "C" fn dn_node_peer_of(
+    node: &mut DnNode,
+    alloc: Global,
+    id: u32,
+    peer: &mut DnPeer,
+    room: &mut [u8],
+) -> u32
+    ensures tells { TellsAt (λ s. record_in (record { 0 = id }) (slice_get s.node.ends id)) node.old.slot.guest result peer.old peer.new room.old room.new }
+    ensures same { node.new.slot.guest ≡ node.old.slot.guest }
+{
+    let Some(guest) = node.open(alloc) else {
+        return NOT_A_NODE;
+    };
+    let code = match guest.node.record_of(EndId(id)) {
+        Some(kept) => tell(Some((EndId(id), kept)), room, peer),
+        None => NO_SUCH,
+    };
+    node.shut(guest);
+    code
+}

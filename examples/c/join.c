@@ -1,0 +1,261 @@
+/* A hidden node in C: it registers with the port mapper, accepts and dials, and keeps its connections by ticks.
+ *
+ * usage: join NAME COOKIE TICK SECONDS [PEER]
+ *
+ * It prints a line when a peer comes up or goes down, sends a tick after each TICK seconds (a quarter of net_ticktime), and
+ * ends after SECONDS. Hosts are IPv4 addresses; the port mapper is at ERL_EPMD_PORT, 4369 if unset. What Erlang's processes
+ * say to it is dropped. */
+#define _POSIX_C_SOURCE 200809L
+#include <distnode.h>
+
+#include <arpa/inet.h>
+#include <poll.h>
+#include <stdio.h>
+#include <stdlib.h>
+#include <string.h>
+#include <sys/random.h>
+#include <sys/socket.h>
+#include <time.h>
+#include <unistd.h>
+
+enum { MOST_LINKS = 64, ROOM = 65540, SAY = 1024 };
+
+/* A connection that carries one end of the node. */
+struct link {
+    int fd;            /* -1: the place is free */
+    uint32_t end;
+    int up;
+    size_t held;       /* bytes of a frame that has not come whole, or of a packet's length */
+    uint32_t skip;     /* bytes of a packet that are still to be dropped */
+    char name[256];    /* of the peer that is up */
+    uint8_t bytes[ROOM];
+};
+
+static dn_node node = DN_NODE_INIT;
+static struct link links[MOST_LINKS];
+
+static void stop(const char *what, uint32_t code) {
+    uint8_t word[16];
+    size_t n = 0;
+    if (code) dn_code_name(code, word, sizeof word, &n);
+    fprintf(stderr, "join: %s%s%.*s\n", what, code ? ": " : "", (int)n, (const char *)word);
+    exit(1);
+}
+
+static uint32_t drawn(void) {
+    uint32_t challenge;
+    if (getrandom(&challenge, sizeof challenge, 0) != sizeof challenge) stop("no random numbers", 0);
+    return challenge;
+}
+
+static int write_all(int fd, const uint8_t *bytes, size_t n) {
+    while (n) {
+        ssize_t done = send(fd, bytes, n, MSG_NOSIGNAL);
+        if (done <= 0) return -1;
+        bytes += done, n -= (size_t)done;
+    }
+    return 0;
+}
+
+static int connected(const char *host, int port) {
+    struct sockaddr_in to = {.sin_family = AF_INET, .sin_port = htons((uint16_t)port)};
+    int fd = socket(AF_INET, SOCK_STREAM, 0);
+    if (inet_pton(AF_INET, host, &to.sin_addr) == 1 && fd >= 0 && !connect(fd, (struct sockaddr *)&to, sizeof to)) return fd;
+    if (fd >= 0) close(fd);
+    return -1;
+}
+
+/* Reads until there are so many bytes, or the connection ends. */
+static size_t read_up_to(int fd, uint8_t *room, size_t most) {
+    size_t n = 0;
+    for (ssize_t got; n < most && (got = recv(fd, room + n, most - n, 0)) > 0; n += (size_t)got) {}
+    return n;
+}
+
+static struct link *link_of(uint32_t end) {
+    for (struct link *it = links; it < links + MOST_LINKS; it++)
+        if (it->fd >= 0 && it->end == end) return it;
+    return NULL;
+}
+
+static struct link *new_link(int fd, uint32_t end) {
+    for (struct link *it = links; it < links + MOST_LINKS; it++)
+        if (it->fd < 0) {
+            it->fd = fd, it->end = end, it->up = 0, it->held = 0, it->skip = 0;
+            return it;
+        }
+    return NULL;
+}
+
+static void close_link(struct link *it, uint32_t why) {
+    uint8_t word[16];
+    size_t n = 0;
+    dn_why_name(why, word, sizeof word, &n);
+    if (it->up) printf("down %s %.*s\n", it->name, (int)n, (const char *)word), fflush(stdout);
+    close(it->fd);
+    it->fd = -1;
+}
+
+static void lose(struct link *it, uint32_t why) {
+    dn_reply reply;
+    dn_node_lost(&node, it->end, why, &reply);
+    close_link(it, why);
+}
+
+/* Does what a reply wants: writes, closes, notes who is up. */
+static void said(struct link *it, const dn_reply *reply) {
+    uint8_t say[SAY];
+    size_t n = 0;
+    int failed = 0;
+    if (reply->say) {
+        if (dn_node_say(&node, say, sizeof say, &n)) stop("a step says too much", 0);
+        failed = write_all(it->fd, say, n);
+    }
+    if (reply->up) {
+        dn_peer peer;
+        uint8_t name[255];
+        uint32_t code = dn_node_peer_of(&node, it->end, &peer, name, sizeof name);
+        if (code) stop("no peer", code);
+        snprintf(it->name, sizeof it->name, "%.*s", (int)peer.name, (const char *)name);
+        it->up = 1;
+        printf("up %s %016llx %u\n", it->name, (unsigned long long)peer.common, peer.creation), fflush(stdout);
+    }
+    if (reply->closed) {
+        struct link *other = link_of(reply->closed_id);
+        if (other) close_link(other, reply->closed);
+    }
+    if (failed && it->fd >= 0) lose(it, DN_WHY_WRITE_FAILED);
+}
+
+static void tick(struct link *it) {
+    dn_reply reply;
+    if (!dn_node_tick(&node, it->end, &reply)) said(it, &reply);
+}
+
+static void dropped(struct link *it, size_t n) {
+    it->held -= n;
+    memmove(it->bytes, it->bytes + n, it->held);
+}
+
+/* Takes what is held: frames of the handshake, then packets, of which one without bytes is a tick and is answered by one. */
+static void take(struct link *it) {
+    while (it->fd >= 0 && !it->up) {
+        dn_reply reply;
+        uint32_t code = dn_node_received(&node, it->end, it->bytes, it->held, drawn(), &reply);
+        if (code == DN_AWAITS) return;
+        if (code) { lose(it, code == DN_NO_MEMORY ? DN_WHY_NO_MEMORY : DN_WHY_GAVE_UP); return; }
+        dropped(it, reply.taken);
+        said(it, &reply);
+    }
+    while (it->fd >= 0) {
+        size_t n = it->skip < it->held ? it->skip : it->held;
+        dropped(it, n), it->skip -= (uint32_t)n;
+        if (it->skip || it->held < 4) return;
+        uint32_t size = (uint32_t)it->bytes[0] << 24 | it->bytes[1] << 16 | it->bytes[2] << 8 | it->bytes[3];
+        dropped(it, 4), it->skip = size;
+        if (!size) tick(it);
+    }
+}
+
+static void came(struct link *it) {
+    ssize_t got = recv(it->fd, it->bytes + it->held, ROOM - it->held, 0);
+    if (got <= 0) { lose(it, got ? DN_WHY_READ_FAILED : DN_WHY_ENDED); return; }
+    it->held += (size_t)got;
+    take(it);
+}
+
+/* Registers under the part of the name before the @, and answers the creation. The registration lasts as the connection does. */
+static uint32_t registered(int mapper, const char *name, int port) {
+    dn_info info = {(uint16_t)port, 6, 5, 0x48, 0};
+    uint8_t bytes[512];
+    size_t n;
+    uint32_t result, creation, code = dn_epmd_alive_request(&info, (const uint8_t *)name, strcspn(name, "@"), bytes, sizeof bytes, &n);
+    if (code) stop("the name", code);
+    if (mapper < 0 || write_all(mapper, bytes, n)) stop("no port mapper", 0);
+    code = dn_epmd_alive_answer(bytes, read_up_to(mapper, bytes, 6), &result, &creation);
+    if (code) stop("the port mapper's answer", code);
+    if (result) stop("the port mapper refuses the name", 0);
+    return creation;
+}
+
+static int looked_up(const char *host, int epmd, const char *peer) {
+    uint8_t bytes[1024];
+    size_t n;
+    uint32_t result = 1, code = dn_epmd_port_request((const uint8_t *)peer, strcspn(peer, "@"), bytes, sizeof bytes, &n);
+    dn_info info;
+    int fd = connected(host, epmd);
+    if (!code && fd >= 0 && !write_all(fd, bytes, n))
+        code = dn_epmd_port_answer(bytes, read_up_to(fd, bytes, sizeof bytes), &result, &info);
+    if (fd >= 0) close(fd);
+    return code || result ? -1 : info.port;
+}
+
+static void dial(const char *peer, int epmd) {
+    dn_reply reply;
+    uint32_t code = dn_node_dial(&node, (const uint8_t *)peer, strlen(peer), 1, &reply);
+    if (code) stop("the dial", code);
+    uint32_t end = reply.id;
+    const char *host = strchr(peer, '@') + 1;
+    int port = looked_up(host, epmd, peer), fd = port < 0 ? -1 : connected(host, port);
+    struct link *it = fd < 0 ? NULL : new_link(fd, end);
+    if (!it) {
+        fprintf(stderr, "join: %s cannot be reached\n", peer);
+        dn_node_lost(&node, end, DN_WHY_DIAL_FAILED, &reply);
+    } else if (!dn_node_opened(&node, end, &reply)) {
+        said(it, &reply);
+    }
+}
+
+static double now(void) {
+    struct timespec t;
+    clock_gettime(CLOCK_MONOTONIC, &t);
+    return (double)t.tv_sec + (double)t.tv_nsec * 1e-9;
+}
+
+int main(int argc, char **argv) {
+    if (argc < 5) { fprintf(stderr, "usage: join NAME COOKIE TICK SECONDS [PEER]\n"); return 2; }
+    int epmd = getenv("ERL_EPMD_PORT") ? atoi(getenv("ERL_EPMD_PORT")) : 4369;
+    for (int i = 0; i < MOST_LINKS; i++) links[i].fd = -1;
+    struct sockaddr_in at = {.sin_family = AF_INET, .sin_addr.s_addr = htonl(INADDR_LOOPBACK)};
+    socklen_t size = sizeof at;
+    int listener = socket(AF_INET, SOCK_STREAM, 0), mapper = connected("127.0.0.1", epmd);
+    if (bind(listener, (struct sockaddr *)&at, size) || listen(listener, 8) || getsockname(listener, (struct sockaddr *)&at, &size))
+        stop("cannot listen", 0);
+    /* flags as an Erlang node of OTP 25 announces them, but for DFLAG_PUBLISHED */
+    dn_setup setup = {.flags = 0x403070f94, .creation = registered(mapper, argv[1], ntohs(at.sin_port))};
+    uint32_t code = dn_node_new(&node, (const uint8_t *)argv[1], strlen(argv[1]), (const uint8_t *)argv[2], strlen(argv[2]), &setup);
+    if (code) stop("no node", code);
+    printf("ready\n"), fflush(stdout);
+    if (argc > 5) dial(argv[5], epmd);
+
+    double every = atof(argv[3]), end = now() + atof(argv[4]), due = now() + every;
+    for (double t; (t = now()) < end;) {
+        struct pollfd polled[MOST_LINKS + 1];
+        struct link *of[MOST_LINKS + 1];
+        nfds_t n = 0;
+        polled[n++] = (struct pollfd){.fd = listener, .events = POLLIN};
+        for (struct link *it = links; it < links + MOST_LINKS; it++)
+            if (it->fd >= 0) of[n] = it, polled[n++] = (struct pollfd){.fd = it->fd, .events = POLLIN};
+        double wait = (due < end ? due : end) - t;
+        poll(polled, n, wait > 0 ? (int)(wait * 1000) + 1 : 0);
+        for (nfds_t i = 1; i < n; i++)
+            if (polled[i].revents && of[i]->fd == polled[i].fd) came(of[i]);
+        if (polled[0].revents) {
+            dn_reply reply;
+            int fd = accept(listener, NULL, NULL);
+            if (fd >= 0 && !dn_node_incoming(&node, &reply)) {
+                if (!new_link(fd, reply.id)) close(fd), dn_node_lost(&node, reply.id, DN_WHY_GAVE_UP, &reply);
+            } else if (fd >= 0) close(fd);
+        }
+        if (due <= now()) {
+            due += every;
+            for (struct link *it = links; it < links + MOST_LINKS; it++)
+                if (it->fd >= 0 && it->up) tick(it);
+        }
+    }
+    for (struct link *it = links; it < links + MOST_LINKS; it++)
+        if (it->fd >= 0) lose(it, DN_WHY_GAVE_UP);
+    dn_node_free(&node);
+    close(mapper), close(listener);
+    return 0;
+}

@@ -1,0 +1,233 @@
+"""The handshake of Erlang's distribution protocol, by ctypes over libdistnode: a class for a node, and functions for the
+messages of the port mapper (EPMD). There are no sockets in here: join.py shows a whole program.
+
+The library is the one that the environment's DISTNODE_LIBRARY names, else the installed libdistnode.so.
+"""
+
+import ctypes as c
+import os
+import secrets
+from dataclasses import dataclass
+from enum import IntEnum
+from typing import Iterator, Optional
+
+_library = c.CDLL(os.environ.get("DISTNODE_LIBRARY", "libdistnode.so"))
+
+
+class Code(IntEnum):
+    """What a call answers: dn_code of the header."""
+
+    OK, NOT_A_NODE, IN_USE, NO_MEMORY, NO_ROOM, AWAITS, NO_SUCH, STARTED = range(8)
+    NO_SUCH_END, GONE, WRONG_PHASE, BUSY, SPENT, FULL = range(10, 16)
+    NAME_TOO_SHORT, NAME_TOO_LONG, NAME_BAD_BYTE, NAME_BAD_AT = range(20, 24)
+    COOKIE_EMPTY, COOKIE_BAD_BYTE, COOKIE_TOO_LONG = range(30, 33)
+    EPMD_MALFORMED, EPMD_SHORT, EPMD_TRAILING = range(40, 43)
+
+
+class Why(IntEnum):
+    """Why an end is closed: dn_why of the header."""
+
+    ENDED, READ_FAILED, WRITE_FAILED, GAVE_UP, DIAL_FAILED = range(1, 6)
+    MALFORMED, UNEXPECTED, WRONG_NAME, WRONG_FLAGS, WRONG_DIGEST = range(6, 11)
+    STATUS_REFUSED, REFUSED, CROSSED, REPLACED, NO_MEMORY = range(11, 16)
+
+
+class Refused(Exception):
+    """A call that answered another code than OK."""
+
+    def __init__(self, code: Code):
+        super().__init__(code.name)
+        self.code = code
+
+
+class _Node(c.Structure):
+    _fields_ = [("guest", c.c_void_p), ("mark", c.c_uint64)]
+
+
+class _Setup(c.Structure):
+    _fields_ = [("flags", c.c_uint64), ("required", c.c_uint64), ("creation", c.c_uint32), ("version", c.c_uint32),
+                ("limited", c.c_uint32)]
+
+
+class _Reply(c.Structure):
+    _fields_ = [("say", c.c_size_t), ("taken", c.c_size_t), ("common", c.c_uint64), ("id", c.c_uint32),
+                ("closed", c.c_uint32), ("closed_id", c.c_uint32), ("up", c.c_uint32), ("creation", c.c_uint32),
+                ("has_creation", c.c_uint32)]
+
+
+class _Peer(c.Structure):
+    _fields_ = [("name", c.c_size_t), ("common", c.c_uint64), ("id", c.c_uint32), ("creation", c.c_uint32),
+                ("has_creation", c.c_uint32)]
+
+
+class _Info(c.Structure):
+    _fields_ = [("port", c.c_uint16), ("highest", c.c_uint16), ("lowest", c.c_uint16), ("node_type", c.c_uint8),
+                ("protocol", c.c_uint8)]
+
+
+@dataclass(frozen=True)
+class Peer:
+    """A peer that is up: its name, its end, the flags that both announced, and its creation where it is known."""
+
+    name: bytes
+    end: int
+    common: int
+    creation: Optional[int]
+
+
+@dataclass(frozen=True)
+class Reply:
+    """What a step did."""
+
+    end: int  # the event's end, or the one that was given out
+    say: bytes  # what is to be written on its connection
+    taken: int  # of bytes that were given, how many were taken
+    closed: Optional[tuple[int, Why]]  # an end that was closed, this one or another, and why
+    up: bool  # this end came up: what follows on its connection is the caller's
+
+
+@dataclass(frozen=True)
+class Info:
+    """What the port mapper knows of a node: its port, the versions of the handshake, 0x4d for normal and 0x48 for hidden."""
+
+    port: int
+    highest: int
+    lowest: int
+    node_type: int
+
+
+def _given(data: bytes) -> tuple:
+    """A pointer, never null, and a length."""
+    return (c.c_uint8 * max(1, len(data))).from_buffer_copy(data or b"\0"), c.c_size_t(len(data))
+
+
+def _check(code: int) -> None:
+    if code:
+        raise Refused(Code(code))
+
+
+def _copied(call, *given, most: int = 65540) -> bytes:
+    """What a call copies to a room."""
+    room, length = (c.c_uint8 * most)(), c.c_size_t()
+    _check(call(*given, room, c.c_size_t(most), c.byref(length)))
+    return bytes(room[: length.value])
+
+
+class Node:
+    """A node. It stays on one thread, or is used under one lock. `with Node(..) as node` lets it go at the end."""
+
+    def __init__(self, name: bytes, cookie: bytes, flags: int, creation: int, required: int = 0, version: int = 6,
+                 limited: bool = False):
+        self._node = _Node(None, 0)
+        setup = _Setup(flags, required, creation, version, limited)
+        _check(_library.dn_node_new(c.byref(self._node), *_given(name), *_given(cookie), c.byref(setup)))
+
+    def __enter__(self) -> "Node":
+        return self
+
+    def __exit__(self, *_) -> None:
+        self.free()
+
+    def free(self) -> None:
+        """Lets the node go. Any later call is refused as NOT_A_NODE."""
+        _check(_library.dn_node_free(c.byref(self._node)))
+
+    def allow(self, peer: bytes) -> None:
+        """Lets this peer connect, and from the first call on only peers that were named so. Before the first step."""
+        _check(_library.dn_node_allow(c.byref(self._node), *_given(peer)))
+
+    def set_cookie(self, peer: bytes, cookie: bytes) -> None:
+        """Keeps a cookie for this peer alone. Before the first step."""
+        _check(_library.dn_node_cookie(c.byref(self._node), *_given(peer), *_given(cookie)))
+
+    def _step(self, call, *given) -> Reply:
+        r = _Reply()
+        _check(call(c.byref(self._node), *given, c.byref(r)))
+        say = _copied(_library.dn_node_say, c.byref(self._node), most=r.say) if r.say else b""
+        return Reply(r.id, say, r.taken, (r.closed_id, Why(r.closed)) if r.closed else None, bool(r.up))
+
+    def dial(self, peer: bytes, new: bool = True) -> Reply:
+        """The node is to connect to this peer: the reply has a new end."""
+        return self._step(_library.dn_node_dial, *_given(peer), c.c_uint32(new))
+
+    def opened(self, end: int) -> Reply:
+        """The connection of a dialled end is there."""
+        return self._step(_library.dn_node_opened, c.c_uint32(end))
+
+    def incoming(self) -> Reply:
+        """A connection was accepted: the reply has a new end."""
+        return self._step(_library.dn_node_incoming)
+
+    def received(self, end: int, data: bytes, challenge: Optional[int] = None) -> Optional[Reply]:
+        """Takes the frame at the front of what came, and tells how many bytes it took; None where it has not come whole."""
+        challenge = secrets.randbits(32) if challenge is None else challenge
+        try:
+            return self._step(_library.dn_node_received, c.c_uint32(end), *_given(data), c.c_uint32(challenge))
+        except Refused as refused:
+            if refused.code != Code.AWAITS:
+                raise
+            return None
+
+    def lost(self, end: int, why: Why) -> Reply:
+        """The connection of an end is lost or given up."""
+        return self._step(_library.dn_node_lost, c.c_uint32(end), c.c_uint32(why))
+
+    def tick(self, end: int) -> Reply:
+        """A tick is due on an end that is up."""
+        return self._step(_library.dn_node_tick, c.c_uint32(end))
+
+    def _peer(self, call, number) -> Optional[Peer]:
+        p, room = _Peer(), (c.c_uint8 * 255)()
+        code = call(c.byref(self._node), number, c.byref(p), room, c.c_size_t(255))
+        if code == Code.NO_SUCH:
+            return None
+        _check(code)
+        return Peer(bytes(room[: p.name]), p.id, p.common, p.creation if p.has_creation else None)
+
+    def peer_of(self, end: int) -> Optional[Peer]:
+        """The peer that is up on an end."""
+        return self._peer(_library.dn_node_peer_of, c.c_uint32(end))
+
+    def peers(self) -> Iterator[Peer]:
+        """The peers that are up, in the order of their names."""
+        place = 0
+        while (peer := self._peer(_library.dn_node_peer_at, c.c_size_t(place))) is not None:
+            yield peer
+            place += 1
+
+
+def digest(cookie: bytes, challenge: int) -> bytes:
+    """The digest of a challenge under a cookie."""
+    room = (c.c_uint8 * 16)()
+    _check(_library.dn_cookie_digest(*_given(cookie), c.c_uint32(challenge), room))
+    return bytes(room)
+
+
+def alive_request(alive: bytes, port: int, hidden: bool = False) -> bytes:
+    """The frame by which a node registers under the part of its name before the @."""
+    info = _Info(port, 6, 5, 0x48 if hidden else 0x4D, 0)
+    return _copied(_library.dn_epmd_alive_request, c.byref(info), *_given(alive))
+
+
+def alive_answer(data: bytes) -> tuple[int, int]:
+    """A result, 0 for success, and the creation."""
+    result, creation = c.c_uint32(), c.c_uint32()
+    _check(_library.dn_epmd_alive_answer(*_given(data), c.byref(result), c.byref(creation)))
+    return result.value, creation.value
+
+
+def port_request(alive: bytes) -> bytes:
+    """The frame that asks for a node."""
+    return _copied(_library.dn_epmd_port_request, *_given(alive))
+
+
+def port_answer(data: bytes) -> Optional[Info]:
+    """What the port mapper tells of a node, None where it knows none."""
+    result, info = c.c_uint32(), _Info()
+    _check(_library.dn_epmd_port_answer(*_given(data), c.byref(result), c.byref(info)))
+    return None if result.value else Info(info.port, info.highest, info.lowest, info.node_type)
+
+
+def names_request() -> bytes:
+    """The frame that asks for all names."""
+    return _copied(_library.dn_epmd_names_request)

@@ -1,0 +1,152 @@
+"""A hidden node in Python: it registers with the port mapper, accepts and dials, and keeps its connections by ticks.
+
+usage: join.py NAME COOKIE [--dial PEER] [--tick SECONDS] [--seconds N]
+
+It prints a line when a peer comes up or goes down, and ends after so many seconds, or when it is interrupted. The port mapper
+(`epmd`) is the one at ERL_EPMD_PORT, 4369 if unset. What Erlang's processes say to it is counted and dropped.
+"""
+
+import argparse
+import os
+import selectors
+import socket
+import struct
+import time
+
+import distnode as dn
+
+HIDDEN_FLAGS = 0x403070F94  # as an Erlang node of OTP 25 announces them, but for DFLAG_PUBLISHED
+EPMD = ("127.0.0.1", int(os.environ.get("ERL_EPMD_PORT", "4369")))
+
+
+class Link:
+    """A connection that carries one end of the node."""
+
+    def __init__(self, stream: socket.socket, end: int):
+        self.stream, self.end, self.held, self.peer, self.messages = stream, end, b"", None, 0
+
+
+class Joined:
+    """A node, its listener, and its connections."""
+
+    def __init__(self, name: bytes, cookie: bytes, tick: float):
+        self.selector, self.links, self.tick = selectors.DefaultSelector(), {}, tick
+        self.listener = socket.create_server(("127.0.0.1", 0))
+        # the registration lasts as long as this connection
+        self.registration = socket.create_connection(EPMD, timeout=10)
+        self.registration.sendall(dn.alive_request(name.partition(b"@")[0], self.listener.getsockname()[1], hidden=True))
+        result, creation = dn.alive_answer(self.registration.recv(6, socket.MSG_WAITALL))
+        if result:
+            raise SystemExit("the port mapper refuses the name")
+        self.node = dn.Node(name, cookie, HIDDEN_FLAGS, creation)
+        self.selector.register(self.listener, selectors.EVENT_READ, None)
+
+    def link(self, stream: socket.socket, end: int) -> Link:
+        stream.settimeout(10)
+        link = self.links[end] = Link(stream, end)
+        self.selector.register(stream, selectors.EVENT_READ, link)
+        return link
+
+    def dial(self, peer: bytes) -> None:
+        alive, _, host = peer.partition(b"@")
+        end = self.node.dial(peer).end
+        try:
+            with socket.create_connection((host.decode(), EPMD[1]), timeout=10) as asked:
+                asked.sendall(dn.port_request(alive))
+                info = dn.port_answer(b"".join(iter(lambda: asked.recv(4096), b"")))
+            if info is None:
+                raise OSError("no such node")
+            link = self.link(socket.create_connection((host.decode(), info.port), timeout=10), end)
+        except OSError as error:
+            print("cannot dial:", error, flush=True)
+            self.node.lost(end, dn.Why.DIAL_FAILED)
+            return
+        self.said(link, self.node.opened(end))
+
+    def said(self, link: Link, reply: dn.Reply) -> None:
+        """Does what a reply wants: writes, closes, notes who is up."""
+        if reply.say:
+            link.stream.sendall(reply.say)
+        if reply.up:
+            link.peer = self.node.peer_of(link.end)
+            print("up", link.peer.name.decode(), "%016x" % link.peer.common, link.peer.creation, flush=True)
+        if reply.closed:
+            self.close(*reply.closed)
+
+    def close(self, end: int, why: dn.Why) -> None:
+        link = self.links.pop(end, None)
+        if link is None:
+            return
+        self.selector.unregister(link.stream)
+        link.stream.close()
+        if link.peer:
+            print("down", link.peer.name.decode(), why.name, link.messages, flush=True)
+
+    def lose(self, link: Link, why: dn.Why) -> None:
+        reply = self.node.lost(link.end, why)
+        self.close(*reply.closed)
+
+    def take(self, link: Link) -> None:
+        """Takes what came on a connection: frames of the handshake, then packets of Erlang's."""
+        link.held += link.stream.recv(65536) or self.ended()
+        while link.end in self.links and link.peer is None:
+            reply = self.node.received(link.end, link.held)
+            if reply is None:
+                return
+            link.held = link.held[reply.taken :]
+            self.said(link, reply)
+        while len(link.held) >= 4 and len(link.held) >= 4 + (size := struct.unpack(">I", link.held[:4])[0]):
+            link.held = link.held[4 + size :]
+            if size:
+                link.messages += 1
+            elif link.end in self.links:  # a tick is answered by one
+                self.said(link, self.node.tick(link.end))
+
+    @staticmethod
+    def ended() -> bytes:
+        raise EOFError
+
+    def run(self, seconds: float) -> None:
+        stop, due = time.monotonic() + seconds, time.monotonic() + self.tick
+        while (now := time.monotonic()) < stop:
+            for key, _ in self.selector.select(max(0, min(stop, due) - now)):
+                if key.data is None:
+                    self.link(self.listener.accept()[0], self.node.incoming().end)
+                elif key.data.end in self.links:
+                    self.guarded(key.data, self.take)
+            if due <= time.monotonic():
+                due += self.tick
+                for link in [it for it in self.links.values() if it.peer]:
+                    self.guarded(link, lambda it: self.said(it, self.node.tick(it.end)))
+        for link in list(self.links.values()):
+            self.lose(link, dn.Why.GAVE_UP)
+        self.node.free()
+
+    def guarded(self, link: Link, work) -> None:
+        try:
+            work(link)
+        except EOFError:
+            self.lose(link, dn.Why.ENDED)
+        except OSError:
+            self.lose(link, dn.Why.READ_FAILED)
+
+
+def main() -> None:
+    words = argparse.ArgumentParser(description=__doc__.splitlines()[0])
+    words.add_argument("name")
+    words.add_argument("cookie")
+    words.add_argument("--dial", metavar="PEER")
+    words.add_argument("--tick", type=float, default=15, help="a quarter of net_ticktime")
+    words.add_argument("--seconds", type=float, default=1e9)
+    given = words.parse_args()
+    joined = Joined(given.name.encode(), given.cookie.encode(), given.tick)
+    print("ready", flush=True)
+    if given.dial:
+        joined.dial(given.dial.encode())
+    try:
+        joined.run(given.seconds)
+    except KeyboardInterrupt:
+        pass
+
+
+main()

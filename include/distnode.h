@@ -1,0 +1,247 @@
+/* distnode.h: the handshake of Erlang's distribution protocol, for a caller that owns its sockets, its clock and its
+ * random numbers. docs/C_LIBRARY.md has the order of calls, and examples/c/join.c a whole program.
+ *
+ * There is no input or output in this library, no thread, no lock, no callback and no global state. No call aborts, blocks,
+ * prints, draws a number or asks the time. What a call does is proved to be the step of the node's definition; what the
+ * caller owes is not checked by anything, and stands in the three demands.
+ *
+ * THE THREE DEMANDS
+ *
+ * 1. A dn_node is all zero (DN_NODE_INIT) before dn_node_new. From then on the caller neither writes nor copies it, and gives
+ *    it to one call at a time, all on one thread. Different nodes share nothing, and may be used by different threads.
+ * 2. No pointer is null, also beside a length of 0. Each is aligned as its type asks, and leads to so many elements that can
+ *    be read, or written where it isn't const. No two pointers of a call lead to the same bytes.
+ * 3. malloc, realloc and free come from one allocator and align as C asks. No call comes from a signal handler, or from the
+ *    forked child of a process with threads.
+ *
+ * Bytes are copied, both ways: those that were given to a call are the caller's again when it returns. Nothing that a call
+ * hands out is to be freed; a node alone is let go, by dn_node_free.
+ *
+ * Every function answers a dn_code. Its errors are listed in their order: the first that holds is told. A code other than
+ * DN_OK leaves the node, and what the pointers lead to, as they were, but for a length or a peer that is told beside
+ * DN_NO_ROOM. After DN_NO_MEMORY the same call does its work once there is memory. */
+#ifndef DISTNODE_H
+#define DISTNODE_H
+
+#include <stddef.h>
+#include <stdint.h>
+
+#define DN_VERSION_MAJOR 0
+#define DN_VERSION_MINOR 1
+#define DN_VERSION "0.1"
+
+#ifdef __cplusplus
+extern "C" {
+#endif
+
+/* A node, in the caller's memory. Its fields are the library's. */
+typedef struct dn_node {
+    void *guest;
+    uint64_t mark;
+} dn_node;
+
+#define DN_NODE_INIT {0, 0}
+
+/* What a call answers. */
+typedef enum dn_code {
+    DN_OK = 0,
+    DN_NOT_A_NODE = 1,      /* the struct holds no node: it is zero, or was let go */
+    DN_IN_USE = 2,          /* the struct holds a node already */
+    DN_NO_MEMORY = 3,
+    DN_NO_ROOM = 4,         /* the caller's room is too short; the length that is needed was told */
+    DN_AWAITS = 5,          /* no whole frame stands at the front: call again with these bytes and those that follow */
+    DN_NO_SUCH = 6,         /* a cause, a place or a version names nothing */
+    DN_STARTED = 7,         /* the node has made a step, and its setup no longer changes */
+    DN_NO_SUCH_END = 10,    /* the number was never given out */
+    DN_GONE = 11,           /* the end is closed */
+    DN_WRONG_PHASE = 12,    /* the end is open, and takes no such event now */
+    DN_BUSY = 13,           /* a dial to a peer that has an end */
+    DN_SPENT = 14,          /* the node has made its 1,048,576 steps; a loss is still taken */
+    DN_FULL = 15,           /* 1,024 peers have an entry, 4,096 ends are open, or 1,024 names have cookies of their own */
+    DN_NAME_TOO_SHORT = 20, /* a name has fewer than 3 bytes */
+    DN_NAME_TOO_LONG = 21,  /* a name has more than 255 bytes */
+    DN_NAME_BAD_BYTE = 22,  /* a name has a byte that is not from 0x21 to 0x7E */
+    DN_NAME_BAD_AT = 23,    /* a name has not exactly one @, or nothing before or behind it */
+    DN_COOKIE_EMPTY = 30,   /* no byte of a cookie stands at the front of the text */
+    DN_COOKIE_BAD_BYTE = 31, /* behind the cookie stands what is no line end and no space */
+    DN_COOKIE_TOO_LONG = 32, /* the cookie has more than 255 bytes, or its text more than 4,096 */
+    DN_EPMD_MALFORMED = 40, /* the bytes are no such message, or it has no spelling, being too long */
+    DN_EPMD_SHORT = 41,     /* the message ends inside a field: read on to the end of the connection */
+    DN_EPMD_TRAILING = 42   /* bytes stand behind the message */
+} dn_code;
+
+/* Why an end is closed. The caller tells a loss with one of the first five or with DN_WHY_NO_MEMORY. */
+typedef enum dn_why {
+    DN_WHY_ENDED = 1,           /* the connection ended */
+    DN_WHY_READ_FAILED = 2,
+    DN_WHY_WRITE_FAILED = 3,
+    DN_WHY_GAVE_UP = 4,         /* the caller waited no longer */
+    DN_WHY_DIAL_FAILED = 5,     /* the connection could not be made */
+    DN_WHY_MALFORMED = 6,       /* what came is no message */
+    DN_WHY_UNEXPECTED = 7,      /* what came is a message of another phase */
+    DN_WHY_WRONG_NAME = 8,      /* the peer has another name than the one that was dialled */
+    DN_WHY_WRONG_FLAGS = 9,     /* the peer lacks a required flag */
+    DN_WHY_WRONG_DIGEST = 10,   /* the peer has another cookie */
+    DN_WHY_STATUS_REFUSED = 11, /* the peer said no */
+    DN_WHY_REFUSED = 12,        /* the name failed a check, and this node said no */
+    DN_WHY_CROSSED = 13,        /* both dialled, and the other connection stays */
+    DN_WHY_REPLACED = 14,       /* the peer has connected anew */
+    DN_WHY_NO_MEMORY = 15
+} dn_why;
+
+/* What a node is set up with, beside its name and its cookie. Fields that are 0 have their usual values. */
+typedef struct dn_setup {
+    uint64_t flags;    /* that it announces; those of the handshake's version are added and removed as they must be */
+    uint64_t required; /* that it asks of a peer, beside those of the version */
+    uint32_t creation; /* the number of this incarnation, as the port mapper answered it */
+    uint32_t version;  /* the highest version of the handshake that it knows: 5 or 6; 0 stands for 6 */
+    uint32_t limited;  /* not 0: only peers that dn_node_allow names may connect */
+} dn_setup;
+
+/* What a step did. */
+typedef struct dn_reply {
+    size_t say;            /* how many bytes are to be written on this end: fetch them by dn_node_say */
+    size_t taken;          /* dn_node_received: how many bytes of those given were taken, else 0 */
+    uint64_t common;       /* where the end came up: the flags that both announced */
+    uint32_t id;           /* the event's end, or the one that was given out */
+    uint32_t closed;       /* a dn_why where an end was closed, this one or another; else 0 */
+    uint32_t closed_id;    /* which one: its connection is to be closed, once what is to be said on it was written */
+    uint32_t up;           /* 1 where this end came up: what follows on its connection is the caller's */
+    uint32_t creation;     /* where the end came up: the peer's creation */
+    uint32_t has_creation; /* 1 where that is known: a peer of version 5 tells none, and creation is 0 */
+} dn_reply;
+
+/* A peer that is up. */
+typedef struct dn_peer {
+    size_t name;           /* how many bytes its name has, at most 255 */
+    uint64_t common;       /* the flags that both announced */
+    uint32_t id;           /* its end */
+    uint32_t creation;     /* and has_creation: as in dn_reply */
+    uint32_t has_creation;
+} dn_peer;
+
+/* ---- a node is made, and let go */
+
+/* Makes a node without ends. The name is `alive@host`, at most 255 bytes, with no 0 behind. The cookie is a text as the file
+ * .erlang.cookie has it: 1 to 255 bytes from 0x20 to 0x7E, and then line ends or spaces alone; it is the one for every peer
+ * that has no cookie of its own.
+ * Errors: DN_IN_USE, DN_NO_SUCH (the version), DN_NAME_*, DN_COOKIE_*, DN_NO_MEMORY. */
+uint32_t dn_node_new(dn_node *node, const uint8_t *name, size_t name_len, const uint8_t *cookie, size_t cookie_len,
+                     const dn_setup *setup);
+
+/* Lets this peer connect, and from the first such call on only peers that were named so; a dial is not bound by it. Only
+ * before the first step. Each call copies what was set before, so many thousand names take their time.
+ * Errors: DN_NOT_A_NODE, DN_STARTED, DN_NAME_*, DN_NO_MEMORY. */
+uint32_t dn_node_allow(dn_node *node, const uint8_t *peer, size_t peer_len);
+
+/* Keeps a cookie for this peer, in place of one that it has of its own. Only before the first step.
+ * Errors: DN_NOT_A_NODE, DN_STARTED, DN_NAME_*, DN_COOKIE_*, DN_FULL (1,024 other names have their own), DN_NO_MEMORY, which
+ * may also come before DN_FULL. */
+uint32_t dn_node_cookie(dn_node *node, const uint8_t *peer, size_t peer_len, const uint8_t *cookie, size_t cookie_len);
+
+/* Lets a node go, with all its memory. The struct holds none then, and may be used anew. It needs no memory.
+ * Errors: DN_NOT_A_NODE. */
+uint32_t dn_node_free(dn_node *node);
+
+/* ---- steps: each writes a dn_reply where it answers DN_OK */
+
+/* The node is to connect to this peer: reply->id is the number of a new end. The caller looks the peer up, connects, and
+ * tells dn_node_opened, or dn_node_lost with DN_WHY_DIAL_FAILED. An opening of 0 says the name in the old form, any other in
+ * that of OTP 23 and above.
+ * Errors: DN_NAME_*, DN_NOT_A_NODE, DN_BUSY, DN_SPENT, DN_FULL, DN_NO_MEMORY, which may also come before these four. */
+uint32_t dn_node_dial(dn_node *node, const uint8_t *peer, size_t peer_len, uint32_t opening, dn_reply *reply);
+
+/* The connection of a dialled end is there.
+ * Errors: DN_NOT_A_NODE, DN_NO_SUCH_END, DN_GONE, DN_WRONG_PHASE (no connection is awaited), DN_SPENT, DN_NO_MEMORY. */
+uint32_t dn_node_opened(dn_node *node, uint32_t id, dn_reply *reply);
+
+/* A connection was accepted: reply->id is the number of a new end.
+ * Errors: DN_NOT_A_NODE, DN_SPENT, DN_FULL (4,096 ends are open), DN_NO_MEMORY. */
+uint32_t dn_node_incoming(dn_node *node, dn_reply *reply);
+
+/* Bytes came on an end: takes the frame at their front, and reply->taken says how many they are. The caller drops those, and
+ * calls again with the rest until DN_AWAITS, or until the end is up: then the rest is the caller's. 65,537 bytes hold any
+ * frame. The challenge is drawn anew for each call, by a generator that nobody can foretell.
+ * Errors: DN_NOT_A_NODE, DN_AWAITS, DN_NO_SUCH_END, DN_GONE, DN_WRONG_PHASE (there is no connection yet, or the end is up),
+ * DN_SPENT, DN_NO_MEMORY. */
+uint32_t dn_node_received(dn_node *node, uint32_t id, const uint8_t *bytes, size_t len, uint32_t challenge,
+                          dn_reply *reply);
+
+/* The connection of an end is lost or given up, for a cause of dn_why. It never lacks memory.
+ * Errors: DN_NO_SUCH (the cause), DN_NOT_A_NODE, DN_NO_SUCH_END, DN_GONE. */
+uint32_t dn_node_lost(dn_node *node, uint32_t id, uint32_t why, dn_reply *reply);
+
+/* A tick is due on an end that is up: what is to be said is a packet of no bytes, 4 bytes that are 0.
+ * Errors: DN_NOT_A_NODE, DN_NO_SUCH_END, DN_GONE, DN_WRONG_PHASE (it is not up), DN_SPENT, DN_NO_MEMORY. */
+uint32_t dn_node_tick(dn_node *node, uint32_t id, dn_reply *reply);
+
+/* ---- questions: none changes the node */
+
+/* Copies what the newest step says, and tells its length; before the first step that is nothing. It may be asked again until
+ * the next step. 1,024 bytes of room are enough for any step.
+ * Errors: DN_NOT_A_NODE, DN_NO_ROOM (*len is the length). */
+uint32_t dn_node_say(dn_node *node, uint8_t *room, size_t room_len, size_t *len);
+
+/* The peer at a place among those that are up, in the order of their names, from 0 on; and the peer that is up on an end. The
+ * name is copied to the room, which 255 bytes fill at most, and the rest is told also beside DN_NO_ROOM.
+ * Errors: DN_NOT_A_NODE, DN_NO_SUCH, DN_NO_ROOM. */
+uint32_t dn_node_peer_at(dn_node *node, size_t place, dn_peer *peer, uint8_t *room, size_t room_len);
+uint32_t dn_node_peer_of(dn_node *node, uint32_t id, dn_peer *peer, uint8_t *room, size_t room_len);
+
+/* The digest of a challenge under a cookie's text: MD5 of the cookie and of the challenge in decimal digits.
+ * Errors: DN_COOKIE_*, DN_NO_MEMORY. */
+uint32_t dn_cookie_digest(const uint8_t *cookie, size_t cookie_len, uint32_t challenge, uint8_t digest[16]);
+
+/* ---- the port mapper, EPMD: a request is a whole frame, to be written as it is; an answer has no length before it, and is
+ * what came until the port mapper closed the connection, or, of a registration, 6 bytes (4 from an old one) */
+
+typedef struct dn_info {
+    uint16_t port;     /* at which the node accepts connections */
+    uint16_t highest;  /* the highest version of the handshake that it knows */
+    uint16_t lowest;   /* the lowest one */
+    uint8_t node_type; /* 0x4d for a normal node, 0x48 for a hidden one */
+    uint8_t protocol;  /* 0 for TCP over IPv4 */
+} dn_info;
+
+/* The frame by which a node registers under the part of its name before the @; the registration lasts as the connection
+ * does. The frame that asks for the node of such a name. The frame that asks for all names.
+ * Errors: DN_EPMD_MALFORMED (the name is too long), DN_NO_MEMORY, which may also come before that, DN_NO_ROOM (*len is the
+ * length). */
+uint32_t dn_epmd_alive_request(const dn_info *info, const uint8_t *name, size_t name_len, uint8_t *room, size_t room_len,
+                               size_t *len);
+uint32_t dn_epmd_port_request(const uint8_t *name, size_t name_len, uint8_t *room, size_t room_len, size_t *len);
+uint32_t dn_epmd_names_request(uint8_t *room, size_t room_len, size_t *len);
+
+/* The answer to a registration: *result is 0 where it succeeded, and *creation is the node's then.
+ * Errors: DN_EPMD_MALFORMED, DN_EPMD_SHORT, DN_EPMD_TRAILING. */
+uint32_t dn_epmd_alive_answer(const uint8_t *bytes, size_t len, uint32_t *result, uint32_t *creation);
+
+/* The answer to a lookup: *result is 0 where there is such a node, and *info tells of it then; else *info stays as it was.
+ * Errors: DN_EPMD_MALFORMED, DN_EPMD_SHORT, DN_EPMD_TRAILING, DN_NO_MEMORY. */
+uint32_t dn_epmd_port_answer(const uint8_t *bytes, size_t len, uint32_t *result, dn_info *info);
+
+/* ---- words, for messages: ASCII, with no 0 behind; 16 bytes of room are enough for any */
+
+/* The word of a code, as `NoMemory`, and `Unknown` where there is none. Errors: DN_NO_ROOM (*len is the length). */
+uint32_t dn_code_name(uint32_t code, uint8_t *room, size_t room_len, size_t *len);
+
+/* The word of a cause. Errors: DN_NO_SUCH, DN_NO_ROOM (*len is the length). */
+uint32_t dn_why_name(uint32_t why, uint8_t *room, size_t room_len, size_t *len);
+
+/* The same sizes are asserted where the library is proved. */
+#if defined __cplusplus && __cplusplus >= 201103L
+#define DN_ASSERT static_assert
+#elif defined __STDC_VERSION__ && __STDC_VERSION__ >= 201112L
+#define DN_ASSERT _Static_assert
+#endif
+#ifdef DN_ASSERT
+DN_ASSERT(sizeof(dn_node) == 16 && sizeof(dn_setup) == 32 && sizeof(dn_reply) == 48, "structs have other sizes");
+DN_ASSERT(sizeof(dn_peer) == 32 && sizeof(dn_info) == 8 && sizeof(size_t) == 8, "structs have other sizes");
+#undef DN_ASSERT
+#endif
+
+#ifdef __cplusplus
+}
+#endif
+
+#endif
