@@ -1,0 +1,7 @@
+use Rattle.dist_streams.specs.Turns.{fault_of}
+use Rattle.dist_setup.specs.Saying.{frame_of}
+use Rattle.dist_probe.proofs.asking.leave_alone.Goals as goal
+
+pub returns-clause-says : goal.returns-clause-says
+unfolding frame_of
+returns-clause-says g c = record { stop = fault_of c.write_all.result; said = c.write_all.ensures.says }

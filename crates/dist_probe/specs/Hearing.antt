@@ -1,0 +1,58 @@
+-- What is heard of a node, where one message of it is awaited.
+use Rattle.std.specs.Prelude.{◌≡◌, ℕ, ◌<◌, List, Option, Some, None}
+use Rattle.std.specs.Int.{w16}
+use Rattle.dist_names.specs.Bytes.{number}
+use Rattle.dist_frames.specs.Stream.{framed}
+use Rattle.dist_messages.specs.Spelling.{Spells}
+use Rattle.dist_messages.specs.Causes.{IsCause}
+use Rattle.dist_messages.specs.declared.message.Side.TheVariants.{Acceptor}
+use Rattle.dist_messages.specs.declared.message.Message.{Message}
+use Rattle.dist_streams.specs.Stream.{StreamState}
+use Rattle.dist_streams.specs.Turns.{Hears}
+use Rattle.dist_streams.specs.declared.turn_error.TurnError.{TurnError}
+use Rattle.dist_streams.specs.declared.turn_error.TurnError.TheVariants as fault
+use Rattle.dist_mapper.specs.Serving.{IsInside}
+use Rattle.dist_probe.specs.declared.hearing.Heard.{Heard}
+use Rattle.dist_probe.specs.declared.hearing.Heard.TheVariants as heard
+
+-- the most bytes of a body that is read as one of the handshake, our own limit
+abbrev pub most : ℕ
+most = 1024
+
+-- what is heard where the stream gave or took no more
+abbrev pub heard_instead : TurnError → Heard
+heard_instead fault.ReadFailed = heard.Broken
+heard_instead fault.WriteFailed = heard.Broken
+heard_instead fault.Ended = heard.Gone
+heard_instead fault.Limit = heard.Silent
+
+-- The bytes are the frame of a message of the accepting side.
+abbrev pub Frames : Message → List ℕ → Type 0
+Frames m bytes = (body : List ℕ) × (bytes ≡ framed w16 body) × Spells Acceptor m body
+
+-- a body, and what is heard in it
+abbrev pub IsHeardIn : Heard → List ℕ → Type 0
+IsHeardIn (heard.Said m) body = Spells Acceptor m body
+IsHeardIn (heard.NoMessage error) body = IsCause Acceptor body error
+IsHeardIn heard.NoMemory body = Unit {0}
+IsHeardIn other body = ⊥
+
+-- what these bytes are heard as, where no read failed
+abbrev pub IsWhole : Heard → List ℕ → Type 0
+IsWhole (heard.Said m) bytes = Frames m bytes
+IsWhole (heard.NoMessage error) bytes = (body : List ℕ) × (bytes ≡ framed w16 body) × IsCause Acceptor body error
+IsWhole (heard.Length front) bytes = (bytes ≡ number w16 front) × (most < front)
+IsWhole heard.NoMemory bytes = Unit {0}
+IsWhole other bytes = ⊥
+
+-- these bytes came, and that was heard: a message, or that the stream gave no more inside of a frame
+abbrev pub IsHeardAs : Option TurnError → Heard → List ℕ → Type 0
+IsHeardAs None h bytes = IsWhole h bytes
+IsHeardAs (Some error) h bytes = (h ≡ heard_instead error) × IsInside bytes
+
+-- ONE MESSAGE WAS HEARD, or why none was, within the turns that were there; nothing was written.
+pub record HearsMessage (old new : StreamState) (turns left : ℕ) (h : Heard) : Type 0 where
+  pub bytes : List ℕ
+  pub stop : Option TurnError
+  pub hears : Hears old new turns left stop bytes
+  pub means : IsHeardAs stop h bytes

@@ -1,0 +1,6 @@
+pub mod Services
+pub mod Words
+pub mod Styles
+pub mod Verdicts
+pub mod Hearing
+pub mod Ending

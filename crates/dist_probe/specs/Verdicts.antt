@@ -1,0 +1,55 @@
+-- THE TABLE OF VERDICTS: what it means that this was heard at this place of the handshake.
+use Rattle.std.specs.Prelude.{ℕ, Bool, false, ◌==◌, List, Option, Some, None, if◌then◌else◌}
+use Rattle.std.specs.Cmp.Lexicographic.{pointwise}
+use Rattle.dist_names.specs.declared.flags.Flags.{Flags}
+use Rattle.dist_messages.specs.declared.message.Message.TheVariants as message
+use Rattle.dist_messages.specs.declared.message.Status.TheVariants as status
+use Rattle.dist_probe.specs.declared.hearing.Heard.{Heard}
+use Rattle.dist_probe.specs.declared.hearing.Heard.TheVariants as heard
+use Rattle.dist_probe.specs.declared.verdict.Awaited.{Awaited}
+use Rattle.dist_probe.specs.declared.verdict.Awaited.TheVariants as awaited
+use Rattle.dist_probe.specs.declared.verdict.Verdict.{Verdict}
+use Rattle.dist_probe.specs.declared.verdict.Verdict.TheVariants as verdict
+use Rattle.dist_probe.specs.Services.{service_of}
+
+-- `not_allowed`: the name is the node's own, or a flag lacks that releases from 26 on ask for, or the name is not on the
+-- node's list
+abbrev pub not_allowed : Bool → Flags → Verdict
+not_allowed is_own lacking = if is_own then verdict.OwnName else if lacking.0 == 0 then verdict.NotOnList else verdict.LacksFlags lacking
+
+-- `nok`: the name is the node's own, or the node dials it just now
+abbrev pub refused_nok : Bool → Verdict
+refused_nok is_own = if is_own then verdict.OwnName else verdict.Busy
+
+-- anything but the message that is awaited
+abbrev pub refusal : Awaited → Heard → Verdict
+refusal a (heard.Said m) = verdict.Unexpected a
+refusal a (heard.NoMessage error) = verdict.Unexpected a
+refusal a (heard.Length front) = verdict.Foreign (service_of front)
+refusal a heard.Gone = verdict.Gone a
+refusal a heard.Broken = verdict.Gone a
+refusal a heard.Silent = verdict.Silent a
+refusal a heard.NoMemory = verdict.NoMemory
+
+-- behind the own name
+abbrev pub status_verdict : Bool → Flags → Heard → Option Verdict
+status_verdict is_own lacking (heard.Said (message.Status status.Ok)) = None
+status_verdict is_own lacking (heard.Said (message.Status status.OkSimultaneous)) = None
+status_verdict is_own lacking (heard.Said (message.Status status.Nok)) = Some (refused_nok is_own)
+status_verdict is_own lacking (heard.Said (message.Status status.NotAllowed)) = Some (not_allowed is_own lacking)
+status_verdict is_own lacking (heard.Said (message.Status status.Alive)) = Some verdict.AlreadyUp
+status_verdict is_own lacking other = Some (refusal awaited.Status other)
+
+-- behind a status that goes on
+abbrev pub challenge_verdict : Flags → List ℕ → Heard → Option Verdict
+challenge_verdict lacking target (heard.Said (message.NewChallenge flags challenge creation name)) = if pointwise ◌==◌ name target then None else Some verdict.OtherName
+challenge_verdict lacking target (heard.Said (message.OldChallenge flags challenge name)) = Some verdict.Version5
+challenge_verdict lacking target (heard.Said (message.Status status.NotAllowed)) = Some (not_allowed false lacking)
+challenge_verdict lacking target other = Some (refusal awaited.Challenge other)
+
+-- behind the own reply: an end of the stream there is what a node does that has another cookie
+abbrev pub ack_verdict : Flags → List ℕ → Heard → Verdict
+ack_verdict lacking wanted (heard.Said (message.Ack digest)) = if pointwise ◌==◌ digest wanted then verdict.Up else verdict.WrongAck
+ack_verdict lacking wanted (heard.Said (message.Status status.NotAllowed)) = not_allowed false lacking
+ack_verdict lacking wanted heard.Gone = verdict.WrongCookie
+ack_verdict lacking wanted other = refusal awaited.Ack other

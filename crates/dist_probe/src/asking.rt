@@ -1,0 +1,273 @@
+//! The conversation of a probe.
+
+ghost use Rattle.std.specs.Prelude.{◌≡◌, Err, IfErr, IsOk, None};
+ghost use Rattle.dist_messages.specs.declared.form.Form.TheVariants as form;
+ghost use Rattle.dist_setup.specs.Saying.{name_text, reply_text};
+ghost use Rattle.dist_probe.specs.Ending.{Asks, BehindChallenge, Ends, Exchanges, GoesOn, Leaves, SaysFalse, challenge_in, lacking, outcome_of, peer_in, status_in};
+
+use crate::hearing::{Heard, hear, heard_instead};
+use crate::judging::{ack_verdict, challenge_verdict, status_verdict};
+use crate::verdict::Verdict;
+use dist_flag_names::{Release, missing};
+use dist_messages::{Form, Message, Status};
+use dist_names::{ByteString, Creation, Flags, NodeName};
+use dist_setup::{Setup, announced_by, name_frame, own_digest, reply_frame};
+use dist_streams::{Limited, Stream};
+use std::alloc::Global;
+
+/// What a node says of itself.
+#[derive(Drop)]
+pub struct Peer {
+    /// What it announces.
+    pub flags: Flags,
+    /// Which start of the node answered.
+    pub creation: Creation,
+    /// Its name.
+    pub name: ByteString,
+}
+
+/// What a probe heard, and what that means.
+#[derive(Drop)]
+pub struct Report {
+    /// The status that the node said.
+    pub status: Option<Status>,
+    /// What it said of itself.
+    pub peer: Option<Peer>,
+    /// Whether the node came up, or why not.
+    pub outcome: Result<(), Verdict>,
+}
+
+impl Report {
+    /// What it comes to.
+    pub fn verdict(&self) -> Verdict
+        ensures up { IsOk self.now.outcome → result ≡ Verdict.Up }
+        ensures other { IfErr self.now.outcome (λ v. result ≡ v) }
+    {
+        match self.outcome {
+            Ok(()) => Verdict::Up,
+            Err(verdict) => verdict,
+        }
+    }
+}
+
+/// The flags that a node of OTP 26 or newer asks for, and that a node of this setup does not announce.
+pub fn lacking(setup: &Setup) -> Flags
+    ensures { result ≡ lacking setup.now }
+{
+    missing(announced_by(setup), Release::Otp28.required())
+}
+
+// The status that was said.
+fn status_in(heard: &Heard) -> Option<Status>
+    ensures { result ≡ status_in heard.now }
+{
+    match heard {
+        Heard::Said(Message::Status(status)) => Some(*status),
+        _ => None,
+    }
+}
+
+// The challenge that was said, and 0 where none was.
+fn challenge_in(heard: &Heard) -> u32
+    ensures { result ≡ challenge_in heard.now }
+{
+    match heard {
+        Heard::Said(Message::NewChallenge { challenge, .. }) => *challenge,
+        _ => 0,
+    }
+}
+
+// What the node said of itself.
+fn peer_in(heard: Heard) -> Option<Peer>
+    ensures { result ≡ peer_in heard }
+{
+    match heard {
+        Heard::Said(
+            Message::NewChallenge {
+                flags,
+                creation,
+                name,
+                ..
+            },
+        ) => Some(Peer {
+            flags,
+            creation,
+            name,
+        }),
+        _ => None,
+    }
+}
+
+// A verdict, as an outcome.
+fn outcome_of(verdict: Verdict) -> Result<(), Verdict>
+    ensures { result ≡ outcome_of verdict }
+{
+    match verdict {
+        Verdict::Up => Ok(()),
+        other => Err(other),
+    }
+}
+
+// Says a text, and hears the message behind it.
+fn exchange<S: Stream>(alloc: Global, limited: &mut Limited<'_, S>, text: &ByteString) -> Heard
+    ensures asks { Exchanges text.now result (S.meaning limited.old.stream.now) (S.meaning limited.new.stream.now) limited.old.left limited.new.left }
+    ensures loan { limited.new.stream.ghost_name ≡ limited.old.stream.ghost_name }
+{
+    match limited.write_all(text.as_slice()) {
+        Ok(()) => hear(alloc, limited),
+        Err(fault) => heard_instead(fault),
+    }
+}
+
+// Says the own name, and hears what comes upon it.
+fn greet<S: Stream>(alloc: Global, limited: &mut Limited<'_, S>, setup: &Setup) -> Heard
+    ensures asks { Asks (name_text setup.now form.New) result (S.meaning limited.old.stream.now) (S.meaning limited.new.stream.now) limited.old.left limited.new.left }
+    ensures loan { limited.new.stream.ghost_name ≡ limited.old.stream.ghost_name }
+{
+    match name_frame(alloc, setup, Form::New) {
+        Ok(text) => exchange(alloc, limited, &text),
+        Err(_) => Heard::NoMemory,
+    }
+}
+
+// Replies to a challenge, and hears what comes upon that.
+fn reply<S: Stream>(
+    alloc: Global,
+    limited: &mut Limited<'_, S>,
+    setup: &Setup,
+    target: &NodeName,
+    fresh: u32,
+    challenge: u32,
+) -> Heard
+    ensures asks { Asks (reply_text setup.now form.New target.now fresh challenge) result (S.meaning limited.old.stream.now) (S.meaning limited.new.stream.now) limited.old.left limited.new.left }
+    ensures loan { limited.new.stream.ghost_name ≡ limited.old.stream.ghost_name }
+{
+    match reply_frame(alloc, setup, Form::New, target, fresh, challenge) {
+        Ok(text) => exchange(alloc, limited, &text),
+        Err(_) => Heard::NoMemory,
+    }
+}
+
+// The frame of `false`, which takes no memory.
+const FALSE: [u8; 8] = [0, 6, 0x73, 0x66, 0x61, 0x6c, 0x73, 0x65];
+
+// Says `false`, so that the node keeps the connection that it has under the own name.
+fn leave_alone<S: Stream>(limited: &mut Limited<'_, S>)
+    ensures says { SaysFalse (S.meaning limited.old.stream.now) (S.meaning limited.new.stream.now) limited.old.left limited.new.left }
+    ensures loan { limited.new.stream.ghost_name ≡ limited.old.stream.ghost_name }
+{
+    let _ = limited.write_all(&FALSE);
+}
+
+// What comes of the challenge of the node that was dialled.
+fn tried<S: Stream>(
+    alloc: Global,
+    limited: &mut Limited<'_, S>,
+    setup: &Setup,
+    target: &NodeName,
+    fresh: u32,
+    replies: bool,
+    challenge: u32,
+) -> Result<(), Verdict>
+    ensures tries { BehindChallenge replies setup.now target.now fresh challenge (S.meaning limited.old.stream.now) (S.meaning limited.new.stream.now) limited.old.left limited.new.left result }
+    ensures loan { limited.new.stream.ghost_name ≡ limited.old.stream.ghost_name }
+{
+    if !replies {
+        return Err(Verdict::Reached);
+    }
+    let heard = reply(alloc, limited, setup, target, fresh, challenge);
+    let wanted = own_digest(setup, target, fresh);
+    outcome_of(ack_verdict(lacking(setup), wanted, &heard))
+}
+
+// Hears the challenge, and goes on from there. What the node said of itself is told, whether or not it was dialled.
+fn go_on<S: Stream>(
+    alloc: Global,
+    limited: &mut Limited<'_, S>,
+    setup: &Setup,
+    target: &NodeName,
+    fresh: u32,
+    replies: bool,
+    status: Option<Status>,
+) -> Report
+    ensures goes { GoesOn replies setup.now target.now fresh (S.meaning limited.old.stream.now) (S.meaning limited.new.stream.now) limited.old.left limited.new.left result }
+    ensures status { result.status ≡ status }
+    ensures loan { limited.new.stream.ghost_name ≡ limited.old.stream.ghost_name }
+{
+    let heard = hear(alloc, limited);
+    let challenge = challenge_in(&heard);
+    let outcome = match challenge_verdict(lacking(setup), target.bytes(), &heard) {
+        Some(verdict) => Err(verdict),
+        None => tried(alloc, limited, setup, target, fresh, replies, challenge),
+    };
+    Report {
+        status,
+        peer: peer_in(heard),
+        outcome,
+    }
+}
+
+// Ends a talk that the node refused behind the own name.
+fn refused<S: Stream>(
+    limited: &mut Limited<'_, S>,
+    status: Option<Status>,
+    verdict: Verdict,
+) -> Report
+    ensures leaves { Leaves verdict (S.meaning limited.old.stream.now) (S.meaning limited.new.stream.now) limited.old.left limited.new.left }
+    ensures report { result ≡ record { status = status; peer = None; outcome = Err verdict } }
+    ensures loan { limited.new.stream.ghost_name ≡ limited.old.stream.ghost_name }
+{
+    if let Verdict::AlreadyUp = verdict {
+        leave_alone(limited);
+    }
+    Report {
+        status,
+        peer: None,
+        outcome: Err(verdict),
+    }
+}
+
+/// Asks a node over a stream whether it comes up with the node of this setup, in at most `limit` reads and writes, and
+/// whether both have the same cookie. `fresh` is the own challenge.
+///
+/// The opening is the newer name. Where `replies` is false the talk ends at the node's challenge, so nothing of a cookie is
+/// told, and the node never counts the probe as up. Where the node says `alive` the answer is `false`: what it has under that
+/// name stays. The connection is the caller's to close, at once: an end that comes up is not kept.
+pub fn ask_node<S: Stream>(
+    alloc: Global,
+    stream: &mut S,
+    setup: &Setup,
+    target: &NodeName,
+    fresh: u32,
+    replies: bool,
+    limit: usize,
+) -> Report
+    ensures { Ends replies setup.now target.now fresh (S.meaning stream.old) (S.meaning stream.new) limit result }
+{
+    let mut limited = Limited {
+        stream,
+        left: limit,
+    };
+    talk(alloc, &mut limited, setup, target, fresh, replies)
+}
+
+// The talk as far as it goes.
+fn talk<S: Stream>(
+    alloc: Global,
+    limited: &mut Limited<'_, S>,
+    setup: &Setup,
+    target: &NodeName,
+    fresh: u32,
+    replies: bool,
+) -> Report
+    ensures ends { Ends replies setup.now target.now fresh (S.meaning limited.old.stream.now) (S.meaning limited.new.stream.now) limited.old.left result }
+    ensures loan { limited.new.stream.ghost_name ≡ limited.old.stream.ghost_name }
+{
+    let heard = greet(alloc, limited, setup);
+    let status = status_in(&heard);
+    let is_own = setup.name.is_same(target);
+    match status_verdict(is_own, lacking(setup), &heard) {
+        Some(verdict) => refused(limited, status, verdict),
+        None => go_on(alloc, limited, setup, target, fresh, replies, status),
+    }
+}

@@ -1,0 +1,23 @@
+//! Why a node does not come up with another: what a node says when it is dialled, and what that means.
+//!
+//! One call dials nobody: it speaks the dialling side of the handshake over any stream, writes down what it heard, and
+//! answers a verdict. Which verdict belongs to what was heard is a table (`specs/Verdicts`). No sockets, no clock, no
+//! randomness, no node that is kept: an end that comes up is left at once.
+#![tactic(auto)]
+
+mod asking;
+mod hearing;
+mod judging;
+mod knocking;
+mod names;
+mod service;
+mod verdict;
+mod words;
+
+pub use asking::{Peer, Report, ask_node, lacking};
+pub use hearing::{Heard, hear, heard_instead};
+pub use judging::{ack_verdict, challenge_verdict, status_verdict};
+pub use knocking::speaks_tls;
+pub use names::{NameStyle, style_of};
+pub use service::{Service, service_of};
+pub use verdict::{Awaited, Verdict};
