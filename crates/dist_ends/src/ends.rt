@@ -52,6 +52,13 @@ impl Ends {
         }
     }
 
+    /// How many numbers were given out: one for each end, open or closed.
+    pub fn len(&self) -> usize
+        ensures { result ≡ length self.now }
+    {
+        self.rows.len()
+    }
+
     /// The number of the next end that is given out.
     pub fn next_id(&self) -> EndId
         requires { length self.now < 2 ^ 32 }
