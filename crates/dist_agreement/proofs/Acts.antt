@@ -19,7 +19,7 @@ use Rattle.dist_agreement.specs.Rows.{EndRow, rows_after}
 use Rattle.dist_agreement.specs.World.{World, Life, Conn, runs, runs_for, running, row_at, end_at}
 use Rattle.dist_agreement.specs.Delivery.{delivered, body_taken, text_to, change_to, spoken}
 use Rattle.dist_ends.specs.Ends.{is_dialing}
-use Rattle.dist_agreement.specs.Happenings.{lived, answered, told_in, told, told_of, new_life, begun, ended, halted, conn_of, reached_life, new_conn, reached, opened_on, opened, next_end, accepted_by, accepted, is_open_end, is_nonempty, came, came_on, came_to, deliver, taken_body, taken_from, taken_on, taken_by, take_next, applied}
+use Rattle.dist_agreement.specs.Happenings.{most_begins, most_connections, lived, answered, told_in, told, told_of, new_life, begun, ended, halted, conn_of, reached_life, new_conn, reached, opened_on, opened, next_end, accepted_by, accepted, is_open_end, is_nonempty, came, came_on, came_to, deliver, taken_body, taken_from, taken_on, taken_by, take_next, applied}
 use Rattle.dist_agreement.specs.Agreement.{Fits}
 use Rattle.dist_agreement.proofs.Places.{first-passes, both-true}
 
@@ -113,7 +113,7 @@ acts w (happening.Begin a c) = by (slice_get w.setups a) (running w a) refl refl
     by : (o : Option Setup) (r : Option ℕ) → slice_get w.setups a ≡ o → running w a ≡ r → Acts (c.0 < 2 ^ 32) w (begun w a c o r)
     by None r at e = tt
     by (Some s) (Some i) at e = tt
-    by (Some s) None at e = if_so (c.0 < 2 ^ 32) w (ltb (length w.lives) 1048576) _ (λ b. record { setups = refl; clock = refl; act = Begins a s c (λ f. f) at e refl refl })
+    by (Some s) None at e = if_so (c.0 < 2 ^ 32) w (ltb (length w.lives) most_begins) _ (λ b. record { setups = refl; clock = refl; act = Begins a s c (λ f. f) at e refl refl })
 acts w (happening.Halt a) = by (running w a) refl
   where
     by : (o : Option ℕ) → running w a ≡ o → Acts (Unit {0}) w (halted w o)
@@ -127,7 +127,7 @@ acts w (happening.Reach a id b) = by (running w a) (running w b) refl refl
     by : (o u : Option ℕ) → running w a ≡ o → running w b ≡ u → Acts (Unit {0}) w (reached w id.0 o u)
     by None u e d = tt
     by (Some i) None e d = tt
-    by (Some i) (Some j) e d = if_so (Unit {0}) w (is_dialing (end_at w i id.0) && not (is_some (conn_of (row_at w i id.0))) && ltb (length w.conns) 1048576) _ (λ t.
+    by (Some i) (Some j) e d = if_so (Unit {0}) w (is_dialing (end_at w i id.0) && not (is_some (conn_of (row_at w i id.0))) && ltb (length w.conns) most_connections) _ (λ t.
         let p = both-true _ _ t in
         let q = both-true _ _ p.0 in
         let g = life-of w a i e in let r = is-running w a i g.0 e g.1 in

@@ -7,7 +7,7 @@ use Rattle.dist_core.specs.declared.effect.Effect.{Effect}
 use Rattle.dist_core.specs.Step.{effect_of, after}
 use Rattle.dist_agreement.specs.declared.happening.Happening.{Happening}
 use Rattle.dist_agreement.specs.World.{World, Life, Conn, runs, empty}
-use Rattle.dist_agreement.specs.Happenings.{lived, new_life, ended, reached_life, applied, unclosed, ticked_on, applied_at, happens}
+use Rattle.dist_agreement.specs.Happenings.{lived, new_life, ended, reached_life, applied, unclosed, ticked_on, most_applied, applied_at, happens}
 use Rattle.dist_agreement.specs.Run.{run}
 use Rattle.dist_agreement.specs.Agreement.{Fits}
 use Rattle.dist_agreement.specs.Laws.{AllLives}
@@ -49,7 +49,7 @@ pub kept-by-all : (I : World → Type 0) (F : Happening → Type 0)
     → ((w : World) → I w → I (unclosed w))
     → (hs : List Happening) (w : World) → Rattle.std.specs.List.AllByRecursion F hs → I w → I (run hs w)
 kept-by-all I F step clear [] w fs i = i
-kept-by-all I F step clear (h ∷ hs) w fs i = kept-by-all I F step clear hs (happens w h) fs.1 (one (applied_at w h) (at (ltb w.clock 4611686018427387904)))
+kept-by-all I F step clear (h ∷ hs) w fs i = kept-by-all I F step clear hs (happens w h) fs.1 (one (applied_at w h) (at (ltb w.clock most_applied)))
   where
     at : (b : Bool) → IfSome (cond b (applied (unclosed w) h) None) (Acted (Fits h) (unclosed w))
     at true = acts (unclosed w) h

@@ -51,6 +51,20 @@ abbrev pub told_of : World → Option ℕ → Event → ℕ → Option World
 told_of w None v fresh = None
 told_of w (Some i) v fresh = told w i v fresh
 
+-- ---- the limits of a world (our own choice)
+
+-- how many times nodes may begin
+abbrev pub most_begins : ℕ
+most_begins = 1048576
+
+-- how many connections there may be
+abbrev pub most_connections : ℕ
+most_connections = 1048576
+
+-- how many happenings may apply
+abbrev pub most_applied : ℕ
+most_applied = 4611686018427387904
+
 -- ---- beginning and end
 
 -- an empty node with this setup and this creation
@@ -59,7 +73,7 @@ new_life i t s c = record { who = i; begun = t; over = None; node = opening (rec
 
 -- a node that does not run begins
 abbrev pub begun : World → ℕ → Creation → Option Setup → Option ℕ → Option World
-begun w i c (Some s) None = if nat_lt (length w.lives) 1048576 then Some (record w { lives = w.lives ++ new_life i w.clock s c ∷ [] }) else None
+begun w i c (Some s) None = if nat_lt (length w.lives) most_begins then Some (record w { lives = w.lives ++ new_life i w.clock s c ∷ [] }) else None
 begun w i c o r = None
 
 -- the row of an end that is closed, where it was not
@@ -102,7 +116,7 @@ new_conn i id j = record { life = i; dialler = id; target = j; accepted = None; 
 -- a dialled end without a connection gets one, which leads to the running incarnation of another node or its own
 abbrev pub reached : World → ℕ → Option ℕ → Option ℕ → Option World
 reached w id (Some i) (Some j) =
-    if is_dialing (end_at w i id) && not (is_some (conn_of (row_at w i id))) && nat_lt (length w.conns) 1048576
+    if is_dialing (end_at w i id) && not (is_some (conn_of (row_at w i id))) && nat_lt (length w.conns) most_connections
     then Some (record w { lives = at_place i (reached_life id (length w.conns)) w.lives; conns = w.conns ++ new_conn i id j ∷ [] })
     else None
 reached w id i j = None
@@ -218,7 +232,7 @@ ticked_on w (Some x) = record x { clock = w.clock + 1 }
 
 -- the world after a happening, where there is room for one more
 abbrev pub applied_at : World → Happening → Option World
-applied_at w h = if nat_lt w.clock 4611686018427387904 then applied (unclosed w) h else None
+applied_at w h = if nat_lt w.clock most_applied then applied (unclosed w) h else None
 
 -- ONE HAPPENING; one that does not apply changes nothing
 abbrev pub happens : World → Happening → World

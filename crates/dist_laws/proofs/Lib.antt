@@ -4,6 +4,7 @@ pub mod OpenCounts
 pub mod Constant
 pub mod Rises
 pub mod Succeeding
+pub mod UpEnds
 pub mod Crossings
 pub mod Doomed
 pub mod Answering

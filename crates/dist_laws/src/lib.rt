@@ -16,5 +16,5 @@ pub use laws::{
 };
 pub use step_laws::{
     a_lost_end_is_closed, a_reply_is_of_its_end, a_step_has_an_effect, a_step_keeps,
-    open_ends_after_a_step, two_ends_change_at_most,
+    an_up_end_closes_on_a_right_reply, open_ends_after_a_step, two_ends_change_at_most,
 };

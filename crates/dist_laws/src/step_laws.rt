@@ -1,9 +1,10 @@
 //! Laws of a step that succeeds: each is a function that does nothing, and whose contract is the law.
-ghost use Rattle.std.specs.Prelude.{◌≡◌, ◌+◌, ◌≤◌, ℕ, true, Ok, Some, length, slice_get, count_by};
+ghost use Rattle.std.specs.Prelude.{◌≡◌, ◌+◌, ◌≤◌, ℕ, List, true, Ok, Some, length, slice_get, count_by};
 ghost use Rattle.dist_messages.specs.declared.message.Message.{Message};
 ghost use Rattle.dist_peers.specs.declared.entry.EndId.{EndId};
 ghost use Rattle.dist_ends.specs.declared.known.End.{End};
 ghost use Rattle.dist_ends.specs.declared.known.End.TheVariants as ends;
+ghost use Rattle.dist_ends.specs.declared.known.UpRecord.{UpRecord};
 ghost use Rattle.dist_ends.specs.declared.why.Why.{Why};
 ghost use Rattle.dist_ends.specs.Change.{IsThere, view_after};
 ghost use Rattle.dist_ends.specs.Ends.{AreLegal, is_open};
@@ -11,6 +12,7 @@ ghost use Rattle.dist_core.specs.declared.effect.Effect.{Effect};
 ghost use Rattle.dist_core.specs.declared.event.Event.{Event};
 ghost use Rattle.dist_core.specs.declared.event.Event.TheVariants as event;
 ghost use Rattle.dist_core.specs.declared.reply.Reply.{Reply};
+ghost use Rattle.dist_core.specs.Clauses.{IsRightReply};
 ghost use Rattle.dist_laws.specs.Laws.{HasEffect, IsOfItsEnd, closed_by, given_by};
 ghost use Rattle.dist_core.specs.Losses.{is_loss};
 ghost use Rattle.dist_core.specs.Node.{NodeState, ends_after};
@@ -52,4 +54,10 @@ pub fn open_ends_after_a_step()
 /// An end that was lost is closed, for the cause that was told.
 pub fn a_lost_end_is_closed()
     ensures { (n : NodeState) (x : EndId) (w : Why) (fresh : ℕ) (r : Reply) (m : NodeState) → step n (event.Lost x w) fresh ≡ Ok (r, m) → slice_get m.ends x.0 ≡ Some (ends.Closed w) }
+{}
+
+/// Of the frames, only a reply closes an end that was up: the reply of its peer's next connection, which bears the digest of
+/// the own cookie and of the challenge of the end on which it came.
+pub fn an_up_end_closes_on_a_right_reply()
+    ensures { (n : NodeState) (id : EndId) (body : List ℕ) (fresh : ℕ) (r : Reply) (m : NodeState) (x : EndId) (w : Why) (kept : UpRecord) → AreLegal n.ends → step n (event.Frame id body) fresh ≡ Ok (r, m) → slice_get n.ends x.0 ≡ Some (ends.Up kept) → slice_get m.ends x.0 ≡ Some (ends.Closed w) → IsRightReply n (event.Frame id body) }
 {}

@@ -1,5 +1,5 @@
 //! What a node's setup decides: what it announces and asks for, its digests, and the checks on a name.
-ghost use Rattle.std.specs.Prelude.{◌≡◌, IfOk, true, false, Ok, Err, Some, None};
+ghost use Rattle.std.specs.Prelude.{◌≡◌, IfOk, OnErr, true, false, Ok, Err, Some, None};
 ghost use Rattle.dist_setup.specs.Rules.{announced_by, required_of, knows_six, form_of_old, opens_new, own_digest, is_good, is_allowed, is_refused, GoodName};
 
 use crate::setup::{NameList, Setup};
@@ -80,7 +80,8 @@ pub fn own_digest(setup: &Setup, peer: &NodeName, challenge: u32) -> [u8; 16]
 /// The name that these bytes are, where they are one.
 #[tactic(auto, unfolding(crate::specs::Rules::is_good))]
 pub fn good_name(alloc: Global, name: &[u8]) -> Result<Option<NodeName>, AllocError>
-    ensures { IfOk result (λ found. GoodName found name.now) }
+    ensures ok { IfOk result (λ found. GoodName found name.now) }
+    ensures memory { OnErr result (is_good name.now ≡ true) }
 {
     match NodeName::new(alloc, name) {
         Ok(name) => Ok(Some(name)),
@@ -93,15 +94,15 @@ pub fn good_name(alloc: Global, name: &[u8]) -> Result<Option<NodeName>, AllocEr
 }
 
 /// Whether a good name is refused: it asks to be given a name, lacks a required flag, is the own name, isn't among those that
-/// may connect, or has no room for its entry, as `full` tells. That it is a good name is for `good_name` to find.
+/// may connect, or has no room for its entry, as `full` tells. That bytes are no name is for `good_name` to find.
 pub fn is_refused(setup: &Setup, required: Flags, full: bool, flags: Flags, name: &NodeName) -> bool
-    requires { is_good name.now ≡ true }
     ensures { result ≡ is_refused setup.now required.0 full flags name.now }
 {
+    let bytes = name.bytes();
     flags.has(Flags::NAME_ME)
         || !flags.has(required)
         || setup.name.is_same(name)
-        || !is_allowed(&setup.allow, name.bytes())
+        || !is_allowed(&setup.allow, bytes)
         || full
 }
 
