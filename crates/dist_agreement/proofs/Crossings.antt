@@ -101,8 +101,8 @@ module _ (laws : NodeLaws) where
     some-row u p None e = absurd (false≢true e)
     some-row u p (Some row) e = (row, refl)
 
-    pub gone-new : AreGone l.node.setup.name (rows_after t v f.reply l.rows)
-    gone-new x y p u own other c = by (slice_get l.rows y) refl
+    pub gone-new : AreGone l.node.setup.name l.rows → AreGone l.node.setup.name (rows_after t v f.reply l.rows)
+    gone-new gone x y p u own other c = by (slice_get l.rows y) refl
       where
         me : Name
         me = l.node.setup.name
@@ -129,7 +129,7 @@ module _ (laws : NodeLaws) where
             let lt : u ≤ t = (let q : past t (Some m) ≡ true = ap (past t) (sym nm) ∙ b.named ∙ ap is_some nm in let q2 : past t (Some u) ≡ true = ap (λ k. past t (Some k)) (sym mu) ∙ q in grind (arith, nat_tests)) in
             let rx = row-x lt in
             let untaken : (eqb f.reply.end_.0 y && takes_name f.reply.note) ≡ false = (elim (eqb f.reply.end_.0 y && takes_name f.reply.note) as (λ k. (eqb f.reply.end_.0 y && takes_name f.reply.note) ≡ k → k ≡ false) [ true ↦ λ k. absurd (let q = (free laws t l live h v f deed) y oy e k in let w : Some m ≡ None = sym nm ∙ q.1 in cc) | false ↦ λ k. refl ] refl) in
-            let g : IsGone (lesser me p rx.0 oy) = h.gone x y p u rx.0 oy (record {
+            let g : IsGone (lesser me p rx.0 oy) = gone x y p u rx.0 oy (record {
               dialled = rx.1;
               came = e;
               took = nm ∙ ap Some mu;

@@ -1,4 +1,4 @@
--- Each incarnation keeps what is true of it, whatever happens: its ends are apart, and crossings are decided.
+-- Each incarnation keeps what is true of it, whatever happens: its ends are apart; and crossings are decided.
 use Rattle.std.proofs.Common.{◌≡◌, ℕ, ◌+◌, true, List, Result, Ok, subst}
 use Rattle.dist_core.specs.declared.effect.Effect.{Effect}
 use Rattle.dist_core.specs.declared.event.Event.{Event}
@@ -20,9 +20,9 @@ use Rattle.dist_agreement.specs.Run.{run}
 use Rattle.dist_agreement.specs.Laws.{AllLives, Apart, Decided}
 use Rattle.dist_agreement.specs.NodeLaws.{NodeLaws}
 use Rattle.dist_agreement.proofs.Crossings.{gone-new}
-use Rattle.dist_agreement.proofs.Lives.{IsLife, apart-now, apart-step}
+use Rattle.dist_agreement.proofs.Lives.{IsDecided, IsLife, apart-now, apart-step}
 use Rattle.dist_agreement.proofs.Told.{agree, below-new}
-use Rattle.dist_agreement.proofs.Untold.{begins-life, ends-life, reaches-life, stays-life}
+use Rattle.dist_agreement.proofs.Untold.{begins-decided, begins-life, ends-decided, ends-life, reaches-decided, reaches-life, stays-decided, stays-life}
 
 module _ (laws : NodeLaws) where
   module _ (t : ℕ) (l : Life) (live : runs l ≡ true) (h : IsLife t l) (v : Event) (f : Effect) (deed : Deed l.node v f) where
@@ -34,7 +34,6 @@ module _ (laws : NodeLaws) where
           beside = λ e. beside;
           below = (below-new laws t l live h v f deed);
           apart = apart-step t l.rows (rows_after t v f.reply l.rows) h.apart (agree laws t l live h v f deed) (apart-now t (ends_after l.node.ends f) (rows_after t v f.reply l.rows) legal beside (below-new laws t l live h v f deed));
-          gone = (gone-new laws t l live h v f deed);
         }
 
   lives-life : (t : ℕ) (l : Life) (v : Event) (fresh : ℕ) (f : Effect) → runs l ≡ true → effect_of l.node v fresh ≡ Ok f → IsLife t l → IsLife (t + 1) (lived t v f.reply (after l.node v f) l)
@@ -44,8 +43,17 @@ module _ (laws : NodeLaws) where
   pub life_keeps : Keeps IsLife
   life_keeps = record { stays = stays-life; begins = (begins-life laws); ends = ends-life; reaches = reaches-life; lives = lives-life }
 
+  lives-decided : (t : ℕ) (l : Life) (v : Event) (fresh : ℕ) (f : Effect) → runs l ≡ true → effect_of l.node v fresh ≡ Ok f → IsDecided t l → IsDecided (t + 1) (lived t v f.reply (after l.node v f) l)
+  lives-decided t l v fresh f live is h = let life = h.life in record {
+    life = lives-life t l v fresh f live is life;
+    gone = gone-new laws t l live life v f (deed_of laws l.node life.legal v fresh f is) h.gone;
+  }
+
+  decided_keeps : Keeps IsDecided
+  decided_keeps = record { stays = stays-decided; begins = (begins-decided laws); ends = ends-decided; reaches = reaches-decided; lives = lives-decided }
+
   pub apart_lives : (ss : List Setup) (hs : List Happening) → AllLives Apart (run hs (empty ss))
   apart_lives ss hs i l at = let h = always IsLife life_keeps ss hs i l at in h.apart
 
   pub decided_lives : (ss : List Setup) (hs : List Happening) → AllLives Decided (run hs (empty ss))
-  decided_lives ss hs i l at x y p t own other c = let h = always IsLife life_keeps ss hs i l at in let g = h.gone x y p t own other c in g.0
+  decided_lives ss hs i l at x y p t own other c = let h = always IsDecided decided_keeps ss hs i l at in let g = h.gone x y p t own other c in g.0

@@ -63,6 +63,10 @@ pub record IsLife (t : ℕ) (l : Life) : Type 0 where
   pub beside : runs l ≡ true → AreBeside l.node.ends l.rows
   pub below : AllBelow t l.rows
   pub apart : AreApart l.rows
+
+-- THE SAME WHERE NAMES CROSSED: the lesser attempt is gone. Nothing but the crossings stands on it.
+pub record IsDecided (t : ℕ) (l : Life) : Type 0 where
+  pub life : IsLife t l
   pub gone : AreGone l.node.setup.name l.rows
 
 -- ---- rows that change at number t

@@ -17,7 +17,7 @@ use Rattle.dist_agreement.specs.World.{Life, runs}
 use Rattle.dist_agreement.specs.Happenings.{new_life, ended, shut_all, shut_row, reached_life, reached_row}
 use Rattle.dist_agreement.specs.Holders.{claim_in, held_before}
 use Rattle.dist_agreement.specs.NodeLaws.{NodeLaws}
-use Rattle.dist_agreement.proofs.Lives.{AllBelow, IsGone, IsLife, apart-now, apart-step, before-map, plain-agree, plain-gone}
+use Rattle.dist_agreement.proofs.Lives.{AllBelow, IsDecided, IsGone, IsLife, apart-now, apart-step, before-map, plain-agree, plain-gone}
 
 -- ---- an incarnation that ends
 
@@ -60,8 +60,15 @@ ends-life t l live h = record {
   below = λ i row is. (let o = before-map (shut_row t) (slice_get l.rows i) row (sym (get-shut t l.rows i) ∙ is) in subst (Below (t + 1)) (sym o.2) (shut-below t o.0 (h.below i o.0 o.1)));
   apart = apart-step t l.rows (shut_all t l.rows) h.apart (plain-agree t l.rows (shut_all t l.rows) (λ i. shut_row t) (get-shut t l.rows) h.below (λ i row. shut-keeps t row))
       (λ s later p k m i j a b d. absurd (false≢true (sym (ended-now t l.rows h.below s later p k i) ∙ a)));
-  gone = plain-gone t l.rows (shut_all t l.rows) (λ i. shut_row t) (get-shut t l.rows) h.below (λ i row. shut-keeps t row) l.node.setup.name (λ i row. refl) (λ i row. refl) (λ i. shut-gone t) h.gone;
 }
+
+pub ends-decided : (t : ℕ) (l : Life) → runs l ≡ true → IsDecided t l → IsDecided (t + 1) (ended t l)
+ends-decided t l live h =
+    let below : AllBelow t l.rows = (let k = h.life in k.below) in
+    record {
+      life = ends-life t l live h.life;
+      gone = plain-gone t l.rows (shut_all t l.rows) (λ i. shut_row t) (get-shut t l.rows) below (λ i row. shut-keeps t row) l.node.setup.name (λ i row. refl) (λ i row. refl) (λ i. shut-gone t) h.gone;
+    }
 
 -- ---- an incarnation whose end reached another
 
@@ -103,11 +110,21 @@ reaches-life t l id c live h =
       beside = λ e. beside;
       below = below;
       apart = apart-step t l.rows new h.apart (plain-agree t l.rows new (reach id c) at h.below (λ i row s g. reach-same (claim_before s) (λ row c. refl) id c i row)) (apart-now t l.node.ends new h.legal beside below);
-      gone = plain-gone t l.rows new (reach id c) at h.below (λ i row s g. reach-same (claim_before s) (λ row c. refl) id c i row) l.node.setup.name (reach-same (λ (r : EndRow). r.named) (λ row c. refl) id c) (reach-same (λ (r : EndRow). r.peer) (λ row c. refl) id c) (reach-any IsGone (λ row c g. g) id c) h.gone;
+    }
+
+pub reaches-decided : (t : ℕ) (l : Life) (id c : ℕ) → runs l ≡ true → IsDecided t l → IsDecided (t + 1) (reached_life id c l)
+reaches-decided t l id c live h =
+    let below : AllBelow t l.rows = (let k = h.life in k.below) in
+    record {
+      life = reaches-life t l id c live h.life;
+      gone = plain-gone t l.rows (at_place id (reached_row c) l.rows) (reach id c) (get-reached id c l.rows) below (λ i row s g. reach-same (claim_before s) (λ row c. refl) id c i row) l.node.setup.name (reach-same (λ (r : EndRow). r.named) (λ row c. refl) id c) (reach-same (λ (r : EndRow). r.peer) (λ row c. refl) id c) (reach-any IsGone (λ row c g. g) id c) h.gone;
     }
 
 pub stays-life : (t : ℕ) (l : Life) → IsLife t l → IsLife (t + 1) l
-stays-life t l h = record { legal = h.legal; beside = h.beside; below = λ i row is. later-below t (t + 1) row (omega arith) (h.below i row is); apart = h.apart; gone = h.gone }
+stays-life t l h = record { legal = h.legal; beside = h.beside; below = λ i row is. later-below t (t + 1) row (omega arith) (h.below i row is); apart = h.apart }
+
+pub stays-decided : (t : ℕ) (l : Life) → IsDecided t l → IsDecided (t + 1) l
+stays-decided t l h = record { life = stays-life t l h.life; gone = h.gone }
 
 module _ (laws : NodeLaws) where
   pub begins-life : (t : ℕ) (who : ℕ) (s : Setup) (c : Creation) → IsLife (t + 1) (new_life who t s c)
@@ -116,5 +133,7 @@ module _ (laws : NodeLaws) where
     beside = λ e i. tt;
     below = λ i row is. absurd cc;
     apart = λ u p k l i j a b d. absurd (false≢true a);
-    gone = λ x y p u own other z. absurd (let e = z.dialled in cc);
   }
+
+  pub begins-decided : (t : ℕ) (who : ℕ) (s : Setup) (c : Creation) → IsDecided (t + 1) (new_life who t s c)
+  begins-decided t who s c = record { life = begins-life t who s c; gone = λ x y p u own other z. absurd (let e = z.dialled in cc) }
