@@ -8,7 +8,8 @@
  * THE THREE DEMANDS
  *
  * 1. A dn_node is all zero (DN_NODE_INIT) before dn_node_new. From then on the caller neither writes nor copies it, and gives
- *    it to one call at a time, all on one thread. Different nodes share nothing, and may be used by different threads.
+ *    it to one call at a time. It may be used by one thread at a time, and may move to another: the caller puts their calls in
+ *    order, by a lock, or by a thread's start or end. Different nodes share nothing, and need no order.
  * 2. No pointer is null, also beside a length of 0. Each is aligned as its type asks, and leads to so many elements that can
  *    be read, or written where it isn't const. No two pointers of a call lead to the same bytes.
  * 3. malloc, realloc and free come from one allocator and align as C asks. No call comes from a signal handler, or from the

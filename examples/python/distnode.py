@@ -114,7 +114,7 @@ def _copied(call, *given, most: int = 65540) -> bytes:
 
 
 class Node:
-    """A node. It stays on one thread, or is used under one lock. `with Node(..) as node` lets it go at the end."""
+    """A node. One thread at a time uses it: others under a lock. `with Node(..) as node` lets it go at the end."""
 
     def __init__(self, name: bytes, cookie: bytes, flags: int, creation: int, required: int = 0, version: int = 6,
                  limited: bool = False):
