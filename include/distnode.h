@@ -206,8 +206,8 @@ typedef struct dn_info {
 
 /* The frame by which a node registers under the part of its name before the @; the registration lasts as the connection
  * does. The frame that asks for the node of such a name. The frame that asks for all names.
- * Errors: DN_EPMD_MALFORMED (the name is too long), DN_NO_MEMORY, which may also come before that, DN_NO_ROOM (*len is the
- * length). */
+ * Errors: DN_EPMD_MALFORMED (the name has more than 65,522 bytes, or 65,534 in a question), DN_NO_MEMORY, DN_NO_ROOM (*len is
+ * the length). */
 uint32_t dn_epmd_alive_request(const dn_info *info, const uint8_t *name, size_t name_len, uint8_t *room, size_t room_len,
                                size_t *len);
 uint32_t dn_epmd_port_request(const uint8_t *name, size_t name_len, uint8_t *room, size_t room_len, size_t *len);
