@@ -8,7 +8,8 @@
  * THE THREE DEMANDS
  *
  * 1. A dn_node is all zero (DN_NODE_INIT) before dn_node_new. From then on the caller neither writes nor copies it, and gives
- *    it to one call at a time, all on one thread. Different nodes share nothing, and may be used by different threads.
+ *    it to one call at a time. It may be used by one thread at a time, and may move to another: the caller puts their calls in
+ *    order, by a lock, or by a thread's start or end. Different nodes share nothing, and need no order.
  * 2. No pointer is null, also beside a length of 0. Each is aligned as its type asks, and leads to so many elements that can
  *    be read, or written where it isn't const. No two pointers of a call lead to the same bytes.
  * 3. malloc, realloc and free come from one allocator and align as C asks. No call comes from a signal handler, or from the
@@ -45,8 +46,8 @@ typedef struct dn_node {
 /* What a call answers. */
 typedef enum dn_code {
     DN_OK = 0,
-    DN_NOT_A_NODE = 1,      /* the struct holds no node: it is zero, or was let go */
-    DN_IN_USE = 2,          /* the struct holds a node already */
+    DN_NOT_A_NODE = 1,      /* the struct holds no node, or no registry: it is zero, or was let go */
+    DN_IN_USE = 2,          /* the struct holds one already */
     DN_NO_MEMORY = 3,
     DN_NO_ROOM = 4,         /* the caller's room is too short; the length that is needed was told */
     DN_AWAITS = 5,          /* no whole frame stands at the front: call again with these bytes and those that follow */
@@ -205,8 +206,8 @@ typedef struct dn_info {
 
 /* The frame by which a node registers under the part of its name before the @; the registration lasts as the connection
  * does. The frame that asks for the node of such a name. The frame that asks for all names.
- * Errors: DN_EPMD_MALFORMED (the name is too long), DN_NO_MEMORY, which may also come before that, DN_NO_ROOM (*len is the
- * length). */
+ * Errors: DN_EPMD_MALFORMED (the name has more than 65,522 bytes, or 65,534 in a question), DN_NO_MEMORY, DN_NO_ROOM (*len is
+ * the length). */
 uint32_t dn_epmd_alive_request(const dn_info *info, const uint8_t *name, size_t name_len, uint8_t *room, size_t room_len,
                                size_t *len);
 uint32_t dn_epmd_port_request(const uint8_t *name, size_t name_len, uint8_t *room, size_t room_len, size_t *len);
@@ -219,6 +220,50 @@ uint32_t dn_epmd_alive_answer(const uint8_t *bytes, size_t len, uint32_t *result
 /* The answer to a lookup: *result is 0 where there is such a node, and *info tells of it then; else *info stays as it was.
  * Errors: DN_EPMD_MALFORMED, DN_EPMD_SHORT, DN_EPMD_TRAILING, DN_NO_MEMORY. */
 uint32_t dn_epmd_port_answer(const uint8_t *bytes, size_t len, uint32_t *result, dn_info *info);
+
+/* ---- a registry: what a port mapper knows and answers, for a caller that takes the place of EPMD. A connection is a number
+ * that the caller gives it, and uses for no other. The first demand holds of a dn_registry as of a dn_node, but that it stays
+ * on one thread */
+
+typedef struct dn_registry {
+    void *desk;
+    uint64_t mark;
+} dn_registry;
+
+#define DN_REGISTRY_INIT {0, 0}
+
+/* What became of a request. */
+typedef struct dn_served {
+    size_t taken;        /* how many bytes of those given were taken */
+    uint32_t registered; /* 1: the connection is to be kept, and dn_registry_closed told of its end; else it is to be closed
+                            once the answer was written */
+} dn_served;
+
+/* Makes a registry without nodes, of the port mapper at this port. The first node that is accepted gets the creation `first`,
+ * each later one the next number; 4,294,967,295 is the last. At most 1,024 nodes are registered at a time.
+ * Errors: DN_IN_USE, DN_NO_MEMORY. */
+uint32_t dn_registry_new(dn_registry *registry, uint16_t port, uint32_t first);
+
+/* Lets a registry go, with all its memory. The struct holds none then, and may be used anew. It needs no memory.
+ * Errors: DN_NOT_A_NODE. */
+uint32_t dn_registry_free(dn_registry *registry);
+
+/* Bytes came on a connection: the request of the frame at their front is answered, and the answer kept until the next one.
+ * A registration that is refused, as of a name that is taken, is answered too. Where the answer to a registration cannot be
+ * written, the caller closes the connection and tells dn_registry_closed.
+ * Errors: DN_NOT_A_NODE, DN_AWAITS; DN_EPMD_MALFORMED, DN_EPMD_SHORT and DN_EPMD_TRAILING, where the frame is no request and
+ * its connection is to be closed; DN_NO_MEMORY. */
+uint32_t dn_registry_asked(dn_registry *registry, uint64_t connection, const uint8_t *bytes, size_t len, dn_served *served);
+
+/* Copies the newest answer, and tells its length; before the first that is nothing. It may be asked again until the next
+ * request. An answer to a registration has at most 6 bytes, one to a lookup 65,536, and a list of all names 281,604.
+ * Errors: DN_NOT_A_NODE, DN_EPMD_MALFORMED (an answer without a spelling: none to a request that came in a frame),
+ * DN_NO_MEMORY, DN_NO_ROOM (*len is the length). */
+uint32_t dn_registry_say(dn_registry *registry, uint8_t *room, size_t room_len, size_t *len);
+
+/* A connection is closed: what was registered on it is dropped. It needs no memory.
+ * Errors: DN_NOT_A_NODE. */
+uint32_t dn_registry_closed(dn_registry *registry, uint64_t connection);
 
 /* ---- words, for messages: ASCII, with no 0 behind; 16 bytes of room are enough for any */
 
@@ -235,7 +280,7 @@ uint32_t dn_why_name(uint32_t why, uint8_t *room, size_t room_len, size_t *len);
 #define DN_ASSERT _Static_assert
 #endif
 #ifdef DN_ASSERT
-DN_ASSERT(sizeof(dn_node) == 16 && sizeof(dn_setup) == 32 && sizeof(dn_reply) == 48, "structs have other sizes");
+DN_ASSERT(sizeof(dn_node) == 16 && sizeof(dn_registry) == 16 && sizeof(dn_served) == 16 && sizeof(dn_setup) == 32 && sizeof(dn_reply) == 48, "structs have other sizes");
 DN_ASSERT(sizeof(dn_peer) == 32 && sizeof(dn_info) == 8 && sizeof(size_t) == 8, "structs have other sizes");
 #undef DN_ASSERT
 #endif

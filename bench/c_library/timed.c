@@ -1,6 +1,6 @@
-/* The processor time of handshakes, both sides in one process: `library` without sockets, `sockets` and `ei` over loopback
- * connections with a thread for each side, the one by the library and the other by Erlang's own library for C.
- * usage: timed library|sockets|ei NUMBER */
+/* The processor time of handshakes, both sides in one process: without sockets, and over loopback connections with a thread for
+ * each side, by the library and, where this is built with WITH_EI, by Erlang's own library for C, in rounds that take turns.
+ * usage: timed NUMBER */
 #define _POSIX_C_SOURCE 200809L
 #include <distnode.h>
 
@@ -19,6 +19,7 @@
 
 #define TEXT(s) (const uint8_t *)(s), sizeof(s) - 1
 #define NEED(c) need((c), __LINE__)
+enum { ROUNDS = 9 };
 
 static const dn_setup setup = {.flags = 0x403070f94, .creation = 6};
 static int number, listener;
@@ -166,26 +167,58 @@ static void listens(void) {
     if (bind(listener, (struct sockaddr *)&at, size) || listen(listener, 64) || getsockname(listener, (struct sockaddr *)&at, &size)) exit(1);
 }
 
-int main(int argc, char **argv) {
-    if (argc != 3) return 2;
-    number = atoi(argv[2]);
-    listens();
+static void by_sockets(void) {
     pthread_t other;
-    unsigned long calls = 0;
-    double start = used();
-    if (!strcmp(argv[1], "library")) calls = by_library();
-    else if (!strcmp(argv[1], "sockets")) pthread_create(&other, NULL, accepts, NULL), dials(), pthread_join(other, NULL);
+    pthread_create(&other, NULL, accepts, NULL), dials(), pthread_join(other, NULL);
+}
+
 #ifdef WITH_EI
-    else if (!strcmp(argv[1], "ei")) {
-        ei_init();
-        start = used();
-        pthread_create(&other, NULL, ei_accepts, NULL), ei_dials(), pthread_join(other, NULL);
-    }
+static void by_ei(void) {
+    pthread_t other;
+    pthread_create(&other, NULL, ei_accepts, NULL), ei_dials(), pthread_join(other, NULL);
+}
 #endif
-    else return 2;
-    double each = (used() - start) / number;
-    printf("%s: %d handshakes, both sides, %.2f us of processor time each", argv[1], number, each * 1e6);
-    if (calls) printf(", %.0f ns a call", each * number / (double)calls * 1e9);
-    printf("\n");
+
+/* Microseconds of processor time of a handshake. */
+static double each(void (*made)(void)) {
+    double start = used();
+    made();
+    return (used() - start) / number * 1e6;
+}
+
+static int by_size(const void *a, const void *b) { return *(const double *)a < *(const double *)b ? -1 : 1; }
+
+static void tell(const char *who, double *times) {
+    qsort(times, ROUNDS, sizeof *times, by_size);
+    printf("%s: %d rounds of %d handshakes over loopback connections, both sides: %.1f us of processor time each (median; %.1f to %.1f)\n",
+           who, ROUNDS, number, times[ROUNDS / 2], times[0], times[ROUNDS - 1]);
+}
+
+int main(int argc, char **argv) {
+    if (argc != 2) return 2;
+    number = atoi(argv[1]);
+    double start = used();
+    unsigned long calls = by_library();
+    double whole = used() - start;
+    printf("library: %d handshakes without sockets, both sides: %.2f us of processor time each, %.0f ns a call\n", number, whole / number * 1e6, whole / (double)calls * 1e9);
+
+    listens();
+    number = number / 2 / ROUNDS;
+    double ours[ROUNDS];
+#ifdef WITH_EI
+    double theirs[ROUNDS];
+    ei_init();
+#endif
+    for (int i = 0; i < ROUNDS; i++) {
+        ours[i] = each(by_sockets);
+#ifdef WITH_EI
+        theirs[i] = each(by_ei);
+#endif
+    }
+    tell("library", ours);
+#ifdef WITH_EI
+    tell("ei", theirs);
+    printf("the library takes %s\n", ours[ROUNDS / 2] <= theirs[ROUNDS / 2] ? "no more than ei" : "MORE THAN EI");
+#endif
     return 0;
 }

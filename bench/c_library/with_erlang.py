@@ -1,6 +1,7 @@
 """Joins a real Erlang node by examples/c/join.c and by examples/python/join.py, in turn as the one that is dialled and the one
 that dials, both at one time, and sees that all four connections live through the ticks of so many seconds, at a net_ticktime of
-4, and that the end of the Erlang node is noticed. Loopback connections alone, and a port mapper of its own for each pair.
+4, and that the end of the Erlang node is noticed. Loopback connections alone, and a port mapper of its own for each pair: the
+first has Erlang's, and the second examples/python/mapper.py, a registry of the library.
 
 usage: with_erlang.py SECONDS JOIN-PROGRAM
 """
@@ -11,7 +12,8 @@ import subprocess
 import sys
 import time
 
-PYTHON = os.path.join(os.path.dirname(os.path.realpath(__file__)), "../../examples/python/join.py")
+EXAMPLES = os.path.join(os.path.dirname(os.path.realpath(__file__)), "../../examples/python")
+PYTHON, MAPPER = (os.path.join(EXAMPLES, it) for it in ("join.py", "mapper.py"))
 COOKIE = "secretCookie"
 ERL = """true = net_kernel:connect_node('c@127.0.0.1'),
     Wait = fun(W, 0) -> ok; (W, N) -> case length(nodes(hidden)) of 2 -> ok; _ -> timer:sleep(100), W(W, N - 1) end end,
@@ -28,10 +30,10 @@ def free_port():
 class Pair:
     """A port mapper, an Erlang node x, a node c that it dials, and a node d that dials it."""
 
-    def __init__(self, seconds, accepting, dialling):
+    def __init__(self, seconds, mapper, accepting, dialling):
         self.port, self.running = free_port(), []
         self.env = dict(os.environ, ERL_EPMD_PORT=str(self.port), ERL_EPMD_ADDRESS="127.0.0.1")
-        self.start("epmd")
+        self.start(*mapper(str(self.port)))
         for _ in range(100):
             with socket.socket() as it:
                 if it.connect_ex(("127.0.0.1", self.port)) == 0:
@@ -46,6 +48,8 @@ class Pair:
         self.d = self.start(*dialling("d@127.0.0.1", seconds + 60, "x@127.0.0.1"))
         assert self.d.stdout.readline() == "ready\n"
         assert self.d.stdout.readline().startswith("up x@127.0.0.1 ")
+        listed = subprocess.run(["epmd", "-names"], env=self.env, capture_output=True, text=True, check=True).stdout.splitlines()
+        assert sorted(it.split()[1] for it in listed if it.startswith("name ")) == ["c", "d", "x"], listed
 
     def start(self, *words):
         # (the port mapper tells of the connection that looks whether it is there)
@@ -76,16 +80,22 @@ def main(seconds, program):
     def by_python(name, most, peer):
         return [sys.executable, "-u", PYTHON, name, COOKIE, "--tick", "1", "--seconds", str(most), *(["--dial", peer] if peer else [])]
 
+    def epmd(_):
+        return ["epmd"]
+
+    def own(port):
+        return [sys.executable, "-u", MAPPER, "--port", port]
+
     pairs = []
     try:
-        for kinds in ((by_c, by_python), (by_python, by_c)):
+        for kinds in ((epmd, by_c, by_python), (own, by_python, by_c)):
             pairs.append(Pair(seconds, *kinds))
         for it in pairs:
             it.end()
     finally:
         for it in pairs:
             it.stop()
-    print(f"erlang: C and Python, dialled and dialling, stayed up through {seconds} seconds of ticks and saw the node end")
+    print(f"erlang: C and Python, dialled and dialling, stayed up through {seconds} seconds of ticks and saw the node end, by epmd and by a registry of the library")
 
 
 main(int(sys.argv[1]), sys.argv[2])

@@ -1,5 +1,5 @@
-"""The handshake of Erlang's distribution protocol, by ctypes over libdistnode: a class for a node, and functions for the
-messages of the port mapper (EPMD). There are no sockets in here: join.py shows a whole program.
+"""The handshake of Erlang's distribution protocol, by ctypes over libdistnode: a class for a node, one for the registry of a
+port mapper (EPMD), and functions for its messages. There are no sockets in here: join.py and mapper.py are whole programs.
 
 The library is the one that the environment's DISTNODE_LIBRARY names, else the installed libdistnode.so.
 """
@@ -42,6 +42,14 @@ class Refused(Exception):
 
 class _Node(c.Structure):
     _fields_ = [("guest", c.c_void_p), ("mark", c.c_uint64)]
+
+
+class _Registry(c.Structure):
+    _fields_ = [("desk", c.c_void_p), ("mark", c.c_uint64)]
+
+
+class _Served(c.Structure):
+    _fields_ = [("taken", c.c_size_t), ("registered", c.c_uint32)]
 
 
 class _Setup(c.Structure):
@@ -96,6 +104,15 @@ class Info:
     node_type: int
 
 
+@dataclass(frozen=True)
+class Served:
+    """What became of a request to a registry."""
+
+    say: bytes  # what is to be written on its connection
+    taken: int  # how many bytes were taken
+    registered: bool  # the connection is to be kept; else it is to be closed
+
+
 def _given(data: bytes) -> tuple:
     """A pointer, never null, and a length."""
     return (c.c_uint8 * max(1, len(data))).from_buffer_copy(data or b"\0"), c.c_size_t(len(data))
@@ -109,12 +126,15 @@ def _check(code: int) -> None:
 def _copied(call, *given, most: int = 65540) -> bytes:
     """What a call copies to a room."""
     room, length = (c.c_uint8 * most)(), c.c_size_t()
-    _check(call(*given, room, c.c_size_t(most), c.byref(length)))
+    code = call(*given, room, c.c_size_t(most), c.byref(length))
+    if code == Code.NO_ROOM:
+        return _copied(call, *given, most=length.value)
+    _check(code)
     return bytes(room[: length.value])
 
 
 class Node:
-    """A node. It stays on one thread, or is used under one lock. `with Node(..) as node` lets it go at the end."""
+    """A node. One thread at a time uses it: others under a lock. `with Node(..) as node` lets it go at the end."""
 
     def __init__(self, name: bytes, cookie: bytes, flags: int, creation: int, required: int = 0, version: int = 6,
                  limited: bool = False):
@@ -194,6 +214,33 @@ class Node:
         while (peer := self._peer(_library.dn_node_peer_at, c.c_size_t(place))) is not None:
             yield peer
             place += 1
+
+
+class Registry:
+    """The registry of a port mapper at this port: the first node that is accepted gets the creation `first`, each later one the
+    next number. It stays on one thread."""
+
+    def __init__(self, port: int, first: int):
+        self._registry = _Registry(None, 0)
+        _check(_library.dn_registry_new(c.byref(self._registry), c.c_uint16(port), c.c_uint32(first)))
+
+    def free(self) -> None:
+        """Lets the registry go. Any later call is refused as NOT_A_NODE."""
+        _check(_library.dn_registry_free(c.byref(self._registry)))
+
+    def asked(self, connection: int, data: bytes) -> Optional[Served]:
+        """Answers the request at the front of what came on a connection, which has a number that is used for no other. None
+        where it has not come whole; refused as EPMD_MALFORMED, SHORT or TRAILING where it is no request."""
+        served = _Served()
+        code = _library.dn_registry_asked(c.byref(self._registry), c.c_uint64(connection), *_given(data), c.byref(served))
+        if code == Code.AWAITS:
+            return None
+        _check(code)
+        return Served(_copied(_library.dn_registry_say, c.byref(self._registry)), served.taken, bool(served.registered))
+
+    def closed(self, connection: int) -> None:
+        """A connection is closed: what was registered on it is dropped."""
+        _check(_library.dn_registry_closed(c.byref(self._registry), c.c_uint64(connection)))
 
 
 def digest(cookie: bytes, challenge: int) -> bytes:

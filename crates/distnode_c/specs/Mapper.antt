@@ -23,10 +23,6 @@ Asks (Ok body) code had len old new =
     Copies (framed w16 body) code len old new ⊎ (Leaves 3 code had len old new ⊎ ((2 ^ 16 ≤ length body) × Leaves 40 code had len old new))
 Asks (Err e) code had len old new = Leaves (epmd_code e) code had len old new
 
--- the same where a name is copied first
-abbrev pub AsksNamed : Result (List ℕ) EpmdError → ℕ → ℕ → ℕ → List ℕ → List ℕ → Type 0
-AsksNamed written code had len old new = Asks written code had len old new ⊎ Leaves 3 code had len old new
-
 -- the request of a registration
 abbrev pub alive_of : DnInfo → List ℕ → Request
 alive_of i name = request.Alive (record { port = i.port; node_type = i.node_type; protocol = i.protocol; highest = i.highest; lowest = i.lowest; name = name; extra = [] })

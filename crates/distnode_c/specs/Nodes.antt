@@ -74,7 +74,7 @@ AtGuest does code None new = (code ≡ 1) × (new ≡ None)
 AtGuest does code (Some old) new = (g : Guest) × (new ≡ Some g) × does old g
 
 -- none is left
-abbrev pub Frees : ℕ → Option Guest → Option Guest → Type 0
+abbrev pub Frees : {X : Type 0} → ℕ → Option X → Option X → Type 0
 Frees code None new = (code ≡ 1) × (new ≡ None)
 Frees code (Some s) new = (code ≡ 0) × (new ≡ None)
 

@@ -12,10 +12,10 @@ use dist_secret::CookieError;
 /// The call did what it says.
 pub const OK: u32 = 0;
 
-/// The node holds nothing.
+/// The struct holds nothing.
 pub const NOT_A_NODE: u32 = 1;
 
-/// The node holds one already.
+/// The struct holds one already.
 pub const IN_USE: u32 = 2;
 
 /// No memory was left.

@@ -3,7 +3,7 @@ ghost use Rattle.std.specs.Prelude.{◌≡◌};
 ghost use Rattle.dist_secret.specs.Cookie.{cookie_of};
 ghost use Rattle.dist_epmd.specs.Reading.{read_answer};
 ghost use Rattle.dist_epmd.specs.Layout.{written_request};
-ghost use Rattle.distnode_c.specs.Mapper.{Asks, AsksNamed, AliveTold, PortTold, Digests, alive_of};
+ghost use Rattle.distnode_c.specs.Mapper.{Asks, AliveTold, PortTold, Digests, alive_of};
 
 use crate::codes::{NO_MEMORY, OK, cookie_code, epmd_code};
 use crate::copies::copied;
@@ -15,6 +15,9 @@ use std::alloc::Global;
 use std::mem::size_of;
 
 const _: () = prove!(size_of::<DnInfo>() == 8);
+
+// The most bytes of a request. A registration has 13 beside the node's name, and a lookup 1.
+const MOST: usize = 65535;
 
 /// What the port mapper knows of a node, but for its name.
 #[repr(C)]
@@ -55,8 +58,11 @@ pub extern "C" fn dn_epmd_alive_request(
     room: &mut [u8],
     len: &mut usize,
 ) -> u32
-    ensures { AsksNamed (written_request (alive_of info.now name.now)) result len.old len.new room.old room.new }
+    ensures { Asks (written_request (alive_of info.now name.now)) result len.old len.new room.old room.new }
 {
+    if name.len() > MOST - 13 {
+        return epmd_code(EpmdError::Malformed);
+    }
     let Ok(name) = ByteString::from_slice(alloc, name) else {
         return NO_MEMORY;
     };
@@ -80,8 +86,11 @@ pub extern "C" fn dn_epmd_port_request(
     room: &mut [u8],
     len: &mut usize,
 ) -> u32
-    ensures { AsksNamed (written_request (Request.PortPlease name.now)) result len.old len.new room.old room.new }
+    ensures { Asks (written_request (Request.PortPlease name.now)) result len.old len.new room.old room.new }
 {
+    if name.len() > MOST - 1 {
+        return epmd_code(EpmdError::Malformed);
+    }
     let Ok(name) = ByteString::from_slice(alloc, name) else {
         return NO_MEMORY;
     };

@@ -1,8 +1,13 @@
 //! The exports, called as C calls them.
+use crate::desk_slot::DeskSlot;
 use crate::exports::{dn_node_incoming, dn_node_lost, dn_node_received, dn_node_tick};
-use crate::held::DnNode;
+use crate::held::{DnNode, DnRegistry};
 use crate::mapper::{DnInfo, dn_cookie_digest, dn_epmd_alive_answer, dn_epmd_alive_request};
 use crate::nodes::{DnPeer, DnSetup, dn_node_free, dn_node_new, dn_node_peer_of, dn_node_say};
+use crate::registry::{
+    DnServed, dn_registry_asked, dn_registry_closed, dn_registry_free, dn_registry_new,
+    dn_registry_say,
+};
 use crate::slot::Slot;
 use crate::told::DnReply;
 use crate::words::{dn_code_name, dn_why_name};
@@ -160,5 +165,57 @@ fn accepted(rt: HostRuntime) -> Result<(), Fail> {
     assert_eq!(rt; dn_node_lost(&mut node, alloc, 0, 1, &mut reply), 0);
     assert_eq!(rt; dn_node_free(&mut node, alloc), 0);
     assert_eq!(rt; dn_node_free(&mut node, alloc), 1);
+    Ok(())
+}
+
+// Requests and answers as the EPMD Protocol of the ERTS User's Guide lays them out.
+#[test]
+fn serves(rt: HostRuntime) -> Result<(), Fail> {
+    let alloc = rt.alloc();
+    let mut registry = DnRegistry {
+        slot: DeskSlot::empty(),
+        mark: 0,
+    };
+    let mut served = DnServed {
+        taken: 0,
+        registered: 9,
+    };
+    let mut room = [0u8; 16];
+    let mut len = 0;
+    assert_eq!(rt; dn_registry_closed(&mut registry, alloc, 7), 1);
+    assert_eq!(rt; dn_registry_new(&mut registry, alloc, 4369, 5), 0);
+    assert_eq!(rt; dn_registry_new(&mut registry, alloc, 4369, 5), 2);
+    let came = b"\x00\x0fx\x12\x34M\x00\x00\x06\x00\x05\x00\x02ab\x00\x00";
+    assert_eq!(rt;
+        dn_registry_asked(&mut registry, alloc, 7, &came[..16], &mut served),
+        5
+    );
+    assert_eq!(rt;
+        dn_registry_asked(&mut registry, alloc, 7, came, &mut served),
+        0
+    );
+    assert_eq!(rt; (served.taken, served.registered), (17, 1));
+    assert_eq!(rt;
+        dn_registry_say(&mut registry, alloc, &mut room, &mut len),
+        0
+    );
+    assert_eq!(rt; room[..6], b"v\x00\x00\x00\x00\x05"[..]);
+    assert_eq!(rt;
+        dn_registry_asked(&mut registry, alloc, 8, b"\x00\x01\xff", &mut served),
+        40
+    );
+    assert_eq!(rt; dn_registry_closed(&mut registry, alloc, 7), 0);
+    assert_eq!(rt;
+        dn_registry_asked(&mut registry, alloc, 8, b"\x00\x03zab", &mut served),
+        0
+    );
+    assert_eq!(rt; (served.taken, served.registered), (5, 0));
+    assert_eq!(rt;
+        dn_registry_say(&mut registry, alloc, &mut room, &mut len),
+        0
+    );
+    assert_eq!(rt; room[..2], b"w\x01"[..]);
+    assert_eq!(rt; dn_registry_free(&mut registry, alloc), 0);
+    assert_eq!(rt; dn_registry_free(&mut registry, alloc), 1);
     Ok(())
 }
