@@ -1,6 +1,6 @@
 -- How a call goes on, and how it ends.
 use Rattle.std.proofs.Common.{◌≡◌, ℕ, ◌+◌, ◌≤◌, Bool, List, [], ◌∷◌, ◌++◌, length, take, drop, map, Some, None, Ok, Err, refl, sym, ap, subst, ◌∙◌, append_assoc, inl, inr}
-use Rattle.std.specs.Prelude.{is_some}
+use Rattle.std.specs.Prelude.{is_some, false, ◌||◌}
 use Rattle.std.proofs.lemmas.List.{append-nil, map-append, take-append-drop}
 use Rattle.std.specs.Io.KnownBytes.{prepend_known, append_known}
 use Rattle.dist_frames.specs.Reader.{Reader, fed, next_body, without_next, told, to_come}
@@ -20,12 +20,12 @@ use Rattle.dist_streams.specs.declared.turn_error.TurnError.{TurnError}
 use Rattle.dist_drive.specs.declared.outcome.Ending.{Ending}
 use Rattle.dist_drive.specs.declared.outcome.Ending.TheVariants as ending
 use Rattle.dist_drive.specs.Desks.{Step, event_of}
-use Rattle.dist_drive.specs.Driven.{IsFront, frames_of, next_frame, events_of, text_of, HandsOnAll, WritesAll, HasCause, Carries}
+use Rattle.dist_drive.specs.Driven.{IsFront, frames_of, next_frame, events_of, text_of, HandsOnAll, WritesAll, HasCause, is_of_end, is_of_failed_read, Carries}
 use Rattle.dist_drive.specs.Running.{RunsOn, EndsSo, Start, Runs, Keeps, MakesStep, SaysReply, own_why, ending_of_refusal, ending_of_stream, HandsOn, HearsPiece}
 use Rattle.dist_drive.proofs.Steps.{last_pushed}
 use Rattle.dist_drive.proofs.Texts.{append_known-append, prepend_known-append, prepend_known-none, IsFront-refl, IsFront-more, text_front, text_one, text_before}
 use Rattle.dist_drive.proofs.Keeping.{frames_are, next_is, next_none, keeps_next, keeps_fed, keeps_told, after_step, FrameLaws}
-use Rattle.dist_drive.proofs.Shown.{same_length, pieces_on, pieces_one, spent, events_one, numbers_one, list_one, goes_on, shows, endings_are, not_refused, at_end, unheard_shows, ends_whole, endings_same}
+use Rattle.dist_drive.proofs.Shown.{same_length, pieces_on, pieces_one, spent, events_one, numbers_one, list_one, goes_on, shows, endings_are, not_refused, at_end, unheard_shows, ends_whole, endings_same, marks_since, reply_marks, hear_marks}
 
 module _ (laws : FrameLaws) where
   -- what was handed on is a front of the frames of the call
@@ -45,8 +45,10 @@ module _ (laws : FrameLaws) where
       → HasCause stands refuses start.end_ p.steps (next_frame p.heard p.steps) desk new left e
       → HandsOnAll e (map event_of p.steps ≡ events_of start.end_ (frames_of p.heard p.steps))
       → WritesAll e new (text_of start.first p.steps ≡ text_of start.first p.steps)
+      → is_of_end e ≡ false
+      → is_of_failed_read e ≡ false
       → Carries lists stands refuses gives start.end_ start.first start.limit start.stream new start.list desk start.draws e
-  carries lists stands refuses gives start new left desk draws r e p cause all written = record {
+  carries lists stands refuses gives start new left desk draws r e p cause all written unended unfailed = record {
     heard = p.heard;
     steps = p.steps;
     drawn = draws;
@@ -65,25 +67,26 @@ module _ (laws : FrameLaws) where
     within = p.within;
     turns = p.turns;
     pieces = p.pieces;
+    marks = record { ended = p.ended ∙ ap (λ b. b || start.stream.ended) (sym unended); read_failed = p.read_failed ∙ ap (λ b. b || start.stream.read_failed) (sym unfailed); write_failed = inl p.write_failed };
   }
 
   -- memory ran out
   pub lacks : {D W : Type 0} (lists : D → List Step) (stands : D → EndId → Still → Type 0) (refuses : D → Event → ℕ → StepError → Type 0) (gives : W → ℕ → W → Type 0) (start : Start W) (new : StreamState) (left : ℕ) (desk : D) (draws : W) (r : Reader)
       → Runs gives start new left (lists desk) draws r
       → Carries lists stands refuses gives start.end_ start.first start.limit start.stream new start.list desk start.draws (ending.Fault why.NoMemory)
-  lacks lists stands refuses gives start new left desk draws r p = carries lists stands refuses gives start new left desk draws r (ending.Fault why.NoMemory) p tt tt refl
+  lacks lists stands refuses gives start new left desk draws r p = carries lists stands refuses gives start new left desk draws r (ending.Fault why.NoMemory) p tt tt refl refl refl
 
   -- the desk refused a frame
   pub refused : {D W : Type 0} (lists : D → List Step) (stands : D → EndId → Still → Type 0) (refuses : D → Event → ℕ → StepError → Type 0) (gives : W → ℕ → W → Type 0) (start : Start W) (new : StreamState) (left : ℕ) (desk : D) (draws : W) (r : Reader) (body : List ℕ) (n : ℕ) (why : StepError)
       → (p : Runs gives start new left (lists desk) draws r) → next_frame p.heard p.steps ≡ Some body → refuses desk (event.Frame start.end_ body) n why
       → Carries lists stands refuses gives start.end_ start.first start.limit start.stream new start.list desk start.draws (ending_of_refusal why)
-  refused lists stands refuses gives start new left desk draws r body n (error.Gone w) p next h = carries lists stands refuses gives start new left desk draws r (ending.Gone w) p (inr (body, n, next, h)) tt refl
+  refused lists stands refuses gives start new left desk draws r body n (error.Gone w) p next h = carries lists stands refuses gives start new left desk draws r (ending.Gone w) p (inr (body, n, next, h)) tt refl refl refl
   refused lists stands refuses gives start new left desk draws r body n error.NoMemory p next h = lacks lists stands refuses gives start new left desk draws r p
-  refused lists stands refuses gives start new left desk draws r body n (error.Busy entry) p next h = carries lists stands refuses gives start new left desk draws r (ending.Fault why.GaveUp) p (body, n, error.Busy entry, next, h, tt) tt refl
-  refused lists stands refuses gives start new left desk draws r body n error.Full p next h = carries lists stands refuses gives start new left desk draws r (ending.Fault why.GaveUp) p (body, n, error.Full, next, h, tt) tt refl
-  refused lists stands refuses gives start new left desk draws r body n error.NoSuchEnd p next h = carries lists stands refuses gives start new left desk draws r (ending.Fault why.GaveUp) p (body, n, error.NoSuchEnd, next, h, tt) tt refl
-  refused lists stands refuses gives start new left desk draws r body n error.WrongPhase p next h = carries lists stands refuses gives start new left desk draws r (ending.Fault why.GaveUp) p (body, n, error.WrongPhase, next, h, tt) tt refl
-  refused lists stands refuses gives start new left desk draws r body n error.Spent p next h = carries lists stands refuses gives start new left desk draws r (ending.Fault why.GaveUp) p (body, n, error.Spent, next, h, tt) tt refl
+  refused lists stands refuses gives start new left desk draws r body n (error.Busy entry) p next h = carries lists stands refuses gives start new left desk draws r (ending.Fault why.GaveUp) p (body, n, error.Busy entry, next, h, tt) tt refl refl refl
+  refused lists stands refuses gives start new left desk draws r body n error.Full p next h = carries lists stands refuses gives start new left desk draws r (ending.Fault why.GaveUp) p (body, n, error.Full, next, h, tt) tt refl refl refl
+  refused lists stands refuses gives start new left desk draws r body n error.NoSuchEnd p next h = carries lists stands refuses gives start new left desk draws r (ending.Fault why.GaveUp) p (body, n, error.NoSuchEnd, next, h, tt) tt refl refl refl
+  refused lists stands refuses gives start new left desk draws r body n error.WrongPhase p next h = carries lists stands refuses gives start new left desk draws r (ending.Fault why.GaveUp) p (body, n, error.WrongPhase, next, h, tt) tt refl refl refl
+  refused lists stands refuses gives start new left desk draws r body n error.Spent p next h = carries lists stands refuses gives start new left desk draws r (ending.Fault why.GaveUp) p (body, n, error.Spent, next, h, tt) tt refl refl refl
 
   -- it was said whole, and the call goes on
   pub runs_on : {W : Type 0} (gives : W → ℕ → W → Type 0) (start : Start W) (old new : StreamState) (turns left : ℕ) (before after : List Step) (draws drawn : W) (r : Reader) (body : List ℕ) (up : Bool) (m : MakesStep gives start.end_ body draws drawn before after)
@@ -104,6 +107,9 @@ module _ (laws : FrameLaws) where
         events = events_one start.end_ p.steps p.handed body m.number m.reply p.events;
         numbers = numbers_one gives start.draws p.steps draws drawn s p.numbers m.drawn_is;
         pieces = pieces_on (length p.heard) start.limit turns left says.spends.within p.pieces;
+        ended = says.spends.ended ∙ p.ended;
+        read_failed = says.spends.read_failed ∙ p.read_failed;
+        write_failed = says.spends.write_failed ∙ p.write_failed;
         keeps = keeps_next laws p.heard p.handed p.steps s body r up is next p.keeps;
       }
 
@@ -138,6 +144,7 @@ module _ (laws : FrameLaws) where
         within = made.within;
         turns = made.calls;
         pieces = pieces_on (length p.heard) start.limit turns left says.says.says.spends.within p.pieces;
+        marks = marks_since e p.ended p.read_failed p.write_failed (reply_marks (own_why start.end_ m.reply.closed) says.fault e m.reply.say says.says (says.ends e refl));
       }
 
   -- the desk refused the frame, or it was handed on and not said whole
@@ -183,7 +190,7 @@ module _ (laws : FrameLaws) where
       → Carries lists stands refuses gives start.end_ start.first start.limit start.stream new start.list desk start.draws (ending.Gone w)
   gone lists stands refuses gives start new left desk draws r w p none h =
       let last = next_none laws p.heard p.handed p.steps r (same_length start.end_ p.steps p.handed p.events) none p.keeps in
-      carries lists stands refuses gives start new left desk draws r (ending.Gone w) p (inl (h, last)) tt refl
+      carries lists stands refuses gives start new left desk draws r (ending.Gone w) p (inl (h, last)) tt refl refl refl
 
   -- a piece came to the reader
   pub hears_on : {W : Type 0} (gives : W → ℕ → W → Type 0) (start : Start W) (old new : StreamState) (turns left : ℕ) (list : List Step) (draws : W) (r : Reader) (piece : List ℕ)
@@ -201,6 +208,9 @@ module _ (laws : FrameLaws) where
     events = p.events;
     numbers = p.numbers;
     pieces = pieces_one p.heard piece start.limit turns left p.within turn small p.pieces;
+    ended = hears.spends.ended ∙ p.ended;
+    read_failed = hears.spends.read_failed ∙ p.read_failed;
+    write_failed = hears.spends.write_failed ∙ p.write_failed;
     keeps = keeps_told (p.heard ++ piece) p.handed p.steps (fed r piece) (keeps_fed laws p.heard piece p.handed p.steps r bytes p.keeps);
   }
 
@@ -231,6 +241,7 @@ module _ (laws : FrameLaws) where
         within = made.within;
         turns = made.calls;
         pieces = pieces_on (length p.heard) start.limit turns left hears.spends.within p.pieces;
+        marks = marks_since (ending_of_stream error) p.ended p.read_failed p.write_failed (hear_marks error hears);
       }
 
   -- no piece came to the reader

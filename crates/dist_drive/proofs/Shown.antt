@@ -24,8 +24,8 @@ use Rattle.dist_drive.specs.declared.outcome.Ending.TheVariants as ending
 use Rattle.dist_drive.specs.Desks.{Step, event_of, number_of, last_reply}
 use Rattle.dist_core.specs.Losses.{IsGone}
 use Rattle.dist_drive.specs.Numbers.{DrawsAll}
-use Rattle.dist_drive.specs.Driven.{frames_of, next_frame, events_of, HandsOnAll, WritesAll, HasCause, TellsLoss, Carries}
-use Rattle.std.specs.Prelude.{IsErrAnd, IfErr, OnOk, OnErr}
+use Rattle.dist_drive.specs.Driven.{frames_of, next_frame, events_of, HandsOnAll, WritesAll, HasCause, TellsLoss, Marks, is_of_end, is_of_failed_read, LeavesUnread, Carries}
+use Rattle.std.specs.Prelude.{◌≢◌, ◌||◌, IsErrAnd, IfErr, OnOk, OnErr}
 use Rattle.dist_drive.specs.Running.{Runs, SaysReply, after_reply, own_why, ending_of_stream, HandsOn}
 use Rattle.dist_drive.proofs.Texts.{prepend_known-none, Rises-trans, text_none}
 use Rattle.dist_drive.proofs.Keeping.{keeps_none}
@@ -88,6 +88,68 @@ goes_on (Some w) (Some fault.Ended) text e p = absurd cc
 goes_on None (Some fault.ReadFailed) text e p = absurd cc
 goes_on None (Some fault.WriteFailed) text e p = absurd cc
 goes_on None (Some fault.Ended) text e p = absurd cc
+
+abbrev pub ends_whole : Ending → Result (Unit {0}) Ending
+ends_whole e = Err e
+
+-- the marks that a call set since it began
+pub marks_since : (e : Ending) {start mid new : StreamState} → mid.ended ≡ start.ended → mid.read_failed ≡ start.read_failed → mid.write_failed ≡ start.write_failed → Marks e mid new → Marks e start new
+marks_since e ended read written m = record {
+  ended = m.ended ∙ ap (λ b. is_of_end e || b) ended;
+  read_failed = m.read_failed ∙ ap (λ b. is_of_failed_read e || b) read;
+  write_failed = ⊎_elim (λ h. inl (h ∙ written)) (λ h. inr h) m.write_failed;
+}
+
+-- after a reply that was not said whole, or that closed the end
+pub reply_marks : {old new : StreamState} {turns left : ℕ} (own : Option Why) (told : Option TurnError) (e : Ending) (text : List ℕ) → SaysFront old new turns left told text → after_reply own told ≡ Err e → Marks e old new
+reply_marks own (Some fault.ReadFailed) e text p h = absurd p.says.fault_is
+reply_marks own (Some fault.Ended) e text p h = absurd p.says.fault_is
+reply_marks {old = old} {new = new} own (Some fault.Limit) e text p h =
+    let same : ending.Limit ≡ e = cc in
+    subst (λ (x : Ending). Marks x old new) same (record { ended = p.says.spends.ended; read_failed = p.says.spends.read_failed; write_failed = inl p.says.spends.write_failed })
+reply_marks {old = old} {new = new} (Some w) (Some fault.WriteFailed) e text p h =
+    let same : ending.Shut w ≡ e = cc in
+    subst (λ (x : Ending). Marks x old new) same (record { ended = p.says.spends.ended; read_failed = p.says.spends.read_failed; write_failed = inr tt })
+reply_marks {old = old} {new = new} None (Some fault.WriteFailed) e text p h =
+    let same : ending.Fault why.WriteFailed ≡ e = cc in
+    subst (λ (x : Ending). Marks x old new) same (record { ended = p.says.spends.ended; read_failed = p.says.spends.read_failed; write_failed = inr tt })
+reply_marks {old = old} {new = new} (Some w) None e text p h =
+    let same : ending.Shut w ≡ e = cc in
+    subst (λ (x : Ending). Marks x old new) same (record { ended = p.says.spends.ended; read_failed = p.says.spends.read_failed; write_failed = inr tt })
+reply_marks None None e text p h = absurd cc
+
+-- after a read that was refused
+pub hear_marks : {old new : StreamState} {turns left : ℕ} (error : TurnError) → Hears old new turns left (Some error) [] → Marks (ending_of_stream error) old new
+hear_marks fault.Limit p = record { ended = p.spends.ended; read_failed = p.spends.read_failed; write_failed = inl p.spends.write_failed }
+hear_marks fault.Ended p = record { ended = p.spends.ended; read_failed = p.spends.read_failed; write_failed = inl p.spends.write_failed }
+hear_marks fault.ReadFailed p = record { ended = p.spends.ended; read_failed = p.spends.read_failed; write_failed = inl p.spends.write_failed }
+hear_marks fault.WriteFailed p = absurd p.fault_is
+
+-- where the first words were not written whole
+pub first_marks : {old new : StreamState} {turns left : ℕ} (error : TurnError) (first : List ℕ) → SaysFront old new turns left (Some error) first → Marks (ending_of_stream error) old new
+first_marks fault.Limit first p = record { ended = p.says.spends.ended; read_failed = p.says.spends.read_failed; write_failed = inl p.says.spends.write_failed }
+first_marks fault.WriteFailed first p = record { ended = p.says.spends.ended; read_failed = p.says.spends.read_failed; write_failed = inr tt }
+first_marks fault.ReadFailed first p = absurd p.says.fault_is
+first_marks fault.Ended first p = absurd p.says.fault_is
+
+-- what is told is told of some text
+said_of_some : {old new : StreamState} {turns left : ℕ} (error : TurnError) (first : List ℕ) → SaysFront old new turns left (Some error) first → first ≢ []
+said_of_some error first p none =
+    let none_long : length first ≡ 0 = ap length none in
+    omega (arith, p.whole, none_long)
+
+-- where the first words were not written whole nothing was read
+pub first_unread : {old new : StreamState} {turns left : ℕ} (error : TurnError) (first : List ℕ) → SaysFront old new turns left (Some error) first → LeavesUnread first old new (ending_of_stream error)
+first_unread fault.Limit first p = record { unread = p.says.unread; ended = p.says.spends.ended; read_failed = p.says.spends.read_failed; ending_is = said_of_some fault.Limit first p }
+first_unread fault.WriteFailed first p = record { unread = p.says.unread; ended = p.says.spends.ended; read_failed = p.says.spends.read_failed; ending_is = said_of_some fault.WriteFailed first p }
+first_unread fault.ReadFailed first p = absurd p.says.fault_is
+first_unread fault.Ended first p = absurd p.says.fault_is
+
+-- where the desk tells that the end is gone nothing was read
+pub gone_unread : (first : List ℕ) (start mid new : StreamState) (w : Why) (e : Ending) → ends_whole e ≡ ends_whole (ending.Gone w) → new ≡ mid → (mid.unread ≡ start.unread) × (mid.ended ≡ start.ended) × (mid.read_failed ≡ start.read_failed) → LeavesUnread first start new e
+gone_unread first start mid new w e is same kept =
+    let told : ending.Gone w ≡ e = cc in
+    subst (λ (x : Ending). LeavesUnread first start new x) told (record { unread = ap (λ s. s.unread) same ∙ kept.0; ended = ap (λ s. s.ended) same ∙ kept.1; read_failed = ap (λ s. s.read_failed) same ∙ kept.2; ending_is = tt })
 
 -- what the ending shows after a reply
 pub record ShowsEnd {D : Type 0} (stands : D → EndId → Still → Type 0) (refuses : D → Event → ℕ → StepError → Type 0) (desk : D) (end_ : EndId) (reply : Reply) (new : StreamState) (left : ℕ) (part : List ℕ) (Handed : Type 0) (steps : List Step) (before : List ℕ) (e : Ending) : Type 0 where
@@ -172,9 +234,6 @@ unheard_shows stands refuses end_ steps desk fault.Ended All text all hears = re
 unheard_shows stands refuses end_ steps desk fault.ReadFailed All text all hears = record { all = all; cause = λ next. hears.spends.read_failed; whole = refl }
 unheard_shows stands refuses end_ steps desk fault.WriteFailed All text all hears = absurd hears.fault_is
 
-abbrev pub ends_whole : Ending → Result (Unit {0}) Ending
-ends_whole e = Err e
-
 pub endings_same : (e f : Ending) → ends_whole e ≡ ends_whole f → f ≡ e
 endings_same e f h = cc
 
@@ -215,6 +274,7 @@ first_cut lists stands refuses gives end_ first limit left old new desk draws er
       within = p.says.spends.within;
       turns = p.says.spends.calls;
       pieces = omega arith;
+      marks = first_marks error first p;
     }
 
 -- they were
@@ -235,6 +295,9 @@ begins_so none gives end_ first limit left old new list draws p =
       events = refl;
       numbers = refl;
       pieces = omega arith;
+      ended = says.spends.ended;
+      read_failed = says.spends.read_failed;
+      write_failed = says.spends.write_failed;
       keeps = keeps_none none;
     }
 

@@ -1,9 +1,10 @@
 -- ONE DRIVEN CALL: what it read, what it handed on, what it said, and how it ended.
-use Rattle.std.specs.Prelude.{◌≡◌, ℕ, ◌+◌, ◌-◌, ◌*◌, ◌<◌, ◌≤◌, ◌⊎◌, Bool, true, List, [], ◌∷◌, ◌++◌, length, take, map, Option, Some, None, is_some, slice_get, position}
+use Rattle.std.specs.Prelude.{◌≡◌, ◌≢◌, ℕ, ◌+◌, ◌-◌, ◌*◌, ◌<◌, ◌≤◌, ◌⊎◌, Bool, true, false, ◌||◌, List, [], ◌∷◌, ◌++◌, length, take, map, Option, Some, None, is_some, slice_get, position}
 use Rattle.std.specs.List.{flat_map}
 use Rattle.std.specs.Io.KnownBytes.{prepend_known, append_known, IsAtEnd}
 use Rattle.dist_frames.specs.Stream.{bodies}
 use Rattle.dist_peers.specs.declared.entry.EndId.{EndId}
+use Rattle.dist_ends.specs.declared.why.Why.{Why}
 use Rattle.dist_ends.specs.declared.why.Why.TheVariants as why
 use Rattle.dist_core.specs.declared.event.Event.{Event}
 use Rattle.dist_core.specs.declared.event.Event.TheVariants as event
@@ -89,6 +90,49 @@ HasCause stands refuses end_ steps next desk new left (ending.Fault why.NoMemory
 HasCause stands refuses end_ steps next desk new left (ending.Fault why.GaveUp) = (body : List ℕ) × (n : ℕ) × (e : StepError) × (next ≡ Some body) × refuses desk (event.Frame end_ body) n e × IsOther e
 HasCause stands refuses end_ steps next desk new left (ending.Fault other) = ⊥
 
+-- the call ends since the stream has ended
+abbrev pub is_of_end : Ending → Bool
+is_of_end (ending.Fault why.Ended) = true
+is_of_end other = false
+
+-- the call ends since a read failed
+abbrev pub is_of_failed_read : Ending → Bool
+is_of_failed_read (ending.Fault why.ReadFailed) = true
+is_of_failed_read other = false
+
+-- so may a call end in which a write failed: with that fault, or with the reply that closed the end and was to be said
+abbrev pub IsOfFailedWrite : Ending → Type 0
+IsOfFailedWrite (ending.Fault why.WriteFailed) = Unit {0}
+IsOfFailedWrite (ending.Shut w) = Unit {0}
+IsOfFailedWrite other = ⊥
+
+-- THE MARKS OF A CALL: the stream's marks that were not there before are told by the ending. So nothing is read once the
+-- stream said that it has ended or that a read failed, and nothing is read or handed on once a write failed.
+pub record Marks (ending : Ending) (old new : StreamState) : Type 0 where
+  pub ended : new.ended ≡ (is_of_end ending || old.ended)
+  pub read_failed : new.read_failed ≡ (is_of_failed_read ending || old.read_failed)
+  pub write_failed : (new.write_failed ≡ old.write_failed) ⊎ IsOfFailedWrite ending
+
+-- ---- an end that is gone
+
+-- All that the desk can say of the end is that it is gone.
+abbrev pub IsOnlyGone : {D : Type 0} → (D → EndId → Still → Type 0) → D → EndId → Type 0
+IsOnlyGone stands desk end_ = (s : Still) → stands desk end_ s → (w : Why) × (s ≡ still.Gone w)
+
+-- The call tells that the end is gone, unless what was to be said first could not be written.
+abbrev pub EndsUnread : List ℕ → Ending → Type 0
+EndsUnread first (ending.Gone w) = Unit {0}
+EndsUnread first ending.Limit = first ≢ []
+EndsUnread first (ending.Fault why.WriteFailed) = first ≢ []
+EndsUnread first other = ⊥
+
+-- Nothing is read, and the call ends so.
+pub record LeavesUnread (first : List ℕ) (old new : StreamState) (ending : Ending) : Type 0 where
+  pub unread : new.unread ≡ old.unread
+  pub ended : new.ended ≡ old.ended
+  pub read_failed : new.read_failed ≡ old.read_failed
+  pub ending_is : EndsUnread first ending
+
 -- A fault of the call's own is told as one loss with that cause, unless the end is gone or unknown by then. Nothing else
 -- is told.
 abbrev pub TellsLoss : {D : Type 0} → (D → Event → ℕ → StepError → Type 0) → EndId → D → Ending → List Step → Type 0
@@ -130,6 +174,8 @@ pub record Carries {D W : Type 0} (lists : D → List Step) (stands : D → EndI
   pub turns : Rises (limit - left) old.calls new.calls
   -- no read gave more than this many bytes
   pub pieces : length heard ≤ 4096 * (limit - left)
+  -- once a mark is set, the call ends
+  pub marks : Marks ending old new
 
 -- the whole call: up to its ending, and then the loss that is told, at most one
 pub record Drives {D W : Type 0} (lists : D → List Step) (stands : D → EndId → Still → Type 0) (refuses : D → Event → ℕ → StepError → Type 0) (gives : W → ℕ → W → Type 0) (end_ : EndId) (first : List ℕ) (limit : ℕ) (old new : StreamState) (before after : D) (draws : W) (outcome : Outcome) : Type 0 where
@@ -140,3 +186,5 @@ pub record Drives {D W : Type 0} (lists : D → List Step) (stands : D → EndId
   pub list : lists after ≡ lists desk ++ told
   pub loss : TellsLoss refuses end_ desk ending told
   pub outcome_is : outcome ≡ outcome_of ending
+  -- the desk is asked before anything is read
+  pub gone : IsOnlyGone stands before end_ → LeavesUnread first old new ending

@@ -63,6 +63,9 @@ pub record Runs {W : Type 0} (gives : W → ℕ → W → Type 0) (start : Start
   pub events : map event_of steps ≡ events_of start.end_ handed
   pub numbers : DrawsAll gives start.draws (map number_of steps) draws
   pub pieces : length heard ≤ 4096 * (start.limit - left)
+  pub ended : stream.ended ≡ start.stream.ended
+  pub read_failed : stream.read_failed ≡ start.stream.read_failed
+  pub write_failed : stream.write_failed ≡ start.stream.write_failed
   pub keeps : Keeps heard handed steps reader
 
 -- ---- one frame

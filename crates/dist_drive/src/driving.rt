@@ -2,7 +2,7 @@
 ghost use Rattle.std.specs.Prelude.{◌≡◌, ◌<◌, ◌≤◌, ◌+◌, ◌++◌, ◌∷◌, [], ℕ, List, MatchOption, Err, IfOk, IfErr, OnOk, OnErr, take, length};
 ghost use Rattle.dist_core.specs.declared.step_error.StepError.{StepError};
 ghost use Rattle.dist_drive.specs.Desks.{Step};
-ghost use Rattle.dist_drive.specs.Driven.{Carries, Drives, TellsLoss};
+ghost use Rattle.dist_drive.specs.Driven.{Carries, Drives, IsOnlyGone, LeavesUnread, TellsLoss};
 ghost use Rattle.dist_frames.specs.Reader.Reader.{Short};
 ghost use Rattle.dist_frames.specs.Reader.{next_body, without_next, to_come, fed, told};
 ghost use Rattle.dist_frames.specs.History.{IsBytes};
@@ -200,6 +200,7 @@ fn turn<S: Stream, D: Desk, W: Draws>(
     ensures all { OnOk result (to_come frames.new ≡ []) }
     ensures ends { IfErr result (λ e. to_come frames.old ≡ [] → EndsSo D.list D.stands D.refuses W.gives end_ (S.meaning limited.old.stream.now) (S.meaning limited.new.stream.now) limited.old.left desk.old desk.new draws.old frames.old e) }
     ensures fewer { OnOk result (limited.new.left < limited.old.left) }
+    ensures gone { IsOnlyGone D.stands desk.old end_ → ((w : Why) × (result ≡ Err (Ending.Gone w))) × (S.meaning limited.new.stream.now ≡ S.meaning limited.old.stream.now) }
     ensures base { (D.base desk.new ≡ D.base desk.old) × (D.serves desk.new ≡ D.serves desk.old) }
     ensures loan { limited.new.stream.ghost_name ≡ limited.old.stream.ghost_name }
 {
@@ -224,6 +225,7 @@ fn run<S: Stream, D: Desk, W: Draws>(
     limit: usize,
 ) -> Ending
     ensures carries { Carries D.list D.stands D.refuses W.gives end_ first.now limit (S.meaning stream.old) (S.meaning stream.new) (D.list desk.old) desk.new draws.old result }
+    ensures gone { IsOnlyGone D.stands desk.old end_ → LeavesUnread first.now (S.meaning stream.old) (S.meaning stream.new) result }
     ensures base { (D.base desk.new ≡ D.base desk.old) × (D.serves desk.new ≡ D.serves desk.old) }
 {
     fed_and_moved();

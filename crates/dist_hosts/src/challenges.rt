@@ -1,5 +1,8 @@
 //! Where the challenges of a run come from.
 
+ghost use Rattle.std.specs.Prelude.{◌≡◌};
+ghost use Rattle.rand_core.specs.Stream.{fill_bytes};
+
 use dist_drive::Draws;
 use rand::rngs::StdRng;
 use rand_core::{Rng, SeedableRng};
@@ -13,12 +16,17 @@ pub struct Challenges {
 
 impl Challenges {
     /// The challenges that this generator gives.
-    pub fn new(generator: StdRng) -> Challenges {
+    pub fn new(generator: StdRng) -> Challenges
+        ensures { result.generator ≡ generator }
+    {
         Challenges { generator }
     }
 
-    /// Challenges of their own, seeded by these.
-    pub fn fork(&mut self) -> Challenges {
+    /// Challenges of their own, seeded by the next 32 bytes that these give.
+    pub fn fork(&mut self) -> Challenges
+        ensures seeded { result.generator ≡ ⟦<StdRng as SeedableRng>⟧.of_seed (fill_bytes 32 (⟦<StdRng as Rng>⟧.stream self.old.generator)).0 }
+        ensures rest { ⟦<StdRng as Rng>⟧.stream self.new.generator ≡ (fill_bytes 32 (⟦<StdRng as Rng>⟧.stream self.old.generator)).1 }
+    {
         Challenges {
             generator: StdRng::from_rng(&mut self.generator),
         }

@@ -1,8 +1,9 @@
 -- The desk of a seat.
-use Rattle.std.specs.Prelude.{◌≡◌, ◌≢◌, ◌⊎◌, ℕ, List, [], ◌∷◌, Option, Some, None}
+use Rattle.std.specs.Prelude.{◌≡◌, ◌≢◌, ◌⊎◌, ℕ, List, [], ◌∷◌, Option, Some, None, slice_get}
 use Rattle.dist_peers.specs.declared.entry.EndId.{EndId}
 use Rattle.dist_core.specs.declared.event.Event.{Event}
 use Rattle.dist_ends.specs.declared.phase.Still.{Still}
+use Rattle.dist_ends.specs.Ends.{still_of}
 use Rattle.dist_ends.specs.declared.why.Why.{Why}
 use Rattle.dist_core.specs.declared.step_error.StepError.{StepError}
 use Rattle.dist_core.specs.declared.step_error.StepError.TheVariants as error
@@ -10,7 +11,7 @@ use Rattle.dist_core.specs.Clauses.{end_of}
 use Rattle.dist_core.specs.Losses.{loss_of}
 use Rattle.dist_drive.specs.Desks.{Step}
 use Rattle.dist_books.specs.declared.line.Receipt.{Receipt}
-use Rattle.dist_books.specs.History.{IsRefused}
+use Rattle.dist_books.specs.History.{BookState, IsLegal, IsRefused}
 
 -- the step of a receipt
 abbrev pub entry_of : Receipt → Step
@@ -26,9 +27,13 @@ pub record DeskState : Type 0 where
 abbrev pub list_of : DeskState → List Step
 list_of d = d.list
 
--- Nothing is known of what the node under the lock tells.
-abbrev pub tells_all : DeskState → EndId → Still → Type 0
-tells_all d end_ told = Unit {0}
+-- some node with a legal history tells so of the end
+abbrev pub IsStill : EndId → Still → Type 0
+IsStill end_ told = (b : BookState) × IsLegal b × (told ≡ still_of (slice_get b.node.ends end_.0))
+
+-- how it may say that an end stands: as the node under the lock does at some moment
+abbrev pub stands_so : DeskState → EndId → Still → Type 0
+stands_so d end_ told = IsStill end_ told
 
 -- the cause that the last step tells, where it is of a loss
 abbrev pub last_loss : List Step → Option Why

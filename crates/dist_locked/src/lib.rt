@@ -16,6 +16,7 @@ mod dispatching;
 mod driven;
 mod gate;
 mod locked_node;
+mod losing;
 mod queue;
 mod rule;
 mod seat_desk;
@@ -26,6 +27,7 @@ pub use dist_books::{Book, CloseError, Closed, Line, Receipt, Seat, close, step_
 pub use driven::{Driven, drive_end};
 pub use gate::{Gate, Moment, Open};
 pub use locked_node::{LockedNode, Tickets};
+pub use losing::{lose, settled};
 pub use queue::{Orders, PutPass, TakePass};
 pub use rule::DialOrder;
 pub use seat_desk::SeatDesk;

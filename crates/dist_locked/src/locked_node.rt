@@ -2,6 +2,7 @@ ghost use Rattle.std.specs.Prelude.{◌≡◌, ◌≢◌, ◌<◌, ◌≤◌, �
 ghost use Rattle.dist_core.specs.Losses.{is_loss, IsGone};
 ghost use Rattle.dist_core.specs.Answers.{IsLoss};
 ghost use Rattle.dist_books.specs.History.{AreFresh, IsAnswered, IsLegal, IsRefused};
+ghost use Rattle.dist_locked.specs.Desks.{IsStill};
 
 use dist_books::{Book, Receipt, Seat, fresh_seats, step_on};
 use dist_core::{Event, Setup, StepError, Still};
@@ -105,9 +106,12 @@ impl LockedNode {
         }
     }
 
-    /// How an end stands at this moment.
-    pub fn still<R: Wait>(&self, rt: &R, end_: EndId) -> Still {
-        self.book.lock(rt).node().still(end_)
+    /// How an end stands at this moment, as some node with a legal history tells it.
+    pub fn still<R: Wait>(&self, rt: &R, end_: EndId) -> Still
+        ensures { IsStill end_ result }
+    {
+        let book = self.book.lock(rt);
+        book.node().still(end_)
     }
 
     /// The book, whose history is legal.

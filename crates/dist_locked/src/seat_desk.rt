@@ -5,7 +5,7 @@ ghost use Rattle.dist_core.specs.Losses.{is_loss, IsGone};
 ghost use Rattle.dist_core.specs.Answers.{IsLoss};
 ghost use Rattle.dist_books.specs.declared.line.Receipt.{Receipt};
 ghost use Rattle.dist_drive.specs.Desks.{last_reply};
-ghost use Rattle.dist_locked.specs.Desks.{entry_of, tells_all, causes};
+ghost use Rattle.dist_locked.specs.Desks.{entry_of, stands_so, causes};
 
 use super::locked_node::LockedNode;
 use dist_books::{Line, Receipt, Seat};
@@ -100,7 +100,7 @@ impl<'a, R: Wait> Desk for SeatDesk<'a, R> {
 
     ghost serves = { λ d. d.end_ };
 
-    ghost stands = { tells_all };
+    ghost stands = { stands_so };
 
     ghost refuses = { causes };
 

@@ -1,9 +1,9 @@
 use Rattle.std.proofs.Common.{rules, refl, sym, ap, subst, ◌∙◌}
 use Rattle.dist_frames.specs.Reader.{Reader, to_come}
 use Rattle.dist_drive.specs.declared.outcome.Ending.{Ending}
-use Rattle.dist_drive.specs.Driven.{Carries}
+use Rattle.dist_drive.specs.Driven.{IsOnlyGone, LeavesUnread, Carries}
 use Rattle.dist_drive.specs.Running.{Runs, Start}
-use Rattle.dist_drive.proofs.Shown.{first_cut, begins_so}
+use Rattle.dist_drive.proofs.Shown.{first_cut, begins_so, gone_unread}
 use Rattle.dist_drive.proofs.driving.run.Goals as goal
 
 pub returns-in-Err-clause-carries : goal.returns-in-Err-clause-carries
@@ -21,6 +21,7 @@ loop-ending-init g c =
       none = ap to_come c.new-frames.ensures ∙ c.bodies_of_stream.ensures.none;
       base = refl;
       serves = refl;
+      gone = λ only. (refl, c.in_default.ensures.says.says.unread, c.in_default.ensures.says.says.spends.ended, c.in_default.ensures.says.says.spends.read_failed);
       loan = refl;
     }
 
@@ -28,3 +29,23 @@ pub returns-in-Err-turn-clause-carries : goal.returns-in-Err-turn-clause-carries
 returns-in-Err-turn-clause-carries g c =
     let carried = c.in-Err-turn.ensures.ends c.loop-ending.invariant.none _ refl c.loop-ending.invariant.runs in
     subst (λ s. Carries g.D.Desk.list g.D.Desk.stands g.D.Desk.refuses g.W.Draws.gives c.args.end_ c.args.first.now c.args.limit (g.S.Stream.meaning c.args.stream.now) (g.S.Stream.meaning s) (g.D.Desk.list c.args.desk.now) c.turn.new.desk c.args.draws.now c.in-Err-turn.ending) (search rules) carried
+
+pub loop-ending-preserved : goal.loop-ending-preserved
+loop-ending-preserved g c = record {
+  runs = c.in_default-turn.ensures.runs c.loop-ending.invariant.none _ refl c.loop-ending.invariant.runs;
+  none = c.in_default-turn.ensures.all;
+  base = c.in_default-turn.ensures.base.0 ∙ c.loop-ending.invariant.base;
+  serves = c.in_default-turn.ensures.base.1 ∙ c.loop-ending.invariant.serves;
+  gone = λ only.
+      let kept = c.loop-ending.invariant.gone only in
+      let told = c.turn.ensures.gone (subst (λ d. IsOnlyGone g.D.Desk.stands d c.args.end_) (sym kept.0) only) in
+      absurd (c.in_default-turn.not-Err _ told.0.1);
+  loan = c.in_default-turn.ensures.loan ∙ c.loop-ending.invariant.loan;
+}
+
+pub returns-in-Err-turn-clause-gone : goal.returns-in-Err-turn-clause-gone
+returns-in-Err-turn-clause-gone g c = λ only.
+    let kept = c.loop-ending.invariant.gone only in
+    let told = c.turn.ensures.gone (subst (λ d. IsOnlyGone g.D.Desk.stands d c.args.end_) (sym kept.0) only) in
+    subst (λ s. LeavesUnread c.args.first.now (g.S.Stream.meaning c.args.stream.now) (g.S.Stream.meaning s) c.in-Err-turn.ending) (search rules)
+    (gone_unread c.args.first.now (g.S.Stream.meaning c.args.stream.now) (g.S.Stream.meaning c.loop-ending.limited.stream.now) (g.S.Stream.meaning c.turn.new.limited.stream.now) told.0.0 c.in-Err-turn.ending (sym c.in-Err-turn.is ∙ told.0.1) told.1 (kept.1, kept.2, kept.3))
