@@ -7,8 +7,6 @@
 mod cookie;
 mod names;
 mod run;
-#[cfg(test)]
-mod tests;
 
 use dist_commands::{Order, order_of};
 use dist_faults::Fault;

@@ -107,7 +107,21 @@ pub const EACH_OTHER: &str = r#"dial = [
 ]
 "#;
 
-/// A file of those nodes, the second of which takes this peer, and of these dials.
+/// Two nodes that dial one each.
+pub const FOUR_NODES: &str = r#"turns = 2000
+node = [
+  { name = "a@127.0.0.1", cookie = "secret", flags = "401000004" },
+  { name = "b@127.0.0.1", cookie = "secret", flags = "101000104" },
+  { name = "c@127.0.0.1", cookie = "secret", flags = "101000104" },
+  { name = "d@127.0.0.1", cookie = "secret", flags = "101000104" },
+]
+dial = [
+  { from = "a@127.0.0.1", to = "b@127.0.0.1" },
+  { from = "c@127.0.0.1", to = "d@127.0.0.1" },
+]
+"#;
+
+/// A file of the nodes `NODES`, the second of which takes this peer, and of these dials.
 pub fn file_of(alloc: Global, peer: &str, dials: &str) -> Option<String> {
     let mut text = NODES.replacen(alloc, "PEER", peer, 1).ok()?;
     text.push_str(dials).ok()?;

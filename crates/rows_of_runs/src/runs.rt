@@ -1,7 +1,7 @@
 //! What runs of two nodes tell.
 
 use crate::running::{
-    A_PEER, EACH_OTHER, NOBODY_ITSELF_AND_A_PEER, NODES, file_of, run_of, text_of,
+    A_PEER, EACH_OTHER, FOUR_NODES, NOBODY_ITSELF_AND_A_PEER, NODES, file_of, run_of, text_of,
 };
 use crate::system::Wrong;
 use dist_core::Opening;
@@ -118,6 +118,14 @@ fn two_nodes_that_dial_each_other_come_up_once(rt: HostRuntime) {
     let nodes = file_of(rt.alloc(), "a", EACH_OTHER);
     let ran = run_of(&rt, rt.alloc(), Wrong::Holds, nodes);
     assert_eq!(rt; text_of(&ran), "up 1 1, audit holds");
+}
+
+// A body with one worker alone, or with one lock for both, has no second order that could go first.
+#[test]
+fn gated_workers(rt: HostRuntime) {
+    let nodes = String::from_str(rt.alloc(), FOUR_NODES).ok();
+    let ran = run_of(&rt, rt.alloc(), Wrong::Overtakes, nodes);
+    assert_eq!(rt; text_of(&ran), "up 1 1 1 1, audit holds");
 }
 
 #[test]

@@ -27,6 +27,9 @@ pub enum Wrong {
     Cuts,
     /// No end is told that it is connected before both workers have a connection.
     Holds,
+    /// The second worker waits with its connection for that of the first, and the first with its own until the second has told
+    /// its node. Who waits in vain gives its connection up.
+    Overtakes,
     /// Before the nodes, clients that say nothing, and clients that say what is no message, are at the first node and at
     /// the port mapper, and stay.
     Strangers,
@@ -42,6 +45,7 @@ pub struct System<'a, R> {
     to_mapper: AtomicUsize,
     to_nodes: AtomicUsize,
     held: AtomicUsize,
+    passed: AtomicUsize,
     strangers: Mutex<Option<[TcpStream; 4]>>,
 }
 
@@ -56,6 +60,7 @@ impl<'a, R> System<'a, R> {
             to_mapper: AtomicUsize::new(0),
             to_nodes: AtomicUsize::new(0),
             held: AtomicUsize::new(0),
+            passed: AtomicUsize::new(0),
             strangers: Mutex::new(None),
         }
     }
@@ -175,18 +180,51 @@ impl<'a, R: RandomSource> RandomSource for System<'a, R> {
     }
 }
 
-impl<'a, R> Gate for System<'a, R> {
-    // Looks for the other worker so often at most, so that a system with no thread for it ends the run too.
-    fn at(&self, _worker: u32, moment: Moment) -> bool {
-        if self.wrong == Wrong::Holds && moment == Moment::BeforeStep {
+// Whether so many are there, or come while it is looked for them. It is looked so often at most, so that a system with no thread
+// for the other worker ends the run too.
+fn are_there(count: &AtomicUsize, wanted: usize) -> bool {
+    for _ in 0..10_000_000u32 {
+        if count.load(Ordering::SeqCst) >= wanted {
+            return true;
+        }
+        thread::yield_now();
+    }
+    false
+}
+
+impl<'a, R> System<'a, R> {
+    // Waits for the other worker's connection.
+    fn hold(&self, moment: Moment) -> bool {
+        if moment == Moment::BeforeStep {
             next(&self.held);
-            for _ in 0..10_000_000u32 {
-                if self.held.load(Ordering::SeqCst) > 1 {
-                    break;
-                }
-                thread::yield_now();
-            }
+            let _ = are_there(&self.held, 2);
         }
         true
+    }
+
+    // Lets the second worker go first, once the first has a connection too.
+    fn overtake(&self, worker: u32, moment: Moment) -> bool {
+        match (worker, moment) {
+            (0, Moment::BeforeStep) => {
+                next(&self.held);
+                are_there(&self.passed, 1)
+            }
+            (_, Moment::BeforeStep) => are_there(&self.held, 1),
+            (0, Moment::AfterStep) => true,
+            (_, Moment::AfterStep) => {
+                next(&self.passed);
+                true
+            }
+        }
+    }
+}
+
+impl<'a, R> Gate for System<'a, R> {
+    fn at(&self, worker: u32, moment: Moment) -> bool {
+        match self.wrong {
+            Wrong::Holds => self.hold(moment),
+            Wrong::Overtakes => self.overtake(worker, moment),
+            _ => true,
+        }
     }
 }

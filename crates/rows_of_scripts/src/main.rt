@@ -6,15 +6,20 @@
 //!
 //! `, ` stands for the end of a line. In braces stands a name of the file `named`, and stands for what that file says of it;
 //! or `TEXT*COUNT`, for the text so often, in which `#` is the number of the time, from 0; or bytes in hexadecimal digits.
+//!
+//! Of the rows in `interrupted` each read behind the script is interrupted; of those in `unflushed` no flush of the output succeeds.
 #![tactic(auto)]
 
+mod carriers;
+
+use carriers::{Sink, Source};
 use dist_play::enact;
 use std::alloc::Global;
 use std::io::{ErrorKind, Write};
 use std::{fs, io};
 
 /// The files of rows, in the order in which they are played.
-const FILES: [&str; 12] = [
+const FILES: [&str; 14] = [
     "handshakes",
     "verdicts",
     "peers",
@@ -27,13 +32,21 @@ const FILES: [&str; 12] = [
     "worlds_byte_by_byte",
     "happenings",
     "bad_scripts",
+    "interrupted",
+    "unflushed",
 ];
 
 fn main(rt: HostRuntime) -> io::Result<()> {
     let named = fs::read_to_string(&rt, "named")?;
     for file in FILES {
         let rows = fs::read_to_string(&rt, file)?;
-        let count = play_all(rt.alloc(), named.as_str(), rows.as_str(), &mut rt.stdout())?;
+        let count = play_all(
+            rt.alloc(),
+            file,
+            named.as_str(),
+            rows.as_str(),
+            &mut rt.stdout(),
+        )?;
         println!(rt; "{file}: {count} rows")?;
     }
     Ok(())
@@ -41,11 +54,17 @@ fn main(rt: HostRuntime) -> io::Result<()> {
 
 // Plays the rows of a file, and answers how many there are. The first that goes otherwise is an error, and is printed with what
 // came.
-fn play_all<W: Write>(alloc: Global, named: &str, rows: &str, out: &mut W) -> io::Result<u32> {
+fn play_all<W: Write>(
+    alloc: Global,
+    file: &str,
+    named: &str,
+    rows: &str,
+    out: &mut W,
+) -> io::Result<u32> {
     let mut count = 0u32;
     for row in rows.split("=== ").skip(1) {
         let (name, row) = row.split_once('\n').unwrap_or((row, ""));
-        if !goes(alloc, named, row, out).unwrap_or(false) {
+        if !goes(alloc, file, named, row, out).unwrap_or(false) {
             writeln!(out, "came of the row {name}")?;
             return Err(io::Error::from(ErrorKind::InvalidData));
         }
@@ -55,12 +74,12 @@ fn play_all<W: Write>(alloc: Global, named: &str, rows: &str, out: &mut W) -> io
 }
 
 // Whether a row goes as it says. What came otherwise is printed. `None`: memory was refused, or it is no row.
-fn goes<W: Write>(alloc: Global, named: &str, row: &str, out: &mut W) -> Option<bool> {
+fn goes<W: Write>(alloc: Global, file: &str, named: &str, row: &str, out: &mut W) -> Option<bool> {
     let row = row.replace(alloc, ", ", "\n").ok()?;
     let (script, wanted) = row.as_str().split_once("---\n")?;
     let script = expanded(alloc, named, script)?;
     let wanted = expanded(alloc, named, wanted)?;
-    let came = played(alloc, &script)?;
+    let came = played(alloc, file, &script)?;
     let is_so = came.as_slice() == wanted.as_slice();
     if !is_so {
         out.write_all(&came).ok()?;
@@ -68,16 +87,17 @@ fn goes<W: Write>(alloc: Global, named: &str, row: &str, out: &mut W) -> Option<
     Some(is_so)
 }
 
-// What comes of a script, as a row says it.
-fn played(alloc: Global, mut script: &[u8]) -> Option<Vec<u8>> {
-    let (mut out, mut told) = (Vec::new(alloc), Vec::new(alloc));
-    let status = enact(alloc, &mut script, &mut out, &mut told);
+// What comes of a script of a file, as a row says it.
+fn played(alloc: Global, file: &str, script: &[u8]) -> Option<Vec<u8>> {
+    let mut input = Source::new(script, file == "interrupted");
+    let (mut out, mut told) = (Sink::new(alloc, file == "unflushed"), Vec::new(alloc));
+    let status = enact(alloc, &mut input, &mut out, &mut told);
     if status == 0 && told.is_empty() {
-        return Some(out);
+        return Some(out.into_bytes());
     }
     let mut came = format!(in alloc; "status {status} ").ok()?.into_bytes();
     came.extend_from_slice(&told).ok()?;
-    came.extend_from_slice(&out).ok()?;
+    came.extend_from_slice(&out.into_bytes()).ok()?;
     Some(came)
 }
 
