@@ -9,7 +9,7 @@ ghost use Rattle.dist_core.specs.Clauses.{ClosesOnReply, end_of, loss_reply};
 ghost use Rattle.dist_core.specs.Losses.{IsGone, IsSilent};
 ghost use Rattle.dist_core.specs.Fitting.{Fits};
 ghost use Rattle.dist_setup.specs.Saying.{name_text, tick_text};
-ghost use Rattle.dist_core.specs.Effects.{moves, goes_on};
+ghost use Rattle.dist_core.specs.Effects.{moves, goes_on, closes};
 ghost use Rattle.dist_core.specs.Accepted.{verdict_in, name_taken};
 ghost use Rattle.dist_core.specs.Step.{effect_of, step, stepped, at_end, opened, ticked, dialled, came_in, cost_of};
 ghost use Rattle.dist_core.specs.Answers.{IsStep, Gives, IsLoss, GivesReply};
@@ -210,6 +210,8 @@ impl Node {
         let _ = self.open_ends();
         match event {
             Event::Tick { end_: id } => self.tick(alloc, *id),
+            Event::Lost { end_: id, why } => self.lose(alloc, *id, *why),
+            Event::Incoming { link } => self.come_in(alloc, *link),
             _ => self.decided(alloc, event, fresh),
         }
     }
@@ -224,6 +226,50 @@ impl Node {
         let _ = self.open_ends();
         let effect = self.effect(alloc, event, fresh)?;
         self.commit(effect, cost(event))
+    }
+
+    // A loss, which closes its end and says nothing.
+    fn lose(&mut self, alloc: Global, id: EndId, why: Why) -> Result<Reply, StepError>
+        ensures step { IsStep result (stepped self.old (Event.Lost id why) (at_end (slice_get self.old.ends id.0) (λ e. Ok (closes id why)))) self.old self.new }
+        ensures loss { result ≢ Err StepError.NoMemory }
+    {
+        // That tells what the ends are before the step.
+        let _ = self.open_ends();
+        let _end = open_end(&self.ends, id)?;
+        match self
+            .ends
+            .change(&self.setup.name, id, End::Closed(why), None)
+        {
+            Ok(()) => {
+                let mut reply = says(id, ByteString::new(alloc));
+                reply.closed = Some((id, why));
+                Ok(reply)
+            }
+            // An end that is closed takes no memory.
+            Err(_) => unreachable!(),
+        }
+    }
+
+    // A connection that came, which gives out the next end.
+    fn come_in(&mut self, alloc: Global, _link: u64) -> Result<Reply, StepError>
+        ensures { IsStep result (stepped self.old (Event.Incoming _link) (came_in self.old)) self.old self.new }
+    {
+        // That tells what the ends are before the step.
+        let _ = self.open_ends();
+        if self.is_spent() {
+            return Err(StepError::Spent);
+        }
+        if self.is_crowded() {
+            return Err(StepError::Full);
+        }
+        let id = self.new_id();
+        match self.ends.change(&self.setup.name, id, End::Unnamed, None) {
+            Ok(()) => {
+                self.steps += 1;
+                Ok(says(id, ByteString::new(alloc)))
+            }
+            Err(_) => Err(StepError::NoMemory),
+        }
     }
 
     // A tick, which leaves all ends as they are.
