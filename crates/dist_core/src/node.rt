@@ -236,18 +236,10 @@ impl Node {
         // That tells what the ends are before the step.
         let _ = self.open_ends();
         let _end = open_end(&self.ends, id)?;
-        match self
-            .ends
-            .change(&self.setup.name, id, End::Closed(why), None)
-        {
-            Ok(()) => {
-                let mut reply = says(id, ByteString::new(alloc));
-                reply.closed = Some((id, why));
-                Ok(reply)
-            }
-            // An end that is closed takes no memory.
-            Err(_) => unreachable!(),
-        }
+        self.ends.close(id, why);
+        let mut reply = says(id, ByteString::new(alloc));
+        reply.closed = Some((id, why));
+        Ok(reply)
     }
 
     // A connection that came, which gives out the next end.
@@ -263,13 +255,11 @@ impl Node {
             return Err(StepError::Full);
         }
         let id = self.new_id();
-        match self.ends.change(&self.setup.name, id, End::Unnamed, None) {
-            Ok(()) => {
-                self.steps += 1;
-                Ok(says(id, ByteString::new(alloc)))
-            }
-            Err(_) => Err(StepError::NoMemory),
+        if self.ends.add().is_err() {
+            return Err(StepError::NoMemory);
         }
+        self.steps += 1;
+        Ok(says(id, ByteString::new(alloc)))
     }
 
     // A tick, which leaves all ends as they are.
