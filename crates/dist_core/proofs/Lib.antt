@@ -1,5 +1,6 @@
 pub mod Verdicts
 pub mod Steps
+pub mod Ticks
 pub mod Counts
 pub mod Rows
 pub mod Replies

@@ -9,19 +9,20 @@ ghost use Rattle.dist_core.specs.Clauses.{ClosesOnReply, end_of, loss_reply};
 ghost use Rattle.dist_core.specs.Losses.{IsGone, IsSilent};
 ghost use Rattle.dist_core.specs.Fitting.{Fits};
 ghost use Rattle.dist_setup.specs.Saying.{name_text, tick_text};
-ghost use Rattle.dist_core.specs.Effects.{moves, goes_on};
+ghost use Rattle.dist_core.specs.Effects.{moves, goes_on, closes};
 ghost use Rattle.dist_core.specs.Accepted.{verdict_in, name_taken};
-ghost use Rattle.dist_core.specs.Step.{effect_of, step, opened, ticked, dialled, came_in, cost_of};
+ghost use Rattle.dist_core.specs.Step.{effect_of, step, stepped, at_end, opened, ticked, dialled, came_in, cost_of};
 ghost use Rattle.dist_core.specs.Answers.{IsStep, Gives, IsLoss, GivesReply};
 
 use crate::accepted::name_taken;
 use crate::effect::{Effect, closes};
 use crate::event::Event;
 use crate::finding::{cost, open_end};
-use crate::reply::Reply;
+use crate::reply::{Note, Reply};
 use crate::step_error::StepError;
 use dist_ends::{Attempt, End, Ends, Still, UpRecord, Why};
-use dist_names::{Creation, NodeName};
+use dist_frames::tick;
+use dist_names::{ByteString, Creation, NodeName};
 use dist_peers::{EndId, Entry, Verdict};
 use dist_setup::Setup;
 use std::alloc::{AllocError, Global};
@@ -199,7 +200,24 @@ impl Node {
     }
 
     // A step, with what is shown of it at once.
+    #[tactic(auto, unfolding(crate::specs::Step::effect_of))]
     fn stepped(&mut self, alloc: Global, event: &Event, fresh: u32) -> Result<Reply, StepError>
+        ensures step { IsStep result (step self.old event.now fresh) self.old self.new }
+        ensures loss { IsLoss event.now → result ≢ Err StepError.NoMemory }
+        ensures legal { AreLegal self.old.ends }
+    {
+        // That tells what the ends are before the step, also where it is refused.
+        let _ = self.open_ends();
+        match event {
+            Event::Tick { end_: id } => self.tick(alloc, *id),
+            Event::Lost { end_: id, why } => self.lose(alloc, *id, *why),
+            Event::Incoming { link } => self.come_in(alloc, *link),
+            _ => self.decided(alloc, event, fresh),
+        }
+    }
+
+    // A step by its effect.
+    fn decided(&mut self, alloc: Global, event: &Event, fresh: u32) -> Result<Reply, StepError>
         ensures step { IsStep result (step self.old event.now fresh) self.old self.new }
         ensures loss { IsLoss event.now → result ≢ Err StepError.NoMemory }
         ensures legal { AreLegal self.old.ends }
@@ -208,6 +226,58 @@ impl Node {
         let _ = self.open_ends();
         let effect = self.effect(alloc, event, fresh)?;
         self.commit(effect, cost(event))
+    }
+
+    // A loss, which closes its end and says nothing.
+    fn lose(&mut self, alloc: Global, id: EndId, why: Why) -> Result<Reply, StepError>
+        ensures step { IsStep result (stepped self.old (Event.Lost id why) (at_end (slice_get self.old.ends id.0) (λ e. Ok (closes id why)))) self.old self.new }
+        ensures loss { result ≢ Err StepError.NoMemory }
+    {
+        // That tells what the ends are before the step.
+        let _ = self.open_ends();
+        let _end = open_end(&self.ends, id)?;
+        self.ends.close(id, why);
+        let mut reply = says(id, ByteString::new(alloc));
+        reply.closed = Some((id, why));
+        Ok(reply)
+    }
+
+    // A connection that came, which gives out the next end.
+    fn come_in(&mut self, alloc: Global, _link: u64) -> Result<Reply, StepError>
+        ensures { IsStep result (stepped self.old (Event.Incoming _link) (came_in self.old)) self.old self.new }
+    {
+        // That tells what the ends are before the step.
+        let _ = self.open_ends();
+        if self.is_spent() {
+            return Err(StepError::Spent);
+        }
+        if self.is_crowded() {
+            return Err(StepError::Full);
+        }
+        let id = self.new_id();
+        if self.ends.add().is_err() {
+            return Err(StepError::NoMemory);
+        }
+        self.steps += 1;
+        Ok(says(id, ByteString::new(alloc)))
+    }
+
+    // A tick, which leaves all ends as they are.
+    #[tactic(auto, using(crate::proofs::Ticks::ticks))]
+    fn tick(&mut self, alloc: Global, id: EndId) -> Result<Reply, StepError>
+        ensures { IsStep result (stepped self.old (Event.Tick id) (at_end (slice_get self.old.ends id.0) (ticked self.old id))) self.old self.new }
+    {
+        let End::Up(_) = open_end(&self.ends, id)? else {
+            return Err(StepError::WrongPhase);
+        };
+        if self.is_spent() {
+            return Err(StepError::Spent);
+        }
+        let Ok(say) = ByteString::from_slice(alloc, &tick()) else {
+            return Err(StepError::NoMemory);
+        };
+        self.steps += 1;
+        Ok(says(id, say))
     }
 
     // An answer, with what is shown of it at once.
@@ -314,5 +384,18 @@ impl Node {
     {
         let verdict = self.verdict(&attempt.peer, id);
         name_taken(alloc, &self.setup, &self.ends, id, attempt, verdict)
+    }
+}
+
+// The end says this, and nothing else is told.
+fn says(id: EndId, say: ByteString) -> Reply
+    ensures { result ≡ record { end_ = id; say = say; closed = None; up = None; note = Note.Nothing } }
+{
+    Reply {
+        end_: id,
+        say,
+        closed: None,
+        up: None,
+        note: Note::Nothing,
     }
 }

@@ -9,7 +9,8 @@ ghost use Rattle.dist_ends.specs.Change.{Fits, changed};
 use crate::known::{End, UpRecord};
 use crate::phase::{Absent, Phase, Still};
 use crate::slots::{Row, find};
-use crate::table::apply;
+use crate::table::{add, apply, shut};
+use crate::why::Why;
 use dist_names::NodeName;
 use dist_peers::{EndId, Entry, Peers, Verdict};
 use slab::Slab;
@@ -195,6 +196,24 @@ impl Ends {
             Ok(End::Up(kept)) => Some(kept),
             _ => None,
         }
+    }
+
+    /// Closes an end that was given out. It takes no memory.
+    pub fn close(&mut self, id: EndId, why: Why)
+        // `still` is the test.
+        requires { id.0 < length self.old }
+        ensures { self.new ≡ changed self.old id (End.Closed why) None }
+    {
+        shut(&mut self.peers, &mut self.rows, &mut self.slots, id, why);
+    }
+
+    /// Gives out the next end, of which nothing is known yet.
+    pub fn add(&mut self) -> Result<(), AllocError>
+        requires { length self.old + 1 < 2 ^ 32 }
+        ensures ok { OnOk result (self.new ≡ changed self.old (end_id (length self.old)) End.Unnamed None) }
+        ensures err { OnErr result (self.new ≡ self.old) }
+    {
+        add(&mut self.rows, &mut self.slots)
     }
 
     /// Changes an end, or gives out the next one, and at most one other with it, at a node of name `me`.

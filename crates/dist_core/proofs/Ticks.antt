@@ -1,0 +1,32 @@
+-- A tick leaves the ends as they are.
+use Rattle.std.proofs.Common.{◌≡◌, ℕ, ◌+◌, ◌<◌, ◌++◌, ◌∷◌, [], true, false, cond, nat_lt, length, List, Some, None, Ok, Err, sym, ap, ◌∙◌, arith, slice_get, set}
+use Rattle.std.proofs.lemmas.List.{set-get_or}
+use Rattle.std.proofs.lemmas.Option.{get_or_from_slice_get, slice_get_within}
+use Rattle.dist_peers.specs.declared.entry.EndId.{EndId}
+use Rattle.dist_ends.specs.declared.known.UpRecord.{UpRecord}
+use Rattle.dist_ends.specs.declared.known.End.{End}
+use Rattle.dist_ends.specs.declared.known.End.TheVariants as ends
+use Rattle.dist_ends.specs.Change.{put_end}
+use Rattle.dist_setup.specs.Saying.{tick_text}
+use Rattle.dist_core.specs.declared.event.Event.TheVariants as event
+use Rattle.dist_core.specs.declared.reply.Note.TheVariants as note
+use Rattle.dist_core.specs.declared.step_error.StepError.TheVariants as error
+use Rattle.dist_core.specs.Node.{NodeState, is_spent}
+use Rattle.dist_core.specs.Effects.{goes_on}
+use Rattle.dist_core.specs.Step.{at_end, ticked, stepped}
+
+-- an end that is put where it stands changes nothing
+pub put-same : (es : List End) (i : ℕ) (e : End) → slice_get es i ≡ Some e → put_end es i e ≡ es
+put-same es i e h =
+    let within : i < length es = slice_get_within es i e h in
+    let is-in : nat_lt i (length es) ≡ true = grind (arith, within) in
+    ap (λ b. cond b (set es i e) (es ++ e ∷ [])) is-in
+    ∙ ap (set es i) (sym (get_or_from_slice_get es i e e h))
+    ∙ set-get_or es i e
+
+-- what a tick of an end that is up gives
+pub ticks : (n : NodeState) (id : EndId) (r : UpRecord) → slice_get n.ends id.0 ≡ Some (ends.Up r) → is_spent n ≡ false → stepped n (event.Tick id) (at_end (slice_get n.ends id.0) (ticked n id)) ≡ Ok (record { end_ = id; say = tick_text; closed = None; up = None; note = note.Nothing }, record { setup = n.setup; steps = n.steps + 1; ends = n.ends })
+ticks n id r at sp =
+    ap (λ o. stepped n (event.Tick id) (at_end o (ticked n id))) at
+    ∙ ap (λ b. stepped n (event.Tick id) (cond b (Err error.Spent) (Ok (goes_on id tick_text (ends.Up r) note.Nothing)))) sp
+    ∙ ap (λ es. Ok (record { end_ = id; say = tick_text; closed = None; up = None; note = note.Nothing }, record { setup = n.setup; steps = n.steps + 1; ends = es })) (put-same n.ends id.0 (ends.Up r) at)

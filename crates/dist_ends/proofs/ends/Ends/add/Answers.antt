@@ -1,0 +1,30 @@
+use Rattle.std.proofs.Common.{◌≡◌, List, [], Option, None, Result, Ok, Err, OnOk, OnErr, length, arith, ap, refl, subst, slice_get}
+use Rattle.std.proofs.lemmas.Option.{slice_get_past}
+use Rattle.std.specs.FinMap as map
+use Rattle.dist_peers.specs.Table.{Table}
+use Rattle.dist_ends.specs.declared.known.End.{End}
+use Rattle.dist_ends.specs.declared.known.End.TheVariants as ends
+use Rattle.dist_ends.specs.Ends.{Agree, end_id}
+use Rattle.dist_ends.specs.Change.{claim_at, shifted, changed}
+use Rattle.dist_ends.proofs.Fitting.{fit-keeps, stays-past}
+use Rattle.dist_ends.proofs.Legal.{agreed}
+use Rattle.dist_ends.proofs.ends.Ends.add.Goals as goal
+
+-- an end of which nothing is known makes no entry
+unnamed : (t : Table) (es : List End) → Agree (map.get t) es → Agree (map.get t) (changed es (end_id (length es)) ends.Unnamed None)
+unnamed t es a =
+    let id = end_id (length es) in
+    let none : slice_get es (length es) ≡ None = slice_get_past es (length es) (omega arith) in
+    let h = fit-keeps [] es t a id ends.Unnamed None (stays-past _ _ none) (ap claim_at none) refl (omega arith) in
+    let P : Option End → Type 0 = λ o. Agree (map.get (shifted t [] id (claim_at o) None)) (changed es id ends.Unnamed None) in
+    subst P none h.agree
+
+either : {X E : Type 0} (r : Result X E) (t : Table) (es fs new : List End) → Agree (map.get t) es → Agree (map.get t) fs → OnOk r (new ≡ fs) → OnErr r (new ≡ es) → Agree (map.get t) new
+either (Ok x) t es fs new old is h g = agreed t t new fs refl h is
+either (Err x) t es fs new old is h g = agreed t t new es refl g old
+
+pub invariant_of-self : goal.invariant_of-self
+invariant_of-self c = record {
+  agree = either c.add.result _ _ _ _ c.self.invariant.agree (unnamed _ _ c.self.invariant.agree) c.add.ensures.ends c.add.ensures.err;
+  kept = c.add.ensures.kept;
+}
