@@ -89,10 +89,14 @@ impl Peers {
         up_in(&self.by_name, i)
     }
 
-    /// Whether a further entry would be needed for this peer, and 1,024 are there.
+    /// Whether a further entry would be needed for this peer, and 1,024 are there. A table with room is not searched.
+    #[tactic(auto, using(crate::proofs::Rooms::room))]
     pub fn is_full_for(&self, peer: &NodeName) -> bool
         ensures { result ≡ is_full self.now (entry_of self.now peer.now) }
     {
+        if self.len() < MOST {
+            return false;
+        }
         self.is_full_with(self.entry(peer))
     }
 
