@@ -7,16 +7,13 @@ use Rattle.dist_peers.specs.declared.entry.EndId.{EndId}
 use Rattle.dist_ends.specs.declared.why.Why.{Why}
 use Rattle.dist_ends.specs.declared.known.Attempt.{Attempt}
 use Rattle.dist_ends.specs.declared.known.UpRecord.{UpRecord}
-use Rattle.dist_ends.specs.declared.known.End.{End}
 use Rattle.dist_ends.specs.declared.known.End.TheVariants as ends
 use Rattle.dist_setup.specs.Rules.{own_digest, same_bytes}
 use Rattle.dist_core.specs.declared.event.Event.{Event}
 use Rattle.dist_core.specs.declared.event.Event.TheVariants as event
 use Rattle.dist_core.specs.declared.reply.Reply.{Reply}
 use Rattle.dist_core.specs.declared.reply.Note.TheVariants as note
-use Rattle.dist_core.specs.declared.effect.Effect.{Effect}
 use Rattle.dist_core.specs.Node.{NodeState}
-use Rattle.dist_core.specs.Step.{effect_of}
 
 -- the event is a reply that bears the digest of the own cookie and the challenge of the end on which it came
 pub record IsRightReply (n : NodeState) (v : Event) : Type 0 where
@@ -29,10 +26,6 @@ pub record IsRightReply (n : NodeState) (v : Event) : Type 0 where
   pub at_ : slice_get n.ends id.0 ≡ Some (ends.Attempt attempt)
   pub says : read Dialler body ≡ Ok (message.Reply challenge digest)
   pub right : same_bytes digest (own_digest n.setup attempt.peer attempt.challenge) ≡ true
-
--- another end that was up changes only on a right reply
-abbrev pub ReplacesOnReply : NodeState → Type 0
-ReplacesOnReply n = (v : Event) (fresh : ℕ) (f : Effect) (x : EndId) (s : End) (r : UpRecord) → effect_of n v fresh ≡ Ok f → f.other ≡ Some (x, s) → slice_get n.ends x.0 ≡ Some (ends.Up r) → IsRightReply n v
 
 -- the event is a frame
 abbrev pub IsFrame : Event → Type 0

@@ -11,7 +11,8 @@ use rand_core::{Rng, SeedableRng};
 /// promises that they are hard to guess.
 #[derive(Drop)]
 pub struct Challenges {
-    generator: StdRng,
+    /// What gives them.
+    pub generator: StdRng,
 }
 
 impl Challenges {
