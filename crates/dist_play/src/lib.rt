@@ -4,7 +4,6 @@
 //! writer. What is printed is in docs/PROTOCOL.md, section 8.
 #![tactic(auto)]
 
-mod pieces;
 mod playing;
 pub mod print;
 mod readers;

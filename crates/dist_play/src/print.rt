@@ -1,31 +1,47 @@
 //! The lines that a script prints: what a node answers, which ends a world closes, and how all stand at the end.
 
-use crate::pieces::{Piece, put};
-pub use crate::pieces::{lower_hex, number};
+ghost use Rattle.std.specs.Prelude.{◌≡◌, ◌++◌, decimal, option_copied, slice_get, OnOk, Some};
+ghost use Rattle.std.specs.FinMap as map;
+ghost use Rattle.std.specs.Io.KnownBytes.{Appends};
+ghost use Rattle.dist_peers.specs.Table.{up_id};
+ghost use Rattle.dist_ends.specs.Ends.{table_of};
+ghost use Rattle.dist_ends.specs.Words.{why_word};
+ghost use Rattle.dist_words.specs.Texts.{text_of};
+ghost use Rattle.dist_play.specs.Lines.{creation_text, said_text, closed_text, up_text, reply_line, entry_text, record_at, record_text, row_text, found_text, table_text, node_text, closed_line, applied_line, skipped_line, agree_line};
+
 use dist_core::{Node, Reply, StepError, UpRecord, Why};
 use dist_names::{Creation, NodeName};
 use dist_peers::{EndId, Entry};
+use dist_words::{Piece, put};
 use dist_world::Agreement;
 use std::io;
 use std::io::Write;
 
-fn end_number(id: EndId) -> Piece<'static> {
+fn end_number(id: EndId) -> Piece<'static>
+    ensures { text_of result ≡ decimal id.0 }
+{
     Piece::Number(u64::from(id.0))
 }
 
-fn why_name(why: Why) -> Piece<'static> {
+fn why_name(why: Why) -> Piece<'static>
+    ensures { text_of result ≡ why_word why }
+{
     Piece::Text(why.name().as_bytes())
 }
 
 // A creation, where it is known.
-fn creation(creation: Option<Creation>) -> Piece<'static> {
+fn creation(creation: Option<Creation>) -> Piece<'static>
+    ensures { text_of result ≡ creation_text creation }
+{
     match creation {
         Some(creation) => Piece::Number(u64::from(creation.0)),
         None => Piece::Text(b"unknown"),
     }
 }
 
-fn said(say: &[u8]) -> Piece<'_> {
+fn said(say: &[u8]) -> Piece<'_>
+    ensures { text_of result ≡ said_text say.now }
+{
     if say.is_empty() {
         Piece::Text(b"-")
     } else {
@@ -33,7 +49,9 @@ fn said(say: &[u8]) -> Piece<'_> {
     }
 }
 
-fn closed<W: Write>(out: &mut W, closed: Option<(EndId, Why)>) -> io::Result<()> {
+fn closed<W: Write>(out: &mut W, closed: Option<(EndId, Why)>) -> io::Result<()>
+    ensures { OnOk result (Appends (W.contents out.old) (W.contents out.new) (closed_text closed)) }
+{
     match closed {
         Some((id, why)) => put(
             out,
@@ -48,7 +66,9 @@ fn closed<W: Write>(out: &mut W, closed: Option<(EndId, Why)>) -> io::Result<()>
     }
 }
 
-fn came_up<W: Write>(out: &mut W, up: Option<&UpRecord>) -> io::Result<()> {
+fn came_up<W: Write>(out: &mut W, up: Option<&UpRecord>) -> io::Result<()>
+    ensures { OnOk result (Appends (W.contents out.old) (W.contents out.new) (up_text (option_copied up.entry))) }
+{
     match up {
         Some(record) => put(
             out,
@@ -67,7 +87,10 @@ fn came_up<W: Write>(out: &mut W, up: Option<&UpRecord>) -> io::Result<()> {
 }
 
 /// What a step answered.
-pub(crate) fn reply<W: Write>(out: &mut W, reply: &Reply) -> io::Result<()> {
+#[tactic(auto, using(crate::proofs::Printing::in_three))]
+pub(crate) fn reply<W: Write>(out: &mut W, reply: &Reply) -> io::Result<()>
+    ensures { OnOk result (Appends (W.contents out.old) (W.contents out.new) (reply_line reply.now)) }
+{
     put(
         out,
         &[
@@ -82,16 +105,22 @@ pub(crate) fn reply<W: Write>(out: &mut W, reply: &Reply) -> io::Result<()> {
 }
 
 // The number of an end behind a word.
-fn end_behind<W: Write>(out: &mut W, word: &[u8], id: EndId) -> io::Result<()> {
+fn end_behind<W: Write>(out: &mut W, word: &[u8], id: EndId) -> io::Result<()>
+    ensures { OnOk result (Appends (W.contents out.old) (W.contents out.new) (word.now ++ decimal id.0)) }
+{
     put(out, &[Piece::Text(word), end_number(id)])
 }
 
 // The number of the end that is up behind a word, and that of the end by which it is challenged behind another.
 fn ends_behind<W: Write>(
     out: &mut W,
-    (word, up): (&'static [u8], EndId),
-    (behind, by_): (&'static [u8], EndId),
-) -> io::Result<()> {
+    word: &'static [u8],
+    up: EndId,
+    behind: &'static [u8],
+    by_: EndId,
+) -> io::Result<()>
+    ensures { OnOk result (Appends (W.contents out.old) (W.contents out.new) (word.now ++ decimal up.0 ++ behind.now ++ decimal by_.0)) }
+{
     put(
         out,
         &[
@@ -108,7 +137,7 @@ fn busy<W: Write>(out: &mut W, entry: Entry) -> io::Result<()> {
         Entry::Out(id) => end_behind(out, b" Out ", id),
         Entry::In(id) => end_behind(out, b" In ", id),
         Entry::Up(id) => end_behind(out, b" Up ", id),
-        Entry::Challenged { up, by_ } => ends_behind(out, (b" Challenged ", up), (b" ", by_)),
+        Entry::Challenged { up, by_ } => ends_behind(out, b" Challenged ", up, b" ", by_),
     }
 }
 
@@ -125,7 +154,9 @@ pub(crate) fn refused<W: Write>(out: &mut W, error: StepError) -> io::Result<()>
 }
 
 /// How many packets of a linked stream ended.
-pub(crate) fn skipped<W: Write>(out: &mut W, count: usize) -> io::Result<()> {
+pub(crate) fn skipped<W: Write>(out: &mut W, count: usize) -> io::Result<()>
+    ensures { OnOk result (Appends (W.contents out.old) (W.contents out.new) (skipped_line count)) }
+{
     put(
         out,
         &[
@@ -136,25 +167,29 @@ pub(crate) fn skipped<W: Write>(out: &mut W, count: usize) -> io::Result<()> {
     )
 }
 
-fn standing<W: Write>(out: &mut W, entry: Entry) -> io::Result<()> {
+fn standing<W: Write>(out: &mut W, entry: Entry) -> io::Result<()>
+    ensures { OnOk result (Appends (W.contents out.old) (W.contents out.new) (entry_text entry)) }
+{
     match entry {
         Entry::Out(id) => end_behind(out, b" out ", id),
         Entry::In(id) => end_behind(out, b" in ", id),
         Entry::Up(id) => end_behind(out, b" up ", id),
-        Entry::Challenged { up, by_ } => ends_behind(out, (b" up ", up), (b" challenged ", by_)),
+        Entry::Challenged { up, by_ } => ends_behind(out, b" up ", up, b" challenged ", by_),
     }
 }
 
 // The record of the end that is up, where the peer has one, and the end of the line.
-fn record<W: Write>(out: &mut W, record: Option<&UpRecord>) -> io::Result<()> {
-    match record {
-        Some(record) => put(
+fn record<W: Write>(out: &mut W, kept: Option<&UpRecord>) -> io::Result<()>
+    ensures { OnOk result (Appends (W.contents out.old) (W.contents out.new) (record_text (option_copied kept.entry))) }
+{
+    match kept {
+        Some(found) => put(
             out,
             &[
                 Piece::Text(b" common "),
-                Piece::Flags(record.common),
+                Piece::Flags(found.common),
                 Piece::Text(b" creation "),
-                creation(record.creation),
+                creation(found.creation),
                 Piece::Text(b"\n"),
             ],
         ),
@@ -162,36 +197,52 @@ fn record<W: Write>(out: &mut W, record: Option<&UpRecord>) -> io::Result<()> {
     }
 }
 
+// The record of the end that an entry has up.
+fn up_record(node: &Node, entry: Entry) -> Option<&UpRecord>
+    ensures { option_copied result ≡ record_at node.now (up_id entry) }
+{
+    node.record_of(entry.up()?)
+}
+
 // A row of the table.
-fn row<W: Write>(out: &mut W, node: &Node, peer: &NodeName, entry: Entry) -> io::Result<()> {
+#[tactic(auto, using(crate::proofs::Printing::in_three))]
+fn row<W: Write>(out: &mut W, node: &Node, peer: &NodeName, entry: Entry) -> io::Result<()>
+    ensures { OnOk result (Appends (W.contents out.old) (W.contents out.new) (row_text node.now (peer.now, entry))) }
+{
     out.write_all(peer.bytes())?;
     standing(out, entry)?;
-    match entry.up() {
-        Some(id) => record(out, node.record_of(id)),
-        None => record(out, None),
+    record(out, up_record(node, entry))
+}
+
+// The row at this place of the table, where there is one.
+#[tactic(auto, using(crate::proofs::Printing::nothing))]
+fn row_at<W: Write>(out: &mut W, node: &Node, place: usize) -> io::Result<()>
+    ensures { OnOk result (Appends (W.contents out.old) (W.contents out.new) (found_text node.now (slice_get (map.entries (table_of node.now.ends)) place))) }
+{
+    match node.entry_at(place) {
+        Some((peer, entry)) => row(out, node, peer, entry),
+        None => Ok(()),
     }
 }
 
 /// The table of the node's peers in name order, or that it has none.
-pub(crate) fn table<W: Write>(out: &mut W, node: &Node) -> io::Result<()> {
+#[tactic(auto, using(crate::proofs::Printing::nothing))]
+pub(crate) fn table<W: Write>(out: &mut W, node: &Node) -> io::Result<()>
+    ensures { OnOk result (Appends (W.contents out.old) (W.contents out.new) (table_text node.now)) }
+{
     if node.entries() == 0 {
         return out.write_all(b"no peers\n");
     }
     for place in 0..node.entries() {
-        if let Some((peer, entry)) = node.entry_at(place) {
-            row(out, node, peer, entry)?;
-        }
+        row_at(out, node, place)?;
     }
     Ok(())
 }
 
 /// The end of a node that a happening closed, and why.
-pub(crate) fn closed_end<W: Write>(
-    out: &mut W,
-    node: usize,
-    id: EndId,
-    why: Why,
-) -> io::Result<()> {
+pub(crate) fn closed_end<W: Write>(out: &mut W, node: usize, id: EndId, why: Why) -> io::Result<()>
+    ensures { OnOk result (Appends (W.contents out.old) (W.contents out.new) (closed_line node id why)) }
+{
     put(
         out,
         &[
@@ -207,7 +258,9 @@ pub(crate) fn closed_end<W: Write>(
 }
 
 /// How many happenings of a script applied.
-pub(crate) fn applied<W: Write>(out: &mut W, applied: usize, all: usize) -> io::Result<()> {
+pub(crate) fn applied<W: Write>(out: &mut W, applied: usize, all: usize) -> io::Result<()>
+    ensures { OnOk result (Appends (W.contents out.old) (W.contents out.new) (applied_line applied all)) }
+{
     put(
         out,
         &[
@@ -220,7 +273,10 @@ pub(crate) fn applied<W: Write>(out: &mut W, applied: usize, all: usize) -> io::
     )
 }
 
-fn running<W: Write>(out: &mut W, name: &NodeName, node: &Node) -> io::Result<()> {
+#[tactic(auto, using(crate::proofs::Printing::in_two))]
+fn running<W: Write>(out: &mut W, name: &NodeName, node: &Node) -> io::Result<()>
+    ensures { OnOk result (Appends (W.contents out.old) (W.contents out.new) (node_text name.now (Some node.now))) }
+{
     put(
         out,
         &[
@@ -235,7 +291,9 @@ fn running<W: Write>(out: &mut W, name: &NodeName, node: &Node) -> io::Result<()
 }
 
 /// How a node of a world stands: the creation and the table of its running incarnation, or that it is halted.
-pub fn node<W: Write>(out: &mut W, name: &NodeName, incarnation: Option<&Node>) -> io::Result<()> {
+pub fn node<W: Write>(out: &mut W, name: &NodeName, incarnation: Option<&Node>) -> io::Result<()>
+    ensures { OnOk result (Appends (W.contents out.old) (W.contents out.new) (node_text name.now (option_copied incarnation.entry))) }
+{
     match incarnation {
         Some(node) => running(out, name, node),
         None => put(
@@ -255,7 +313,9 @@ pub(crate) fn agreement<'n, W: Write>(
     a: &'n NodeName,
     b: &'n NodeName,
     found: &Agreement,
-) -> io::Result<()> {
+) -> io::Result<()>
+    ensures { OnOk result (Appends (W.contents out.old) (W.contents out.new) (agree_line a.now b.now found.now)) }
+{
     put(
         out,
         &[

@@ -1,6 +1,7 @@
 //! Reads a whole input, up to the most bytes that one has.
 
-ghost use Rattle.std.specs.Prelude.{◌≡◌, ◌+◌, ◌≤◌, length, IfOk};
+ghost use Rattle.std.specs.Prelude.{◌≡◌, ◌+◌, ◌≤◌, ◌++◌, ℕ, List, length, IfOk, OnOk};
+ghost use Rattle.std.specs.Io.KnownBytes.{Consumes, IsAtEnd};
 
 use crate::fault::ScriptFault;
 use std::alloc::Global;
@@ -13,7 +14,9 @@ const PIECE: usize = 16384;
 
 // One read of the next piece, whose bytes are put behind the text. Answers how many there were.
 fn read_piece<R: Read>(input: &mut R, text: &mut Vec<u8>) -> Result<usize, ScriptFault>
-    ensures { IfOk result (λ count. length text.new.items ≡ length text.old.items + count) }
+    ensures grows { IfOk result (λ count. length text.new.items ≡ length text.old.items + count) }
+    ensures piece { IfOk result (λ count. (piece : List ℕ) × (text.new.items ≡ text.old.items ++ piece) × Consumes (R.remaining input.old) (R.remaining input.new) piece) }
+    ensures end { IfOk result (λ count. count ≡ 0 → IsAtEnd (R.remaining input.new)) }
 {
     let mut room = [0u8; PIECE];
     match input.read(&mut room) {
@@ -29,7 +32,9 @@ fn read_piece<R: Read>(input: &mut R, text: &mut Vec<u8>) -> Result<usize, Scrip
 /// The whole input, of at most 1,048,576 bytes. Reading ends with the read that shows that it is too long. It fails with
 /// `ReadFailed`, `TooLong` or `NoMemory`.
 pub fn read_text<R: Read>(alloc: Global, input: &mut R) -> Result<Vec<u8>, ScriptFault>
-    ensures { IfOk result (λ text. length text.items ≤ MOST_BYTES) }
+    ensures most { IfOk result (λ text. length text.items ≤ MOST_BYTES) }
+    ensures bytes { IfOk result (λ text. Consumes (R.remaining input.old) (R.remaining input.new) text.items) }
+    ensures end { OnOk result (IsAtEnd (R.remaining input.new)) }
 {
     let mut text = Vec::new(alloc);
     'pieces: for _ in 0..=MOST_BYTES {

@@ -1,6 +1,6 @@
 //! The words of a line.
 
-ghost use Rattle.std.specs.Prelude.{◌≡◌, ◌≤◌, ◌↔◌, [], ◌∷◌, length, option_copied, IsTrue, MatchOption, MatchResult, MatchBool};
+ghost use Rattle.std.specs.Prelude.{◌≡◌, ◌≤◌, ◌↔◌, ℕ, List, [], ◌∷◌, length, option_copied, IsTrue, MatchOption, MatchResult, MatchBool};
 ghost use Rattle.dist_words.specs.declared.words.LineFault.TheVariants.{NoMemory};
 ghost use Rattle.dist_words.specs.Words.{words_of, words_in, is_space};
 ghost use Rattle.std.specs.List.{position_or_len};
@@ -100,7 +100,7 @@ impl<'a> Words<'a> {
 
     /// Takes the next word where it is this one, and says whether it was.
     pub fn skip(&mut self, wanted: &[u8]) -> bool
-        ensures { MatchBool result (self.old ≡ wanted.now ∷ self.new) (self.new ≡ self.old) }
+        ensures { MatchBool result (self.old ≡ wanted.now ∷ self.new) ((self.new ≡ self.old) × ((rest : List (List ℕ)) → self.old ≡ wanted.now ∷ rest → ⊥)) }
     {
         let rest = self.rest;
         if self.next() == Some(wanted) {

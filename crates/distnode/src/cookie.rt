@@ -4,21 +4,26 @@ ghost use Rattle.std.specs.Prelude.{◌≡◌, ◌≤◌, IfErr};
 ghost use Rattle.dist_faults.specs.Fault.{status_of};
 
 use dist_faults::Fault;
-use dist_play::print::{lower_hex, number};
 use dist_secret::{Cookie, digest, read_cookie};
+use dist_words::{Piece, put};
 use std::alloc::Global;
 use std::io;
 use std::io::{BufWriter, Read, Write};
 
 fn print<W: Write>(out: &mut W, cookie: &Cookie, challenge: u32) -> io::Result<()> {
-    out.write_all(b"cookie of ")?;
-    number(out, cookie.len() as u64)?;
-    out.write_all(b" bytes, digest of ")?;
-    number(out, u64::from(challenge))?;
-    out.write_all(b" is ")?;
-    lower_hex(out, &digest(cookie, challenge))?;
-    out.write_all(b"\n")?;
-    out.flush()
+    let made = digest(cookie, challenge);
+    put(
+        out,
+        &[
+            Piece::Text(b"cookie of "),
+            Piece::Number(cookie.len() as u64),
+            Piece::Text(b" bytes, digest of "),
+            Piece::Number(u64::from(challenge)),
+            Piece::Text(b" is "),
+            Piece::Digits(&made),
+            Piece::Text(b"\n"),
+        ],
+    )
 }
 
 fn perform<R: Read, W: Write>(
@@ -31,7 +36,8 @@ fn perform<R: Read, W: Write>(
 {
     let cookie = read_cookie(alloc, file).map_err(Fault::NoCookie)?;
     let mut out = BufWriter::new(alloc, out).map_err(|_| Fault::NoMemory)?;
-    print(&mut out, &cookie, challenge).map_err(|_| Fault::WriteFailed)
+    print(&mut out, &cookie, challenge).map_err(|_| Fault::WriteFailed)?;
+    out.flush().map_err(|_| Fault::WriteFailed)
 }
 
 /// Prints how many bytes the cookie of a file has, and the digest of it and a challenge. The cookie itself is never

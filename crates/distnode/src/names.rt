@@ -1,7 +1,8 @@
 //! The command `names`: what a port mapper answers about the nodes that it knows.
 
-ghost use Rattle.std.specs.Prelude.{◌≡◌, ◌≤◌, IfErr};
+ghost use Rattle.std.specs.Prelude.{◌≡◌, ◌≤◌, IfErr, OnOk};
 ghost use Rattle.dist_faults.specs.Fault.{status_of};
+ghost use Rattle.distnode.specs.Printed.{PrintsNames};
 
 use dist_faults::Fault;
 use dist_mapper::ask_names;
@@ -16,7 +17,8 @@ use std::io::Write;
 const MOST_TURNS: usize = 1280;
 
 fn perform<S: Stream, W: Write>(alloc: Global, stream: &mut S, out: &mut W) -> Result<(), Fault>
-    ensures { IfErr result (λ fault. status_of fault ≡ 1) }
+    ensures status { IfErr result (λ fault. status_of fault ≡ 1) }
+    ensures printed { OnOk result (PrintsNames (S.meaning stream.old) (S.meaning stream.new) MOST_TURNS (W.contents out.old) (W.contents out.new)) }
 {
     let (_port, text) = ask_names(alloc, stream, MOST_TURNS).map_err(Fault::NoAnswer)?;
     out.write_all(text.as_slice())
@@ -32,7 +34,8 @@ pub fn names<S: Stream, W: Write, E: Write>(
     out: &mut W,
     err: &mut E,
 ) -> u8
-    ensures { result ≤ 1 }
+    ensures status { result ≤ 1 }
+    ensures printed { result ≡ 0 → PrintsNames (S.meaning stream.old) (S.meaning stream.new) MOST_TURNS (W.contents out.old) (W.contents out.new) }
 {
     match perform(alloc, stream, out) {
         Ok(()) => 0,

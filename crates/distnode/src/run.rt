@@ -1,6 +1,10 @@
 //! The command `run`: the nodes of a nodes file at work, on this host.
 
-ghost use Rattle.std.specs.Prelude.{◌≤◌, IfOk};
+ghost use Rattle.std.specs.Prelude.{◌≡◌, ◌≤◌, IfOk, OnOk};
+ghost use Rattle.std.specs.Io.KnownBytes.{Appends};
+ghost use Rattle.dist_audit.specs.declared.audit_error.AuditError.{AuditError};
+ghost use Rattle.dist_audit.specs.Audit.{AreOfOneWorld, EachLinkComesHome, EachTakesItsBody, Tells, TellsFirst};
+ghost use Rattle.distnode.specs.Printed.{order_line, orders_text};
 
 use dist_audit::{AuditError, audit};
 use dist_faults::{Fault, written};
@@ -8,7 +12,7 @@ use dist_locked::{Closed, Gate, Open};
 use dist_plan::{Plan, PlanError, plan_of};
 use dist_play::{print, print_agreements, print_nodes};
 use dist_run::{OrderFault, Ran, run_plan};
-use dist_words::read_text;
+use dist_words::{Piece, put, read_text};
 use dist_world::World;
 use std::alloc::Global;
 use std::io::{BufWriter, Read, Write};
@@ -27,14 +31,29 @@ fn plan_in(alloc: Global, text: &str) -> Result<Plan, Fault> {
     }
 }
 
+// The line of an order that made no dial.
+fn print_fault<W: Write>(out: &mut W, fault: &OrderFault) -> io::Result<()>
+    ensures { OnOk result (Appends (W.contents out.old) (W.contents out.new) (order_line fault.now)) }
+{
+    put(
+        out,
+        &[
+            Piece::Text(b"order "),
+            Piece::Number(u64::from(fault.number)),
+            Piece::Text(b" "),
+            Piece::Text(fault.refusal.name().as_bytes()),
+            Piece::Text(b"\n"),
+        ],
+    )
+}
+
 // The orders that made no dial.
-fn print_faults<W: Write>(out: &mut W, faults: &[OrderFault]) -> io::Result<()> {
+#[tactic(auto, using(crate::proofs::Printing::nothing, crate::proofs::Printing::order_more))]
+fn print_faults<W: Write>(out: &mut W, faults: &[OrderFault]) -> io::Result<()>
+    ensures { OnOk result (Appends (W.contents out.old) (W.contents out.new) (orders_text faults.now)) }
+{
     for fault in faults {
-        out.write_all(b"order ")?;
-        print::number(out, u64::from(fault.number))?;
-        out.write_all(b" ")?;
-        out.write_all(fault.refusal.name().as_bytes())?;
-        out.write_all(b"\n")?;
+        print_fault(out, fault)?;
     }
     Ok(())
 }
@@ -57,7 +76,11 @@ fn print_refusal<W: Write>(out: &mut W, all: &[Closed], error: AuditError) -> Re
 
 // What the nodes left, and what the audit says of it. Answers the exit status.
 fn print_ran<W: Write>(alloc: Global, out: &mut W, ran: &Ran) -> Result<u8, Fault>
-    ensures { IfOk result (λ status. status ≤ 1) }
+    ensures status { IfOk result (λ status. status ≤ 1) }
+    ensures holds { IfOk result (λ status. status ≡ 0 → AreOfOneWorld ran.now.closed.items) }
+    ensures links { IfOk result (λ status. status ≡ 0 → EachLinkComesHome ran.now.closed.items) }
+    ensures bodies { IfOk result (λ status. status ≡ 0 → EachTakesItsBody ran.now.closed.items) }
+    ensures refused { IfOk result (λ status. status ≡ 1 → (e : AuditError) × Tells e ran.now.closed.items × TellsFirst e ran.now.closed.items) }
 {
     written(print_faults(out, ran.faults.as_slice()))?;
     let status = match audit(alloc, ran.closed.as_slice()) {

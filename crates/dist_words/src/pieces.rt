@@ -1,9 +1,12 @@
 //! Pieces of printed lines: words, numbers and digits.
 
-ghost use Rattle.std.specs.Prelude.{◌≤◌, length};
+ghost use Rattle.std.specs.Prelude.{◌≤◌, ◌≡◌, length, decimal, OnOk};
+ghost use Rattle.std.specs.Io.KnownBytes.{Appends};
+ghost use Rattle.hex.specs.Hex.{encode_lower};
+ghost use Rattle.dist_words.specs.Texts.{text_of, texts_of};
 
+use crate::digits::write_digits;
 use dist_names::Flags;
-use dist_words::write_digits;
 use itoa::Buffer;
 use std::io;
 use std::io::Write;
@@ -25,14 +28,19 @@ pub enum Piece<'a> {
 }
 
 /// Writes these pieces, one behind the other.
-pub fn put<W: Write>(out: &mut W, pieces: &[Piece<'_>]) -> io::Result<()> {
+#[tactic(auto, using(crate::proofs::Printing::nothing, crate::proofs::Printing::put_more))]
+pub fn put<W: Write>(out: &mut W, pieces: &[Piece<'_>]) -> io::Result<()>
+    ensures { OnOk result (Appends (W.contents out.old) (W.contents out.new) (texts_of pieces.now)) }
+{
     for piece in pieces {
         put_piece(out, *piece)?;
     }
     Ok(())
 }
 
-fn put_piece<W: Write>(out: &mut W, piece: Piece<'_>) -> io::Result<()> {
+fn put_piece<W: Write>(out: &mut W, piece: Piece<'_>) -> io::Result<()>
+    ensures { OnOk result (Appends (W.contents out.old) (W.contents out.new) (text_of piece.entry)) }
+{
     match piece {
         Piece::Text(text) => out.write_all(text),
         Piece::Number(value) => number(out, value),
@@ -41,14 +49,18 @@ fn put_piece<W: Write>(out: &mut W, piece: Piece<'_>) -> io::Result<()> {
     }
 }
 
-/// A number in decimal digits.
-pub fn number<W: Write>(out: &mut W, number: u64) -> io::Result<()> {
+// A number in decimal digits.
+fn number<W: Write>(out: &mut W, number: u64) -> io::Result<()>
+    ensures { OnOk result (Appends (W.contents out.old) (W.contents out.new) (decimal number)) }
+{
     let mut room = Buffer::new();
     out.write_all(room.format(number).as_bytes())
 }
 
-/// The bytes as lower-case hexadecimal digits.
-pub fn lower_hex<W: Write>(out: &mut W, bytes: &[u8]) -> io::Result<()> {
+// The bytes as lower-case hexadecimal digits.
+fn lower_hex<W: Write>(out: &mut W, bytes: &[u8]) -> io::Result<()>
+    ensures { OnOk result (Appends (W.contents out.old) (W.contents out.new) (encode_lower bytes.now)) }
+{
     let mut rest = bytes;
     while !rest.is_empty() {
         let (piece, behind) = rest.split_at(rest.len().min(MOST_BYTES));
@@ -60,6 +72,7 @@ pub fn lower_hex<W: Write>(out: &mut W, bytes: &[u8]) -> io::Result<()> {
 
 fn short_hex<W: Write>(out: &mut W, bytes: &[u8]) -> io::Result<()>
     requires { length bytes.now ≤ 32 }
+    ensures { OnOk result (Appends (W.contents out.old) (W.contents out.new) (encode_lower bytes.now)) }
 {
     let mut room = [0u8; 2 * MOST_BYTES];
     let digits = &mut room[..2 * bytes.len()];
