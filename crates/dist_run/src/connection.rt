@@ -1,12 +1,12 @@
 //! The thread of a connection.
 
-use dist_core::{Event, Still, Why};
-use dist_drive::{Outcome, SocketStream};
+use dist_core::Why;
+use dist_drive::SocketStream;
 use dist_hosts::{Challenges, Host, say_goodbye};
-use dist_locked::{Driven, LockedNode, Seat, drive_end};
+use dist_locked::{Seat, drive_end, lose, settled};
 use dist_names::ByteString;
 use dist_peers::EndId;
-use std::alloc::{AllocError, Global};
+use std::alloc::Global;
 use std::sync::Wait;
 use std::sync::atomic::{AtomicUsize, Ordering};
 
@@ -36,40 +36,6 @@ pub struct Job<'a> {
 pub struct Left {
     pub seat: Seat,
     pub stream: SocketStream,
-}
-
-/// Loses an end. Where it is closed already nothing changes.
-pub fn lose<R: Wait>(rt: &R, node: &LockedNode, seat: &mut Seat, end_: EndId, why: Why) {
-    let _ = node.step(rt, seat, &Event::Lost { end_, why }, 0);
-}
-
-// Once the turns of an end have run out: one that is not up is given up. Whether the end is over now.
-fn give_up<R: Wait>(rt: &R, node: &LockedNode, seat: &mut Seat, end_: EndId) -> bool {
-    if node.still(rt, end_) == Still::Up {
-        return false;
-    }
-    lose(rt, node, seat, end_, Why::GaveUp);
-    true
-}
-
-// Loses an end that its driver left open and that is not up. The seat comes back, and whether the end is over now.
-fn settled<R: Wait>(
-    rt: &R,
-    node: &LockedNode,
-    end_: EndId,
-    driven: Result<Driven, (AllocError, Seat)>,
-) -> (Seat, bool) {
-    match driven {
-        Ok(driven) => {
-            let mut seat = driven.seat;
-            let is_over = driven.outcome != Outcome::Limit || give_up(rt, node, &mut seat, end_);
-            (seat, is_over)
-        }
-        Err((_, mut seat)) => {
-            lose(rt, node, &mut seat, end_, Why::NoMemory);
-            (seat, true)
-        }
-    }
 }
 
 impl<'a> Job<'a> {

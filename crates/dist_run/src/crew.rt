@@ -1,11 +1,11 @@
 //! The threads for connections that one thread starts at one node.
 
-use crate::connection::{Job, Left, lose};
+use crate::connection::{Job, Left};
 use crate::site::Site;
 use dist_core::{Event, StepError, Why};
 use dist_drive::SocketStream;
 use dist_hosts::{Challenges, Connection, Host, Pool, say_goodbye};
-use dist_locked::{Receipt, Seat};
+use dist_locked::{Receipt, Seat, lose};
 use dist_names::ByteString;
 use dist_peers::EndId;
 use std::mem;

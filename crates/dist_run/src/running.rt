@@ -1,5 +1,8 @@
 //! A run, from its plan to its closed nodes.
 
+ghost use Rattle.std.specs.Prelude.{◌++◌, IfOk, IsPermutation};
+ghost use Rattle.std.specs.List.Sorted.{IsNonDecreasingBy};
+
 use crate::crew::Rest;
 use crate::site::{Dial, Site};
 use crate::threads::{Ended, Pools, run_threads};
@@ -145,7 +148,10 @@ fn closed_all(alloc: Global, hosts: Vec<Host>, mut rests: Rests) -> Result<Vec<C
 }
 
 // The faults of both workers, in the order of their numbers.
-fn faults_of(first: Vec<OrderFault>, second: Vec<OrderFault>) -> Result<Vec<OrderFault>, RunError> {
+fn faults_of(first: Vec<OrderFault>, second: Vec<OrderFault>) -> Result<Vec<OrderFault>, RunError>
+    ensures all { IfOk result (λ faults. IsPermutation (first.items ++ second.items) faults.items) }
+    ensures order { IfOk result (λ faults. IsNonDecreasingBy (λ (fault : OrderFault). fault.number) faults.items) }
+{
     let mut faults = first;
     let mut second = second;
     faults.append(&mut second)?;
@@ -156,7 +162,10 @@ fn faults_of(first: Vec<OrderFault>, second: Vec<OrderFault>) -> Result<Vec<Orde
 }
 
 // What is left of the nodes, closed.
-fn ran_of(alloc: Global, hosts: Vec<Host>, ended: Ended) -> Result<Ran, RunError> {
+fn ran_of(alloc: Global, hosts: Vec<Host>, ended: Ended) -> Result<Ran, RunError>
+    ensures order { IfOk result (λ ran. IsNonDecreasingBy (λ (fault : OrderFault). fault.number) ran.faults.items) }
+    ensures all { IfOk result (λ ran. IsPermutation (ended.first.faults.items ++ ended.second.faults.items) ran.faults.items) }
+{
     let Ended {
         accepting,
         first,
