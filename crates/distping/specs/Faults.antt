@@ -1,0 +1,16 @@
+-- The exit status of a fault.
+use Rattle.std.specs.Prelude.{ℕ, ◌==◌, if◌then◌else◌}
+use Rattle.distping.specs.declared.fault.Fault.{Fault}
+use Rattle.distping.specs.declared.fault.Fault.TheVariants as fault
+
+-- 2 where the command line is at fault, else 1
+abbrev pub status_of : Fault → ℕ
+status_of fault.BadCommandLine = 2
+status_of fault.BadName = 2
+status_of fault.BadFlags = 2
+status_of fault.OneNodeAlone = 2
+status_of other = 1
+
+-- the first of two statuses, unless it is 0
+abbrev pub first_of : ℕ → ℕ → ℕ
+first_of first second = if first == 0 then second else first

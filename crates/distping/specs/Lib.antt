@@ -1,0 +1,4 @@
+pub mod Faults
+pub mod Places
+pub mod Texts
+pub mod Pairs

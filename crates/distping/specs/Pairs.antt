@@ -1,0 +1,50 @@
+-- What can be told of two nodes from outside.
+use Rattle.std.specs.Prelude.{ℕ, ◌==◌, ◌&&◌, Bool, true, false, Option, Some, if◌then◌else◌}
+use Rattle.dist_names.specs.Order.{same_name}
+use Rattle.dist_names.specs.declared.flags.Flags.{Flags}
+use Rattle.dist_flag_names.specs.Releases.{missing, release_of, required_by}
+use Rattle.dist_probe.specs.declared.verdict.Verdict.{Verdict}
+use Rattle.dist_probe.specs.declared.verdict.Verdict.TheVariants as verdict
+use Rattle.dist_probe.specs.declared.names.NameStyle.{NameStyle}
+use Rattle.dist_probe.specs.declared.names.NameStyle.TheVariants as style
+use Rattle.dist_probe.specs.Styles.{style_of}
+use Rattle.distping.specs.declared.pairs.Half.{Half}
+use Rattle.distping.specs.declared.pairs.Pairing.{Pairing}
+use Rattle.distping.specs.declared.pairs.Pairing.TheVariants as pairing
+
+-- which of the flags the first lacks that the second's release asks for
+abbrev pub lacks : Flags → Flags → Flags
+lacks first second = record { 0 = missing first.0 (required_by (release_of second.0)) }
+
+-- what the cookies tell: certain is a difference alone, where one takes what the other does not
+abbrev pub behind_cookies : Verdict → Verdict → Pairing
+behind_cookies verdict.Up verdict.Up = pairing.Agree
+behind_cookies verdict.Up verdict.WrongCookie = pairing.OtherCookies
+behind_cookies verdict.WrongCookie verdict.Up = pairing.OtherCookies
+behind_cookies first second = pairing.Unsure
+
+-- what the flags tell, and behind them the cookies
+abbrev pub behind_flags : Option Flags → Option Flags → Pairing → Pairing
+behind_flags (Some first) (Some second) cookies = if ((lacks first second).0 == 0) && ((lacks second first).0 == 0) then cookies else pairing.LacksFlags (lacks first second) (lacks second first)
+behind_flags first second cookies = pairing.NotReached
+
+abbrev pub same_style : NameStyle → NameStyle → Bool
+same_style style.Long style.Long = true
+same_style style.Short style.Short = true
+same_style first second = false
+
+-- the first that holds: one name, a long and a short one, one that was not reached, flags that lack, other cookies
+abbrev pub pairing_of : Half → Half → Pairing
+pairing_of first second =
+    if same_name first.node.now second.node.now then pairing.SameName else
+    if same_style (style_of first.node.now) (style_of second.node.now) then behind_flags first.flags second.flags (behind_cookies first.verdict second.verdict) else pairing.LongAndShort
+
+-- the exit status: the place to look at
+abbrev pub pair_status : Pairing → ℕ
+pair_status pairing.SameName = 8
+pair_status pairing.LongAndShort = 9
+pair_status pairing.NotReached = 0
+pair_status (pairing.LacksFlags first second) = 8
+pair_status pairing.OtherCookies = 10
+pair_status pairing.Unsure = 0
+pair_status pairing.Agree = 0

@@ -1,0 +1,224 @@
+//! What the command line asks for.
+
+use crate::fault::Fault;
+use clap::error::ErrorKind;
+use clap::{Arg, ArgAction, ArgMatches, Command};
+use dist_flag_names::{Dflag, Release};
+use dist_names::{Flags, NameError, NodeName};
+use dist_numerals::{number_16, number_in};
+use std::alloc::{AllocError, Global};
+
+/// Where a port mapper listens, unless the environment or the command line says otherwise. Source: ERTS User's Guide, epmd.
+const MAPPER_PORT: u16 = 4369;
+
+/// How many seconds a connect, a lookup and a talk may take each. A node gives up a handshake after 7. Our own choice.
+const USUAL_SECONDS: u16 = 8;
+
+/// What the command line asks for.
+#[derive(Drop)]
+pub enum Asked<'a> {
+    /// How the program is called.
+    Help,
+    /// Which version it is.
+    Version,
+    /// To dial nodes.
+    Dials(Wanted<'a>),
+}
+
+/// Which cookie is to be tried.
+#[derive(Clone, Copy)]
+pub enum CookieSource<'a> {
+    /// That of the user's home folder, where there is one.
+    Home,
+    /// That of this file.
+    File(&'a str),
+    /// None: the talk stops at the node's challenge.
+    Nowhere,
+}
+
+/// What is to be dialled, and how.
+#[derive(Drop)]
+pub struct Wanted<'a> {
+    /// The names of the nodes, one at least.
+    pub nodes: Vec<NodeName>,
+    /// The name that the probe gives itself, where one is given.
+    pub name: Option<NodeName>,
+    /// The cookie.
+    pub cookie: CookieSource<'a>,
+    /// What the probe announces.
+    pub flags: Flags,
+    /// The port of the port mapper.
+    pub mapper_port: u16,
+    /// The node's port, where the port mapper is not to be asked.
+    pub port: Option<u16>,
+    /// The host to connect to, where it is not that of the node's name.
+    pub address: Option<&'a str>,
+    /// How many seconds a connect, a lookup and a talk may take each.
+    pub seconds: u16,
+    /// An object of JSON is printed for each node, in place of the lines.
+    pub json: bool,
+}
+
+impl<'a> Wanted<'a> {
+    /// The host to connect to for a node.
+    pub fn host<'b>(&'b self, node: &'b NodeName) -> &'b str {
+        match self.address {
+            Some(host) => host,
+            None => std::str::from_utf8(node.host()).unwrap_or(""),
+        }
+    }
+
+    /// How many reads and writes a talk may take, each of which waits for 10 milliseconds at most.
+    pub fn turns(&self) -> usize {
+        self.seconds as usize * 100 + 10
+    }
+}
+
+// The program's words that take a value.
+const VALUES: [&str; 7] = [
+    "name",
+    "cookie",
+    "flags",
+    "epmd-port",
+    "port",
+    "address",
+    "seconds",
+];
+
+// A word that takes no value.
+fn switch<'a>(alloc: Global, id: &'a str) -> Arg<'a> {
+    Arg::new(alloc, id).long(id).action(ArgAction::SetTrue)
+}
+
+fn program<'a>(alloc: Global) -> Result<Command<'a>, AllocError> {
+    let node = Arg::new(alloc, "node")
+        .required(true)
+        .num_args(1..)
+        .action(ArgAction::Append);
+    let mut program = Command::new(alloc, "distping")
+        .no_binary_name(true)
+        .version("0")
+        .arg(node)?
+        .arg(switch(alloc, "no-cookie"))?
+        .arg(switch(alloc, "json"))?;
+    for id in VALUES {
+        program = program.arg(Arg::new(alloc, id).long(id).action(ArgAction::Set))?;
+    }
+    Ok(program)
+}
+
+// The flags of a list of names, else of hexadecimal digits.
+fn flags_of(text: &str) -> Option<Flags> {
+    let mut flags = Flags(0);
+    for word in text.split(',') {
+        match Dflag::of_name(word.as_bytes()) {
+            Some(flag) => flags = Flags(flags.0 | flag.flags().0),
+            None => return number_in(text.as_bytes(), 16).map(Flags),
+        }
+    }
+    Some(flags)
+}
+
+// What the probe announces: what OTP 23 to 29 take, unless the command line says otherwise.
+fn flags_in(matches: &ArgMatches<'_>) -> Result<Flags, Fault> {
+    match matches.get_str("flags") {
+        None => Ok(Release::Otp28.required()),
+        Some(text) => flags_of(text).ok_or(Fault::BadFlags),
+    }
+}
+
+// A port, or another number of 16 bits, where one is given.
+fn number_of(matches: &ArgMatches<'_>, id: &str) -> Result<Option<u16>, Fault> {
+    match matches.get_str(id) {
+        None => Ok(None),
+        Some(word) => match number_16(word.as_bytes()) {
+            Some(number) => Ok(Some(number)),
+            None => Err(Fault::BadCommandLine),
+        },
+    }
+}
+
+// The name that a word is.
+fn name_of(alloc: Global, word: &str) -> Result<NodeName, Fault> {
+    match NodeName::new(alloc, word.as_bytes()) {
+        Ok(name) => Ok(name),
+        Err(NameError::NoMemory) => Err(Fault::NoMemory),
+        Err(_) => Err(Fault::BadName),
+    }
+}
+
+// The names of the nodes.
+fn nodes_in(alloc: Global, matches: &ArgMatches<'_>) -> Result<Vec<NodeName>, Fault> {
+    let mut nodes = Vec::new(alloc);
+    for word in matches.get_strs("node").unwrap_or(&[]) {
+        nodes.push(name_of(alloc, word)?)?;
+    }
+    Ok(nodes)
+}
+
+// The own name that is given.
+fn own_name_in(alloc: Global, matches: &ArgMatches<'_>) -> Result<Option<NodeName>, Fault> {
+    match matches.get_str("name") {
+        None => Ok(None),
+        Some(word) => Ok(Some(name_of(alloc, word)?)),
+    }
+}
+
+fn cookie_in<'a>(matches: &ArgMatches<'a>) -> Result<CookieSource<'a>, Fault> {
+    match (matches.get_flag("no-cookie"), matches.get_str("cookie")) {
+        (true, Some(_)) => Err(Fault::BadCommandLine),
+        (true, None) => Ok(CookieSource::Nowhere),
+        (false, Some(file)) => Ok(CookieSource::File(file)),
+        (false, None) => Ok(CookieSource::Home),
+    }
+}
+
+// What the parser matched asks for.
+fn wanted_in<'a>(
+    alloc: Global,
+    matches: &ArgMatches<'a>,
+    mapper_port: Option<u16>,
+) -> Result<Wanted<'a>, Fault> {
+    let usual_port = mapper_port.unwrap_or(MAPPER_PORT);
+    let cookie = cookie_in(matches)?;
+    let flags = flags_in(matches)?;
+    let mapper_port = number_of(matches, "epmd-port")?.unwrap_or(usual_port);
+    let port = number_of(matches, "port")?;
+    let seconds = number_of(matches, "seconds")?.unwrap_or(USUAL_SECONDS);
+    let name = own_name_in(alloc, matches)?;
+    Ok(Wanted {
+        nodes: nodes_in(alloc, matches)?,
+        name,
+        cookie,
+        flags,
+        mapper_port,
+        port,
+        address: matches.get_str("address"),
+        seconds,
+        json: matches.get_flag("json"),
+    })
+}
+
+/// What these words ask for. `mapper_port` is the number of ERL_EPMD_PORT.
+pub fn asked_of<'a>(
+    alloc: Global,
+    words: &'a [&'a str],
+    mapper_port: Option<u16>,
+) -> Result<Asked<'a>, Fault> {
+    let matches = match program(alloc)?.try_get_matches_from(words) {
+        Ok(matches) => matches,
+        Err(error) => {
+            return match error.kind() {
+                ErrorKind::DisplayHelp => Ok(Asked::Help),
+                ErrorKind::DisplayVersion => Ok(Asked::Version),
+                ErrorKind::OutOfMemory => Err(Fault::NoMemory),
+                _ => Err(Fault::BadCommandLine),
+            };
+        }
+    };
+    let wanted = wanted_in(alloc, &matches, mapper_port)?;
+    if wanted.nodes.len() > 1 && (wanted.port.is_some() || wanted.address.is_some()) {
+        return Err(Fault::OneNodeAlone);
+    }
+    Ok(Asked::Dials(wanted))
+}

@@ -1,0 +1,99 @@
+//! What ends the program before a verdict, and how that is told.
+
+ghost use Rattle.std.specs.Prelude.{◌≡◌};
+ghost use Rattle.distping.specs.Faults.{status_of};
+
+use dist_secret::CookieError;
+use std::alloc::{AllocError, AllocFailed};
+use std::io::{ErrorKind, Write};
+use std::{fmt, io};
+
+/// What ends the program before a verdict. Its `Display` is what stands after `distping: ` on standard error.
+#[derive(Clone, Copy, Debug, PartialEq, Eq)]
+pub enum Fault {
+    /// The words of the command line ask for nothing.
+    BadCommandLine,
+    /// One of the words that should be a node's name is none.
+    BadName,
+    /// `--flags` has a word that is no flag, and no hexadecimal digits.
+    BadFlags,
+    /// `--port` or `--address` stand beside several nodes.
+    OneNodeAlone,
+    /// The cookie's file could not be opened.
+    OpenFailed,
+    /// The cookie's file has no cookie.
+    NoCookie(CookieError),
+    /// The output could not be written.
+    WriteFailed,
+    /// The system gave no random bytes.
+    NoRandomBytes,
+    /// No memory was left.
+    NoMemory,
+}
+
+impl fmt::Display for Fault {
+    fn fmt<W: fmt::Write>(&self, f: &mut fmt::Formatter<W>) -> fmt::Result {
+        match self {
+            Fault::NoCookie(error) => write!(f, "{}: {error}", error.name()),
+            other => f.write_str(other.text()),
+        }
+    }
+}
+
+impl From<io::Error> for Fault {
+    fn from(error: io::Error) -> Fault {
+        match error.kind() {
+            ErrorKind::OutOfMemory => Fault::NoMemory,
+            _ => Fault::WriteFailed,
+        }
+    }
+}
+
+impl From<AllocError> for Fault {
+    fn from(_error: AllocError) -> Fault {
+        Fault::NoMemory
+    }
+}
+
+impl<T: Drop> From<AllocFailed<T>> for Fault {
+    fn from(_error: AllocFailed<T>) -> Fault {
+        Fault::NoMemory
+    }
+}
+
+impl Fault {
+    // What is told of it, in a word or a sentence.
+    fn text(self) -> &'static str {
+        match self {
+            Fault::BadCommandLine => "bad command line (distping --help)",
+            Fault::BadName =>
+                "a node's name has one @, something on both sides, and 3 to 255 bytes",
+            Fault::BadFlags =>
+                "--flags takes names of flags, joined by commas, or hexadecimal digits",
+            Fault::OneNodeAlone => "--port and --address go with one NODE alone",
+            Fault::OpenFailed => "OpenFailed: the cookie's file",
+            Fault::NoCookie(error) => error.name(),
+            Fault::WriteFailed => "WriteFailed",
+            Fault::NoRandomBytes => "ReadFailed: no random bytes",
+            Fault::NoMemory => "NoMemory",
+        }
+    }
+
+    /// The exit status: 2 where the command line is at fault, else 1.
+    pub fn status(self) -> u8
+        ensures { result ≡ status_of self }
+    {
+        match self {
+            Fault::BadCommandLine | Fault::BadName | Fault::BadFlags | Fault::OneNodeAlone => 2,
+            _ => 1,
+        }
+    }
+
+    /// Tells the fault on standard error and answers the exit status. Where it cannot be told nothing is lost but the text.
+    pub fn tell<E: Write>(self, err: &mut E) -> u8
+        ensures { result ≡ status_of self }
+    {
+        let _ = writeln!(err, "distping: {self}");
+        self.status()
+    }
+}

@@ -1,0 +1,289 @@
+//! The program: dials a live node, and tells what happens, step by step, with the cause and what can be done.
+//!
+//! What it means is found by the crate of verdicts; here is what asks the system: the host's name, sockets, the cookie's
+//! file, random bytes, the command line, and what is printed.
+#![tactic(auto)]
+
+ghost use Rattle.std.specs.Prelude.{◌≡◌};
+ghost use Rattle.distping.specs.Faults.{first_of};
+
+mod command;
+mod dialling;
+mod fault;
+mod json;
+mod lines;
+mod pairs;
+mod probing;
+
+use command::{Asked, CookieSource, Wanted, asked_of};
+use dist_names::NodeName;
+use dist_numerals::number_16;
+use dist_probe::Verdict;
+use dist_secret::{Cookie, read_cookie};
+use fault::Fault;
+use json::{object_of, pair_object};
+use lines::Lines;
+use pairs::{Half, pairing_of};
+use probing::{Dial, Found, probe};
+use std::alloc::Global;
+use std::env;
+use std::fs::File;
+use std::io::{ErrorKind, Write};
+use std::process::ExitCode;
+
+/// How the program is called.
+const HELP: &str =
+    "usage: distping NODE.. [--name NAME] [--cookie FILE | --no-cookie] [--flags FLAG,..|HEX]
+                [--epmd-port N] [--port N] [--address HOST] [--seconds N] [--json]
+       distping --help | --version
+
+Dials a live Erlang node, tells what happens, step by step, and ends with one verdict, its cause and its remedy.
+Of several nodes it also tells what can be told of each two of them.
+
+  NODE            the node to dial, NAME@HOST
+  --name NAME     the own name (distping@ and the host part of NODE)
+  --cookie FILE   the file of the cookie ($HOME/.erlang.cookie)
+  --no-cookie     stop at the node's challenge: no cookie is tried
+  --flags         what is announced: names of flags, or hexadecimal digits (what OTP 23 to 29 take; hidden)
+  --epmd-port N   the port of the port mapper (ERL_EPMD_PORT, else 4369)
+  --port N        the node's port: the port mapper is not asked
+  --address HOST  the host to connect to, in place of the host part of NODE
+  --seconds N     the most that a connect, a lookup and the talk may take each (8)
+  --json          an object of JSON for each node and each pair, in place of the lines
+  --help, --version
+
+Status: 0 up, 1 a fault here, 2 a bad command line, 3 the host's name, 4 the port mapper, 5 the registration,
+6 the node's port, 7 what listens there, 8 what the node allows, 9 the node's name, 10 the cookie.
+";
+
+/// The version of the program, and of what it speaks.
+const VERSION: &str = "distping 0.1, distribution handshake of version 6\n";
+
+fn main(rt: HostRuntime) -> ExitCode {
+    let (mut out, mut err) = (rt.stdout(), rt.stderr());
+    match perform(&rt, &mut out) {
+        Ok(status) => ExitCode::from(status),
+        Err(fault) => ExitCode::from(fault.tell(&mut err)),
+    }
+}
+
+// The words behind the program's name. One that is no UTF-8 is no word of a command.
+fn words_of(rt: &HostRuntime, alloc: Global) -> Result<Vec<String>, Fault> {
+    match env::args(rt) {
+        Ok(words) => words.skip(1).collect(alloc).map_err(|_| Fault::NoMemory),
+        Err(error) if error.kind() == ErrorKind::OutOfMemory => Err(Fault::NoMemory),
+        Err(_) => Err(Fault::BadCommandLine),
+    }
+}
+
+// The port mapper's port that the environment names, as `erl` reads it.
+fn named_mapper_port(rt: &HostRuntime) -> Option<u16> {
+    number_16(env::var(rt, "ERL_EPMD_PORT").ok()?.as_bytes())
+}
+
+// Writes a text that was asked for.
+fn print<W: Write>(out: &mut W, text: &str) -> Result<u8, Fault> {
+    put(out, text)?;
+    Ok(0)
+}
+
+fn perform<W: Write>(rt: &HostRuntime, out: &mut W) -> Result<u8, Fault> {
+    let alloc = rt.alloc();
+    let words = words_of(rt, alloc)?;
+    let texts: Vec<&str> = words.iter().map(|word| word.as_str()).collect(alloc)?;
+    match asked_of(alloc, &texts, named_mapper_port(rt))? {
+        Asked::Help => print(out, HELP),
+        Asked::Version => print(out, VERSION),
+        Asked::Dials(wanted) => dial_all(rt, &wanted, out),
+    }
+}
+
+// The cookie of a file.
+fn cookie_at(rt: &HostRuntime, alloc: Global, path: &str) -> Result<Cookie, Fault> {
+    match File::open(rt, path) {
+        Ok(mut file) => read_cookie(alloc, &mut file).map_err(Fault::NoCookie),
+        Err(_) => Err(Fault::OpenFailed),
+    }
+}
+
+// The cookie of the file that is named, else of the home folder's, where there is one.
+fn cookie_of(
+    rt: &HostRuntime,
+    alloc: Global,
+    source: CookieSource<'_>,
+) -> Result<Option<Cookie>, Fault> {
+    match source {
+        CookieSource::Nowhere => Ok(None),
+        CookieSource::File(path) => Ok(Some(cookie_at(rt, alloc, path)?)),
+        CookieSource::Home => match env::var(rt, "HOME") {
+            Ok(home) => home_cookie(rt, alloc, &home),
+            Err(_) => Ok(None),
+        },
+    }
+}
+
+// The cookie of a home folder, where there is one.
+fn home_cookie(rt: &HostRuntime, alloc: Global, home: &str) -> Result<Option<Cookie>, Fault> {
+    let path = format!(in alloc; "{home}/.erlang.cookie")?;
+    match cookie_at(rt, alloc, &path) {
+        Ok(cookie) => Ok(Some(cookie)),
+        Err(Fault::OpenFailed) => Ok(None),
+        Err(fault) => Err(fault),
+    }
+}
+
+// The own name: the one that is given, else one at the node's host, so that it is as long or short as the node's.
+fn own_name(alloc: Global, wanted: &Wanted<'_>, node: &NodeName) -> Result<NodeName, Fault> {
+    if let Some(name) = &wanted.name {
+        return Ok(name.try_clone(alloc)?);
+    }
+    let mut text = Vec::from_slice(alloc, b"distping@")?;
+    if text.extend_from_slice(node.host()).is_err() {
+        return Err(Fault::NoMemory);
+    }
+    NodeName::new(alloc, &text).map_err(|_| Fault::BadName)
+}
+
+// Writes a text at once.
+fn put<W: Write>(out: &mut W, text: &str) -> Result<(), Fault> {
+    out.write_all(text.as_bytes())
+        .map_err(|_| Fault::WriteFailed)?;
+    out.flush().map_err(|_| Fault::WriteFailed)
+}
+
+// Tells what a probe came to.
+fn tell<W: Write>(
+    dial: &Dial<'_>,
+    found: &Found,
+    verdict: Verdict,
+    lines: &mut Lines<'_, W>,
+) -> Result<(), Fault> {
+    if !lines.quiet {
+        return Ok(lines.put_verdict(verdict)?);
+    }
+    let text = object_of(lines.alloc, dial, found, verdict).map_err(|_| Fault::NoMemory)?;
+    put(lines.out, &text)
+}
+
+// Dials one node, and answers what is left of it.
+fn dial_one<'n, W: Write>(
+    rt: &HostRuntime,
+    wanted: &Wanted<'_>,
+    node: &'n NodeName,
+    cookie: Option<&Cookie>,
+    lines: &mut Lines<'_, W>,
+) -> Result<Half<'n>, Fault> {
+    let own = own_name(lines.alloc, wanted, node)?;
+    let dial = Dial {
+        own: &own,
+        node,
+        cookie,
+        wanted,
+    };
+    if wanted.nodes.len() > 1 {
+        lines.put_node(node)?;
+    }
+    let mut found = Found::nothing();
+    let verdict = probe(rt, &dial, lines, &mut found)?;
+    tell(&dial, &found, verdict, lines)?;
+    Ok(half_of(node, &found, verdict))
+}
+
+// What is left of a node. What another node said of itself is nothing of it.
+fn half_of<'n>(node: &'n NodeName, found: &Found, verdict: Verdict) -> Half<'n> {
+    let flags = match (verdict, &found.peer) {
+        (Verdict::OtherName, _) | (_, None) => None,
+        (_, Some(peer)) => Some(peer.flags),
+    };
+    Half {
+        node,
+        flags,
+        verdict,
+    }
+}
+
+// Tells what can be told of two nodes, and answers the status of it.
+fn pair_one<W: Write>(
+    first: &Half<'_>,
+    second: &Half<'_>,
+    lines: &mut Lines<'_, W>,
+) -> Result<u8, Fault> {
+    let pairing = pairing_of(first, second);
+    if lines.quiet {
+        let text = pair_object(lines.alloc, first.node, second.node, pairing).map_err(
+            |_| Fault::NoMemory,
+        )?;
+        put(lines.out, &text)?;
+    } else {
+        lines.put_pair(first.node, second.node, pairing)?;
+    }
+    Ok(pairing.status())
+}
+
+// The first of two statuses, unless it is 0.
+fn first_of(first: u8, second: u8) -> u8
+    ensures { result ≡ first_of first second }
+{
+    if first == 0 { second } else { first }
+}
+
+// Tells of one node and each of others, and answers the first status that is not 0.
+fn pair_with<W: Write>(
+    first: &Half<'_>,
+    others: &[Half<'_>],
+    lines: &mut Lines<'_, W>,
+) -> Result<u8, Fault> {
+    let mut status = 0;
+    for second in others {
+        status = first_of(status, pair_one(first, second, lines)?);
+    }
+    Ok(status)
+}
+
+// Tells of each two nodes, and answers the first status that is not 0.
+fn pair_all<W: Write>(halves: &[Half<'_>], lines: &mut Lines<'_, W>) -> Result<u8, Fault> {
+    let mut status = 0;
+    let mut rest = halves;
+    for first in halves {
+        rest = behind_the_first(rest);
+        status = first_of(status, pair_with(first, rest, lines)?);
+    }
+    Ok(status)
+}
+
+fn behind_the_first<'h, 'n>(halves: &'h [Half<'n>]) -> &'h [Half<'n>] {
+    match halves {
+        [_, rest @ ..] => rest,
+        [] => halves,
+    }
+}
+
+// Dials all nodes, one behind the other, and answers the first status that is not 0, and what is left of them.
+fn dial_each<'n, W: Write>(
+    rt: &HostRuntime,
+    wanted: &'n Wanted<'_>,
+    lines: &mut Lines<'_, W>,
+    halves: &mut Vec<Half<'n>>,
+) -> Result<u8, Fault> {
+    let cookie = cookie_of(rt, lines.alloc, wanted.cookie)?;
+    let mut status = 0;
+    for node in &wanted.nodes {
+        let half = dial_one(rt, wanted, node, cookie.as_ref(), lines)?;
+        status = first_of(status, half.verdict.status());
+        halves.push(half)?;
+    }
+    Ok(status)
+}
+
+// Dials all nodes, and tells of each two of them.
+fn dial_all<W: Write>(rt: &HostRuntime, wanted: &Wanted<'_>, out: &mut W) -> Result<u8, Fault> {
+    let alloc = rt.alloc();
+    let mut lines = Lines {
+        alloc,
+        out,
+        quiet: wanted.json,
+    };
+    let mut halves = Vec::new(alloc);
+    let status = dial_each(rt, wanted, &mut lines, &mut halves)?;
+    Ok(first_of(status, pair_all(&halves, &mut lines)?))
+}
