@@ -1,20 +1,11 @@
 -- WHAT THE COMMANDS PRINT.
-use Rattle.std.specs.Prelude.{◌≡◌, ℕ, List, [], ◌∷◌, ◌++◌, codes, decimal, length, Option, Ok}
-use Rattle.std.specs.List.{concat}
+use Rattle.std.specs.Prelude.{◌≡◌, ℕ, List, [], ◌∷◌, ◌++◌, codes, decimal, Option, Ok}
 use Rattle.std.specs.Io.KnownBytes.{Appends}
-use Rattle.hex.specs.Hex.{encode_lower}
-use Rattle.dist_secret.specs.Digest.{digest_of}
 use Rattle.dist_streams.specs.Stream.{StreamState}
 use Rattle.dist_epmd.specs.declared.message.Request.TheVariants.{Names}
 use Rattle.dist_mapper.specs.Asking.{AsksFor, names_meant}
 use Rattle.dist_hosts.specs.Words.{order_refusal_name}
 use Rattle.dist_hosts.specs.declared.order_fault.OrderFault.{OrderFault}
-
--- ---- `cookie`
-
--- cookie of LENGTH bytes, digest of CHALLENGE is DIGEST
-abbrev pub cookie_line : List ℕ → ℕ → List ℕ
-cookie_line cookie challenge = concat (codes "cookie of " ∷ decimal (length cookie) ∷ codes " bytes, digest of " ∷ decimal challenge ∷ codes " is " ∷ encode_lower (digest_of cookie challenge) ∷ codes "\n" ∷ [])
 
 -- ---- `names`
 
