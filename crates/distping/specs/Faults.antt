@@ -9,6 +9,7 @@ status_of fault.BadCommandLine = 2
 status_of fault.BadName = 2
 status_of fault.BadFlags = 2
 status_of fault.OneNodeAlone = 2
+status_of fault.ListenAlone = 2
 status_of other = 1
 
 -- the first of two statuses, unless it is 0

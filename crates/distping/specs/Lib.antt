@@ -2,3 +2,4 @@ pub mod Faults
 pub mod Places
 pub mod Texts
 pub mod Pairs
+pub mod Listening

@@ -55,6 +55,8 @@ pub struct Wanted<'a> {
     pub address: Option<&'a str>,
     /// How many seconds a connect, a lookup and a talk may take each.
     pub seconds: u16,
+    /// The port at which one connection is taken, in place of dialling.
+    pub listen: Option<u16>,
     /// An object of JSON is printed for each node, in place of the lines.
     pub json: bool,
 }
@@ -75,7 +77,7 @@ impl<'a> Wanted<'a> {
 }
 
 // The program's words that take a value.
-const VALUES: [&str; 7] = [
+const VALUES: [&str; 8] = [
     "name",
     "cookie",
     "flags",
@@ -83,6 +85,7 @@ const VALUES: [&str; 7] = [
     "port",
     "address",
     "seconds",
+    "listen",
 ];
 
 // A word that takes no value.
@@ -92,7 +95,6 @@ fn switch<'a>(alloc: Global, id: &'a str) -> Arg<'a> {
 
 fn program<'a>(alloc: Global) -> Result<Command<'a>, AllocError> {
     let node = Arg::new(alloc, "node")
-        .required(true)
         .num_args(1..)
         .action(ArgAction::Append);
     let mut program = Command::new(alloc, "distping")
@@ -184,6 +186,7 @@ fn wanted_in<'a>(
     let flags = flags_in(matches)?;
     let mapper_port = number_of(matches, "epmd-port")?.unwrap_or(usual_port);
     let port = number_of(matches, "port")?;
+    let listen = number_of(matches, "listen")?;
     let seconds = number_of(matches, "seconds")?.unwrap_or(USUAL_SECONDS);
     let name = own_name_in(alloc, matches)?;
     Ok(Wanted {
@@ -195,6 +198,7 @@ fn wanted_in<'a>(
         port,
         address: matches.get_str("address"),
         seconds,
+        listen,
         json: matches.get_flag("json"),
     })
 }
@@ -217,8 +221,26 @@ pub fn asked_of<'a>(
         }
     };
     let wanted = wanted_in(alloc, &matches, mapper_port)?;
-    if wanted.nodes.len() > 1 && (wanted.port.is_some() || wanted.address.is_some()) {
-        return Err(Fault::OneNodeAlone);
+    match fault_in(&wanted) {
+        Some(fault) => Err(fault),
+        None => Ok(Asked::Dials(wanted)),
     }
-    Ok(Asked::Dials(wanted))
+}
+
+// What does not go together.
+fn fault_in(wanted: &Wanted<'_>) -> Option<Fault> {
+    if wanted.listen.is_some() {
+        return if wanted.name.is_none() || !wanted.nodes.is_empty() {
+            Some(Fault::ListenAlone)
+        } else {
+            None
+        };
+    }
+    if wanted.nodes.is_empty() {
+        Some(Fault::BadCommandLine)
+    } else if wanted.nodes.len() > 1 && (wanted.port.is_some() || wanted.address.is_some()) {
+        Some(Fault::OneNodeAlone)
+    } else {
+        None
+    }
 }

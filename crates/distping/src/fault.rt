@@ -23,6 +23,10 @@ pub enum Fault {
     OpenFailed,
     /// The cookie's file has no cookie.
     NoCookie(CookieError),
+    /// The port could not be listened at, or no connection be taken.
+    ListenFailed,
+    /// `--listen` wants a name to listen under, and no other node.
+    ListenAlone,
     /// The output could not be written.
     WriteFailed,
     /// The system gave no random bytes.
@@ -73,6 +77,8 @@ impl Fault {
             Fault::OneNodeAlone => "--port and --address go with one NODE alone",
             Fault::OpenFailed => "OpenFailed: the cookie's file",
             Fault::NoCookie(error) => error.name(),
+            Fault::ListenFailed => "ListenFailed",
+            Fault::ListenAlone => "--listen goes with --name, and with no NODE",
             Fault::WriteFailed => "WriteFailed",
             Fault::NoRandomBytes => "ReadFailed: no random bytes",
             Fault::NoMemory => "NoMemory",
@@ -84,7 +90,11 @@ impl Fault {
         ensures { result ≡ status_of self }
     {
         match self {
-            Fault::BadCommandLine | Fault::BadName | Fault::BadFlags | Fault::OneNodeAlone => 2,
+            Fault::BadCommandLine
+            | Fault::BadName
+            | Fault::BadFlags
+            | Fault::OneNodeAlone
+            | Fault::ListenAlone => 2,
             _ => 1,
         }
     }

@@ -4,6 +4,7 @@ ghost use Rattle.std.specs.Prelude.{◌≡◌, ◌++◌, IfOk, string_bytes};
 ghost use Rattle.distping.specs.Texts.{TellsVerdict};
 
 use crate::dialling::Place;
+use crate::listening::Taken;
 use crate::pairs::Pairing;
 use dist_epmd::PortInfo;
 use dist_flag_names::{Dflag, Release, Told, missing, told_by};
@@ -251,6 +252,30 @@ impl<'a, W: Write> Lines<'a, W> {
             Some(text) => self.put(text),
             None => Ok(()),
         }
+    }
+
+    /// A connection is waited for.
+    pub fn put_listening(&mut self, port: u16, name: &NodeName) -> io::Result<()> {
+        let name = text_of(name.bytes());
+        let text = format!(in self.alloc;
+            "✓  listen    port {port}, as {name}: waiting for one connection\n"
+        )?;
+        self.put(&text)
+    }
+
+    /// A connection was taken.
+    pub fn put_taken(&mut self, address: &SocketAddr) -> io::Result<()> {
+        let ip = address.ip();
+        let text = format!(in self.alloc; "✓  taken     from {ip}\n")?;
+        self.put(&text)
+    }
+
+    /// What came of a connection that was taken.
+    pub fn put_outcome(&mut self, taken: Taken) -> io::Result<()> {
+        let mark = if taken.status() == 0 { "✓" } else { "✗" };
+        let (name, cause) = (taken.name(), taken.cause());
+        let text = format!(in self.alloc; "{mark}  {name}: {cause}\n")?;
+        self.put(&text)
     }
 
     /// What can be told of two nodes.

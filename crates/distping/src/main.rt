@@ -12,6 +12,7 @@ mod dialling;
 mod fault;
 mod json;
 mod lines;
+mod listening;
 mod pairs;
 mod probing;
 
@@ -23,8 +24,9 @@ use dist_secret::{Cookie, read_cookie};
 use fault::Fault;
 use json::{object_of, pair_object};
 use lines::Lines;
+use listening::{Listen, take_connection};
 use pairs::{Half, pairing_of};
-use probing::{Dial, Found, probe};
+use probing::{Dial, Found, drawn, probe, setup_of};
 use std::alloc::Global;
 use std::env;
 use std::fs::File;
@@ -35,6 +37,7 @@ use std::process::ExitCode;
 const HELP: &str =
     "usage: distping NODE.. [--name NAME] [--cookie FILE | --no-cookie] [--flags FLAG,..|HEX]
                 [--epmd-port N] [--port N] [--address HOST] [--seconds N] [--json]
+       distping --listen PORT --name NAME [--cookie FILE | --no-cookie] [--flags FLAG,..|HEX] [--seconds N]
        distping --help | --version
 
 Dials a live Erlang node, tells what happens, step by step, and ends with one verdict, its cause and its remedy.
@@ -49,6 +52,7 @@ Of several nodes it also tells what can be told of each two of them.
   --port N        the node's port: the port mapper is not asked
   --address HOST  the host to connect to, in place of the host part of NODE
   --seconds N     the most that a connect, a lookup and the talk may take each (8)
+  --listen PORT   takes one connection as the node NAME would, and tells what the other side says
   --json          an object of JSON for each node and each pair, in place of the lines
   --help, --version
 
@@ -94,7 +98,10 @@ fn perform<W: Write>(rt: &HostRuntime, out: &mut W) -> Result<u8, Fault> {
     match asked_of(alloc, &texts, named_mapper_port(rt))? {
         Asked::Help => print(out, HELP),
         Asked::Version => print(out, VERSION),
-        Asked::Dials(wanted) => dial_all(rt, &wanted, out),
+        Asked::Dials(wanted) => match (wanted.listen, &wanted.name) {
+            (Some(port), Some(name)) => take_one(rt, &wanted, name, port, out),
+            _ => dial_all(rt, &wanted, out),
+        },
     }
 }
 
@@ -142,6 +149,34 @@ fn own_name(alloc: Global, wanted: &Wanted<'_>, node: &NodeName) -> Result<NodeN
         return Err(Fault::NoMemory);
     }
     NodeName::new(alloc, &text).map_err(|_| Fault::BadName)
+}
+
+// Takes one connection, and answers the status of what came of it.
+fn take_one<W: Write>(
+    rt: &HostRuntime,
+    wanted: &Wanted<'_>,
+    name: &NodeName,
+    port: u16,
+    out: &mut W,
+) -> Result<u8, Fault> {
+    let alloc = rt.alloc();
+    let cookie = cookie_of(rt, alloc, wanted.cookie)?;
+    let setup = setup_of(alloc, name, wanted.flags, cookie.as_ref(), drawn(rt)?)?;
+    let mut lines = Lines {
+        alloc,
+        out,
+        quiet: false,
+    };
+    let one = Listen {
+        setup: &setup,
+        port,
+        fresh: drawn(rt)?,
+        compares: cookie.is_some(),
+        turns: wanted.turns(),
+    };
+    let taken = take_connection(rt, &one, &mut lines)?;
+    lines.put_outcome(taken)?;
+    Ok(taken.status())
 }
 
 // Writes a text at once.

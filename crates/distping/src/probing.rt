@@ -94,8 +94,8 @@ pub struct Dial<'a> {
     pub wanted: &'a Wanted<'a>,
 }
 
-// A random number of 32 bits.
-fn drawn(rt: &HostRuntime) -> Result<u32, Fault> {
+/// A random number of 32 bits.
+pub fn drawn(rt: &HostRuntime) -> Result<u32, Fault> {
     let mut bytes = [0u8; 4];
     match rt.fill_bytes(&mut bytes) {
         Ok(()) => Ok(u32::from_be_bytes(bytes)),
@@ -111,14 +111,20 @@ fn cookie_of(alloc: Global, cookie: Option<&Cookie>) -> Result<Cookie, Fault> {
     }
 }
 
-// The setup of a node that is only there to ask.
-fn setup_of(alloc: Global, dial: &Dial<'_>, creation: u32) -> Result<Setup, Fault> {
-    let cookies = Cookies::new(alloc, cookie_of(alloc, dial.cookie)?);
+/// The setup of a node of this name that is only there to ask.
+pub fn setup_of(
+    alloc: Global,
+    own: &NodeName,
+    flags: Flags,
+    cookie: Option<&Cookie>,
+    creation: u32,
+) -> Result<Setup, Fault> {
+    let cookies = Cookies::new(alloc, cookie_of(alloc, cookie)?);
     Ok(Setup {
-        name: dial.own.try_clone(alloc)?,
+        name: own.try_clone(alloc)?,
         cookies,
         version: Version::Six,
-        flags: dial.wanted.flags,
+        flags,
         required: Flags(0),
         creation: Creation(creation),
         allow: None,
@@ -310,7 +316,7 @@ fn talk(
     stream: &mut SocketStream,
 ) -> Result<Report, Fault> {
     let fresh = drawn(rt)?;
-    let setup = setup_of(alloc, dial, drawn(rt)?)?;
+    let setup = setup_of(alloc, dial.own, dial.wanted.flags, dial.cookie, drawn(rt)?)?;
     let (replies, limit) = (dial.cookie.is_some(), dial.wanted.turns());
     Ok(ask_node(alloc, stream, &setup, dial.node, fresh, replies, limit))
 }

@@ -1,0 +1,298 @@
+//! One connection is taken as a node takes it, and what the other side says is told.
+
+ghost use Rattle.std.specs.Prelude.{◌≡◌};
+ghost use Rattle.distping.specs.Listening.{heard_verdict, reply_verdict, taken_status};
+
+use crate::dialling::timed;
+use crate::fault::Fault;
+use crate::lines::Lines;
+use dist_messages::{Form, Message, MessageError, Side, Status, decode};
+use dist_names::{ByteString, NodeName};
+use dist_probe::{Heard, Peer, Service, heard_instead, service_of};
+use dist_setup::{Setup, ack_frame, challenge_frame, own_digest, status_frame};
+use dist_streams::{Limited, SocketStream, Stream, TurnError};
+use std::alloc::Global;
+use std::io::{self, Write};
+use std::net::{Ipv4Addr, TcpListener};
+
+/// What came of a connection that was taken.
+#[derive(Clone, Copy)]
+pub enum Taken {
+    /// The digest in the reply is that of our cookie, and it was acknowledged.
+    Up,
+    /// A reply came, and there is no cookie to compare its digest with.
+    Answered,
+    /// The digest in the reply is not that of our cookie.
+    WrongCookie,
+    /// The connection was closed, or broke, before a name.
+    NoName,
+    /// The connection was closed, or broke, upon our challenge.
+    Left,
+    /// Nothing whole came in time.
+    Silent,
+    /// A message came out of turn, an older form of the name among them, or a body that is none.
+    Unexpected,
+    /// What dials is no node.
+    Foreign(Service),
+    /// Memory ran out here.
+    NoMemory,
+}
+
+impl Taken {
+    /// Its word.
+    pub fn name(self) -> &'static str {
+        match self {
+            Taken::Up => "Up",
+            Taken::Answered => "Answered",
+            Taken::WrongCookie => "WrongCookie",
+            Taken::NoName => "NoName",
+            Taken::Left => "Left",
+            Taken::Silent => "Silent",
+            Taken::Unexpected => "Unexpected",
+            Taken::Foreign(_) => "Foreign",
+            Taken::NoMemory => "NoMemory",
+        }
+    }
+
+    /// What it means, in a sentence without a full stop.
+    pub fn cause(self) -> &'static str {
+        match self {
+            Taken::Up => "the node reaches us, and has our cookie",
+            Taken::Answered => "the node reaches us and took our name; no cookie was compared",
+            Taken::WrongCookie => "the node reaches us, and has another cookie",
+            Taken::NoName => "the connection ended before a name was said",
+            Taken::Left =>
+                "the node closed the connection upon our challenge: it dialled another name than --name",
+            Taken::Silent => "nothing whole came in time",
+            Taken::Unexpected =>
+                "what came is none that a node of OTP 23 or newer says at this place",
+            Taken::Foreign(_) => "what dials is no node",
+            Taken::NoMemory => "memory ran out here",
+        }
+    }
+
+    /// The exit status: the place to look at, as that of a verdict.
+    pub fn status(self) -> u8
+        ensures { result ≡ taken_status self }
+    {
+        match self {
+            Taken::Up | Taken::Answered => 0,
+            Taken::NoMemory => 1,
+            Taken::NoName | Taken::Silent | Taken::Unexpected | Taken::Foreign(_) => 7,
+            Taken::Left => 9,
+            Taken::WrongCookie => 10,
+        }
+    }
+}
+
+// What a body of the dialling side says.
+fn heard_in(alloc: Global, body: &[u8]) -> Heard {
+    match decode(alloc, Side::Dialler, body) {
+        Ok(message) => Heard::Said(message),
+        Err(MessageError::NoMemory) => Heard::NoMemory,
+        Err(error) => Heard::NoMessage(error),
+    }
+}
+
+// The next frame's length.
+fn len_of<S: Stream>(limited: &mut Limited<'_, S>) -> Result<u16, TurnError> {
+    let mut header = [0u8; 2];
+    limited.read_exact(&mut header)?;
+    Ok(u16::from_be_bytes(header))
+}
+
+// The next message of the dialling side.
+fn hear<S: Stream>(alloc: Global, limited: &mut Limited<'_, S>) -> Heard {
+    let len = match len_of(limited) {
+        Ok(len) => len,
+        Err(fault) => return heard_instead(fault),
+    };
+    if len > 1024 {
+        return Heard::Length(len);
+    }
+    let Ok(mut body) = vec![in alloc; 0u8; len as usize] else {
+        return Heard::NoMemory;
+    };
+    match limited.read_exact(&mut body) {
+        Ok(()) => heard_in(alloc, &body),
+        Err(fault) => heard_instead(fault),
+    }
+}
+
+// What anything means but the message that is awaited; `ended` where the stream gave no more.
+fn heard_verdict(ended: Taken, heard: &Heard) -> Taken
+    ensures { result ≡ heard_verdict ended heard.now }
+{
+    match heard {
+        Heard::Said(_) | Heard::NoMessage(_) => Taken::Unexpected,
+        Heard::Length(front) => Taken::Foreign(service_of(*front)),
+        Heard::Gone | Heard::Broken => ended,
+        Heard::Silent => Taken::Silent,
+        Heard::NoMemory => Taken::NoMemory,
+    }
+}
+
+// What the name was, where one was said.
+fn peer_in(heard: Heard) -> Result<Peer, Taken> {
+    match heard {
+        Heard::Said(
+            Message::NewName {
+                flags,
+                creation,
+                name,
+            },
+        ) => Ok(Peer {
+            flags,
+            creation,
+            name,
+        }),
+        other => Err(heard_verdict(Taken::NoName, &other)),
+    }
+}
+
+// The verdict upon a digest.
+fn reply_verdict(wanted: Option<[u8; 16]>, digest: [u8; 16]) -> Taken
+    ensures { result ≡ reply_verdict wanted digest }
+{
+    match wanted {
+        None => Taken::Answered,
+        Some(wanted) => {
+            if digest == wanted {
+                Taken::Up
+            } else {
+                Taken::WrongCookie
+            }
+        }
+    }
+}
+
+// Says a frame and hears what comes upon it.
+fn exchange<S: Stream>(alloc: Global, limited: &mut Limited<'_, S>, text: &ByteString) -> Heard {
+    match limited.write_all(text.as_slice()) {
+        Ok(()) => hear(alloc, limited),
+        Err(fault) => heard_instead(fault),
+    }
+}
+
+// Takes the name with `ok`, says the challenge, and hears what comes upon it.
+fn challenged<S: Stream>(
+    alloc: Global,
+    limited: &mut Limited<'_, S>,
+    setup: &Setup,
+    fresh: u32,
+) -> Heard {
+    let Ok(status) = status_frame(alloc, Status::Ok) else {
+        return Heard::NoMemory;
+    };
+    let Ok(challenge) = challenge_frame(alloc, setup, Form::New, fresh) else {
+        return Heard::NoMemory;
+    };
+    match limited.write_all(status.as_slice()) {
+        Ok(()) => exchange(alloc, limited, &challenge),
+        Err(fault) => heard_instead(fault),
+    }
+}
+
+// Acknowledges a reply whose digest is right.
+fn acknowledged<S: Stream>(
+    alloc: Global,
+    limited: &mut Limited<'_, S>,
+    setup: &Setup,
+    peer: &NodeName,
+    challenge: u32,
+) -> Taken {
+    match ack_frame(alloc, setup, peer, challenge) {
+        Ok(text) => match limited.write_all(text.as_slice()) {
+            Ok(()) => Taken::Up,
+            Err(_) => Taken::Left,
+        },
+        Err(_) => Taken::NoMemory,
+    }
+}
+
+// What comes of a name that was said.
+fn talk<S: Stream>(
+    alloc: Global,
+    limited: &mut Limited<'_, S>,
+    listen: &Listen<'_>,
+    peer: &NodeName,
+) -> Taken {
+    let (setup, fresh) = (listen.setup, listen.fresh);
+    match challenged(alloc, limited, setup, fresh) {
+        Heard::Said(Message::Reply { challenge, digest }) => {
+            let wanted = if listen.compares {
+                Some(own_digest(setup, peer, fresh))
+            } else {
+                None
+            };
+            match reply_verdict(wanted, digest) {
+                Taken::Up => acknowledged(alloc, limited, setup, peer, challenge),
+                other => other,
+            }
+        }
+        other => heard_verdict(Taken::Left, &other),
+    }
+}
+
+/// A node that listens.
+#[derive(Drop)]
+pub struct Listen<'a> {
+    /// What it is set up with.
+    pub setup: &'a Setup,
+    /// Its port.
+    pub port: u16,
+    /// Its own challenge.
+    pub fresh: u32,
+    /// Its cookie is compared.
+    pub compares: bool,
+    /// How many reads and writes a talk may take.
+    pub turns: usize,
+}
+
+// Waits for one connection.
+fn accepted<W: Write>(
+    rt: &HostRuntime,
+    listen: &Listen<'_>,
+    lines: &mut Lines<'_, W>,
+) -> Result<SocketStream, Fault> {
+    let Ok(listener) = TcpListener::bind(rt, (Ipv4Addr::UNSPECIFIED, listen.port)) else {
+        return Err(Fault::ListenFailed);
+    };
+    lines.put_listening(listen.port, &listen.setup.name)?;
+    let Ok((socket, address)) = listener.accept() else {
+        return Err(Fault::ListenFailed);
+    };
+    lines.put_taken(&address)?;
+    timed(socket).map_err(|_| Fault::ListenFailed)
+}
+
+// Hears the name, tells it, and goes on from there.
+fn heard<S: Stream, W: Write>(
+    limited: &mut Limited<'_, S>,
+    listen: &Listen<'_>,
+    lines: &mut Lines<'_, W>,
+) -> io::Result<Taken> {
+    let peer = match peer_in(hear(lines.alloc, limited)) {
+        Ok(peer) => peer,
+        Err(taken) => return Ok(taken),
+    };
+    lines.put_peer(&peer)?;
+    match NodeName::new(lines.alloc, peer.name.as_slice()) {
+        Ok(name) => Ok(talk(lines.alloc, limited, listen, &name)),
+        Err(_) => Ok(Taken::Unexpected),
+    }
+}
+
+/// Takes one connection, tells what the other side says, and answers what came of it.
+pub fn take_connection<W: Write>(
+    rt: &HostRuntime,
+    listen: &Listen<'_>,
+    lines: &mut Lines<'_, W>,
+) -> Result<Taken, Fault> {
+    let mut stream = accepted(rt, listen, lines)?;
+    let mut limited = Limited {
+        stream: &mut stream,
+        left: listen.turns,
+    };
+    Ok(heard(&mut limited, listen, lines)?)
+}
