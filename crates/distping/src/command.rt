@@ -140,9 +140,9 @@ fn number_of(matches: &ArgMatches<'_>, id: &str) -> Result<Option<u16>, Fault> {
     }
 }
 
-// The name that a word is.
-fn name_of(alloc: Global, word: &str) -> Result<NodeName, Fault> {
-    match NodeName::new(alloc, word.as_bytes()) {
+/// The name that these bytes are.
+pub fn name_of(alloc: Global, bytes: &[u8]) -> Result<NodeName, Fault> {
+    match NodeName::new(alloc, bytes) {
         Ok(name) => Ok(name),
         Err(NameError::NoMemory) => Err(Fault::NoMemory),
         Err(_) => Err(Fault::BadName),
@@ -153,7 +153,7 @@ fn name_of(alloc: Global, word: &str) -> Result<NodeName, Fault> {
 fn nodes_in(alloc: Global, matches: &ArgMatches<'_>) -> Result<Vec<NodeName>, Fault> {
     let mut nodes = Vec::new(alloc);
     for word in matches.get_strs("node").unwrap_or(&[]) {
-        nodes.push(name_of(alloc, word)?)?;
+        nodes.push(name_of(alloc, word.as_bytes())?)?;
     }
     Ok(nodes)
 }
@@ -162,7 +162,7 @@ fn nodes_in(alloc: Global, matches: &ArgMatches<'_>) -> Result<Vec<NodeName>, Fa
 fn own_name_in(alloc: Global, matches: &ArgMatches<'_>) -> Result<Option<NodeName>, Fault> {
     match matches.get_str("name") {
         None => Ok(None),
-        Some(word) => Ok(Some(name_of(alloc, word)?)),
+        Some(word) => Ok(Some(name_of(alloc, word.as_bytes())?)),
     }
 }
 

@@ -16,7 +16,7 @@ mod listening;
 mod pairs;
 mod probing;
 
-use command::{Asked, CookieSource, Wanted, asked_of};
+use command::{Asked, CookieSource, Wanted, asked_of, name_of};
 use dist_names::NodeName;
 use dist_numerals::number_16;
 use dist_probe::Verdict;
@@ -148,7 +148,7 @@ fn own_name(alloc: Global, wanted: &Wanted<'_>, node: &NodeName) -> Result<NodeN
     if text.extend_from_slice(node.host()).is_err() {
         return Err(Fault::NoMemory);
     }
-    NodeName::new(alloc, &text).map_err(|_| Fault::BadName)
+    name_of(alloc, &text)
 }
 
 // Takes one connection, and answers the status of what came of it.
