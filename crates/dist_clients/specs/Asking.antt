@@ -1,0 +1,29 @@
+-- What the bytes of a client ask for (ERTS User's Guide, Distribution Protocol, EPMD Protocol: a request stands behind its
+-- length in 2 bytes).
+use Rattle.std.specs.Prelude.{ℕ, Bool, List, length, take, drop, Result, Ok, Err, nat_lt, if◌then◌else◌}
+use Rattle.std.specs.Int.{w16, from_be_bytes}
+use Rattle.dist_epmd.specs.declared.epmd_error.EpmdError.{EpmdError}
+use Rattle.dist_epmd.specs.declared.message.Request.{Request}
+use Rattle.dist_epmd.specs.declared.message.Request.TheVariants as request
+use Rattle.dist_epmd.specs.Reading.{read_request}
+use Rattle.dist_clients.specs.declared.question.Question.{Question}
+use Rattle.dist_clients.specs.declared.question.Question.TheVariants.{Inside, Asks, Nothing}
+
+-- what the body of a frame asks for: a request, and a registration from this host alone
+abbrev pub asked : Bool → Result Request EpmdError → Question
+asked local (Err error) = Nothing
+asked local (Ok (request.Alive info)) = if local then Asks (request.Alive info) else Nothing
+asked local (Ok (request.PortPlease name)) = Asks (request.PortPlease name)
+asked local (Ok request.Names) = Asks request.Names
+
+-- what the bytes behind a frame's length ask for: nothing where the frame is longer than is read, nothing yet where some of it
+-- is missing, and nothing where there are more bytes than it has
+abbrev pub question_in : Bool → ℕ → List ℕ → Question
+question_in local len body =
+    if nat_lt 4094 len then Nothing else (
+    if nat_lt (length body) len then Inside else (
+    if nat_lt len (length body) then Nothing else asked local (read_request body)))
+
+-- WHAT ALL THAT A CLIENT SAID ASKS FOR, by whether it is on this host
+abbrev pub question : Bool → List ℕ → Question
+question local said = if nat_lt (length said) 2 then Inside else question_in local (from_be_bytes w16 (take 2 said)) (drop 2 said)
