@@ -18,7 +18,7 @@ mod node;
 mod reply;
 mod step_error;
 
-pub use dist_ends::{Still, UpRecord, Why};
+pub use dist_ends::{Awaited, Still, UpRecord, Why};
 pub use dist_messages::Opening;
 pub use dist_setup::{NameList, Setup, Version};
 pub use event::Event;

@@ -3,7 +3,7 @@ ghost use Rattle.std.specs.Prelude.{◌≡◌, ◌≤◌, ◌<◌, ◌+◌, List
 ghost use Rattle.std.specs.Option.{option_map};
 ghost use Rattle.std.specs.FinMap as map;
 ghost use Rattle.dist_peers.specs.Verdicts.{is_full};
-ghost use Rattle.dist_ends.specs.Ends.{AreLegal, FindsUp, record_in, up_from, up_pair, up_ids, claim_of, is_open, is_dialing, entry_in, table_of, still_of};
+ghost use Rattle.dist_ends.specs.Ends.{AreLegal, FindsUp, record_in, up_from, up_pair, up_ids, claim_of, is_open, is_dialing, entry_in, table_of, still_of, awaited_of};
 ghost use Rattle.dist_core.specs.Node.{NodeState, ends_after, is_crowded, is_spent, new_id};
 ghost use Rattle.dist_core.specs.Clauses.{ClosesOnReply, end_of, loss_reply};
 ghost use Rattle.dist_core.specs.Losses.{IsGone, IsSilent};
@@ -20,7 +20,7 @@ use crate::event::Event;
 use crate::finding::{cost, open_end};
 use crate::reply::{Note, Reply};
 use crate::step_error::StepError;
-use dist_ends::{Attempt, End, Ends, Still, UpRecord, Why};
+use dist_ends::{Attempt, Awaited, End, Ends, Still, UpRecord, Why};
 use dist_frames::tick;
 use dist_names::{ByteString, Creation, NodeName};
 use dist_peers::{EndId, Entry, Verdict};
@@ -77,6 +77,14 @@ impl Node {
         ensures { result ≡ still_of (slice_get self.now.ends id.0) }
     {
         self.ends.still(id)
+    }
+
+    /// What an end awaits, where it is open: a number that was never given out and a closed end await nothing, and one that
+    /// is up is told as such. A caller whose connection ends asks this before it tells the loss.
+    pub fn awaits(&self, id: EndId) -> Option<Awaited>
+        ensures { result ≡ awaited_of (slice_get self.now.ends id.0) }
+    {
+        self.ends.awaits(id)
     }
 
     /// Whether the end was dialled and awaits its connection, also where it was superseded meanwhile: it takes `Opened`.

@@ -16,6 +16,8 @@ use Rattle.dist_ends.specs.declared.phase.Absent.{Absent}
 use Rattle.dist_ends.specs.declared.phase.Absent.TheVariants as absent
 use Rattle.dist_ends.specs.declared.phase.Still.{Still}
 use Rattle.dist_ends.specs.declared.phase.Still.TheVariants as still
+use Rattle.dist_ends.specs.declared.phase.Awaited.{Awaited}
+use Rattle.dist_ends.specs.declared.phase.Awaited.TheVariants as awaited
 use Rattle.dist_ends.specs.declared.phase.Kind.{Kind}
 use Rattle.dist_ends.specs.declared.phase.Kind.TheVariants.{Out, In, Up}
 use Rattle.dist_ends.specs.declared.phase.Phase.{Phase}
@@ -143,6 +145,26 @@ waits_in _ = false
 abbrev pub is_dialing : Option End → Bool
 is_dialing (Some (ends.Attempt a)) = waits_in a.phase
 is_dialing _ = false
+
+-- the message that an attempt awaits of the other side, or its connection
+abbrev pub awaited_in : Phase → Awaited
+awaited_in phase.Dialing = awaited.Connection
+awaited_in phase.DoomedDialing = awaited.Connection
+awaited_in phase.AwaitStatus = awaited.Status
+awaited_in phase.Doomed = awaited.Status
+awaited_in phase.AwaitChallenge = awaited.Challenge
+awaited_in phase.AwaitAck = awaited.Ack
+awaited_in phase.AwaitTrue = awaited.Status
+awaited_in phase.AwaitComplement = awaited.Complement
+awaited_in phase.AwaitReply = awaited.Reply
+
+-- WHAT AN OPEN END AWAITS: an accepted one the name first, and one that is up nothing more
+abbrev pub awaited_of : Option End → Option Awaited
+awaited_of None = None
+awaited_of (Some ends.Unnamed) = Some awaited.Name
+awaited_of (Some (ends.Attempt a)) = Some (awaited_in a.phase)
+awaited_of (Some (ends.Up r)) = Some awaited.Nothing
+awaited_of (Some (ends.Closed w)) = None
 
 abbrev pub record_in : EndId → Option End → Option (EndId × UpRecord)
 record_in x (Some (ends.Up r)) = Some (x, r)

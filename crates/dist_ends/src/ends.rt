@@ -3,11 +3,11 @@ ghost use Rattle.std.specs.Prelude.{◌≡◌, ℕ, ◌<◌, ◌+◌, ◌^◌, [
 ghost use Rattle.std.specs.Option.{option_map, option_and_then};
 ghost use Rattle.std.specs.FinMap as map;
 ghost use Rattle.dist_peers.specs.Verdicts.{is_full};
-ghost use Rattle.dist_ends.specs.Ends.{AreLegal, FindsUp, record_in, up_from, up_pair, up_id, up_ids, claim_of, is_open, is_dialing, entry_in, table_of, still_of, end_id, verdict_of, Finds};
+ghost use Rattle.dist_ends.specs.Ends.{AreLegal, FindsUp, record_in, up_from, up_pair, up_id, up_ids, claim_of, is_open, is_dialing, entry_in, table_of, still_of, awaited_of, end_id, verdict_of, Finds};
 ghost use Rattle.dist_ends.specs.Change.{Fits, changed};
 
 use crate::known::{End, UpRecord};
-use crate::phase::{Absent, Phase, Still};
+use crate::phase::{Absent, Awaited, Phase, Still};
 use crate::slots::{Row, find};
 use crate::table::{add, apply, shut};
 use crate::why::Why;
@@ -85,6 +85,18 @@ impl Ends {
             Err(Absent::Gone(why)) => Still::Gone(why),
             Ok(End::Up(_)) => Still::Up,
             Ok(_) => Still::Pending,
+        }
+    }
+
+    /// What an end awaits, where it is open.
+    pub fn awaits(&self, id: EndId) -> Option<Awaited>
+        ensures { result ≡ awaited_of (slice_get self.now id.0) }
+    {
+        match self.open_end(id) {
+            Ok(End::Unnamed) => Some(Awaited::Name),
+            Ok(End::Attempt(attempt)) => Some(attempt.phase.awaits()),
+            Ok(End::Up(_)) => Some(Awaited::Nothing),
+            _ => None,
         }
     }
 

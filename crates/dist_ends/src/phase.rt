@@ -1,5 +1,8 @@
 //! Where an end stands.
 
+ghost use Rattle.std.specs.Prelude.{◌≡◌};
+ghost use Rattle.dist_ends.specs.Ends.{awaited_in};
+
 use crate::why::Why;
 
 /// Where the handshake of an end stands whose peer is known: named for what the end awaits. Beside each, the function of
@@ -48,6 +51,44 @@ pub enum Still {
     Pending,
     /// The end is up.
     Up,
+}
+
+/// What an open end awaits next of the other side: the message, by the words of the ERTS User's Guide, Distribution
+/// Handshake. Where the connection ends meanwhile, this tells how far the handshake came.
+#[derive(Clone, Copy, Debug, PartialEq, Eq)]
+pub enum Awaited {
+    /// The connection itself, which was dialled and is not there yet.
+    Connection,
+    /// The dialler's name.
+    Name,
+    /// A status: the acceptor's to the name, or the dialler's, `true` or `false`, to the acceptor's `alive`.
+    Status,
+    /// The acceptor's challenge.
+    Challenge,
+    /// The dialler's complement to its old name.
+    Complement,
+    /// The dialler's reply to the challenge, with its own challenge.
+    Reply,
+    /// The acceptor's acknowledgement of the reply. One that finds another cookie in the reply ends the connection here.
+    Ack,
+    /// Nothing: the end is up.
+    Nothing,
+}
+
+impl Phase {
+    /// What an end in this phase awaits.
+    pub fn awaits(self) -> Awaited
+        ensures { result ≡ awaited_in self }
+    {
+        match self {
+            Phase::Dialing | Phase::DoomedDialing => Awaited::Connection,
+            Phase::AwaitStatus | Phase::Doomed | Phase::AwaitTrue => Awaited::Status,
+            Phase::AwaitChallenge => Awaited::Challenge,
+            Phase::AwaitAck => Awaited::Ack,
+            Phase::AwaitComplement => Awaited::Complement,
+            Phase::AwaitReply => Awaited::Reply,
+        }
+    }
 }
 
 /// Why no open end has a number.

@@ -4,6 +4,9 @@ ghost use Rattle.dist_ends.specs.declared.why.Why.{Why};
 ghost use Rattle.std.specs.List.{find};
 ghost use Rattle.dist_ends.specs.Words.{why_word, has_word};
 
+use std::error::Error;
+use std::fmt;
+
 /// Why an end is closed. The first five are told by whoever carries the connection, as the cause of a loss; the others
 /// are what the node itself finds.
 ///
@@ -102,6 +105,35 @@ impl Why {
         self.name().as_bytes() == word
     }
 }
+
+// The sentence that tells it.
+fn sentence(why: Why) -> &'static str {
+    match why {
+        Why::Ended => "the other side ended the connection",
+        Why::ReadFailed => "a read failed",
+        Why::WriteFailed => "a write failed",
+        Why::GaveUp => "the connection was given up",
+        Why::DialFailed => "no connection came about",
+        Why::Malformed => "the other side said what is no message",
+        Why::Unexpected => "the other side said a message that was not awaited",
+        Why::WrongName => "a node of another name answered",
+        Why::WrongFlags => "the other side lacks a required flag",
+        Why::WrongDigest => "the other side has another cookie",
+        Why::StatusRefused => "the other side refused the connection",
+        Why::Refused => "the other side's name was refused",
+        Why::Crossed => "the other side's dial goes on in its place",
+        Why::Replaced => "a later connection of the same peer took its place",
+        Why::NoMemory => "out of memory",
+    }
+}
+
+impl fmt::Display for Why {
+    fn fmt<W: fmt::Write>(&self, f: &mut fmt::Formatter<W>) -> fmt::Result {
+        f.write_str(sentence(*self))
+    }
+}
+
+impl Error for Why {}
 
 // The first of these causes that has this word.
 fn called(word: &[u8], whys: &[Why]) -> Option<Why>

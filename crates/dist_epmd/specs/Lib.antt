@@ -3,5 +3,6 @@ pub mod Book
 pub mod History
 pub mod Layout
 pub mod Named
+pub mod Nodes
 pub mod Reading
 pub mod Refusing

@@ -20,7 +20,9 @@ pub use laws::{
     any_calls, one_answer, one_request, read_answer_is_spelled, read_request_is_spelled,
     written_answer_is_read, written_request_is_read,
 };
-pub use message::{AliveReq, Answer, Asked, NodeInfo, PortInfo, Request};
+pub use message::{
+    AliveReq, Answer, Asked, HIDDEN, HIGHEST, LOWEST, NORMAL, NodeInfo, PortInfo, Request, TCP,
+};
 pub use reading::{decode_answer, decode_request};
 pub use registry::Registry;
 pub use row::Row;

@@ -1,9 +1,25 @@
 //! The messages of the port mapper.
 
 ghost use Rattle.std.specs.Prelude.{◌≡◌, IfOk};
+ghost use Rattle.dist_epmd.specs.Nodes.{type_of, info_of_node};
 
 use dist_names::ByteString;
 use std::alloc::{AllocError, Global};
+
+/// The node type of a node that is not hidden (ERTS User's Guide, Distribution Protocol, Register a Node in EPMD).
+pub const NORMAL: u8 = 77;
+
+/// The node type of a hidden node.
+pub const HIDDEN: u8 = 72;
+
+/// The protocol of TCP over IPv4.
+pub const TCP: u8 = 0;
+
+/// The highest version of the handshake.
+pub const HIGHEST: u16 = 6;
+
+/// The lowest version of the handshake.
+pub const LOWEST: u16 = 5;
 
 /// What a node tells of itself when it registers, and what a lookup of it answers.
 ///
@@ -12,10 +28,10 @@ use std::alloc::{AllocError, Global};
 /// | Field | Bytes | Meaning |
 /// |---|---|---|
 /// | `port` | 2 | at which the node accepts connections of other nodes |
-/// | `node_type` | 1 | 0x4d for a normal node, 0x48 for a hidden one |
-/// | `protocol` | 1 | 0 for TCP over IPv4 |
-/// | `highest` | 2 | the highest version of the handshake that the node knows |
-/// | `lowest` | 2 | the lowest one |
+/// | `node_type` | 1 | 0x4d for a normal node ([`NORMAL`]), 0x48 for a hidden one ([`HIDDEN`]) |
+/// | `protocol` | 1 | 0 for TCP over IPv4 ([`TCP`]) |
+/// | `highest` | 2 | the highest version of the handshake that the node knows ([`HIGHEST`]) |
+/// | `lowest` | 2 | the lowest one ([`LOWEST`]) |
 /// | | 2 | the number of bytes of the name |
 /// | `name` | | the part of the node's name before the `@` |
 /// | | 2 | the number of bytes of `extra` |
@@ -34,6 +50,32 @@ pub struct NodeInfo {
 }
 
 impl NodeInfo {
+    /// What a node tells of itself that knows all versions of the handshake, at least 5 and at most 6, over TCP and IPv4.
+    /// `short` is the part of its name before the `@`, and `port` that at which it accepts connections. A hidden node is one
+    /// that its peers don't tell each other of.
+    ///
+    /// A node that knows fewer versions lowers `highest`. The only refusal is want of memory.
+    ///
+    /// Source: ERTS User's Guide, Distribution Protocol, Register a Node in EPMD.
+    pub fn of_node(
+        alloc: Global,
+        short: &[u8],
+        port: u16,
+        hidden: bool,
+    ) -> Result<NodeInfo, AllocError>
+        ensures { IfOk result (λ info. info ≡ info_of_node short.now port hidden) }
+    {
+        Ok(NodeInfo {
+            port,
+            node_type: type_of(hidden),
+            protocol: TCP,
+            highest: HIGHEST,
+            lowest: LOWEST,
+            name: ByteString::from_slice(alloc, short)?,
+            extra: ByteString::new(alloc),
+        })
+    }
+
     /// An equal one. The only refusal is want of memory.
     pub fn try_clone(&self, alloc: Global) -> Result<NodeInfo, AllocError>
         ensures { IfOk result (λ copy. copy ≡ self.now) }
@@ -48,6 +90,12 @@ impl NodeInfo {
             extra: self.extra.try_clone(alloc)?,
         })
     }
+}
+
+fn type_of(hidden: bool) -> u8
+    ensures { result ≡ type_of hidden }
+{
+    if hidden { HIDDEN } else { NORMAL }
 }
 
 /// What a registration says of the node.

@@ -8,26 +8,14 @@ use crate::seats::{SEATS, SharedOut, shared_out};
 use crate::sockets::{connected, listening};
 use dist_core::{Setup, Version};
 use dist_drive::{SocketStream, register};
-use dist_epmd::AliveReq;
+use dist_epmd::{AliveReq, HIGHEST, LOWEST};
 use dist_locked::{LockedNode, Tickets};
-use dist_names::{ByteString, Creation, NodeName};
+use dist_names::{Creation, NodeName};
 use dist_plan::NodePlan;
 use std::alloc::{AllocError, Global};
 use std::net::{Net, TcpListener, TcpStream};
 use std::sync::Arc;
 use std::sync::atomic::AtomicUsize;
-
-/// The node type of a node that is not hidden (ERTS User's Guide, Distribution Protocol, EPMD Protocol).
-const NORMAL: u8 = 77;
-
-/// The protocol of TCP over IPv4.
-const TCP: u8 = 0;
-
-/// The version of the handshake that has the `N` opening.
-const NEWER: u16 = 6;
-
-/// The lowest version of the handshake.
-const LOWEST: u16 = 5;
 
 /// The last connection for which no thread could be made, by the thread that had it: its number there. Nobody's is the
 /// highest number.
@@ -65,7 +53,7 @@ fn highest(version: Version) -> u16
 {
     match version {
         Version::Five => LOWEST,
-        Version::Six => NEWER,
+        Version::Six => HIGHEST,
     }
 }
 
@@ -75,15 +63,9 @@ fn registration(alloc: Global, plan: &NodePlan, port: u16) -> Result<AliveReq, A
     ensures six { IfOk result (λ r. plan.now.version ≡ Version.Six → r.highest ≡ 6) }
     ensures five { IfOk result (λ r. plan.now.version ≡ Version.Five → r.highest ≡ 5) }
 {
-    Ok(AliveReq {
-        port,
-        node_type: NORMAL,
-        protocol: TCP,
-        highest: highest(plan.version),
-        lowest: LOWEST,
-        name: ByteString::from_slice(alloc, plan.name.short())?,
-        extra: ByteString::new(alloc),
-    })
+    let mut request = AliveReq::of_node(alloc, plan.name.short(), port, false)?;
+    request.highest = highest(plan.version);
+    Ok(request)
 }
 
 // Asks for the registration of a node, over a connection that is kept.
