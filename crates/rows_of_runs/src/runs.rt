@@ -6,6 +6,7 @@ use crate::running::{
 use crate::system::Wrong;
 use dist_core::Opening;
 use dist_epmd::PortInfo;
+use dist_locked::Moment;
 use dist_names::ByteString;
 use dist_run::opening_for;
 use std::alloc::Global;
@@ -47,7 +48,7 @@ fn an_order_may_find_nobody_itself_or_a_refusal(rt: HostRuntime) {
 }
 
 // What is wrong, and what the run tells of two nodes, one of which dials the other.
-const WRONGS: [(Wrong, &str); 9] = [
+const WRONGS: [(Wrong, &str); 11] = [
     (Wrong::NoRandomBytes, "ReadFailed"),
     (Wrong::NoListener(0), "ListenFailed"),
     (Wrong::NoListener(1), "ListenFailed"),
@@ -59,6 +60,11 @@ const WRONGS: [(Wrong, &str); 9] = [
         "order 0 NoRegistry, up 0 0, audit holds",
     ),
     (Wrong::NoPeer, "up 0 0, audit holds"),
+    (
+        Wrong::Shut(Moment::BeforeStep),
+        "up 0 0, audit refused 3 Unpaired",
+    ),
+    (Wrong::Shut(Moment::AfterStep), "up 0 0, audit holds"),
     (Wrong::Strangers, "up 1 1, audit refused 3 Unpaired"),
 ];
 

@@ -30,6 +30,8 @@ pub enum Wrong {
     /// The second worker waits with its connection for that of the first, and the first with its own until the second has told
     /// its node. Who waits in vain gives its connection up.
     Overtakes,
+    /// No worker goes on at this moment.
+    Shut(Moment),
     /// Before the nodes, clients that say nothing, and clients that say what is no message, are at the first node and at
     /// the port mapper, and stay.
     Strangers,
@@ -224,6 +226,7 @@ impl<'a, R> Gate for System<'a, R> {
         match self.wrong {
             Wrong::Holds => self.hold(moment),
             Wrong::Overtakes => self.overtake(worker, moment),
+            Wrong::Shut(shut) => moment != shut,
             _ => true,
         }
     }
