@@ -76,35 +76,47 @@ impl<'a> Wanted<'a> {
     }
 }
 
-// The program's words that take a value.
-const VALUES: [&str; 8] = [
-    "name",
-    "cookie",
-    "flags",
-    "epmd-port",
-    "port",
-    "address",
-    "seconds",
-    "listen",
+// How a word of the command line is given.
+#[derive(Clone, Copy)]
+enum Kind {
+    // By itself, as often as is wanted.
+    Node,
+    // By its name alone.
+    Switch,
+    // By its name, and a value behind it.
+    Value,
+}
+
+// The program's words.
+const WORDS: [(&str, Kind); 11] = [
+    ("node", Kind::Node),
+    ("no-cookie", Kind::Switch),
+    ("json", Kind::Switch),
+    ("name", Kind::Value),
+    ("cookie", Kind::Value),
+    ("flags", Kind::Value),
+    ("epmd-port", Kind::Value),
+    ("port", Kind::Value),
+    ("address", Kind::Value),
+    ("seconds", Kind::Value),
+    ("listen", Kind::Value),
 ];
 
-// A word that takes no value.
-fn switch<'a>(alloc: Global, id: &'a str) -> Arg<'a> {
-    Arg::new(alloc, id).long(id).action(ArgAction::SetTrue)
+fn argument<'a>(alloc: Global, id: &'a str, kind: Kind) -> Arg<'a> {
+    let argument = Arg::new(alloc, id);
+    match kind {
+        Kind::Node => argument.num_args(1..).action(ArgAction::Append),
+        Kind::Switch => argument.long(id).action(ArgAction::SetTrue),
+        Kind::Value => argument.long(id).action(ArgAction::Set),
+    }
 }
 
 fn program<'a>(alloc: Global) -> Result<Command<'a>, AllocError> {
-    let node = Arg::new(alloc, "node")
-        .num_args(1..)
-        .action(ArgAction::Append);
     let mut program = Command::new(alloc, "distping")
         .no_binary_name(true)
-        .version("0")
-        .arg(node)?
-        .arg(switch(alloc, "no-cookie"))?
-        .arg(switch(alloc, "json"))?;
-    for id in VALUES {
-        program = program.arg(Arg::new(alloc, id).long(id).action(ArgAction::Set))?;
+        .version("0");
+    for (id, kind) in WORDS {
+        program = program.arg(argument(alloc, id, kind))?;
     }
     Ok(program)
 }
@@ -203,27 +215,33 @@ fn wanted_in<'a>(
     })
 }
 
+// What is asked for where the parser matched nothing.
+fn asked_instead<'a>(kind: ErrorKind) -> Result<Asked<'a>, Fault> {
+    match kind {
+        ErrorKind::DisplayHelp => Ok(Asked::Help),
+        ErrorKind::DisplayVersion => Ok(Asked::Version),
+        ErrorKind::OutOfMemory => Err(Fault::NoMemory),
+        _ => Err(Fault::BadCommandLine),
+    }
+}
+
+// To dial what is wanted, where that goes together.
+fn dials<'a>(wanted: Wanted<'a>) -> Result<Asked<'a>, Fault> {
+    match fault_in(&wanted) {
+        Some(fault) => Err(fault),
+        None => Ok(Asked::Dials(wanted)),
+    }
+}
+
 /// What these words ask for. `mapper_port` is the number of ERL_EPMD_PORT.
 pub fn asked_of<'a>(
     alloc: Global,
     words: &'a [&'a str],
     mapper_port: Option<u16>,
 ) -> Result<Asked<'a>, Fault> {
-    let matches = match program(alloc)?.try_get_matches_from(words) {
-        Ok(matches) => matches,
-        Err(error) => {
-            return match error.kind() {
-                ErrorKind::DisplayHelp => Ok(Asked::Help),
-                ErrorKind::DisplayVersion => Ok(Asked::Version),
-                ErrorKind::OutOfMemory => Err(Fault::NoMemory),
-                _ => Err(Fault::BadCommandLine),
-            };
-        }
-    };
-    let wanted = wanted_in(alloc, &matches, mapper_port)?;
-    match fault_in(&wanted) {
-        Some(fault) => Err(fault),
-        None => Ok(Asked::Dials(wanted)),
+    match program(alloc)?.try_get_matches_from(words) {
+        Ok(matches) => dials(wanted_in(alloc, &matches, mapper_port)?),
+        Err(error) => asked_instead(error.kind()),
     }
 }
 

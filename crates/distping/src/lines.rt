@@ -139,6 +139,12 @@ impl<'a, W: Write> Lines<'a, W> {
         self.out.flush()
     }
 
+    // Writes a text that was made, where there was memory for it.
+    fn put_made(&mut self, text: Result<String, AllocError>) -> io::Result<()> {
+        let text = text?;
+        self.put(&text)
+    }
+
     // A line of flags by name.
     fn put_flags(&mut self, front: &str, flags: Flags) -> io::Result<()> {
         let mut text = format!(in self.alloc; "{front}")?;
@@ -149,8 +155,8 @@ impl<'a, W: Write> Lines<'a, W> {
 
     /// Which node is dialled, where there are several.
     pub fn put_node(&mut self, node: &NodeName) -> io::Result<()> {
-        let text = format!(in self.alloc; "-- {}\n", text_of(node.bytes()))?;
-        self.put(&text)
+        let text = format!(in self.alloc; "-- {}\n", text_of(node.bytes()));
+        self.put_made(text)
     }
 
     /// A warning where the two names could not dial each other.
@@ -167,13 +173,13 @@ impl<'a, W: Write> Lines<'a, W> {
     pub fn put_address(&mut self, host: &str, address: &SocketAddr) -> io::Result<()> {
         let ip = address.ip();
         let text = if address.is_ipv4() {
-            format!(in self.alloc; "✓  host      {host} is {ip}\n")?
+            format!(in self.alloc; "✓  host      {host} is {ip}\n")
         } else {
             format!(in self.alloc;
                 "!  host      {host} is {ip}, and has no IPv4 address: nodes dial it with -proto_dist inet6_tcp alone\n"
-            )?
+            )
         };
-        self.put(&text)
+        self.put_made(text)
     }
 
     /// The port mapper has this registration.
@@ -182,8 +188,8 @@ impl<'a, W: Write> Lines<'a, W> {
         let (lowest, highest) = (info.lowest, info.highest);
         let text = format!(in self.alloc;
             "✓  epmd      port {mapper_port} answers: {name} listens at port {port}, versions {lowest} to {highest}\n"
-        )?;
-        self.put(&text)
+        );
+        self.put_made(text)
     }
 
     /// A place was not reached.
@@ -192,14 +198,14 @@ impl<'a, W: Write> Lines<'a, W> {
             Place::Refused => "the connection was refused",
             Place::Unreachable => "no answer",
         };
-        let text = format!(in self.alloc; "✗  {step} port {port}: {why}\n")?;
-        self.put(&text)
+        let text = format!(in self.alloc; "✗  {step} port {port}: {why}\n");
+        self.put_made(text)
     }
 
     /// The lookup went wrong.
     pub fn put_no_answer(&mut self, mapper_port: u16, error: LookupError) -> io::Result<()> {
-        let text = format!(in self.alloc; "✗  epmd      port {mapper_port}: {error}\n")?;
-        self.put(&text)
+        let text = format!(in self.alloc; "✗  epmd      port {mapper_port}: {error}\n");
+        self.put_made(text)
     }
 
     /// The port mapper knows these names, which stand in lines.
@@ -217,8 +223,8 @@ impl<'a, W: Write> Lines<'a, W> {
     /// The node's port took the connection.
     pub fn put_connected(&mut self, address: &SocketAddr, port: u16) -> io::Result<()> {
         let ip = address.ip();
-        let text = format!(in self.alloc; "✓  connect   {ip} port {port}\n")?;
-        self.put(&text)
+        let text = format!(in self.alloc; "✓  connect   {ip} port {port}\n");
+        self.put_made(text)
     }
 
     /// The status that the node said upon the own name.
@@ -259,27 +265,27 @@ impl<'a, W: Write> Lines<'a, W> {
         let name = text_of(name.bytes());
         let text = format!(in self.alloc;
             "✓  listen    port {port}, as {name}: waiting for one connection\n"
-        )?;
-        self.put(&text)
+        );
+        self.put_made(text)
     }
 
     /// A connection was taken.
     pub fn put_taken(&mut self, address: &SocketAddr) -> io::Result<()> {
         let ip = address.ip();
-        let text = format!(in self.alloc; "✓  taken     from {ip}\n")?;
-        self.put(&text)
+        let text = format!(in self.alloc; "✓  taken     from {ip}\n");
+        self.put_made(text)
     }
 
     /// What came of a connection that was taken.
     pub fn put_outcome(&mut self, taken: Taken) -> io::Result<()> {
         let mark = if taken.status() == 0 { "✓" } else { "✗" };
         let (name, cause) = (taken.name(), taken.cause());
-        let text = format!(in self.alloc; "{mark}  {name}: {cause}\n")?;
-        self.put(&text)
+        let text = format!(in self.alloc; "{mark}  {name}: {cause}\n");
+        self.put_made(text)
     }
 
-    /// What can be told of two nodes.
-    pub fn put_pair(
+    // What two nodes have to tell of each other, in a line.
+    fn put_pair_line(
         &mut self,
         first: &NodeName,
         second: &NodeName,
@@ -290,8 +296,18 @@ impl<'a, W: Write> Lines<'a, W> {
         let (name, cause) = (pairing.name(), pairing.cause());
         let text = format!(in self.alloc;
             "{mark}  pair      {first} and {second}: {name}: {cause}\n"
-        )?;
-        self.put(&text)?;
+        );
+        self.put_made(text)
+    }
+
+    /// What can be told of two nodes.
+    pub fn put_pair(
+        &mut self,
+        first: &NodeName,
+        second: &NodeName,
+        pairing: Pairing,
+    ) -> io::Result<()> {
+        self.put_pair_line(first, second, pairing)?;
         if let Pairing::LacksFlags(of_first, of_second) = pairing {
             self.put_flags("   lacking   the first:", of_first)?;
             self.put_flags("   lacking   the second:", of_second)?;

@@ -217,20 +217,31 @@ fn talk<S: Stream>(
     listen: &Listen<'_>,
     peer: &NodeName,
 ) -> Taken {
-    let (setup, fresh) = (listen.setup, listen.fresh);
-    match challenged(alloc, limited, setup, fresh) {
+    match challenged(alloc, limited, listen.setup, listen.fresh) {
         Heard::Said(Message::Reply { challenge, digest }) => {
-            let wanted = if listen.compares {
-                Some(own_digest(setup, peer, fresh))
-            } else {
-                None
-            };
-            match reply_verdict(wanted, digest) {
-                Taken::Up => acknowledged(alloc, limited, setup, peer, challenge),
-                other => other,
-            }
+            replied(alloc, limited, listen, peer, challenge, digest)
         }
         other => heard_verdict(Taken::Left, &other),
+    }
+}
+
+// What comes of a reply.
+fn replied<S: Stream>(
+    alloc: Global,
+    limited: &mut Limited<'_, S>,
+    listen: &Listen<'_>,
+    peer: &NodeName,
+    challenge: u32,
+    digest: [u8; 16],
+) -> Taken {
+    let wanted = if listen.compares {
+        Some(own_digest(listen.setup, peer, listen.fresh))
+    } else {
+        None
+    };
+    match reply_verdict(wanted, digest) {
+        Taken::Up => acknowledged(alloc, limited, listen.setup, peer, challenge),
+        other => other,
     }
 }
 

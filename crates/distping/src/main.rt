@@ -95,12 +95,18 @@ fn perform<W: Write>(rt: &HostRuntime, out: &mut W) -> Result<u8, Fault> {
     let alloc = rt.alloc();
     let words = words_of(rt, alloc)?;
     let texts: Vec<&str> = words.iter().map(|word| word.as_str()).collect(alloc)?;
-    match asked_of(alloc, &texts, named_mapper_port(rt))? {
+    let asked = asked_of(alloc, &texts, named_mapper_port(rt))?;
+    follow(rt, &asked, out)
+}
+
+// Does what is asked for.
+fn follow<W: Write>(rt: &HostRuntime, asked: &Asked<'_>, out: &mut W) -> Result<u8, Fault> {
+    match asked {
         Asked::Help => print(out, HELP),
         Asked::Version => print(out, VERSION),
         Asked::Dials(wanted) => match (wanted.listen, &wanted.name) {
-            (Some(port), Some(name)) => take_one(rt, &wanted, name, port, out),
-            _ => dial_all(rt, &wanted, out),
+            (Some(port), Some(name)) => take_one(rt, wanted, name, port, out),
+            _ => dial_all(rt, wanted, out),
         },
     }
 }
@@ -159,22 +165,39 @@ fn take_one<W: Write>(
     port: u16,
     out: &mut W,
 ) -> Result<u8, Fault> {
-    let alloc = rt.alloc();
-    let cookie = cookie_of(rt, alloc, wanted.cookie)?;
-    let setup = setup_of(alloc, name, wanted.flags, cookie.as_ref(), drawn(rt)?)?;
-    let mut lines = Lines {
-        alloc,
-        out,
-        quiet: false,
-    };
+    let cookie = cookie_of(rt, rt.alloc(), wanted.cookie)?;
+    take_with(rt, wanted, name, port, cookie.as_ref(), out)
+}
+
+// The same with this cookie.
+fn take_with<W: Write>(
+    rt: &HostRuntime,
+    wanted: &Wanted<'_>,
+    name: &NodeName,
+    port: u16,
+    cookie: Option<&Cookie>,
+    out: &mut W,
+) -> Result<u8, Fault> {
+    let (alloc, quiet) = (rt.alloc(), false);
+    let (creation, fresh) = (drawn(rt)?, drawn(rt)?);
+    let setup = setup_of(alloc, name, wanted.flags, cookie, creation)?;
     let one = Listen {
         setup: &setup,
         port,
-        fresh: drawn(rt)?,
+        fresh,
         compares: cookie.is_some(),
         turns: wanted.turns(),
     };
-    let taken = take_connection(rt, &one, &mut lines)?;
+    listen(rt, &one, &mut Lines { alloc, out, quiet })
+}
+
+// Takes one connection, tells what came of it, and answers its status.
+fn listen<W: Write>(
+    rt: &HostRuntime,
+    one: &Listen<'_>,
+    lines: &mut Lines<'_, W>,
+) -> Result<u8, Fault> {
+    let taken = take_connection(rt, one, lines)?;
     lines.put_outcome(taken)?;
     Ok(taken.status())
 }
@@ -215,12 +238,22 @@ fn dial_one<'n, W: Write>(
         cookie,
         wanted,
     };
-    if wanted.nodes.len() > 1 {
+    probe_one(rt, &dial, node, lines)
+}
+
+// Probes a node, tells what it comes to, and answers what is left of it.
+fn probe_one<'n, W: Write>(
+    rt: &HostRuntime,
+    dial: &Dial<'_>,
+    node: &'n NodeName,
+    lines: &mut Lines<'_, W>,
+) -> Result<Half<'n>, Fault> {
+    if dial.wanted.nodes.len() > 1 {
         lines.put_node(node)?;
     }
     let mut found = Found::nothing();
-    let verdict = probe(rt, &dial, lines, &mut found)?;
-    tell(&dial, &found, verdict, lines)?;
+    let verdict = probe(rt, dial, lines, &mut found)?;
+    tell(dial, &found, verdict, lines)?;
     Ok(half_of(node, &found, verdict))
 }
 

@@ -321,6 +321,24 @@ fn talk(
     Ok(ask_node(alloc, stream, &setup, dial.node, fresh, replies, limit))
 }
 
+// Asks the node at this place, and tells what it said.
+fn asked<W: Write>(
+    rt: &HostRuntime,
+    dial: &Dial<'_>,
+    address: &SocketAddr,
+    port: u16,
+    lines: &mut Lines<'_, W>,
+    found: &mut Found,
+) -> Result<Verdict, Stop> {
+    let mut stream = node_at(rt, dial, address, port, lines)?;
+    let report = talk(rt, lines.alloc, dial, &mut stream)?;
+    put_report(dial, &report, lines)?;
+    let verdict = report.verdict();
+    found.status = report.status;
+    found.peer = report.peer;
+    Ok(verdict)
+}
+
 // Dials the node, and tells each step.
 fn steps<W: Write>(
     rt: &HostRuntime,
@@ -333,12 +351,7 @@ fn steps<W: Write>(
     found.address = Some(address);
     let port = port_of(rt, dial, &address, lines, found)?;
     found.port = Some(port);
-    let mut stream = node_at(rt, dial, &address, port, lines)?;
-    let report = talk(rt, lines.alloc, dial, &mut stream)?;
-    put_report(dial, &report, lines)?;
-    let verdict = report.verdict();
-    found.status = report.status;
-    found.peer = report.peer;
+    let verdict = asked(rt, dial, &address, port, lines, found)?;
     if verdict == Verdict::Gone(Awaited::Status) && is_tls(rt, dial, &address, port) {
         return Ok(Verdict::Foreign(Service::Tls));
     }
