@@ -199,6 +199,44 @@ fn is_whole(frame: &[u8]) -> bool {
     matches!(frame, [high, low, body @ ..] if body.len() == usize::from(u16::from_be_bytes([*high, *low])))
 }
 
+// ---- the reader of packets
+
+/// The bytes that came, of which those before the mark are read.
+#[derive(Default)]
+struct Packets {
+    held: Vec<u8>,
+    start: usize,
+}
+
+impl Packets {
+    /// The most bytes of a packet.
+    const MOST: usize = 16_777_216;
+
+    fn feed(&mut self, piece: &[u8]) {
+        if self.held.capacity() - self.held.len() < piece.len() {
+            self.held.drain(..self.start);
+            self.start = 0;
+        }
+        self.held.extend_from_slice(piece);
+    }
+
+    /// The next packet, where it is whole, and marks it as read.
+    fn next(&mut self) -> Result<Option<&[u8]>, usize> {
+        let Some((header, behind)) = self.held[self.start..].split_first_chunk::<4>() else {
+            return Ok(None);
+        };
+        let len = u32::from_be_bytes(*header) as usize;
+        if len > Self::MOST {
+            return Err(len);
+        }
+        let Some(packet) = behind.get(..len) else {
+            return Ok(None);
+        };
+        self.start += 4 + len;
+        Ok(Some(packet))
+    }
+}
+
 // ---- the machine
 
 type EndId = u32;
@@ -614,6 +652,17 @@ fn main() {
             say_challenge(&mut bench.say, black_box(ANNOUNCED), turn, &peer);
             bench.count(Ok(()));
         }),
+        "packets" => {
+            let stream: Vec<u8> =
+                (0..32u32).flat_map(|count| [&(8 * count).to_be_bytes()[..], &vec![7; 8 * count as usize]].concat()).collect();
+            let mut reader = Packets::default();
+            for piece in (0..turns).flat_map(|_| stream.chunks(1460)) {
+                reader.feed(black_box(piece));
+                while let Some(packet) = reader.next().expect("a short packet") {
+                    bench.sum += packet.len() as u64;
+                }
+            }
+        }
         _ => panic!("no such turn: {kind}"),
     }
     println!("{}", bench.sum);
