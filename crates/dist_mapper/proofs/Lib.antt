@@ -1,4 +1,5 @@
 pub mod Asks
 pub mod Registering
+pub mod Arrivals
 pub mod Serves
 pub mod Keeping

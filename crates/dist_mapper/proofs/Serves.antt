@@ -1,11 +1,8 @@
 -- One request served, put together from what was heard and what was said.
-use Rattle.std.proofs.Common.{◌≡◌, ℕ, ◌^◌, ◌<◌, List, [], ◌++◌, length, get_or, take, drop, Option, Some, None, Result, Ok, Err, refl, sym, ap, subst, ◌∙◌, arith, inl, inr, length-drop}
-use Rattle.std.proofs.lemmas.List.{take-append-drop, length-take-le}
-use Rattle.std.proofs.lemmas.Nat.{be_bytes_2}
+use Rattle.std.proofs.Common.{◌≡◌, ℕ, ◌<◌, List, [], length, take, drop, Option, Some, None, Result, Ok, Err, refl, sym, ap, subst, ◌∙◌, arith, inl, inr, length-drop}
+use Rattle.std.proofs.lemmas.List.{take-append-drop}
 use Rattle.std.specs.Prelude.{◌≢◌, IsOk, IsErr}
-use Rattle.std.specs.Int.{w16, to_be_bytes, from_be_bytes}
 use Rattle.std.specs.Io.KnownBytes.{prepend_known, append_known}
-use Rattle.dist_frames.specs.Stream.{framed}
 use Rattle.dist_epmd.specs.declared.epmd_error.EpmdError.{EpmdError}
 use Rattle.dist_epmd.specs.declared.epmd_error.EpmdError.TheVariants as epmd
 use Rattle.dist_epmd.specs.declared.message.Request.{Request}
@@ -16,61 +13,21 @@ use Rattle.dist_names.specs.Answer.{RefusedBut}
 use Rattle.dist_epmd.specs.Answering.{is_want}
 use Rattle.dist_streams.specs.declared.turn_error.TurnError.{TurnError}
 use Rattle.dist_streams.specs.Stream.{StreamState}
-use Rattle.dist_streams.specs.Turns.{Spends, SaysFront, HearsFront}
-use Rattle.dist_streams.proofs.Talks.{append_known-none, Spends-trans, Says-none, Hears-trans}
+use Rattle.dist_streams.specs.Turns.{Spends, SaysFront}
+use Rattle.dist_streams.proofs.Talks.{append_known-none, Spends-trans, Says-none}
 use Rattle.dist_mapper.specs.declared.lookup_error.LookupError.{LookupError}
 use Rattle.dist_mapper.specs.declared.lookup_error.LookupError.TheVariants as error
 use Rattle.dist_mapper.specs.declared.serve.Served.{Served}
 use Rattle.dist_mapper.specs.Refusals.{lookup_error, whole_refusal}
 use Rattle.dist_mapper.specs.Serving.{BringsRequest, Came, IsSaid, served_as, AfterCut, Serves}
-use Rattle.dist_mapper.specs.Steps.{FrameCame, HearsLen, HearsBody, HearsRequest, SaysAnswer, SaysReply}
+use Rattle.dist_mapper.specs.Steps.{FrameCame, HearsBody, HearsRequest, SaysAnswer, SaysReply}
 use Rattle.dist_mapper.proofs.Asks.{all_said}
-use Rattle.dist_mapper.proofs.Registering.{all_heard}
 
 abbrev bad : {X : Type 0} → LookupError → Result X LookupError
 bad e = Err e
 
 err_as : {X Y : Type 0} (a b : LookupError) → bad {X = X} a ≡ bad b → bad {X = Y} a ≡ bad b
 err_as a b e = let same : a ≡ b = cc in ap bad same
-
--- ---- a frame comes
-
-pub len_cut : {old new : StreamState} {turns left : ℕ} (e : TurnError) (header : List ℕ) → length header ≡ 2 → HearsFront old new turns left (Some e) header → HearsLen old new turns left (Err e)
-len_cut e header two p =
-    let few : p.count < length header = p.whole in
-    let len : length (take p.count header) ≡ p.count = length-take-le p.count header p.fits in
-    record { heard = take p.count header; hears = p.hears; whole = tt; cut = omega arith }
-
-pub len_whole : {old new : StreamState} {turns left : ℕ} (header : List ℕ) (len : ℕ) → length header ≡ 2 → ((i : ℕ) → get_or header i 0 < 256) → len ≡ from_be_bytes w16 header → len < 2 ^ 16 → HearsFront old new turns left None header → HearsLen old new turns left (Ok len)
-len_whole header len two bytes is fits p = record { heard = header; hears = all_heard header p; whole = (sym (be_bytes_2 header len two bytes is), fits); cut = tt }
-
-pub body_none : {old new : StreamState} {turns left : ℕ} (e : TurnError) → HearsLen old new turns left (Err e) → HearsBody old new turns left (Err (lookup_error e))
-body_none e p = record { heard = p.heard; stop = Some e; hears = p.hears; came = (refl, inl p.cut) }
-
-pub body_lacks : {old new : StreamState} {turns left : ℕ} (len : ℕ) → HearsLen old new turns left (Ok len) → HearsBody old new turns left (Err error.NoMemory)
-body_lacks len p = record { heard = p.heard; stop = None; hears = p.hears; came = (len, p.whole.1, p.whole.0) }
-
-pub body_cut : {old mid new : StreamState} {turns between left : ℕ} (len : ℕ) (e : TurnError) (room : List ℕ) → length room ≡ len → HearsLen old mid turns between (Ok len) → HearsFront mid new between left (Some e) room → HearsBody old new turns left (Err (lookup_error e))
-body_cut len e room all p q =
-    let few : q.count < length room = q.whole in
-    let some : length (take q.count room) ≡ q.count = length-take-le q.count room q.fits in
-    let less : length (take q.count room) < len = omega arith in
-    record {
-      heard = p.heard ++ take q.count room;
-      stop = Some e;
-      hears = Hears-trans p.hears q.hears;
-      came = (refl, inr (len, take q.count room, p.whole.1, ap (λ (l : List ℕ). l ++ take q.count room) p.whole.0, less));
-    }
-
-pub body_whole : {old mid new : StreamState} {turns between left : ℕ} (len : ℕ) (room body : List ℕ) → length room ≡ len → body ≡ room → HearsLen old mid turns between (Ok len) → HearsFront mid new between left None room → HearsBody old new turns left (Ok body)
-body_whole len room body all same p q =
-    let front : p.heard ++ room ≡ framed w16 room = ap (λ (l : List ℕ). l ++ room) (p.whole.0 ∙ ap (to_be_bytes w16) (sym all)) in
-    record {
-      heard = p.heard ++ room;
-      stop = None;
-      hears = Hears-trans p.hears (all_heard room q);
-      came = front ∙ ap (framed w16) (sym same);
-    }
 
 -- ---- a request comes
 

@@ -5,6 +5,7 @@
 #![tactic(auto)]
 
 mod ask;
+mod bodies;
 mod laws;
 mod lookup_error;
 mod mapper;
@@ -13,6 +14,7 @@ mod registration;
 mod serve;
 
 pub use ask::{ask_names, lookup};
+pub use bodies::{Arrived, read_frame};
 pub use dist_streams::{FaultStream, Heard, SocketStream, Stream, Took, TurnError};
 pub use laws::registrations_that_are_lent;
 pub use lookup_error::LookupError;

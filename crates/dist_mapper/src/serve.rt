@@ -1,15 +1,16 @@
 //! One request of a client, served.
 
-ghost use Rattle.std.specs.Prelude.{◌≡◌, length};
+ghost use Rattle.std.specs.Prelude.{◌≡◌};
 ghost use Rattle.dist_mapper.specs.Serving.{AfterCut, Serves, served_as};
-ghost use Rattle.dist_mapper.specs.Steps.{HearsBody, HearsLen, HearsRequest, SaysAnswer, SaysReply};
+ghost use Rattle.dist_mapper.specs.Steps.{HearsBody, HearsRequest, SaysAnswer, SaysReply};
 
+use crate::bodies::{Arrived, read_frame};
 use crate::lookup_error::LookupError;
 use crate::mapper::Mapper;
-use crate::refusals::whole_refusal;
+use crate::refusals::{lookup_error, whole_refusal};
 use dist_epmd::{Answer, Request, decode_request, encode_answer};
 use dist_names::ByteString;
-use dist_streams::{Limited, Stream, TurnError};
+use dist_streams::{Limited, Stream};
 use std::alloc::Global;
 
 /// How a request was served.
@@ -21,16 +22,6 @@ pub enum Served {
     Answered,
 }
 
-// The length of the next frame, which is read into the header.
-fn read_len<S: Stream>(limited: &mut Limited<'_, S>, header: &mut [u8]) -> Result<usize, TurnError>
-    requires { length header.old ≡ 2 }
-    ensures hears { HearsLen (S.meaning limited.old.stream.now) (S.meaning limited.new.stream.now) limited.old.left limited.new.left result }
-    ensures loan { limited.new.stream.ghost_name ≡ limited.old.stream.ghost_name }
-{
-    limited.read_exact(header)?;
-    Ok(u16::from_be_bytes([header[0], header[1]]) as usize)
-}
-
 // The body of the next frame.
 fn read_body<S: Stream>(
     alloc: Global,
@@ -39,10 +30,12 @@ fn read_body<S: Stream>(
     ensures hears { HearsBody (S.meaning limited.old.stream.now) (S.meaning limited.new.stream.now) limited.old.left limited.new.left result }
     ensures loan { limited.new.stream.ghost_name ≡ limited.old.stream.ghost_name }
 {
-    let len = read_len(limited, &mut [0; 2])?;
-    let mut body = vec![in alloc; 0u8; len]?;
-    limited.read_exact(&mut body)?;
-    Ok(ByteString::from_vec(body))
+    match read_frame(alloc, limited, u16::MAX) {
+        Arrived::Body(body) => Ok(body),
+        Arrived::Long(_) => unreachable!(),
+        Arrived::Stopped(fault) => Err(lookup_error(fault)),
+        Arrived::NoMemory => Err(LookupError::NoMemory),
+    }
 }
 
 // The next request.

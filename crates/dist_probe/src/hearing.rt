@@ -1,9 +1,9 @@
 //! One message of the node.
 
-ghost use Rattle.std.specs.Prelude.{◌≡◌, length};
-ghost use Rattle.dist_mapper.specs.Steps.{HearsLen};
+ghost use Rattle.std.specs.Prelude.{◌≡◌};
 ghost use Rattle.dist_probe.specs.Hearing.{HearsMessage, IsHeardIn, heard_instead};
 
+use dist_mapper::{Arrived, read_frame};
 use dist_messages::{Message, MessageError, Side, decode};
 use dist_streams::{Limited, Stream, TurnError};
 use std::alloc::Global;
@@ -53,16 +53,6 @@ fn heard_in(alloc: Global, body: &[u8]) -> Heard
     }
 }
 
-// The length of the next frame, which is read into the header.
-fn hear_len<S: Stream>(limited: &mut Limited<'_, S>, header: &mut [u8]) -> Result<u16, TurnError>
-    requires { length header.old ≡ 2 }
-    ensures hears { HearsLen (S.meaning limited.old.stream.now) (S.meaning limited.new.stream.now) limited.old.left limited.new.left result }
-    ensures loan { limited.new.stream.ghost_name ≡ limited.old.stream.ghost_name }
-{
-    limited.read_exact(header)?;
-    Ok(u16::from_be_bytes([header[0], header[1]]))
-}
-
 /// The next message of the node, within the turns that are left. It writes nothing.
 ///
 /// Of a frame whose length is above 1,024 the length alone is read.
@@ -70,18 +60,10 @@ pub fn hear<S: Stream>(alloc: Global, limited: &mut Limited<'_, S>) -> Heard
     ensures hears { HearsMessage (S.meaning limited.old.stream.now) (S.meaning limited.new.stream.now) limited.old.left limited.new.left result }
     ensures loan { limited.new.stream.ghost_name ≡ limited.old.stream.ghost_name }
 {
-    let len = match hear_len(limited, &mut [0; 2]) {
-        Ok(len) => len,
-        Err(fault) => return heard_instead(fault),
-    };
-    if len > MOST {
-        return Heard::Length(len);
-    }
-    let Ok(mut body) = vec![in alloc; 0u8; len as usize] else {
-        return Heard::NoMemory;
-    };
-    match limited.read_exact(&mut body) {
-        Ok(()) => heard_in(alloc, &body),
-        Err(fault) => heard_instead(fault),
+    match read_frame(alloc, limited, MOST) {
+        Arrived::Body(body) => heard_in(alloc, body.as_slice()),
+        Arrived::Long(len) => Heard::Length(len),
+        Arrived::Stopped(fault) => heard_instead(fault),
+        Arrived::NoMemory => Heard::NoMemory,
     }
 }
