@@ -51,6 +51,11 @@ abbrev pub told : Reader → Reader
 told (Short pending) = Short pending
 told (Linked ended rest) = Linked 0 rest
 
+-- the bytes that were fed and not moved out, where the reader keeps them: a linked one keeps none of packets
+abbrev pub rest_of : Reader → List ℕ
+rest_of (Short pending) = pending
+rest_of (Linked ended rest) = []
+
 -- the reader was linked
 abbrev pub IsLinked : Reader → Type 0
 IsLinked (Short pending) = ⊥

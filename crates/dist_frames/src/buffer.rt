@@ -92,4 +92,17 @@ impl Buffer {
         }
         Ok(())
     }
+
+    /// The bytes themselves. It takes no memory.
+    pub fn into_bytes(self) -> Vec<u8>
+        ensures { result.items ≡ self }
+    {
+        let Buffer {
+            mut bytes,
+            start,
+            ..
+        } = self;
+        let _ = bytes.drain(..start);
+        bytes
+    }
 }

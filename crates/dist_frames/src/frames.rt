@@ -1,5 +1,5 @@
 ghost use Rattle.std.specs.Prelude.{◌≡◌, [], option_map, option_copied, OnOk, OnErr, IfOk, IsOk, IsSome, MatchOption, drop, ◌∷◌};
-ghost use Rattle.dist_frames.specs.Reader.{fed, next_body, to_come, without_next, linked, untold, told, IsLinked};
+ghost use Rattle.dist_frames.specs.Reader.{fed, next_body, to_come, without_next, linked, untold, told, rest_of, IsLinked};
 ghost use Rattle.dist_frames.specs.Reader.Reader.{Short};
 
 use crate::buffer::Buffer;
@@ -142,6 +142,17 @@ impl Frames {
                 *ended = 0;
                 count
             }
+        }
+    }
+
+    /// Gives up the bytes that were fed and not moved out: those that stood behind the last body. A linked reader has dropped
+    /// the bytes of packets, and gives none. It takes no memory.
+    pub fn into_rest(self) -> Vec<u8>
+        ensures { result.items ≡ rest_of self }
+    {
+        match self.stage {
+            Stage::Short(pending) => pending.into_bytes(),
+            Stage::Linked { .. } => Vec::new(self.alloc),
         }
     }
 }
