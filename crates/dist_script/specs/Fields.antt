@@ -1,7 +1,103 @@
--- What the next word of a line says.
-use Rattle.std.specs.Prelude.{◌≡◌, ℕ, List, [], ◌∷◌, Option, None, SomeIff}
+-- What the words of a line say.
+use Rattle.std.specs.Prelude.{◌≡◌, ℕ, zero, suc, Bool, ◌&&◌, ◌^◌, nat_lt, nat_le, if◌then◌else◌, List, [], ◌∷◌, length, drop, codes, Option, Some, None, option_map, option_and_then, Result, MatchResult}
+use Rattle.std.specs.Result.{result_ok}
+use Rattle.std.specs.List.{list_all}
+use Rattle.std.specs.Char.{digit_value}
+use Rattle.std.specs.Str.Parse.{digits_value}
+use Rattle.hex.specs.Hex.{decode_of}
+use Rattle.dist_names.specs.NodeName.{named}
+use Rattle.dist_names.specs.Order.{same_name}
+use Rattle.dist_names.specs.declared.flags.Flags.{Flags}
+use Rattle.dist_names.specs.declared.creation.Creation.{Creation}
+use Rattle.dist_messages.specs.declared.opening.Opening.{Opening}
+use Rattle.dist_messages.specs.declared.opening.Opening.TheVariants as opening
+use Rattle.dist_peers.specs.declared.entry.EndId.{EndId}
+use Rattle.dist_ends.specs.declared.why.Why.{Why}
+use Rattle.dist_ends.specs.Words.{why_of}
+use Rattle.dist_words.specs.Digits.{flags_of}
+use Rattle.dist_words.specs.declared.words.LineFault.{LineFault}
+use Rattle.dist_words.specs.declared.words.LineFault.TheVariants.{Bad}
 
--- what the next word says, where it is of this form; nothing where it is not, or none is left
-abbrev pub FoundNext : {T : Type 0} → Option T → List (List ℕ) → (List ℕ → Type 0) → (List ℕ → T) → Type 0
-FoundNext r [] Form value = r ≡ None
-FoundNext r (word ∷ words) Form value = SomeIff r (Form word) (value word)
+-- ---- what a call answers that reads something
+
+-- The answer is what is there. Bad comes just where nothing is, want of memory apart.
+abbrev pub Reads : {T : Type 0} → Result T LineFault → Option T → Type 0
+Reads result there = MatchResult result (λ value. there ≡ Some value) (λ fault. fault ≡ Bad → there ≡ None)
+
+-- The same of a call that takes no memory: Bad is its one refusal.
+abbrev pub ReadsPlainly : {T : Type 0} → Result T LineFault → Option T → Type 0
+ReadsPlainly result there = MatchResult result (λ value. there ≡ Some value) (λ fault. (fault ≡ Bad) × (there ≡ None))
+
+-- what there is says, where there is something
+infixl 10 ◌>>=◌
+abbrev pub ◌>>=◌ : {A B : Type 0} → Option A → (A → Option B) → Option B
+o >>= f = option_and_then f o
+
+-- ---- words in a row
+
+-- what the first word says, where one is left
+abbrev pub first_in : {T : Type 0} → (List ℕ → Option T) → List (List ℕ) → Option T
+first_in says [] = None
+first_in says (word ∷ words) = says word
+
+-- the words behind the first so many
+abbrev pub behind : ℕ → List (List ℕ) → List (List ℕ)
+behind zero words = words
+behind (suc count) words = behind count (drop 1 words)
+
+-- no word is left
+abbrev pub if_done : {T : Type 0} → List (List ℕ) → T → Option T
+if_done [] x = Some x
+if_done (word ∷ words) x = None
+
+-- what a word stands for, by the first row of a table that has it
+abbrev pub meaning_in : {T : Type 0} → List (List ℕ × T) → List ℕ → Option T
+meaning_in [] word = None
+meaning_in (row ∷ rows) word = if same_name row.0 word then Some row.1 else meaning_in rows word
+
+-- ---- single words
+
+-- digits of this radix, at least one
+abbrev pub is_numeral : ℕ → List ℕ → Bool
+is_numeral radix word = nat_lt 0 (length word) && list_all (λ byte. nat_lt (digit_value byte) radix) word
+
+-- the number below 2^bits that decimal digits write
+abbrev pub number_in : ℕ → List ℕ → Option ℕ
+number_in bits word = if is_numeral 10 word && nat_lt (digits_value 10 word) (2 ^ bits) then Some (digits_value 10 word) else None
+
+-- the place of a node, the number of a connection, or how many
+abbrev pub count_in : List ℕ → Option ℕ
+count_in word = number_in 32 word
+
+-- a creation
+abbrev pub creation_in : List ℕ → Option Creation
+creation_in word = option_map (λ number. record { 0 = number }) (number_in 32 word)
+
+-- the number of an end
+abbrev pub end_in : List ℕ → Option EndId
+end_in word = option_map (λ number. record { 0 = number }) (number_in 32 word)
+
+-- flags, in 1 to 16 hexadecimal digits
+abbrev pub flags_in : List ℕ → Option Flags
+flags_in word = if is_numeral 16 word && nat_le (length word) 16 then Some (flags_of word) else None
+
+-- bytes, two hexadecimal digits for each, at least one
+abbrev pub bytes_in : List ℕ → Option (List ℕ)
+bytes_in [] = None
+bytes_in (digit ∷ digits) = result_ok (decode_of (digit ∷ digits))
+
+-- the name of a node
+abbrev pub name_in : List ℕ → Option (List ℕ)
+name_in word = result_ok (named word)
+
+-- the two forms of a name message
+abbrev pub openings : List (List ℕ × Opening)
+openings = (codes "new", opening.New) ∷ (codes "old", opening.Old) ∷ []
+
+-- a form of a name message
+abbrev pub opening_in : List ℕ → Option Opening
+opening_in word = meaning_in openings word
+
+-- a cause, by the word that tells it
+abbrev pub why_in : List ℕ → Option Why
+why_in word = why_of word

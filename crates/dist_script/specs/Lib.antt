@@ -1,1 +1,4 @@
 pub mod Fields
+pub mod Events
+pub mod Happenings
+pub mod Nodes

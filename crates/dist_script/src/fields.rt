@@ -1,23 +1,24 @@
 //! The words of a script's lines: names, numbers, causes, and the words that a table has.
 
-ghost use Rattle.std.specs.Prelude.{◌≡◌, drop};
-ghost use Rattle.std.specs.Str.Parse.{digits_value};
-ghost use Rattle.dist_names.specs.NodeName.{IsNodeName};
-ghost use Rattle.dist_words.specs.Words.{ReadsIf, ReadsNext, IsDecimal};
-ghost use Rattle.dist_script.specs.Fields.{FoundNext};
+ghost use Rattle.std.specs.Prelude.{◌≡◌, ◌↔◌, ℕ, List, [], drop, map, IsTrue, MatchResult};
+ghost use Rattle.std.specs.Result.{result_ok};
+ghost use Rattle.dist_names.specs.NodeName.{named};
+ghost use Rattle.dist_names.specs.Order.{same_name};
+ghost use Rattle.dist_words.specs.declared.words.LineFault.TheVariants.{Bad};
+ghost use Rattle.dist_script.specs.Fields.{Reads, ReadsPlainly, first_in, meaning_in, number_in, count_in, end_in, bytes_in, name_in, opening_in, why_in};
 
 use dist_core::{Opening, Why};
-use dist_names::{NameError, NodeName};
+use dist_names::{ByteString, NameError, NodeName};
 use dist_numerals::{number_32, number_64};
 use dist_peers::EndId;
-use dist_words::{LineFault, Words};
+use dist_words::{LineFault, Words, bytes_of};
 use std::alloc::Global;
 
 const OPENINGS: [(&str, Opening); 2] = [("new", Opening::New), ("old", Opening::Old)];
 
 /// The name that a word is.
 pub fn name_of(alloc: Global, word: &[u8]) -> Result<NodeName, LineFault>
-    ensures { ReadsIf result (IsNodeName word.now) word.now }
+    ensures { Reads result (result_ok (named word.now)) }
 {
     match NodeName::new(alloc, word) {
         Ok(name) => Ok(name),
@@ -28,46 +29,98 @@ pub fn name_of(alloc: Global, word: &[u8]) -> Result<NodeName, LineFault>
 
 /// The name that the next word is.
 pub fn name_word(alloc: Global, words: &mut Words<'_>) -> Result<NodeName, LineFault>
-    ensures reads { ReadsNext result words.old IsNodeName (λ word. word) }
+    ensures reads { Reads result (first_in name_in words.old) }
     ensures rest { words.new ≡ drop 1 words.old }
 {
     name_of(alloc, words.word()?)
 }
 
 /// The number below 2^32 that the next word is.
-pub fn number_word(words: &mut Words<'_>) -> Option<u32>
-    ensures reads { FoundNext result words.old (IsDecimal 32) (digits_value 10) }
+#[tactic(auto, using(crate::proofs::Reading::number_read))]
+pub fn number_word(words: &mut Words<'_>) -> Result<u32, LineFault>
+    ensures reads { ReadsPlainly result (first_in (number_in 32) words.old) }
     ensures rest { words.new ≡ drop 1 words.old }
 {
-    number_32(words.next()?)
+    match number_32(words.word()?) {
+        Some(number) => Ok(number),
+        None => Err(LineFault::Bad),
+    }
+}
+
+/// The place of a node, the number of a connection, or how many, as the next word says.
+pub fn count_word(words: &mut Words<'_>) -> Result<usize, LineFault>
+    ensures reads { ReadsPlainly result (first_in count_in words.old) }
+    ensures rest { words.new ≡ drop 1 words.old }
+{
+    Ok(number_word(words)? as usize)
 }
 
 /// The number of an end that the next word is.
-pub fn end_word(words: &mut Words<'_>) -> Option<EndId> {
-    Some(EndId(number_word(words)?))
+pub fn end_word(words: &mut Words<'_>) -> Result<EndId, LineFault>
+    ensures reads { ReadsPlainly result (first_in end_in words.old) }
+    ensures rest { words.new ≡ drop 1 words.old }
+{
+    Ok(EndId(number_word(words)?))
 }
 
 /// The number below 2^64 of a connection that the next word is.
-pub fn link_word(words: &mut Words<'_>) -> Option<u64>
-    ensures { FoundNext result words.old (IsDecimal 64) (digits_value 10) }
+#[tactic(auto, using(crate::proofs::Reading::number_read))]
+pub fn link_word(words: &mut Words<'_>) -> Result<u64, LineFault>
+    ensures reads { ReadsPlainly result (first_in (number_in 64) words.old) }
+    ensures rest { words.new ≡ drop 1 words.old }
 {
-    number_64(words.next()?)
+    match number_64(words.word()?) {
+        Some(number) => Ok(number),
+        None => Err(LineFault::Bad),
+    }
 }
 
 /// The form of a name message that the next word is.
-pub fn opening_word(words: &mut Words<'_>) -> Option<Opening> {
-    meaning_of(&OPENINGS, words.next()?)
+pub fn opening_word(words: &mut Words<'_>) -> Result<Opening, LineFault>
+    ensures reads { ReadsPlainly result (first_in opening_in words.old) }
+    ensures rest { words.new ≡ drop 1 words.old }
+{
+    meaning_of(&OPENINGS, words.word()?).ok_or(LineFault::Bad)
+}
+
+// The cause that a word is.
+fn why_of(word: &[u8]) -> Option<Why>
+    ensures { result ≡ why_in word.now }
+{
+    Why::of_name(word)
 }
 
 /// The cause that the next word is.
-pub fn why_word(words: &mut Words<'_>) -> Option<Why> {
-    Why::of_name(words.next()?)
+pub fn why_word(words: &mut Words<'_>) -> Result<Why, LineFault>
+    ensures reads { ReadsPlainly result (first_in why_in words.old) }
+    ensures rest { words.new ≡ drop 1 words.old }
+{
+    match why_of(words.word()?) {
+        Some(why) => Ok(why),
+        None => Err(LineFault::Bad),
+    }
+}
+
+/// The bytes that a word's digits write.
+pub fn bytes_from(alloc: Global, word: &[u8]) -> Result<ByteString, LineFault>
+    ensures { Reads result (bytes_in word.now) }
+{
+    bytes_of(alloc, word)
+}
+
+// Whether two words are one.
+fn is_same(known: &str, word: &[u8]) -> bool
+    ensures { result ≡ same_name known.now word.now }
+{
+    known.as_bytes().cmp(word).is_eq()
 }
 
 /// What a word stands for in a table of words.
-pub fn meaning_of<T: Copy>(table: &[(&'static str, T)], word: &[u8]) -> Option<T> {
+pub fn meaning_of<T: Copy>(table: &[(&'static str, T)], word: &[u8]) -> Option<T>
+    ensures { result ≡ meaning_in (map (λ row. (row.0.now, row.1)) table.now) word.now }
+{
     for (known, meaning) in table {
-        if known.as_bytes() == word {
+        if is_same(known, word) {
             return Some(*meaning);
         }
     }
@@ -75,7 +128,9 @@ pub fn meaning_of<T: Copy>(table: &[(&'static str, T)], word: &[u8]) -> Option<T
 }
 
 /// The end of a line, where no word is left.
-pub fn line_end(words: &Words<'_>) -> Result<(), LineFault> {
+pub fn line_end(words: &Words<'_>) -> Result<(), LineFault>
+    ensures { MatchResult result (λ _. words.now ≡ []) (λ fault. (fault ≡ Bad) × ¬ (words.now ≡ [])) }
+{
     if words.is_done() {
         Ok(())
     } else {

@@ -1,6 +1,12 @@
 //! The lines of a script that say what happens in a world.
 
-use crate::fields::{line_end, meaning_of, name_of, number_word, opening_word, why_word};
+ghost use Rattle.std.specs.Prelude.{◌≡◌, OnOk};
+ghost use Rattle.dist_script.specs.Fields.{Reads, behind};
+ghost use Rattle.dist_script.specs.Happenings.{words_behind, dial_in, told_in, line_in};
+
+use crate::fields::{
+    count_word, end_word, line_end, meaning_of, name_of, number_word, opening_word, why_word,
+};
 use dist_agreement::Happening;
 use dist_names::Creation;
 use dist_peers::EndId;
@@ -21,32 +27,28 @@ enum Kind {
     Tick,
 }
 
-// The first word of each line, and how many numbers stand behind it.
-const KINDS: [(&str, (Kind, usize)); 10] = [
-    ("begin", (Kind::Begin, 2)),
-    ("halt", (Kind::Halt, 1)),
-    ("dial", (Kind::Dial, 1)),
-    ("reach", (Kind::Reach, 3)),
-    ("opened", (Kind::Opened, 2)),
-    ("accept", (Kind::Accept, 1)),
-    ("deliver", (Kind::Deliver, 3)),
-    ("take", (Kind::Take, 3)),
-    ("lose", (Kind::Lose, 2)),
-    ("tick", (Kind::Tick, 2)),
+// The first word of each kind of line.
+const KINDS: [(&str, Kind); 10] = [
+    ("begin", Kind::Begin),
+    ("halt", Kind::Halt),
+    ("dial", Kind::Dial),
+    ("reach", Kind::Reach),
+    ("opened", Kind::Opened),
+    ("accept", Kind::Accept),
+    ("deliver", Kind::Deliver),
+    ("take", Kind::Take),
+    ("lose", Kind::Lose),
+    ("tick", Kind::Tick),
 ];
 
-// So many of the next words as numbers below 2^32, and 0 for the others.
-fn numbers(words: &mut Words<'_>, count: usize) -> Option<[u32; 3]> {
-    let mut numbers = [0u32; 3];
-    for number in numbers.iter_mut().take(count) {
-        *number = number_word(words)?;
-    }
-    Some(numbers)
-}
-
-fn dial(alloc: Global, node: usize, words: &mut Words<'_>) -> Result<Happening, LineFault> {
+// A node, its peer, and the form in which that is spoken to.
+fn dial(alloc: Global, words: &mut Words<'_>) -> Result<Happening, LineFault>
+    ensures reads { Reads result (dial_in words.old) }
+    ensures rest { OnOk result (words.new ≡ behind 3 words.old) }
+{
+    let node = count_word(words)?;
     let peer = words.word()?;
-    let opening = opening_word(words).ok_or(LineFault::Bad)?;
+    let opening = opening_word(words)?;
     let peer = name_of(alloc, peer)?;
     Ok(Happening::Dial {
         node,
@@ -55,66 +57,67 @@ fn dial(alloc: Global, node: usize, words: &mut Words<'_>) -> Result<Happening, 
     })
 }
 
-fn lose(node: usize, end_: EndId, words: &mut Words<'_>) -> Result<Happening, LineFault> {
-    match why_word(words) {
-        Some(why) => Ok(Happening::Lose { node, end_, why }),
-        None => Err(LineFault::Bad),
-    }
-}
-
-// What happens, by the numbers: the place of a node or the number of a connection, mostly the number of an end, and what
-// else there is.
-fn happening(
-    alloc: Global,
-    kind: Kind,
-    [first, second, third]: [u32; 3],
-    words: &mut Words<'_>,
-) -> Result<Happening, LineFault> {
-    let (node, end_) = (first as usize, EndId(second));
+// What happens, in the words behind the first.
+fn told(alloc: Global, kind: Kind, words: &mut Words<'_>) -> Result<Happening, LineFault>
+    ensures reads { Reads result (told_in kind words.old) }
+    ensures rest { OnOk result (words.new ≡ behind (words_behind kind) words.old) }
+{
     Ok(match kind {
-        Kind::Dial => return dial(alloc, node, words),
-        Kind::Lose => return lose(node, end_, words),
+        Kind::Dial => return dial(alloc, words),
         Kind::Begin => Happening::Begin {
-            node,
-            creation: Creation(second),
+            node: count_word(words)?,
+            creation: Creation(number_word(words)?),
         },
-        Kind::Halt => Happening::Halt { node },
+        Kind::Halt => Happening::Halt {
+            node: count_word(words)?,
+        },
         Kind::Reach => Happening::Reach {
-            node,
-            end_,
-            target: third as usize,
+            node: count_word(words)?,
+            end_: end_word(words)?,
+            target: count_word(words)?,
         },
-        Kind::Opened => Happening::Opened { node, end_ },
+        Kind::Opened => Happening::Opened {
+            node: count_word(words)?,
+            end_: end_word(words)?,
+        },
         Kind::Accept => Happening::Accept {
-            conn: first as usize,
+            conn: count_word(words)?,
         },
         Kind::Deliver => Happening::Deliver {
-            node,
-            end_,
-            bytes: third as usize,
+            node: count_word(words)?,
+            end_: end_word(words)?,
+            bytes: count_word(words)?,
         },
         Kind::Take => Happening::Take {
-            node,
-            end_,
-            fresh: third,
+            node: count_word(words)?,
+            end_: end_word(words)?,
+            fresh: number_word(words)?,
         },
-        Kind::Tick => Happening::Tick { node, end_ },
+        Kind::Lose => Happening::Lose {
+            node: count_word(words)?,
+            end_: end_word(words)?,
+            why: why_word(words)?,
+        },
+        Kind::Tick => Happening::Tick {
+            node: count_word(words)?,
+            end_: end_word(words)?,
+        },
     })
 }
 
 /// What a line says that happens, from its first word and those behind it.
+#[tactic(auto, using(crate::proofs::Reading::not_done))]
 pub fn happening_of(
     alloc: Global,
     word: &[u8],
     words: &mut Words<'_>,
-) -> Result<Happening, LineFault> {
-    let Some((kind, count)) = meaning_of(&KINDS, word) else {
+) -> Result<Happening, LineFault>
+    ensures { Reads result (line_in word.now words.old) }
+{
+    let Some(kind) = meaning_of(&KINDS, word) else {
         return Err(LineFault::Bad);
     };
-    let Some(numbers) = numbers(words, count) else {
-        return Err(LineFault::Bad);
-    };
-    let happening = happening(alloc, kind, numbers, words)?;
+    let told = told(alloc, kind, words)?;
     line_end(words)?;
-    Ok(happening)
+    Ok(told)
 }

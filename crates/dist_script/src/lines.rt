@@ -1,12 +1,17 @@
 //! The lines of a script that tell its one node something.
 
+ghost use Rattle.std.specs.Prelude.{◌≡◌, OnOk};
+ghost use Rattle.dist_script.specs.Fields.{Reads, behind};
+ghost use Rattle.dist_script.specs.Events.{words_behind, dial_in, came_in, told_in, line_in};
+
 use crate::fields::{
-    end_word, line_end, link_word, meaning_of, name_of, number_word, opening_word, why_word,
+    bytes_from, end_word, line_end, link_word, meaning_of, name_of, number_word, opening_word,
+    why_word,
 };
 use crate::script::Line;
 use dist_core::Event;
 use dist_peers::EndId;
-use dist_words::{LineFault, Words, bytes_of};
+use dist_words::{LineFault, Words};
 use std::alloc::Global;
 
 // What a line tells the node.
@@ -30,61 +35,59 @@ const KINDS: [(&str, Kind); 6] = [
     ("tick", Kind::Tick),
 ];
 
-// What is told, where nothing of it is kept in memory of its own.
-fn event(kind: Kind, words: &mut Words<'_>) -> Option<Event> {
-    match kind {
-        Kind::Incoming => {
-            let link = link_word(words)?;
-            Some(Event::Incoming { link })
-        }
-        Kind::Opened => {
-            let end_ = end_word(words)?;
-            let link = link_word(words)?;
-            Some(Event::Opened { end_, link })
-        }
-        Kind::Lost => {
-            let end_ = end_word(words)?;
-            let why = why_word(words)?;
-            Some(Event::Lost { end_, why })
-        }
-        Kind::Tick => {
-            let end_ = end_word(words)?;
-            Some(Event::Tick { end_ })
-        }
-        Kind::Dial | Kind::Bytes => None,
-    }
-}
-
-fn dial(alloc: Global, words: &mut Words<'_>) -> Result<Line, LineFault> {
+// A peer, and the form in which it is spoken to.
+fn dial(alloc: Global, words: &mut Words<'_>) -> Result<Line, LineFault>
+    ensures reads { Reads result (dial_in words.old) }
+    ensures rest { OnOk result (words.new ≡ behind 2 words.old) }
+{
     let peer = words.word()?;
-    let opening = opening_word(words).ok_or(LineFault::Bad)?;
+    let opening = opening_word(words)?;
     let peer = name_of(alloc, peer)?;
     Ok(Line::Event(Event::Dial { peer, opening }))
 }
 
-// The number of an end, the digits of what came, and a fresh number.
-fn bytes_words<'a>(words: &mut Words<'a>) -> Option<(EndId, &'a [u8], u32)> {
-    Some((end_word(words)?, words.next()?, number_word(words)?))
-}
-
-fn bytes(alloc: Global, words: &mut Words<'_>) -> Result<Line, LineFault> {
-    let Some((end_, digits, fresh)) = bytes_words(words) else {
-        return Err(LineFault::Bad);
-    };
-    let bytes = bytes_of(alloc, digits)?;
+// What came for an end: its number, the digits of the bytes, and a fresh number.
+fn bytes(alloc: Global, words: &mut Words<'_>) -> Result<Line, LineFault>
+    ensures reads { Reads result (came_in words.old) }
+    ensures rest { OnOk result (words.new ≡ behind 3 words.old) }
+{
+    let end_ = end_word(words)?;
+    let digits = words.word()?;
+    let fresh = number_word(words)?;
+    let bytes = bytes_from(alloc, digits)?;
     Ok(Line::Bytes { end_, bytes, fresh })
 }
 
-fn told(alloc: Global, kind: Kind, words: &mut Words<'_>) -> Result<Line, LineFault> {
-    match kind {
-        Kind::Bytes => bytes(alloc, words),
-        Kind::Dial => dial(alloc, words),
-        kind => event(kind, words).map(Line::Event).ok_or(LineFault::Bad),
-    }
+// What is told, in the words behind the first.
+fn told(alloc: Global, kind: Kind, words: &mut Words<'_>) -> Result<Line, LineFault>
+    ensures reads { Reads result (told_in kind words.old) }
+    ensures rest { OnOk result (words.new ≡ behind (words_behind kind) words.old) }
+{
+    Ok(Line::Event(match kind {
+        Kind::Bytes => return bytes(alloc, words),
+        Kind::Dial => return dial(alloc, words),
+        Kind::Incoming => Event::Incoming {
+            link: link_word(words)?,
+        },
+        Kind::Opened => Event::Opened {
+            end_: end_word(words)?,
+            link: link_word(words)?,
+        },
+        Kind::Lost => Event::Lost {
+            end_: end_word(words)?,
+            why: why_word(words)?,
+        },
+        Kind::Tick => Event::Tick {
+            end_: end_word(words)?,
+        },
+    }))
 }
 
 /// What a line tells the node, from its first word and those behind it.
-pub fn line_of(alloc: Global, word: &[u8], words: &mut Words<'_>) -> Result<Line, LineFault> {
+#[tactic(auto, using(crate::proofs::Reading::not_done))]
+pub fn line_of(alloc: Global, word: &[u8], words: &mut Words<'_>) -> Result<Line, LineFault>
+    ensures { Reads result (line_in word.now words.old) }
+{
     let Some(kind) = meaning_of(&KINDS, word) else {
         return Err(LineFault::Bad);
     };

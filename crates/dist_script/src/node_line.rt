@@ -1,8 +1,10 @@
 //! The line of a script that sets the node up.
 
-ghost use Rattle.std.specs.Prelude.{◌≡◌, drop};
-ghost use Rattle.dist_script.specs.Fields.{FoundNext};
-ghost use Rattle.dist_words.specs.Digits.{AreFlags, flags_of};
+ghost use Rattle.std.specs.Prelude.{◌≡◌, drop, Some, None, OnOk, MatchResult};
+ghost use Rattle.std.specs.List.{list_all};
+ghost use Rattle.dist_words.specs.declared.words.LineFault.TheVariants.{Bad};
+ghost use Rattle.dist_script.specs.Fields.{Reads, ReadsPlainly, behind, first_in, creation_in, flags_in};
+ghost use Rattle.dist_script.specs.Nodes.{version_in, behind_version, required_in, behind_required, is_visible, cookie_in, cookie_added, further_in, cookies_in, names_in, allowed_in, terms_in, behind_terms, node_in};
 
 use crate::fields::{line_end, name_of, name_word, number_word};
 use dist_core::{NameList, Setup, Version};
@@ -11,19 +13,40 @@ use dist_secret::{Cookie, CookieError, Cookies, CookiesError};
 use dist_words::{LineFault, Words, flags_value};
 use std::alloc::Global;
 
-fn flags_word(words: &mut Words<'_>) -> Option<Flags>
-    ensures { FoundNext result words.old AreFlags flags_of }
+#[tactic(auto, using(crate::proofs::Reading::flags_read))]
+fn flags_word(words: &mut Words<'_>) -> Result<Flags, LineFault>
+    ensures reads { ReadsPlainly result (first_in flags_in words.old) }
+    ensures rest { words.new ≡ drop 1 words.old }
 {
-    Some(Flags(flags_value(words.next()?)?))
+    match flags_value(words.word()?) {
+        Some(flags) => Ok(Flags(flags)),
+        None => Err(LineFault::Bad),
+    }
 }
 
-fn are_cookie_bytes(word: &[u8]) -> bool {
-    word.iter().all(|byte| 0x21 <= *byte && *byte <= 0x7E)
+fn creation_word(words: &mut Words<'_>) -> Result<Creation, LineFault>
+    ensures reads { ReadsPlainly result (first_in creation_in words.old) }
+    ensures rest { words.new ≡ drop 1 words.old }
+{
+    Ok(Creation(number_word(words)?))
+}
+
+fn are_visible(word: &[u8]) -> bool
+    ensures { result ≡ list_all is_visible word.now }
+{
+    for byte in word {
+        if *byte < 0x21 || 0x7E < *byte {
+            return false;
+        }
+    }
+    true
 }
 
 // The cookie that a word is.
-fn cookie_of(alloc: Global, word: &[u8]) -> Result<Cookie, LineFault> {
-    if !are_cookie_bytes(word) {
+fn cookie_of(alloc: Global, word: &[u8]) -> Result<Cookie, LineFault>
+    ensures { Reads result (cookie_in word.now) }
+{
+    if !are_visible(word) {
         return Err(LineFault::Bad);
     }
     match Cookie::from_bytes(alloc, word) {
@@ -34,7 +57,9 @@ fn cookie_of(alloc: Global, word: &[u8]) -> Result<Cookie, LineFault> {
 }
 
 // A cookie for this peer, which has none of its own yet.
-fn set_cookie(cookies: &mut Cookies, peer: NodeName, cookie: Cookie) -> Result<(), LineFault> {
+fn set_cookie(cookies: &mut Cookies, peer: NodeName, cookie: Cookie) -> Result<(), LineFault>
+    ensures { MatchResult result (λ _. cookie_added cookies.old peer cookie ≡ Some cookies.new) (λ fault. fault ≡ Bad → cookie_added cookies.old peer cookie ≡ None) }
+{
     let before = cookies.len();
     match cookies.set(peer, cookie) {
         Ok(()) if before < cookies.len() => Ok(()),
@@ -45,7 +70,8 @@ fn set_cookie(cookies: &mut Cookies, peer: NodeName, cookie: Cookie) -> Result<(
 
 // The next two words: a peer, and the cookie for it.
 fn add_cookie(alloc: Global, cookies: &mut Cookies, words: &mut Words<'_>) -> Result<(), LineFault>
-    ensures { words.new ≡ drop 2 words.old }
+    ensures adds { MatchResult result (λ _. further_in cookies.old words.old ≡ Some cookies.new) (λ fault. fault ≡ Bad → further_in cookies.old words.old ≡ None) }
+    ensures rest { words.new ≡ drop 2 words.old }
 {
     let peer = words.word()?;
     let cookie = words.word()?;
@@ -53,86 +79,110 @@ fn add_cookie(alloc: Global, cookies: &mut Cookies, words: &mut Words<'_>) -> Re
     set_cookie(cookies, peer, cookie_of(alloc, cookie)?)
 }
 
-// The usual cookie, and the cookies of peers that have their own, each behind `cookie` and the peer's name.
-fn cookies(alloc: Global, usual: &[u8], words: &mut Words<'_>) -> Result<Cookies, LineFault> {
-    let mut cookies = Cookies::new(alloc, cookie_of(alloc, usual)?);
+// Adds cookies of peers, each behind `cookie` and the peer's name.
+#[tactic(auto, using(crate::proofs::Rows::one_cookie, crate::proofs::Rows::bad_cookie))]
+fn add_cookies(alloc: Global, cookies: &mut Cookies, words: &mut Words<'_>) -> Result<(), LineFault>
+    ensures { MatchResult result (λ _. cookies_in cookies.old words.old ≡ Some (record { table = cookies.new; rest = words.new })) (λ fault. fault ≡ Bad → cookies_in cookies.old words.old ≡ None) }
+{
     'cookies: while words.skip(b"cookie") {
-        add_cookie(alloc, &mut cookies, words)?;
+        add_cookie(alloc, cookies, words)?;
     }
-    Ok(cookies)
+    Ok(())
 }
 
-// The names that are allowed, each behind `allow`. Without one of them all are.
-fn allowed(alloc: Global, words: &mut Words<'_>) -> Result<Option<NameList>, LineFault> {
-    if words.is_done() {
-        return Ok(None);
-    }
+// Names to the end of the line, each behind `allow`.
+#[tactic(auto, using(crate::proofs::Rows::no_names, crate::proofs::Rows::one_name, crate::proofs::Rows::bad_name, crate::proofs::Rows::all_named))]
+fn names(alloc: Global, words: &mut Words<'_>) -> Result<Vec<NodeName>, LineFault>
+    ensures { MatchResult result (λ names. names_in words.old ≡ Some names.items) (λ fault. fault ≡ Bad → names_in words.old ≡ None) }
+{
     let mut names = Vec::new(alloc);
     'names: while words.skip(b"allow") {
         names.push(name_word(alloc, words)?)?;
     }
-    line_end(words)?;
-    Ok(Some(NameList::from_vec(names)))
+    match line_end(words) {
+        Ok(()) => Ok(names),
+        Err(fault) => Err(fault),
+    }
+}
+
+// The names that are allowed. Without one of them all are.
+fn allowed(alloc: Global, words: &mut Words<'_>) -> Result<Option<NameList>, LineFault>
+    ensures { Reads result (allowed_in words.old) }
+{
+    if words.is_done() {
+        return Ok(None);
+    }
+    Ok(Some(NameList::from_vec(names(alloc, words)?)))
 }
 
 // The version, 5, behind `version`. Without it the node knows version 6.
-fn version(words: &mut Words<'_>) -> Option<Version> {
+#[tactic(auto, using(crate::proofs::Reading::begun, crate::proofs::Reading::not_begun))]
+fn version(words: &mut Words<'_>) -> Result<Version, LineFault>
+    ensures reads { ReadsPlainly result (version_in words.old) }
+    ensures rest { OnOk result (words.new ≡ behind_version words.old) }
+{
     if !words.skip(b"version") {
-        return Some(Version::Six);
+        return Ok(Version::Six);
     }
     if words.skip(b"5") {
-        Some(Version::Five)
+        Ok(Version::Five)
     } else {
-        None
+        Err(LineFault::Bad)
     }
 }
 
 // The flags that are required, behind `require`. Without it none are.
-fn required(words: &mut Words<'_>) -> Option<Flags> {
+#[tactic(auto, using(crate::proofs::Reading::begun, crate::proofs::Reading::not_begun))]
+fn required(words: &mut Words<'_>) -> Result<Flags, LineFault>
+    ensures reads { ReadsPlainly result (required_in words.old) }
+    ensures rest { OnOk result (words.new ≡ behind_required words.old) }
+{
     if words.skip(b"require") {
         flags_word(words)
     } else {
-        Some(Flags(0))
+        Ok(Flags(0))
     }
 }
 
-// What such a line says before its cookies of peers and its names.
+// How a node is met.
 #[derive(Clone, Copy)]
-struct Head<'a> {
-    name: &'a [u8],
-    cookie: &'a [u8],
+struct Terms {
     flags: Flags,
     creation: Creation,
     version: Version,
     required: Flags,
 }
 
-fn read_head<'a>(words: &mut Words<'a>) -> Option<Head<'a>> {
-    Some(Head {
-        name: words.next()?,
-        cookie: words.next()?,
+fn terms_of(words: &mut Words<'_>) -> Result<Terms, LineFault>
+    ensures reads { ReadsPlainly result (terms_in words.old) }
+    ensures rest { OnOk result (words.new ≡ behind_terms words.old) }
+{
+    Ok(Terms {
         flags: flags_word(words)?,
-        creation: Creation(number_word(words)?),
+        creation: creation_word(words)?,
         version: version(words)?,
         required: required(words)?,
     })
 }
 
 /// What a node is set up with, from the words behind `node`.
-pub fn setup_of(alloc: Global, words: &mut Words<'_>) -> Result<Setup, LineFault> {
-    let Some(head) = read_head(words) else {
-        return Err(LineFault::Bad);
-    };
-    let cookies = cookies(alloc, head.cookie, words)?;
+pub fn setup_of(alloc: Global, words: &mut Words<'_>) -> Result<Setup, LineFault>
+    ensures { Reads result (node_in words.old) }
+{
+    let name = words.word()?;
+    let cookie = words.word()?;
+    let terms = terms_of(words)?;
+    let mut cookies = Cookies::new(alloc, cookie_of(alloc, cookie)?);
+    add_cookies(alloc, &mut cookies, words)?;
     let allow = allowed(alloc, words)?;
-    let name = name_of(alloc, head.name)?;
+    let name = name_of(alloc, name)?;
     Ok(Setup {
         name,
         cookies,
-        version: head.version,
-        flags: head.flags,
-        required: head.required,
-        creation: head.creation,
+        version: terms.version,
+        flags: terms.flags,
+        required: terms.required,
+        creation: terms.creation,
         allow,
     })
 }

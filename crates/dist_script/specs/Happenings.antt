@@ -1,0 +1,77 @@
+-- The lines of a script that say what happens in a world.
+use Rattle.std.specs.Prelude.{ℕ, List, [], ◌∷◌, drop, codes, Option, Some}
+use Rattle.dist_agreement.specs.declared.happening.Happening.{Happening}
+use Rattle.dist_agreement.specs.declared.happening.Happening.TheVariants as happening
+use Rattle.dist_script.specs.declared.happenings.Kind.{Kind}
+use Rattle.dist_script.specs.declared.happenings.Kind.TheVariants as kind
+use Rattle.dist_script.specs.Fields.{◌>>=◌, behind, first_in, count_in, creation_in, if_done, meaning_in, end_in, name_in, opening_in, why_in}
+
+-- the first word of each kind of line
+abbrev pub happening_kinds : List (List ℕ × Kind)
+happening_kinds = (codes "begin", kind.Begin) ∷ (codes "halt", kind.Halt) ∷ (codes "dial", kind.Dial) ∷ (codes "reach", kind.Reach) ∷ (codes "opened", kind.Opened) ∷ (codes "accept", kind.Accept) ∷ (codes "deliver", kind.Deliver) ∷ (codes "take", kind.Take) ∷ (codes "lose", kind.Lose) ∷ (codes "tick", kind.Tick) ∷ []
+
+-- how many words stand behind the first
+abbrev pub words_behind : Kind → ℕ
+words_behind kind.Begin = 2
+words_behind kind.Halt = 1
+words_behind kind.Dial = 3
+words_behind kind.Reach = 3
+words_behind kind.Opened = 2
+words_behind kind.Accept = 1
+words_behind kind.Deliver = 3
+words_behind kind.Take = 3
+words_behind kind.Lose = 3
+words_behind kind.Tick = 2
+
+-- a node, its peer, and the form in which that is spoken to
+abbrev pub dial_in : List (List ℕ) → Option Happening
+dial_in words =
+    first_in count_in words >>= (λ node.
+    first_in opening_in (drop 1 (drop 1 words)) >>= (λ opening.
+    first_in name_in (drop 1 words) >>= (λ peer.
+    Some (happening.Dial node peer opening))))
+
+-- what the words behind the first say
+abbrev pub told_in : Kind → List (List ℕ) → Option Happening
+told_in kind.Begin words =
+    first_in count_in words >>= (λ node.
+    first_in creation_in (drop 1 words) >>= (λ creation.
+    Some (happening.Begin node creation)))
+told_in kind.Halt words = first_in count_in words >>= (λ node. Some (happening.Halt node))
+told_in kind.Dial words = dial_in words
+told_in kind.Reach words =
+    first_in count_in words >>= (λ node.
+    first_in end_in (drop 1 words) >>= (λ end_.
+    first_in count_in (drop 1 (drop 1 words)) >>= (λ target.
+    Some (happening.Reach node end_ target))))
+told_in kind.Opened words =
+    first_in count_in words >>= (λ node.
+    first_in end_in (drop 1 words) >>= (λ end_.
+    Some (happening.Opened node end_)))
+told_in kind.Accept words = first_in count_in words >>= (λ conn. Some (happening.Accept conn))
+told_in kind.Deliver words =
+    first_in count_in words >>= (λ node.
+    first_in end_in (drop 1 words) >>= (λ end_.
+    first_in count_in (drop 1 (drop 1 words)) >>= (λ bytes.
+    Some (happening.Deliver node end_ bytes))))
+told_in kind.Take words =
+    first_in count_in words >>= (λ node.
+    first_in end_in (drop 1 words) >>= (λ end_.
+    first_in count_in (drop 1 (drop 1 words)) >>= (λ fresh.
+    Some (happening.Take node end_ fresh))))
+told_in kind.Lose words =
+    first_in count_in words >>= (λ node.
+    first_in end_in (drop 1 words) >>= (λ end_.
+    first_in why_in (drop 1 (drop 1 words)) >>= (λ why.
+    Some (happening.Lose node end_ why))))
+told_in kind.Tick words =
+    first_in count_in words >>= (λ node.
+    first_in end_in (drop 1 words) >>= (λ end_.
+    Some (happening.Tick node end_)))
+
+-- THE LINE OF A HAPPENING: a first word of the table, what stands behind it, and no word more
+abbrev pub line_in : List ℕ → List (List ℕ) → Option Happening
+line_in word words =
+    meaning_in happening_kinds word >>= (λ kind.
+    told_in kind words >>= (λ told.
+    if_done (behind (words_behind kind) words) told))
