@@ -70,10 +70,10 @@
 //! let mut packets = Packets::new(alloc, 16_777_216);
 //! let mut ticker = Ticker::new(15_000, now);       // a quarter of net_ticktime
 //! match ticker.due(now) {
-//!     Due::Nothing { .. } => match stream.read(&mut room) {
-//!         Heard::Bytes(0) | Heard::Failed => ..    // the link is lost
-//!         Heard::Bytes(count) => { ticker.heard(now); packets.feed(&room[..count])? }
-//!         Heard::Quiet => {}                       // a turn went by
+//!     Due::Nothing { .. } => match limited.read(&mut room) {
+//!         Ok(0) => {}                              // a turn went by
+//!         Ok(count) => { ticker.heard(now); packets.feed(&room[..count])? }
+//!         Err(error) => ..                         // the link is lost
 //!     },
 //!     Due::Tick => { limited.write_all(&tick())?; ticker.said(now) }
 //!     Due::GiveUp => ..                            // nothing came for net_ticktime

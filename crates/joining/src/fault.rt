@@ -1,6 +1,6 @@
 //! What ends the program, and how that is told.
 
-use distribution::{CookieError, LookupError, PacketError, StepError, Why};
+use distribution::{CookieError, LookupError, PacketError, StepError, TurnError, Why};
 use std::alloc::{AllocError, AllocFailed};
 use std::io::{ErrorKind, Write};
 use std::{fmt, io};
@@ -37,6 +37,16 @@ pub enum Fault {
     WriteFailed,
     /// No memory was left.
     NoMemory,
+}
+
+/// The cause of a connection's end, where a read or a write failed.
+pub fn why_of(error: TurnError) -> Why {
+    match error {
+        TurnError::Ended => Why::Ended,
+        TurnError::ReadFailed => Why::ReadFailed,
+        TurnError::WriteFailed => Why::WriteFailed,
+        TurnError::Limit => Why::GaveUp,
+    }
 }
 
 impl Fault {

@@ -1,24 +1,12 @@
 //! The handshake of a dialled end, frame by frame. No byte behind a frame is read, so what follows the last one is still in the
 //! stream.
 
-use crate::fault::Fault;
-use distribution::{
-    ByteString, EndId, Event, Limited, Node, Reply, Stream, TurnError, UpRecord, Why,
-};
+use crate::fault::{Fault, why_of};
+use distribution::{ByteString, EndId, Event, Limited, Node, Reply, Stream, UpRecord, Why};
 use std::alloc::Global;
 
 /// How many frames a dialled end hears: a status, a challenge, an acknowledgement.
 const FRAMES: usize = 3;
-
-// Why a handshake ends where a read or a write failed.
-fn why_of(error: TurnError) -> Why {
-    match error {
-        TurnError::Ended => Why::Ended,
-        TurnError::ReadFailed => Why::ReadFailed,
-        TurnError::WriteFailed => Why::WriteFailed,
-        TurnError::Limit => Why::GaveUp,
-    }
-}
 
 // The body of the next frame.
 fn heard<S: Stream>(alloc: Global, limited: &mut Limited<'_, S>) -> Result<ByteString, Fault> {

@@ -1,8 +1,8 @@
 //! The link, once it is up: what comes is told, a tick is said where nothing was said for a while, and a silent peer is given
 //! up.
 
-use crate::fault::Fault;
-use distribution::{Due, Heard, Limited, Packets, Stream, Ticker, TurnError, Why, tick};
+use crate::fault::{Fault, why_of};
+use distribution::{Due, Limited, Packets, Stream, Ticker, Why, tick};
 use std::io::Write;
 use std::sync::atomic::{AtomicBool, Ordering};
 use std::time::{Clock, Instant};
@@ -15,9 +15,9 @@ const TURNS_OF_A_TICK: usize = 10;
 
 /// A link that is up.
 #[derive(Drop)]
-pub struct Link<'a, S> {
+pub struct Link<S> {
     /// The connection.
-    pub stream: &'a mut S,
+    pub stream: S,
     /// The packets that come on it.
     pub packets: Packets,
     /// When something was read and written last.
@@ -32,18 +32,21 @@ pub fn millis_since<R: Clock>(rt: &R, start: &Instant) -> Result<u64, Fault> {
     }
 }
 
-impl<'a, S: Stream> Link<'a, S> {
+impl<S: Stream> Link<S> {
     // Reads what has come, if something comes within a turn.
     fn hear(&mut self, now: u64) -> Result<(), Fault> {
         let mut room = [0u8; PIECE];
-        match self.stream.read(&mut room) {
-            Heard::Bytes(0) => Err(Fault::Lost(Why::Ended)),
-            Heard::Bytes(count) => {
+        let mut limited = Limited {
+            stream: &mut self.stream,
+            left: 1,
+        };
+        match limited.read(&mut room) {
+            Ok(0) => Ok(()),
+            Ok(count) => {
                 self.ticker.heard(now);
                 Ok(self.packets.feed(&room[..count])?)
             }
-            Heard::Quiet => Ok(()),
-            Heard::Failed => Err(Fault::Lost(Why::ReadFailed)),
+            Err(error) => Err(Fault::Lost(why_of(error))),
         }
     }
 
@@ -62,13 +65,15 @@ impl<'a, S: Stream> Link<'a, S> {
     // Says a tick.
     fn say_tick(&mut self, now: u64) -> Result<(), Fault> {
         let mut limited = Limited {
-            stream: &mut *self.stream,
+            stream: &mut self.stream,
             left: TURNS_OF_A_TICK,
         };
         match limited.write_all(&tick()) {
-            Ok(()) => Ok(self.ticker.said(now)),
-            Err(TurnError::Limit) => Err(Fault::Lost(Why::GaveUp)),
-            Err(_) => Err(Fault::Lost(Why::WriteFailed)),
+            Ok(()) => {
+                self.ticker.said(now);
+                Ok(())
+            }
+            Err(error) => Err(Fault::Lost(why_of(error))),
         }
     }
 

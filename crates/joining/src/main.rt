@@ -146,10 +146,7 @@ where
 {
     let cookie = cookie_of(rt, alloc, wanted.cookie_file)?;
     let name = own_name(alloc, wanted)?;
-    let Joined {
-        mut stream,
-        record,
-    } = join_node(rt, alloc, wanted, name, cookie)?;
+    let Joined { stream, record } = join_node(rt, alloc, wanted, name, cookie)?;
     let mut out = rt.stdout();
     tell_up(&mut out, &record)?;
     let ended = Arc::new(alloc, AtomicBool::new(false))?;
@@ -162,12 +159,12 @@ where
     };
     let quarter = u32::from(wanted.net_ticktime) * 250;
     let mut link = Link {
-        stream: &mut stream,
+        stream,
         packets: Packets::new(alloc, MOST_OF_PACKET),
         ticker: Ticker::new(quarter, 0),
     };
     link.stay(rt, &start, &ended, &mut out)?;
-    let _ = stream.shut();
+    let _ = link.stream.shut();
     writeln!(out, "left")?;
     Ok(())
 }
