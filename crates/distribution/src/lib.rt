@@ -87,7 +87,7 @@
 #![tactic(auto)]
 
 pub use dist_core::{
-    Event, NameList, Node, Note, Opening, Reply, Setup, Still, StepError, UpRecord, Version, Why,
+    Event, NameList, Node, Note, Opening, Reply, Setup, StepError, Still, UpRecord, Version, Why,
 };
 pub use dist_drive::{Desk, Draws, MemoryDesk, Outcome, drive, opening_for};
 pub use dist_epmd::{AliveReq, NodeInfo, PortInfo};

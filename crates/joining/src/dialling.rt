@@ -55,7 +55,13 @@ fn connected(rt: &HostRuntime, address: SocketAddr, port: u16) -> Option<SocketS
     let mut place = address;
     place.set_port(port);
     let limit = Duration::from_secs(CONNECT_IN_SECONDS);
-    connect(rt, &place, limit, Duration::from_millis(TURN_IN_MILLISECONDS)).ok()
+    connect(
+        rt,
+        &place,
+        limit,
+        Duration::from_millis(TURN_IN_MILLISECONDS),
+    )
+    .ok()
 }
 
 // What the node of this program is set up with: hidden, since its flags are without `PUBLISHED`.

@@ -22,10 +22,7 @@ fn heard<S: Stream>(alloc: Global, limited: &mut Limited<'_, S>) -> Result<ByteS
 }
 
 // Writes what a reply says. The record, where the end is up.
-fn said<S: Stream>(
-    limited: &mut Limited<'_, S>,
-    reply: Reply,
-) -> Result<Option<UpRecord>, Fault> {
+fn said<S: Stream>(limited: &mut Limited<'_, S>, reply: Reply) -> Result<Option<UpRecord>, Fault> {
     limited
         .write_all(reply.say.as_slice())
         .map_err(|error| Fault::NotUp(why_of(error)))?;

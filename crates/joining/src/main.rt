@@ -16,13 +16,12 @@ use dist_numerals::number_16;
 use distribution::{Cookie, Dflag, NodeName, Packets, Ticker, UpRecord, read_cookie};
 use fault::Fault;
 use link::{Link, millis_since};
-use std::alloc::Global;
+use std::alloc::{AllocError, Global};
 use std::fs::File;
 use std::io::{self, ErrorKind, Write};
 use std::process::ExitCode;
 use std::sync::Arc;
 use std::sync::atomic::{AtomicBool, Ordering};
-use std::thread::Threads;
 use std::time::Instant;
 use std::{env, thread};
 
@@ -46,11 +45,34 @@ Status: 0 left, 1 a fault here, 2 a bad command line, 3 not joined, 4 the link i
 /// both sides announce `DFLAG_FRAGMENTS`, which this one does not.
 const MOST_OF_PACKET: usize = 16_777_216;
 
+/// A mark that threads share.
+type Mark = Arc<AtomicBool, Global>;
+
 fn main(rt: HostRuntime) -> ExitCode {
-    ExitCode::from(match perform(&rt, rt) {
+    let done = match marks(rt.alloc()) {
+        Ok((ended, theirs)) => match thread::spawn(&rt, move || watch(rt, &theirs)) {
+            Ok(_) => perform(&rt, &ended),
+            Err(_) => Err(Fault::SystemFailed),
+        },
+        Err(_) => Err(Fault::NoMemory),
+    };
+    ExitCode::from(match done {
         Ok(()) => 0,
         Err(fault) => fault.tell(&mut rt.stderr()),
     })
+}
+
+// One mark twice: for who leaves once it is set, and for the thread that sets it at the end of the input.
+fn marks(alloc: Global) -> Result<(Mark, Mark), AllocError> {
+    let ended = Arc::new(alloc, AtomicBool::new(false))?;
+    let theirs = Arc::try_clone(&ended)?;
+    Ok((ended, theirs))
+}
+
+// Reads the input to its end, and says that it is there. What is read is of no meaning.
+fn watch<R: Input + Drop>(rt: R, ended: &AtomicBool) {
+    let _ = io::copy(&mut rt.reader(), &mut io::sink());
+    ended.store(true, Ordering::SeqCst);
 }
 
 // The words behind the program's name. One that is no UTF-8 is no word of a command.
@@ -67,17 +89,14 @@ fn named_mapper_port(rt: &HostRuntime) -> Option<u16> {
     number_16(env::var(rt, "ERL_EPMD_PORT").ok()?.as_bytes())
 }
 
-// Does what the command line asks for. What starts the thread that reads the input is handed in once more as `host`.
-fn perform<R>(rt: &HostRuntime, host: R) -> Result<(), Fault>
-where
-    R: Threads + Input + Copy + Send + Drop + 'static,
-{
+// Does what the command line asks for.
+fn perform(rt: &HostRuntime, ended: &AtomicBool) -> Result<(), Fault> {
     let alloc = rt.alloc();
     let words = words_of(rt, alloc)?;
     let texts: Vec<&str> = words.iter().map(|word| word.as_str()).collect(alloc)?;
     match asked_of(alloc, &texts, named_mapper_port(rt))? {
         Asked::Help => Ok(rt.stdout().write_all(HELP.as_bytes())?),
-        Asked::Joins(wanted) => join_and_stay(rt, host, alloc, &wanted),
+        Asked::Joins(wanted) => join_and_stay(rt, alloc, &wanted, ended),
     }
 }
 
@@ -128,32 +147,18 @@ fn tell_up<W: Write>(out: &mut W, record: &UpRecord) -> io::Result<()> {
     out.flush()
 }
 
-// Reads the input to its end, and says that it is there. What is read is of no meaning.
-fn watch<R: Input + Drop>(rt: R, ended: &AtomicBool) {
-    let _ = io::copy(&mut rt.reader(), &mut io::sink());
-    ended.store(true, Ordering::SeqCst);
-}
-
 // Joins the node, and keeps the link until the input ends.
-fn join_and_stay<R>(
+fn join_and_stay(
     rt: &HostRuntime,
-    host: R,
     alloc: Global,
     wanted: &Wanted<'_>,
-) -> Result<(), Fault>
-where
-    R: Threads + Input + Copy + Send + Drop + 'static,
-{
+    ended: &AtomicBool,
+) -> Result<(), Fault> {
     let cookie = cookie_of(rt, alloc, wanted.cookie_file)?;
     let name = own_name(alloc, wanted)?;
     let Joined { stream, record } = join_node(rt, alloc, wanted, name, cookie)?;
     let mut out = rt.stdout();
     tell_up(&mut out, &record)?;
-    let ended = Arc::new(alloc, AtomicBool::new(false))?;
-    let theirs = Arc::try_clone(&ended)?;
-    let Ok(_) = thread::spawn(&host, move || watch(host, &theirs)) else {
-        return Err(Fault::SystemFailed);
-    };
     let Ok(start) = Instant::now(rt) else {
         return Err(Fault::SystemFailed);
     };
@@ -163,7 +168,7 @@ where
         packets: Packets::new(alloc, MOST_OF_PACKET),
         ticker: Ticker::new(quarter, 0),
     };
-    link.stay(rt, &start, &ended, &mut out)?;
+    link.stay(rt, &start, ended, &mut out)?;
     let _ = link.stream.shut();
     writeln!(out, "left")?;
     Ok(())

@@ -42,6 +42,11 @@ fn a_turn_of_no_time_is_refused(rt: HostRuntime) {
     let Ok(address) = listener.local_addr() else {
         panic!(rt; "no address");
     };
-    let made = connect(&rt, &address, Duration::from_secs(1), Duration::from_secs(0));
+    let made = connect(
+        &rt,
+        &address,
+        Duration::from_secs(1),
+        Duration::from_secs(0),
+    );
     assert!(rt; made.is_err(), "a stream without turns");
 }

@@ -45,13 +45,18 @@ fn node_of(alloc: Global, name: &str, cookie: &str, creation: u32) -> Option<Nod
 fn take(alloc: Global, stream: SocketStream, cookie: &str) -> Option<Outcome> {
     let mut stream = stream;
     let mut node = node_of(alloc, "b@127.0.0.1", cookie, 7)?;
-    let end_ = node
-        .step(alloc, &Event::Incoming { link: 0 }, 0)
-        .ok()?
-        .end_;
+    let end_ = node.step(alloc, &Event::Incoming { link: 0 }, 0).ok()?.end_;
     let mut desk = MemoryDesk::new(alloc, node, end_).ok()?;
     let mut challenge = Challenge { number: 41 };
-    Some(drive(alloc, &mut stream, &mut desk, &mut challenge, end_, b"", TURNS))
+    Some(drive(
+        alloc,
+        &mut stream,
+        &mut desk,
+        &mut challenge,
+        end_,
+        b"",
+        TURNS,
+    ))
 }
 
 // Reads a piece, and hands the frames in it on. Whether the end came up.
@@ -89,9 +94,7 @@ fn join_and_leave(alloc: Global, stream: SocketStream, cookie: &str) -> Option<(
         .step(alloc, &Event::Dial { peer, opening }, 0)
         .ok()?
         .end_;
-    let opened = node
-        .step(alloc, &Event::Opened { end_, link: 0 }, 0)
-        .ok()?;
+    let opened = node.step(alloc, &Event::Opened { end_, link: 0 }, 0).ok()?;
     let mut limited = Limited {
         stream: &mut stream,
         left: TURNS,
@@ -129,6 +132,9 @@ fn a_node_is_joined_and_left(rt: HostRuntime) {
             move || take(alloc, accepted, theirs),
             move || join_and_leave(alloc, dialled, ours),
         );
-        assert!(rt; taken == Some(Outcome::Closed(why)) && joined.is_some() == up, "{taken:?}");
+        assert!(rt;
+            taken == Some(Outcome::Closed(why)) && joined.is_some() == up,
+            "{taken:?}"
+        );
     }
 }
