@@ -31,10 +31,8 @@ fn port_of(address: SocketAddr) -> u16 {
 }
 
 fn timed(socket: TcpStream, dialler_port: u16) -> io::Result<Connection> {
-    socket.set_read_timeout(Some(one_turn()))?;
-    socket.set_write_timeout(Some(one_turn()))?;
     Ok(Connection {
-        stream: SocketStream::new(socket),
+        stream: SocketStream::timed(socket, one_turn())?,
         dialler_port,
     })
 }

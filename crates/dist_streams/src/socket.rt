@@ -1,13 +1,16 @@
 //! A socket as a stream.
 
-ghost use Rattle.std.specs.Prelude.{◌≡◌, ◌≤◌, None, length};
+ghost use Rattle.std.specs.Prelude.{◌≡◌, ◌≤◌, None, length, IfOk, IsErrAnd};
+ghost use Rattle.std.specs.Duration.{as_nanos};
+ghost use Rattle.std.specs.IoError.{error_kind};
 ghost use Rattle.dist_streams.specs.Stream.{heard_count, took_count, unused};
 ghost use Rattle.dist_streams.specs.Socket.{is_quiet, heard_as, took_as};
 
 use crate::marks::{is_end, is_failed_read, is_failed_write};
 use crate::stream::{Heard, Stream, Took};
 use std::io::{self, ErrorKind, Read, Write};
-use std::net::TcpStream;
+use std::net::{Shutdown, TcpStream};
+use std::time::Duration;
 
 /// A connection of the system. Which bytes come and go is not told.
 ///
@@ -35,6 +38,25 @@ impl SocketStream {
             read_failed: false,
             write_failed: false,
         }
+    }
+
+    /// The stream over this socket, each read and write of which waits for `turn` at most. InvalidInput where `turn` is
+    /// zero; any other error is the system's. Then the socket is closed.
+    pub fn timed(socket: TcpStream, turn: Duration) -> io::Result<SocketStream>
+        ensures fresh { IfOk result (λ s. ⟦<SocketStream as Stream>⟧.meaning s ≡ unused None None) }
+        ensures socket { IfOk result (λ s. s.socket ≡ socket) }
+        ensures zero { as_nanos turn ≡ 0 → IsErrAnd result (λ e. error_kind e ≡ ErrorKind.InvalidInput) }
+    {
+        socket.set_read_timeout(Some(turn))?;
+        socket.set_write_timeout(Some(turn))?;
+        Ok(SocketStream::new(socket))
+    }
+
+    /// Lets the peer see that nothing more will be said: it reads the end of the stream. The socket stays open, so what the
+    /// peer still says can be read, and the own port is not used again. An error is the system's, as where the connection is
+    /// gone already.
+    pub fn shut(&self) -> io::Result<()> {
+        self.socket.shutdown(Shutdown::Write)
     }
 
     /// The socket, as to say how long a call waits, or to watch a connection that is kept.

@@ -1,0 +1,145 @@
+//! What ends the program, and how that is told.
+
+use distribution::{CookieError, LookupError, PacketError, StepError, TurnError, Why};
+use std::alloc::{AllocError, AllocFailed};
+use std::io::{ErrorKind, Write};
+use std::{fmt, io};
+
+/// What ends the program otherwise than at the end of its input. Its `Display` is what stands after `joining: ` on standard
+/// error.
+#[derive(Clone, Copy, Debug, PartialEq, Eq)]
+pub enum Fault {
+    /// The words of the command line ask for nothing.
+    BadCommandLine,
+    /// One of the words that should be a node's name is none.
+    BadName,
+    /// The cookie's file could not be opened.
+    OpenFailed,
+    /// The cookie's file has no cookie.
+    NoCookie(CookieError),
+    /// The host part of the node's name has no address here.
+    NoHost,
+    /// The port mapper was not reached.
+    NoMapper,
+    /// The port mapper does not know the node, or gave no answer.
+    NotFound(LookupError),
+    /// The node's port was not reached.
+    NoNode,
+    /// The handshake did not come to its end, for this cause.
+    NotUp(Why),
+    /// The link was up, and is lost, for this cause.
+    Lost(Why),
+    /// The system gave no random bytes, no time or no thread.
+    SystemFailed,
+    /// The peer sends a packet that is longer than this program takes.
+    LongPacket,
+    /// The output could not be written.
+    WriteFailed,
+    /// No memory was left.
+    NoMemory,
+}
+
+/// The cause of a connection's end, where a read or a write failed.
+pub fn why_of(error: TurnError) -> Why {
+    match error {
+        TurnError::Ended => Why::Ended,
+        TurnError::ReadFailed => Why::ReadFailed,
+        TurnError::WriteFailed => Why::WriteFailed,
+        TurnError::Limit => Why::GaveUp,
+    }
+}
+
+impl Fault {
+    // What is told of it, where it bears no cause.
+    fn text(self) -> &'static str {
+        match self {
+            Fault::BadCommandLine => "bad command line (joining --help)",
+            Fault::BadName =>
+                "a node's name has one @, something on both sides, and 3 to 255 bytes",
+            Fault::OpenFailed => "OpenFailed: the cookie's file",
+            Fault::NoCookie(error) => error.name(),
+            Fault::NoHost => "NoHost: the host part of the node's name has no address here",
+            Fault::NoMapper => "ConnectFailed: the port mapper",
+            Fault::NotFound(error) => error.name(),
+            Fault::NoNode => "ConnectFailed: the node",
+            Fault::NotUp(why) | Fault::Lost(why) => why.name(),
+            Fault::SystemFailed => "SystemFailed: no random bytes, no time or no thread",
+            Fault::LongPacket => "TooLong: a packet",
+            Fault::WriteFailed => "WriteFailed",
+            Fault::NoMemory => "NoMemory",
+        }
+    }
+
+    /// The exit status: 2 where the command line is at fault, 3 where the node was not joined, 4 where the link was lost, else 1.
+    pub fn status(self) -> u8 {
+        match self {
+            Fault::BadCommandLine | Fault::BadName => 2,
+            Fault::NoHost
+            | Fault::NoMapper
+            | Fault::NotFound(_)
+            | Fault::NoNode
+            | Fault::NotUp(_) => 3,
+            Fault::Lost(_) | Fault::LongPacket => 4,
+            _ => 1,
+        }
+    }
+
+    /// Tells the fault on standard error and answers the exit status. Where it cannot be told nothing is lost but the text.
+    pub fn tell<E: Write>(self, err: &mut E) -> u8 {
+        let _ = writeln!(err, "joining: {self}");
+        self.status()
+    }
+}
+
+impl fmt::Display for Fault {
+    fn fmt<W: fmt::Write>(&self, f: &mut fmt::Formatter<W>) -> fmt::Result {
+        f.write_str(self.text())?;
+        match self {
+            Fault::NoCookie(error) => write!(f, ": {error}"),
+            Fault::NotFound(error) => write!(f, ": {error}"),
+            Fault::NotUp(_) => f.write_str(": the handshake did not end well"),
+            Fault::Lost(_) => f.write_str(": the link is lost"),
+            _ => Ok(()),
+        }
+    }
+}
+
+impl From<io::Error> for Fault {
+    fn from(error: io::Error) -> Fault {
+        match error.kind() {
+            ErrorKind::OutOfMemory => Fault::NoMemory,
+            _ => Fault::WriteFailed,
+        }
+    }
+}
+
+impl From<StepError> for Fault {
+    fn from(error: StepError) -> Fault {
+        match error {
+            StepError::NoMemory => Fault::NoMemory,
+            StepError::Gone(why) => Fault::NotUp(why),
+            _ => Fault::NotUp(Why::GaveUp),
+        }
+    }
+}
+
+impl From<PacketError> for Fault {
+    fn from(error: PacketError) -> Fault {
+        match error {
+            PacketError::TooLong(_) => Fault::LongPacket,
+            PacketError::NoMemory => Fault::NoMemory,
+        }
+    }
+}
+
+impl From<AllocError> for Fault {
+    fn from(_error: AllocError) -> Fault {
+        Fault::NoMemory
+    }
+}
+
+impl<T: Drop> From<AllocFailed<T>> for Fault {
+    fn from(_error: AllocFailed<T>) -> Fault {
+        Fault::NoMemory
+    }
+}
