@@ -1,23 +1,16 @@
 -- The talk, put together from what was said and what was heard.
-use Rattle.std.proofs.Common.{◌≡◌, ℕ, ◌<◌, List, ◌++◌, length, take, Bool, Option, Some, None, Result, Ok, Err, ap, subst, ◌∙◌, arith, inr}
-use Rattle.std.specs.Int.{w16}
+use Rattle.std.proofs.Common.{◌≡◌, ℕ, List, Bool, Option, Some, None, Err, ap, subst, ◌∙◌}
 use Rattle.dist_names.specs.Order.{same_name}
 use Rattle.dist_names.specs.declared.flags.Flags.{Flags}
-use Rattle.dist_frames.specs.Stream.{framed}
 use Rattle.dist_messages.specs.declared.message.Status.{Status}
 use Rattle.dist_messages.specs.declared.form.Form.TheVariants as form
 use Rattle.dist_setup.specs.declared.setup.Setup.{Setup}
 use Rattle.dist_setup.specs.Saying.{name_text}
 use Rattle.dist_streams.specs.Stream.{StreamState}
-use Rattle.dist_streams.specs.declared.turn_error.TurnError.{TurnError}
-use Rattle.dist_mapper.specs.Bodies.{HearsFrame}
-use Rattle.dist_mapper.specs.declared.bodies.Arrived.TheVariants as arrived
 use Rattle.dist_probe.specs.declared.hearing.Heard.{Heard}
-use Rattle.dist_probe.specs.declared.hearing.Heard.TheVariants as heard
 use Rattle.dist_probe.specs.declared.verdict.Verdict.{Verdict}
 use Rattle.dist_probe.specs.declared.asking.Report.{Report}
 use Rattle.dist_probe.specs.Verdicts.{status_verdict}
-use Rattle.dist_probe.specs.Hearing.{HearsMessage, IsHeardIn, IsWhole, heard_instead, most}
 use Rattle.dist_probe.specs.Ending.{Asks, BehindName, Ends, Leaves, lacking, status_in}
 
 -- ---- behind the own name
