@@ -1,9 +1,9 @@
 -- How a call goes on, and how it ends.
 use Rattle.std.proofs.Common.{◌≡◌, ℕ, ◌+◌, ◌≤◌, Bool, List, [], ◌∷◌, ◌++◌, length, take, drop, map, Some, None, Ok, Err, refl, sym, ap, subst, ◌∙◌, append_assoc, inl, inr}
-use Rattle.std.specs.Prelude.{is_some, false, ◌||◌}
+use Rattle.std.specs.Prelude.{is_some, true, false, ◌||◌}
 use Rattle.std.proofs.lemmas.List.{append-nil, map-append, take-append-drop}
 use Rattle.std.specs.Io.KnownBytes.{prepend_known, append_known}
-use Rattle.dist_frames.specs.Reader.{Reader, fed, next_body, without_next, told, to_come}
+use Rattle.dist_frames.specs.Reader.{Reader, Short, Linked, fed, next_body, without_next, told, to_come}
 use Rattle.dist_frames.specs.History.{IsBytes}
 use Rattle.dist_peers.specs.declared.entry.EndId.{EndId}
 use Rattle.dist_ends.specs.declared.why.Why.{Why}
@@ -19,12 +19,12 @@ use Rattle.dist_streams.specs.Turns.{Says, Hears}
 use Rattle.dist_streams.specs.declared.turn_error.TurnError.{TurnError}
 use Rattle.dist_drive.specs.declared.outcome.Ending.{Ending}
 use Rattle.dist_drive.specs.declared.outcome.Ending.TheVariants as ending
-use Rattle.dist_drive.specs.Desks.{Step, event_of}
+use Rattle.dist_drive.specs.Desks.{Step, event_of, last_reply}
 use Rattle.dist_drive.specs.Driven.{IsFront, frames_of, next_frame, events_of, text_of, HandsOnAll, WritesAll, HasCause, is_of_end, is_of_failed_read, Carries}
-use Rattle.dist_drive.specs.Running.{RunsOn, EndsSo, Start, Runs, Keeps, MakesStep, SaysReply, own_why, ending_of_refusal, ending_of_stream, HandsOn, HearsPiece}
+use Rattle.dist_drive.specs.Running.{RunsOn, GoesOn, Goes, after_step, EndsSo, Start, Runs, Keeps, MakesStep, SaysReply, own_why, ending_of_refusal, ending_of_stream, HandsOn, HearsPiece}
 use Rattle.dist_drive.proofs.Steps.{last_pushed}
 use Rattle.dist_drive.proofs.Texts.{append_known-append, prepend_known-append, prepend_known-none, IsFront-refl, IsFront-more, text_front, text_one, text_before}
-use Rattle.dist_drive.proofs.Keeping.{frames_are, next_is, next_none, keeps_next, keeps_fed, keeps_told, after_step, FrameLaws}
+use Rattle.dist_drive.proofs.Keeping.{frames_are, next_is, next_none, keeps_next, keeps_rest, keeps_fed, keeps_told, FrameLaws}
 use Rattle.dist_drive.proofs.Shown.{same_length, pieces_on, pieces_one, spent, events_one, numbers_one, list_one, goes_on, shows, endings_are, not_refused, at_end, unheard_shows, ends_whole, endings_same, marks_since, reply_marks, hear_marks}
 
 module _ (laws : FrameLaws) where
@@ -183,6 +183,38 @@ module _ (laws : FrameLaws) where
       → RunsOn gives end_ first new limit left (lists start) (lists desk) begun drawn held after
   moves_so lists refuses gives end_ first old new limit turns left start before desk begun draws drawn held r after body up p is h same =
       λ s e runs. subst (λ (x : Reader). Runs gives s new left (lists desk) drawn x) (sym same) (moves_on lists refuses gives s old new turns left before desk draws drawn r body up (p s e runs) is (at_end lists refuses gives end_ s.end_ body draws drawn before desk old new turns left (Ok up) e h))
+
+  -- the frame brought the end up, and the reader holds what stood behind it
+  rises : {W : Type 0} (gives : W → ℕ → W → Type 0) (start : Start W) (old new : StreamState) (turns left : ℕ) (before after : List Step) (draws drawn : W) (r : Reader) (body : List ℕ) (m : MakesStep gives start.end_ body draws drawn before after)
+      → Runs gives start old turns before draws r → next_body r ≡ Some body → Says old new turns left None m.reply.say → true ≡ is_some m.reply.up
+      → Goes gives start new left after drawn (without_next r) true
+  unfolding runs_on
+  rises gives start old new turns left before after draws drawn (Short pending) body m p next says is =
+      record {
+        runs = runs_on gives start old new turns left before after draws drawn (Short pending) body true m p next says is;
+        rest = λ h. keeps_rest laws p.heard p.handed p.steps (event.Frame start.end_ body, m.number, m.reply) body pending is next p.keeps;
+        newest = λ h. (m.reply, ap last_reply m.list ∙ last_pushed before (event.Frame start.end_ body, m.number, m.reply), sym is);
+      }
+  rises gives start old new turns left before after draws drawn (Linked ended rest) body m p next says is = absurd cc
+
+  rises_on : {D W : Type 0} (lists : D → List Step) (refuses : D → Event → ℕ → StepError → Type 0) (gives : W → ℕ → W → Type 0) (start : Start W) (old new : StreamState) (turns left : ℕ) (before desk : D) (draws drawn : W) (r : Reader) (body : List ℕ)
+      → Runs gives start old turns (lists before) draws r → next_body r ≡ Some body → HandsOn lists refuses gives start.end_ body draws drawn before desk old new turns left (Ok true)
+      → Goes gives start new left (lists desk) drawn (without_next r) true
+  rises_on lists refuses gives start old new turns left before desk draws drawn r body p next (inl h) = absurd (not_refused true (ending_of_refusal h.error) h.ends)
+  rises_on lists refuses gives start old new turns left before desk draws drawn r body p next (inr h) =
+      rises gives start old new turns left (lists before) (lists desk) draws drawn r body h.made p next (goes_on (own_why start.end_ h.made.reply.closed) h.says.fault h.made.reply.say h.says.goes_on.0 h.says.says) h.says.goes_on.1
+
+  pub rises_so : {D W : Type 0} (lists : D → List Step) (refuses : D → Event → ℕ → StepError → Type 0) (gives : W → ℕ → W → Type 0) (end_ : EndId) (first old new : StreamState) (limit turns left : ℕ) (start before desk : D) (begun draws drawn : W) (held r after : Reader) (body : List ℕ) (up : Bool)
+      → RunsOn gives end_ first old limit turns (lists start) (lists before) begun draws held r → next_body r ≡ Some body → HandsOn lists refuses gives end_ body draws drawn before desk old new turns left (Ok up) → up ≡ true → after ≡ without_next r
+      → GoesOn gives end_ first new limit left (lists start) (lists desk) begun drawn held after true
+  rises_so lists refuses gives end_ first old new limit turns left start before desk begun draws drawn held r after body true p is h yes' same =
+      λ s e runs. subst (λ (x : Reader). Goes gives s new left (lists desk) drawn x true) (sym same) (rises_on lists refuses gives s old new turns left before desk draws drawn r body (p s e runs) is (at_end lists refuses gives end_ s.end_ body draws drawn before desk old new turns left (Ok true) e h))
+  rises_so lists refuses gives end_ first old new limit turns left start before desk begun draws drawn held r after body false p is h yes' same = absurd cc
+
+  -- no frame brought it up
+  pub goes_so : {W : Type 0} (gives : W → ℕ → W → Type 0) (end_ : EndId) (first old : StreamState) (limit turns : ℕ) (start before : List Step) (begun draws : W) (held r : Reader)
+      → RunsOn gives end_ first old limit turns start before begun draws held r → GoesOn gives end_ first old limit turns start before begun draws held r false
+  goes_so gives end_ first old limit turns start before begun draws held r p = λ s e runs. record { runs = p s e runs; rest = λ h. absurd cc; newest = λ h. absurd cc }
 
   -- the desk tells that the end is gone
   pub gone : {D W : Type 0} (lists : D → List Step) (stands : D → EndId → Still → Type 0) (refuses : D → Event → ℕ → StepError → Type 0) (gives : W → ℕ → W → Type 0) (start : Start W) (new : StreamState) (left : ℕ) (desk : D) (draws : W) (r : Reader) (w : Why)

@@ -1,6 +1,6 @@
 -- What the reader of a call holds, and which frames of the call were handed on.
 use Rattle.std.proofs.Common.{◌≡◌, ℕ, suc, ◌+◌, Bool, true, false, cond, nat_lt, eqb, List, [], ◌∷◌, ◌++◌, length, take, Some, None, slice_get, refl, sym, ap, ◌∙◌, arith, length-append}
-use Rattle.std.specs.Prelude.{position, if◌then◌else◌}
+use Rattle.std.specs.Prelude.{position}
 use Rattle.std.specs.Int.{w16}
 use Rattle.std.specs.List.{position_or_len}
 use Rattle.std.proofs.lemmas.Bool.{eq-eqb}
@@ -12,7 +12,7 @@ use Rattle.dist_frames.specs.Reader.{Reader, Short, Linked, fed, next_body, with
 use Rattle.dist_frames.specs.History.{Accounts, IsBytes}
 use Rattle.dist_drive.specs.Desks.{Step}
 use Rattle.dist_drive.specs.Driven.{is_up, through, frames_of, next_frame}
-use Rattle.dist_drive.specs.Running.{Keeps}
+use Rattle.dist_drive.specs.Running.{KeepsShort, KeepsLinked, Keeps, after_step}
 
 -- what is known of bytes that are fed and bodies that are moved out
 pub record FrameLaws : Type 0 where
@@ -79,16 +79,16 @@ next_none laws heard handed steps r len none k =
 
 -- ---- one frame more
 
-abbrev pub after_step : Bool → Reader → Reader
-after_step up r = if up then linked r else r
-
 length_one : (xs : List Step) (s : Step) → length (xs ++ s ∷ []) ≡ length xs + 1
 length_one xs s = length-append xs (s ∷ [])
 
-keeps_up : (heard : List ℕ) (handed : List (List ℕ)) (steps : List Step) (s : Step) (rest : List ℕ) (up : Bool) → up ≡ is_up s → position_or_len is_up steps ≡ length steps → Accounts heard handed rest → Keeps heard handed (steps ++ s ∷ []) (after_step up (Short rest))
-keeps_up heard handed steps s rest true is none t =
+last_brings_up : (heard : List ℕ) (handed : List (List ℕ)) (steps : List Step) (s : Step) (rest : List ℕ) → true ≡ is_up s → position_or_len is_up steps ≡ length steps → Accounts heard handed rest → KeepsLinked heard handed (steps ++ s ∷ []) rest
+last_brings_up heard handed steps s rest is none t =
     let place : position_or_len is_up (steps ++ s ∷ []) ≡ length steps + 0 = place_push steps s none ∙ ap (λ b. length steps + cond b 0 1) (sym is) in
-    (rest, record { accounts = t; last_up = omega (arith, place, length_one steps s) })
+    record { accounts = t; last_up = omega (arith, place, length_one steps s) }
+
+keeps_up : (heard : List ℕ) (handed : List (List ℕ)) (steps : List Step) (s : Step) (rest : List ℕ) (up : Bool) → up ≡ is_up s → position_or_len is_up steps ≡ length steps → Accounts heard handed rest → Keeps heard handed (steps ++ s ∷ []) (after_step up (Short rest))
+keeps_up heard handed steps s rest true is none t = (rest, last_brings_up heard handed steps s rest is none t)
 keeps_up heard handed steps s rest false is none t =
     let place : position_or_len is_up (steps ++ s ∷ []) ≡ length steps + 1 = place_push steps s none ∙ ap (λ b. length steps + cond b 0 1) (sym is) in
     record { accounts = t; none_up = place ∙ sym (length_one steps s) }
@@ -98,6 +98,16 @@ pub keeps_next : FrameLaws → (heard : List ℕ) (handed : List (List ℕ)) (st
 keeps_next laws heard handed steps s body (Short pending) up is e k =
     keeps_up heard (handed ++ body ∷ []) steps s (after_first w16 pending) up is k.none_up (laws.moved_on heard handed pending body k.accounts e)
 keeps_next laws heard handed steps s body (Linked ended rest) up is e k = absurd cc
+
+-- what stood behind the frame, where it brought the end up
+pub keeps_rest : FrameLaws → (heard : List ℕ) (handed : List (List ℕ)) (steps : List Step) (s : Step) (body pending : List ℕ) → true ≡ is_up s → first_body w16 pending ≡ Some body → KeepsShort heard handed steps pending → KeepsLinked heard (handed ++ body ∷ []) (steps ++ s ∷ []) (after_first w16 pending)
+keeps_rest laws heard handed steps s body pending is e k =
+    last_brings_up heard (handed ++ body ∷ []) steps s (after_first w16 pending) is k.none_up (laws.moved_on heard handed pending body k.accounts e)
+
+-- a linked reader shows no frame
+pub none_linked : (r : Reader) → to_come (linked r) ≡ []
+none_linked (Short pending) = refl
+none_linked (Linked ended rest) = refl
 
 -- ---- more bytes
 

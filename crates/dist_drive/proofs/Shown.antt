@@ -25,7 +25,7 @@ use Rattle.dist_drive.specs.Desks.{Step, event_of, number_of, last_reply}
 use Rattle.dist_core.specs.Losses.{IsGone}
 use Rattle.dist_drive.specs.Numbers.{DrawsAll}
 use Rattle.dist_drive.specs.Driven.{frames_of, next_frame, events_of, HandsOnAll, WritesAll, HasCause, TellsLoss, Marks, is_of_end, is_of_failed_read, LeavesUnread, Carries}
-use Rattle.std.specs.Prelude.{◌≢◌, ◌||◌, IsErrAnd, IfErr, OnOk, OnErr}
+use Rattle.std.specs.Prelude.{◌≢◌, ◌||◌, IsErrAnd, IfOk, IfErr, OnOk, OnErr}
 use Rattle.dist_drive.specs.Running.{Runs, SaysReply, after_reply, own_why, ending_of_stream, HandsOn}
 use Rattle.dist_drive.proofs.Texts.{prepend_known-none, Rises-trans, text_none}
 use Rattle.dist_drive.proofs.Keeping.{keeps_none}
@@ -92,6 +92,9 @@ goes_on None (Some fault.Ended) text e p = absurd cc
 abbrev pub ends_whole : Ending → Result (Unit {0}) Ending
 ends_whole e = Err e
 
+abbrev pub ends_as : Ending → Result Bool Ending
+ends_as e = Err e
+
 -- the marks that a call set since it began
 pub marks_since : (e : Ending) {start mid new : StreamState} → mid.ended ≡ start.ended → mid.read_failed ≡ start.read_failed → mid.write_failed ≡ start.write_failed → Marks e mid new → Marks e start new
 marks_since e ended read written m = record {
@@ -146,7 +149,7 @@ first_unread fault.ReadFailed first p = absurd p.says.fault_is
 first_unread fault.Ended first p = absurd p.says.fault_is
 
 -- where the desk tells that the end is gone nothing was read
-pub gone_unread : (first : List ℕ) (start mid new : StreamState) (w : Why) (e : Ending) → ends_whole e ≡ ends_whole (ending.Gone w) → new ≡ mid → (mid.unread ≡ start.unread) × (mid.ended ≡ start.ended) × (mid.read_failed ≡ start.read_failed) → LeavesUnread first start new e
+pub gone_unread : (first : List ℕ) (start mid new : StreamState) (w : Why) (e : Ending) → ends_as e ≡ ends_as (ending.Gone w) → new ≡ mid → (mid.unread ≡ start.unread) × (mid.ended ≡ start.ended) × (mid.read_failed ≡ start.read_failed) → LeavesUnread first start new e
 gone_unread first start mid new w e is same kept =
     let told : ending.Gone w ≡ e = cc in
     subst (λ (x : Ending). LeavesUnread first start new x) told (record { unread = ap (λ s. s.unread) same ∙ kept.0; ended = ap (λ s. s.ended) same ∙ kept.1; read_failed = ap (λ s. s.read_failed) same ∙ kept.2; ending_is = tt })
@@ -204,9 +207,6 @@ shows stands refuses desk end_ reply Handed steps before (Some fault.WriteFailed
 shows stands refuses desk end_ reply Handed steps before (Some fault.Limit) e p h = shows_limit stands refuses desk end_ reply Handed steps before (own_why end_ reply.closed) e p h
 shows stands refuses desk end_ reply Handed steps before (Some fault.ReadFailed) e p h = absurd p.says.fault_is
 shows stands refuses desk end_ reply Handed steps before (Some fault.Ended) e p h = absurd p.says.fault_is
-
-abbrev pub ends_as : Ending → Result Bool Ending
-ends_as e = Err e
 
 pub endings_are : (e f : Ending) → ends_as e ≡ ends_as f → f ≡ e
 endings_are e f h = cc
@@ -311,9 +311,9 @@ pub tells : {D : Type 0} (lists : D → List Step) (refuses : D → Event → �
 tells lists refuses end_ before after w (Ok x) (reply, list) same why gone = ((event.Lost end_ w, 0, reply) ∷ [], list, inl (reply, refl))
 tells lists refuses end_ before after w (Err e) made same why gone = ([], ap lists same ∙ sym (append-nil (lists before)), inr (refl, (e, why, gone)))
 
-pub ok_maps : {X E : Type 0} {P Q : Type 0} (r : Result X E) → OnOk r P → (P → Q) → OnOk r Q
-ok_maps (Ok x) p f = f p
-ok_maps (Err e) p f = tt
+pub if_ok_maps : {X E : Type 0} (P Q : X → Type 0) (r : Result X E) → IfOk r P → ((x : X) → P x → Q x) → IfOk r Q
+if_ok_maps P Q (Ok x) p f = f x p
+if_ok_maps P Q (Err e) p f = tt
 
 pub ok_so : {X E : Type 0} {P : Type 0} (r : Result X E) → P → OnOk r P
 ok_so (Ok x) p = p

@@ -1,8 +1,8 @@
 -- What a driven call keeps on its way, and what its parts do.
-use Rattle.std.specs.Prelude.{◌≡◌, ℕ, suc, ◌+◌, ◌-◌, ◌*◌, ◌≤◌, ◌⊎◌, Bool, List, [], ◌∷◌, ◌++◌, length, map, Option, Some, None, is_some, Result, Ok, Err, IfOk, IfErr, OnOk, eqb, if◌then◌else◌}
+use Rattle.std.specs.Prelude.{◌≡◌, ℕ, suc, ◌+◌, ◌-◌, ◌*◌, ◌≤◌, ◌⊎◌, Bool, true, List, [], ◌∷◌, ◌++◌, length, map, Option, Some, None, is_some, Result, Ok, Err, IfOk, IfErr, OnOk, eqb, if◌then◌else◌}
 use Rattle.std.specs.List.{position_or_len}
 use Rattle.std.specs.Io.KnownBytes.{prepend_known, append_known}
-use Rattle.dist_frames.specs.Reader.{Reader, Short, Linked, fed, told}
+use Rattle.dist_frames.specs.Reader.{Reader, Short, Linked, fed, linked, told}
 use Rattle.dist_frames.specs.History.{Accounts, IsBytes}
 use Rattle.dist_peers.specs.declared.entry.EndId.{EndId}
 use Rattle.dist_ends.specs.declared.why.Why.{Why}
@@ -18,7 +18,7 @@ use Rattle.dist_streams.specs.declared.turn_error.TurnError.{TurnError}
 use Rattle.dist_streams.specs.declared.turn_error.TurnError.TheVariants as fault
 use Rattle.dist_drive.specs.declared.outcome.Ending.{Ending}
 use Rattle.dist_drive.specs.declared.outcome.Ending.TheVariants as ending
-use Rattle.dist_drive.specs.Desks.{Step, event_of, number_of}
+use Rattle.dist_drive.specs.Desks.{Step, event_of, number_of, last_reply}
 use Rattle.dist_drive.specs.Numbers.{DrawsAll}
 use Rattle.dist_ends.specs.declared.phase.Still.{Still}
 use Rattle.dist_drive.specs.Driven.{is_up, events_of, text_of, Carries}
@@ -38,6 +38,15 @@ pub record KeepsLinked (heard : List ℕ) (handed : List (List ℕ)) (steps : Li
 abbrev pub Keeps : List ℕ → List (List ℕ) → List Step → Reader → Type 0
 Keeps heard handed steps (Short pending) = KeepsShort heard handed steps pending
 Keeps heard handed steps (Linked ended rest) = (more : List ℕ) × KeepsLinked heard handed steps more
+
+-- the reader once it is known whether the last frame brought the end up: then all that follows is packets
+abbrev pub after_step : Bool → Reader → Reader
+after_step up r = if up then linked r else r
+
+-- the last frame that was handed on brought the end up, and the reader, which is not yet linked, holds what stood behind it
+abbrev pub KeepsUp : List ℕ → List (List ℕ) → List Step → Reader → Type 0
+KeepsUp heard handed steps (Short rest) = KeepsLinked heard handed steps rest
+KeepsUp heard handed steps (Linked ended rest) = ⊥
 
 -- ---- the call on its way
 
@@ -67,6 +76,16 @@ pub record Runs {W : Type 0} (gives : W → ℕ → W → Type 0) (start : Start
   pub read_failed : stream.read_failed ≡ start.stream.read_failed
   pub write_failed : stream.write_failed ≡ start.stream.write_failed
   pub keeps : Keeps heard handed steps reader
+
+-- the newest reply brought its end up
+abbrev pub IsUpNow : List Step → Type 0
+IsUpNow list = (reply : Reply) × (last_reply list ≡ Some reply) × (is_some reply.up ≡ true)
+
+-- The call is on its way. Where a frame brought the end up, no later one was looked at.
+pub record Goes {W : Type 0} (gives : W → ℕ → W → Type 0) (start : Start W) (stream : StreamState) (left : ℕ) (list : List Step) (draws : W) (reader : Reader) (up : Bool) : Type 0 where
+  pub runs : Runs gives start stream left list draws (after_step up reader)
+  pub rest : up ≡ true → KeepsUp runs.heard runs.handed runs.steps reader
+  pub newest : up ≡ true → IsUpNow list
 
 -- ---- one frame
 
@@ -135,6 +154,11 @@ HandsOn lists refuses gives end_ body draws drawn before after old new turns lef
 abbrev pub RunsOn : {W : Type 0} → (W → ℕ → W → Type 0) → EndId → StreamState → StreamState → ℕ → ℕ → List Step → List Step → W → W → Reader → Reader → Type 0
 RunsOn {W = W} gives end_ old new turns left before after draws drawn held holds =
     (start : Start W) → start.end_ ≡ end_ → Runs gives start old turns before draws held → Runs gives start new left after drawn holds
+
+-- the same, up to a frame that brought the end up, where one did
+abbrev pub GoesOn : {W : Type 0} → (W → ℕ → W → Type 0) → EndId → StreamState → StreamState → ℕ → ℕ → List Step → List Step → W → W → Reader → Reader → Bool → Type 0
+GoesOn {W = W} gives end_ old new turns left before after draws drawn held holds up =
+    (start : Start W) → start.end_ ≡ end_ → Runs gives start old turns before draws held → Goes gives start new left after drawn holds up
 
 -- whatever call was on its way ends so
 abbrev pub EndsSo : {D W : Type 0} → (D → List Step) → (D → EndId → Still → Type 0) → (D → Event → ℕ → StepError → Type 0) → (W → ℕ → W → Type 0) → EndId → StreamState → StreamState → ℕ → D → D → W → Reader → Ending → Type 0

@@ -7,7 +7,7 @@ ghost use Rattle.dist_frames.specs.Reader.Reader.{Short};
 ghost use Rattle.dist_frames.specs.Reader.{next_body, without_next, to_come, fed, told};
 ghost use Rattle.dist_frames.specs.History.{IsBytes};
 ghost use Rattle.dist_streams.specs.Turns.{fault_of};
-ghost use Rattle.dist_drive.specs.Running.{after_reply, ending_of_refusal, ending_of_stream, own_why, MakesStep, SaysReply, HandsOn, RunsOn, EndsSo, HearsPiece};
+ghost use Rattle.dist_drive.specs.Running.{after_reply, ending_of_refusal, ending_of_stream, own_why, MakesStep, SaysReply, HandsOn, RunsOn, GoesOn, after_step, EndsSo, HearsPiece};
 
 use crate::desk::Desk;
 use crate::draws::Draws;
@@ -31,7 +31,7 @@ fn ending_of_refusal(error: StepError) -> Ending
 }
 
 // Why the call ends where a read or a write failed.
-fn ending_of_stream(error: TurnError) -> Ending
+pub fn ending_of_stream(error: TurnError) -> Ending
     ensures { result ≡ ending_of_stream error }
 {
     match error {
@@ -136,16 +136,16 @@ fn next_frame(frames: &mut Frames) -> Result<Option<ByteString>, Ending>
     }
 }
 
-// Hands on each whole frame that came.
+// Hands on each whole frame that came, up to one whose reply brings the end up. Whether one did.
 fn hand_on_all<S: Stream, D: Desk, W: Draws>(
     limited: &mut Limited<'_, S>,
     desk: &mut D,
     draws: &mut W,
     end_: EndId,
     frames: &mut Frames,
-) -> Result<(), Ending>
-    ensures runs { OnOk result (RunsOn W.gives end_ (S.meaning limited.old.stream.now) (S.meaning limited.new.stream.now) limited.old.left limited.new.left (D.list desk.old) (D.list desk.new) draws.old draws.new frames.old frames.new) }
-    ensures all { OnOk result (to_come frames.new ≡ []) }
+) -> Result<bool, Ending>
+    ensures runs { IfOk result (GoesOn W.gives end_ (S.meaning limited.old.stream.now) (S.meaning limited.new.stream.now) limited.old.left limited.new.left (D.list desk.old) (D.list desk.new) draws.old draws.new frames.old frames.new) }
+    ensures all { IfOk result (λ up. to_come (after_step up frames.new) ≡ []) }
     ensures turns { limited.new.left ≤ limited.old.left }
     ensures ends { IfErr result (EndsSo D.list D.stands D.refuses W.gives end_ (S.meaning limited.old.stream.now) (S.meaning limited.new.stream.now) limited.old.left desk.old desk.new draws.old frames.old) }
     ensures base { (D.base desk.new ≡ D.base desk.old) × (D.serves desk.new ≡ D.serves desk.old) }
@@ -154,10 +154,10 @@ fn hand_on_all<S: Stream, D: Desk, W: Draws>(
     fed_and_moved();
     while let Some(body) = next_frame(frames)? {
         if hand_on(limited, desk, draws, end_, body)? {
-            frames.to_linked();
+            return Ok(true);
         }
     }
-    Ok(())
+    Ok(false)
 }
 
 // Gives a piece to the reader. Packets are dropped at once.
@@ -188,16 +188,16 @@ fn hear<S: Stream>(limited: &mut Limited<'_, S>, frames: &mut Frames) -> Result<
     }
 }
 
-// Reads a piece, and hands on what came whole, unless the end is closed.
-fn turn<S: Stream, D: Desk, W: Draws>(
+// Reads a piece, and hands on what came whole, unless the end is closed. Whether a frame brought the end up.
+pub fn turn<S: Stream, D: Desk, W: Draws>(
     limited: &mut Limited<'_, S>,
     desk: &mut D,
     draws: &mut W,
     end_: EndId,
     frames: &mut Frames,
-) -> Result<(), Ending>
-    ensures runs { OnOk result (to_come frames.old ≡ [] → RunsOn W.gives end_ (S.meaning limited.old.stream.now) (S.meaning limited.new.stream.now) limited.old.left limited.new.left (D.list desk.old) (D.list desk.new) draws.old draws.new frames.old frames.new) }
-    ensures all { OnOk result (to_come frames.new ≡ []) }
+) -> Result<bool, Ending>
+    ensures runs { IfOk result (λ up. to_come frames.old ≡ [] → GoesOn W.gives end_ (S.meaning limited.old.stream.now) (S.meaning limited.new.stream.now) limited.old.left limited.new.left (D.list desk.old) (D.list desk.new) draws.old draws.new frames.old frames.new up) }
+    ensures all { IfOk result (λ up. to_come (after_step up frames.new) ≡ []) }
     ensures ends { IfErr result (λ e. to_come frames.old ≡ [] → EndsSo D.list D.stands D.refuses W.gives end_ (S.meaning limited.old.stream.now) (S.meaning limited.new.stream.now) limited.old.left desk.old desk.new draws.old frames.old e) }
     ensures fewer { OnOk result (limited.new.left < limited.old.left) }
     ensures gone { IsOnlyGone D.stands desk.old end_ → ((w : Why) × (result ≡ Err (Ending.Gone w))) × (S.meaning limited.new.stream.now ≡ S.meaning limited.old.stream.now) }
@@ -239,14 +239,19 @@ fn run<S: Stream, D: Desk, W: Draws>(
     }
     let mut frames = Frames::new(alloc);
     loop {
-        if let Err(ending) = turn(&mut limited, desk, draws, end_, &mut frames) {
-            return ending;
+        match turn(&mut limited, desk, draws, end_, &mut frames) {
+            Ok(up) => {
+                if up {
+                    frames.to_linked();
+                }
+            }
+            Err(ending) => return ending,
         }
     }
 }
 
 // Tells a fault of the call's own as a loss.
-fn tell<D: Desk>(desk: &mut D, end_: EndId, ending: Ending)
+pub fn tell<D: Desk>(desk: &mut D, end_: EndId, ending: Ending)
     ensures told { (told : List Step) × (D.list desk.new ≡ D.list desk.old ++ told) × TellsLoss D.refuses end_ desk.old ending told }
     ensures base { (D.base desk.new ≡ D.base desk.old) × (D.serves desk.new ≡ D.serves desk.old) }
 {

@@ -9,15 +9,19 @@
 mod desk;
 mod draws;
 mod driving;
+mod handshaking;
 mod memory;
 mod opening;
 mod outcome;
+mod reached;
 
 pub use desk::Desk;
 pub use dist_mapper::{LookupError, Mapper, Served, ask_names, lookup, register, serve_registry};
 pub use dist_streams::{FaultStream, Heard, SocketStream, Stream, Took};
 pub use draws::Draws;
 pub use driving::drive;
+pub use handshaking::handshake;
 pub use memory::MemoryDesk;
 pub use opening::opening_for;
 pub use outcome::Outcome;
+pub use reached::Reached;

@@ -1,9 +1,9 @@
 use Rattle.std.proofs.Common.{◌≡◌, ◌∙◌, sym, ap, subst, arith}
-use Rattle.dist_frames.specs.Reader.{linked, without_next}
-use Rattle.dist_drive.specs.Running.{EndsSo}
-use Rattle.dist_drive.proofs.Keeping.{after_step}
+use Rattle.dist_frames.specs.Reader.{without_next}
+use Rattle.dist_drive.specs.Running.{EndsSo, after_step}
+use Rattle.dist_drive.proofs.Keeping.{none_linked}
 use Rattle.dist_drive.proofs.Shown.{at_err}
-use Rattle.dist_drive.proofs.Carrying.{lacks_so, stops_so, moves_so}
+use Rattle.dist_drive.proofs.Carrying.{lacks_so, stops_so, moves_so, rises_so}
 use Rattle.dist_drive.proofs.driving.hand_on_all.Goals as goal
 
 pub returns-in_err-body-clause-ends : goal.returns-in_err-body-clause-ends
@@ -18,17 +18,12 @@ returns-in_err-hand_on-clause-ends g c =
     at_err P c.from_residual-in_err-hand_on.result c.in_err-hand_on.field-0.0 c.from_residual-in_err-hand_on.ensures.1
     (stops_so (record { fed_on = c.fed_and_moved.ensures.fed; moved_on = c.fed_and_moved.ensures.moved; bodies_are = c.fed_and_moved.ensures.bodies }) g.D.Desk.list g.D.Desk.stands g.D.Desk.refuses g.W.Draws.gives c.args.end_ _ (g.S.Stream.meaning c.loop-body.limited.stream.now) _ _ c.loop-body.limited.left c.hand_on.new.limited.left c.args.desk.now c.loop-body.desk c.hand_on.new.desk _ c.loop-body.draws c.hand_on.new.draws _ c.loop-body.frames c.in-Some.body c.in_err-hand_on.field-0.0 c.loop-body.invariant.runs (sym c.in_ok-body.ensures.next.0 ∙ c.in-Some.is) c.in_err-hand_on.ensures.hands)
 
-pub loop-body-preserved-then-branch : goal.loop-body-preserved-then-branch
-loop-body-preserved-then-branch g c =
-    let up = c.in_ok-hand_on.field-0 in
-    let after : c.to_linked.new.self ≡ after_step up (without_next c.loop-body.frames) = c.to_linked.ensures ∙ ap linked c.in_ok-body.ensures.next.1 ∙ ap (λ b. after_step b (without_next c.loop-body.frames)) (sym c.if-branch.true) in
-    record {
-      runs = moves_so (record { fed_on = c.fed_and_moved.ensures.fed; moved_on = c.fed_and_moved.ensures.moved; bodies_are = c.fed_and_moved.ensures.bodies }) g.D.Desk.list g.D.Desk.refuses g.W.Draws.gives c.args.end_ _ (g.S.Stream.meaning c.loop-body.limited.stream.now) _ _ c.loop-body.limited.left c.hand_on.new.limited.left c.args.desk.now c.loop-body.desk c.hand_on.new.desk _ c.loop-body.draws c.hand_on.new.draws _ c.loop-body.frames c.to_linked.new.self c.in-Some.body up c.loop-body.invariant.runs (sym c.in_ok-body.ensures.next.0 ∙ c.in-Some.is) c.in_ok-hand_on.ensures.hands after;
-      turns = omega (arith, c.in_ok-hand_on.ensures.turns);
-      base = c.in_ok-hand_on.ensures.base.0 ∙ c.loop-body.invariant.base;
-      serves = c.in_ok-hand_on.ensures.base.1 ∙ c.loop-body.invariant.serves;
-      loan = c.in_ok-hand_on.ensures.loan ∙ c.loop-body.invariant.loan;
-    }
+pub returns-then-branch-clause-runs : goal.returns-then-branch-clause-runs
+returns-then-branch-clause-runs g c =
+    rises_so (record { fed_on = c.fed_and_moved.ensures.fed; moved_on = c.fed_and_moved.ensures.moved; bodies_are = c.fed_and_moved.ensures.bodies }) g.D.Desk.list g.D.Desk.refuses g.W.Draws.gives c.args.end_ _ (g.S.Stream.meaning c.loop-body.limited.stream.now) _ _ c.loop-body.limited.left c.hand_on.new.limited.left c.args.desk.now c.loop-body.desk c.hand_on.new.desk _ c.loop-body.draws c.hand_on.new.draws _ c.loop-body.frames c.next_frame.new.frames c.in-Some.body c.in_ok-hand_on.field-0 c.loop-body.invariant.runs (sym c.in_ok-body.ensures.next.0 ∙ c.in-Some.is) c.in_ok-hand_on.ensures.hands c.if-branch.true c.in_ok-body.ensures.next.1
+
+pub returns-then-branch-clause-all : goal.returns-then-branch-clause-all
+returns-then-branch-clause-all g c = none_linked c.next_frame.new.frames
 
 pub loop-body-preserved : goal.loop-body-preserved
 loop-body-preserved g c =

@@ -1,9 +1,10 @@
-use Rattle.std.proofs.Common.{rules, refl, sym, ap, subst, ◌∙◌}
+use Rattle.std.proofs.Common.{Bool, rules, refl, sym, ap, subst, ◌∙◌}
 use Rattle.dist_frames.specs.Reader.{Reader, to_come}
 use Rattle.dist_drive.specs.declared.outcome.Ending.{Ending}
 use Rattle.dist_drive.specs.Driven.{IsOnlyGone, LeavesUnread, Carries}
-use Rattle.dist_drive.specs.Running.{Runs, Start}
-use Rattle.dist_drive.proofs.Shown.{first_cut, begins_so, gone_unread}
+use Rattle.dist_drive.specs.Running.{Runs, Start, after_step}
+use Rattle.dist_drive.proofs.Shown.{first_cut, begins_so, gone_unread, not_refused}
+use Rattle.dist_drive.proofs.Keeping.{none_linked}
 use Rattle.dist_drive.proofs.driving.run.Goals as goal
 
 pub returns-in-Err-clause-carries : goal.returns-in-Err-clause-carries
@@ -12,8 +13,8 @@ returns-in-Err-clause-carries g c =
     let cut = subst P (sym c.ending_of_stream.ensures) (first_cut g.D.Desk.list g.D.Desk.stands g.D.Desk.refuses g.W.Draws.gives c.args.end_ c.args.first.now c.args.limit c.write_all.new.self.left _ _ c.args.desk.now c.args.draws.now c.in-Err.error c.in-Err.ensures.says) in
     subst (λ s. Carries g.D.Desk.list g.D.Desk.stands g.D.Desk.refuses g.W.Draws.gives c.args.end_ c.args.first.now c.args.limit (g.S.Stream.meaning c.args.stream.now) (g.S.Stream.meaning s) (g.D.Desk.list c.args.desk.now) c.args.desk.now c.args.draws.now c.ending_of_stream.result) (search rules) cut
 
-pub loop-ending-init : goal.loop-ending-init
-loop-ending-init g c =
+pub loop-up-init : goal.loop-up-init
+loop-up-init g c =
     let start : Start g.row.W.Denot = record { end_ = c.args.end_; first = c.args.first.now; limit = c.args.limit; stream = g.S.Stream.meaning c.args.stream.now; list = g.D.Desk.list c.args.desk.now; draws = c.args.draws.now } in
     record {
       runs = subst (λ (r : Reader). Runs g.W.Draws.gives start (g.S.Stream.meaning c.write_all.new.self.stream.now) c.write_all.new.self.left (g.D.Desk.list c.args.desk.now) c.args.draws.now r) (sym c.new-frames.ensures)
@@ -27,25 +28,42 @@ loop-ending-init g c =
 
 pub returns-in-Err-turn-clause-carries : goal.returns-in-Err-turn-clause-carries
 returns-in-Err-turn-clause-carries g c =
-    let carried = c.in-Err-turn.ensures.ends c.loop-ending.invariant.none _ refl c.loop-ending.invariant.runs in
+    let carried = c.in-Err-turn.ensures.ends c.loop-up.invariant.none _ refl c.loop-up.invariant.runs in
     subst (λ s. Carries g.D.Desk.list g.D.Desk.stands g.D.Desk.refuses g.W.Draws.gives c.args.end_ c.args.first.now c.args.limit (g.S.Stream.meaning c.args.stream.now) (g.S.Stream.meaning s) (g.D.Desk.list c.args.desk.now) c.turn.new.desk c.args.draws.now c.in-Err-turn.ending) (search rules) carried
 
-pub loop-ending-preserved : goal.loop-ending-preserved
-loop-ending-preserved g c = record {
-  runs = c.in_default-turn.ensures.runs c.loop-ending.invariant.none _ refl c.loop-ending.invariant.runs;
-  none = c.in_default-turn.ensures.all;
-  base = c.in_default-turn.ensures.base.0 ∙ c.loop-ending.invariant.base;
-  serves = c.in_default-turn.ensures.base.1 ∙ c.loop-ending.invariant.serves;
-  gone = λ only.
-      let kept = c.loop-ending.invariant.gone only in
-      let told = c.turn.ensures.gone (subst (λ d. IsOnlyGone g.D.Desk.stands d c.args.end_) (sym kept.0) only) in
-      absurd (c.in_default-turn.not-Err _ told.0.1);
-  loan = c.in_default-turn.ensures.loan ∙ c.loop-ending.invariant.loan;
-}
+pub loop-up-preserved-then-up : goal.loop-up-preserved-then-up
+loop-up-preserved-then-up g c =
+    let on = (c.in-Ok.ensures.runs c.loop-up.invariant.none _ refl c.loop-up.invariant.runs).runs in
+    record {
+      runs = subst (λ (r : Reader). Runs g.W.Draws.gives (record { end_ = c.args.end_; first = c.args.first.now; limit = c.args.limit; stream = g.S.Stream.meaning c.args.stream.now; list = g.D.Desk.list c.args.desk.now; draws = c.args.draws.now }) (g.S.Stream.meaning c.turn.new.limited.stream.now) c.turn.new.limited.left (g.D.Desk.list c.turn.new.desk) c.turn.new.draws r) (ap (λ (b : Bool). after_step b c.turn.new.frames) c.if-up.true ∙ sym c.to_linked.ensures) on;
+      none = ap to_come c.to_linked.ensures ∙ none_linked c.turn.new.frames;
+      base = c.turn.ensures.base.0 ∙ c.loop-up.invariant.base;
+      serves = c.turn.ensures.base.1 ∙ c.loop-up.invariant.serves;
+      gone = λ only.
+          let kept = c.loop-up.invariant.gone only in
+          let told = c.turn.ensures.gone (subst (λ d. IsOnlyGone g.D.Desk.stands d c.args.end_) (sym kept.0) only) in
+          absurd (not_refused c.in-Ok.up _ (sym c.in-Ok.is ∙ told.0.1));
+      loan = c.turn.ensures.loan ∙ c.loop-up.invariant.loan;
+    }
+
+pub loop-up-preserved : goal.loop-up-preserved
+loop-up-preserved g c =
+    let on = (c.in-Ok.ensures.runs c.loop-up.invariant.none _ refl c.loop-up.invariant.runs).runs in
+    record {
+      runs = subst (λ (r : Reader). Runs g.W.Draws.gives (record { end_ = c.args.end_; first = c.args.first.now; limit = c.args.limit; stream = g.S.Stream.meaning c.args.stream.now; list = g.D.Desk.list c.args.desk.now; draws = c.args.draws.now }) (g.S.Stream.meaning c.turn.new.limited.stream.now) c.turn.new.limited.left (g.D.Desk.list c.turn.new.desk) c.turn.new.draws r) (ap (λ (b : Bool). after_step b c.turn.new.frames) c.if-up.false) on;
+      none = sym (ap to_come (ap (λ (b : Bool). after_step b c.turn.new.frames) c.if-up.false)) ∙ c.in-Ok.ensures.all;
+      base = c.turn.ensures.base.0 ∙ c.loop-up.invariant.base;
+      serves = c.turn.ensures.base.1 ∙ c.loop-up.invariant.serves;
+      gone = λ only.
+          let kept = c.loop-up.invariant.gone only in
+          let told = c.turn.ensures.gone (subst (λ d. IsOnlyGone g.D.Desk.stands d c.args.end_) (sym kept.0) only) in
+          absurd (not_refused c.in-Ok.up _ (sym c.in-Ok.is ∙ told.0.1));
+      loan = c.turn.ensures.loan ∙ c.loop-up.invariant.loan;
+    }
 
 pub returns-in-Err-turn-clause-gone : goal.returns-in-Err-turn-clause-gone
 returns-in-Err-turn-clause-gone g c = λ only.
-    let kept = c.loop-ending.invariant.gone only in
+    let kept = c.loop-up.invariant.gone only in
     let told = c.turn.ensures.gone (subst (λ d. IsOnlyGone g.D.Desk.stands d c.args.end_) (sym kept.0) only) in
     subst (λ s. LeavesUnread c.args.first.now (g.S.Stream.meaning c.args.stream.now) (g.S.Stream.meaning s) c.in-Err-turn.ending) (search rules)
-    (gone_unread c.args.first.now (g.S.Stream.meaning c.args.stream.now) (g.S.Stream.meaning c.loop-ending.limited.stream.now) (g.S.Stream.meaning c.turn.new.limited.stream.now) told.0.0 c.in-Err-turn.ending (sym c.in-Err-turn.is ∙ told.0.1) told.1 (kept.1, kept.2, kept.3))
+    (gone_unread c.args.first.now (g.S.Stream.meaning c.args.stream.now) (g.S.Stream.meaning c.loop-up.limited.stream.now) (g.S.Stream.meaning c.turn.new.limited.stream.now) told.0.0 c.in-Err-turn.ending (sym c.in-Err-turn.is ∙ told.0.1) told.1 (kept.1, kept.2, kept.3))

@@ -1,10 +1,10 @@
-use Rattle.std.proofs.Common.{◌≡◌, arith, [], sym, subst}
+use Rattle.std.proofs.Common.{◌≡◌, Bool, arith, [], sym, subst}
 use Rattle.dist_peers.specs.declared.entry.EndId.{EndId}
 use Rattle.dist_ends.specs.declared.phase.Still.TheVariants as still
 use Rattle.dist_frames.specs.Reader.{to_come}
 use Rattle.dist_drive.specs.declared.outcome.Ending.{Ending}
-use Rattle.dist_drive.specs.Running.{EndsSo}
-use Rattle.dist_drive.proofs.Shown.{ok_maps, ok_so, err_maps}
+use Rattle.dist_drive.specs.Running.{EndsSo, GoesOn}
+use Rattle.dist_drive.proofs.Shown.{if_ok_maps, ok_so, err_maps}
 use Rattle.dist_drive.proofs.Carrying.{gone, piece_ends, piece_comes}
 use Rattle.dist_drive.proofs.driving.turn.Goals as goal
 
@@ -15,8 +15,11 @@ pub returns-in-Err-clause-ends : goal.returns-in-Err-clause-ends
 returns-in-Err-clause-ends g c = λ none start e runs. piece_ends (record { fed_on = c.fed_and_moved.ensures.fed; moved_on = c.fed_and_moved.ensures.moved; bodies_are = c.fed_and_moved.ensures.bodies }) g.D.Desk.list g.D.Desk.stands g.D.Desk.refuses g.W.Draws.gives start (g.S.Stream.meaning c.args.limited.now.stream.now) _ c.args.limited.now.left c.hear.new.limited.left c.args.desk.now c.args.draws.now c.args.frames.now c.hear.new.frames _ runs none c.in-Err.ensures.hears
 
 pub returns-in-Ok-clause-runs : goal.returns-in-Ok-clause-runs
-returns-in-Ok-clause-runs g c = ok_maps c.hand_on_all.result c.hand_on_all.ensures.runs
-    (λ later none start e runs. later start e (piece_comes (record { fed_on = c.fed_and_moved.ensures.fed; moved_on = c.fed_and_moved.ensures.moved; bodies_are = c.fed_and_moved.ensures.bodies }) g.W.Draws.gives start (g.S.Stream.meaning c.args.limited.now.stream.now) (g.S.Stream.meaning c.hear.new.limited.stream.now) c.args.limited.now.left c.hear.new.limited.left _ c.args.draws.now c.args.frames.now c.hear.new.frames _ c.in-Ok.ensures.hears runs))
+returns-in-Ok-clause-runs g c =
+    let P : Bool → Type 0 = GoesOn g.W.Draws.gives c.args.end_ (g.S.Stream.meaning c.hear.new.limited.stream.now) (g.S.Stream.meaning c.hand_on_all.new.limited.stream.now) c.hear.new.limited.left c.hand_on_all.new.limited.left (g.D.Desk.list c.args.desk.now) (g.D.Desk.list c.hand_on_all.new.desk) c.args.draws.now c.hand_on_all.new.draws c.hear.new.frames c.hand_on_all.new.frames in
+    let Q : Bool → Type 0 = λ up. to_come c.args.frames.now ≡ [] → GoesOn g.W.Draws.gives c.args.end_ (g.S.Stream.meaning c.args.limited.now.stream.now) (g.S.Stream.meaning c.hand_on_all.new.limited.stream.now) c.args.limited.now.left c.hand_on_all.new.limited.left (g.D.Desk.list c.args.desk.now) (g.D.Desk.list c.hand_on_all.new.desk) c.args.draws.now c.hand_on_all.new.draws c.args.frames.now c.hand_on_all.new.frames up in
+    if_ok_maps P Q c.hand_on_all.result c.hand_on_all.ensures.runs
+    (λ up later none start e runs. later start e (piece_comes (record { fed_on = c.fed_and_moved.ensures.fed; moved_on = c.fed_and_moved.ensures.moved; bodies_are = c.fed_and_moved.ensures.bodies }) g.W.Draws.gives start (g.S.Stream.meaning c.args.limited.now.stream.now) (g.S.Stream.meaning c.hear.new.limited.stream.now) c.args.limited.now.left c.hear.new.limited.left _ c.args.draws.now c.args.frames.now c.hear.new.frames _ c.in-Ok.ensures.hears runs))
 
 pub returns-in-Ok-clause-ends : goal.returns-in-Ok-clause-ends
 returns-in-Ok-clause-ends g c =
