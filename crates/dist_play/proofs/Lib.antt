@@ -1,1 +1,3 @@
 pub mod Printing
+pub mod Finding
+pub mod Pairing

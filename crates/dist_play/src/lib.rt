@@ -4,12 +4,14 @@
 //! writer. What is printed is in docs/PROTOCOL.md, section 8.
 #![tactic(auto)]
 
+mod agreements;
 mod playing;
 pub mod print;
 mod readers;
 mod scene;
 mod stage;
 
+pub use agreements::print_agreements;
 pub use playing::enact;
 pub use scene::Scene;
-pub use stage::{print_agreements, print_nodes};
+pub use stage::print_nodes;

@@ -1,12 +1,16 @@
 //! A world of nodes that a script tells what happens.
 
+ghost use Rattle.std.specs.Prelude.{OnOk};
+ghost use Rattle.std.specs.Io.KnownBytes.{Appends};
+ghost use Rattle.dist_play.specs.Worlds.{nodes_text};
+
+use crate::agreements::print_agreements;
 use crate::print;
-use dist_core::{Node, Setup};
-use dist_names::NodeName;
+use dist_core::Setup;
 use dist_words::{ScriptFault, written};
 use dist_world::{Happening, World, WorldError};
-use std::alloc::{AllocError, Global};
-use std::collections::BTreeMap;
+use std::alloc::Global;
+use std::io;
 use std::io::Write;
 
 fn world_of(alloc: Global, nodes: Vec<Setup>) -> Result<World, ScriptFault> {
@@ -55,88 +59,23 @@ fn happen_all<W: Write>(
     Ok(applied)
 }
 
-/// How each node of a world stands.
-pub fn print_nodes<W: Write>(world: &World, out: &mut W) -> Result<(), ScriptFault> {
-    for (place, setup) in world.setups().iter().enumerate() {
-        written(print::node(out, &setup.name, world.node(place)))?;
-    }
-    Ok(())
-}
-
-// The place of each node by its name.
-fn places(alloc: Global, setups: &[Setup]) -> Result<BTreeMap<NodeName, usize>, AllocError> {
-    let mut places = BTreeMap::new(alloc);
-    for (place, setup) in setups.iter().enumerate() {
-        places.insert(setup.name.try_clone(alloc)?, place)?;
-    }
-    Ok(places)
-}
-
-// The nodes behind this one that are up with it in its own table, in their order.
-fn later_ups(
-    alloc: Global,
-    place: usize,
-    node: &Node,
-    places: &BTreeMap<NodeName, usize>,
-) -> Result<Vec<usize>, AllocError> {
-    let mut later = Vec::new(alloc);
-    for up in 0..node.ups() {
-        if let Some((_, record)) = node.up_at(up)
-            && let Some(other) = places.get(&record.peer)
-            && place < *other
-        {
-            later.push(*other)?;
-        }
-    }
-    later.sort()?;
-    Ok(later)
-}
-
-// What two nodes have in common, where they are up with one another.
-fn print_agreement<W: Write>(
-    world: &World,
-    a: usize,
-    b: usize,
-    out: &mut W,
-) -> Result<(), ScriptFault> {
+#[tactic(auto, using(crate::proofs::Printing::nothing))]
+fn nodes<W: Write>(world: &World, out: &mut W) -> io::Result<()>
+    ensures { OnOk result (Appends (W.contents out.old) (W.contents out.new) (nodes_text world.now)) }
+{
     let setups = world.setups();
-    match (setups.get(a), setups.get(b), world.both_up(a, b)) {
-        (Some(first), Some(second), Some(found)) => {
-            written(print::agreement(out, &first.name, &second.name, &found))
-        }
-        _ => Ok(()),
-    }
-}
-
-// What a node and each one behind it have in common.
-fn print_agreements_of<W: Write>(
-    alloc: Global,
-    world: &World,
-    place: usize,
-    places: &BTreeMap<NodeName, usize>,
-    out: &mut W,
-) -> Result<(), ScriptFault> {
-    let Some(node) = world.node(place) else {
-        return Ok(());
-    };
-    for other in later_ups(alloc, place, node, places)? {
-        print_agreement(world, place, other, out)?;
-    }
-    Ok(())
-}
-
-/// What each two nodes have in common that are up with one another. Only who stands in a node's table can be.
-pub fn print_agreements<W: Write>(
-    alloc: Global,
-    world: &World,
-    out: &mut W,
-) -> Result<(), ScriptFault> {
-    let setups = world.setups();
-    let places = places(alloc, setups)?;
     for place in 0..setups.len() {
-        print_agreements_of(alloc, world, place, &places, out)?;
+        let incarnation = world.node(place);
+        print::node(out, &setups[place].name, incarnation)?;
     }
     Ok(())
+}
+
+/// How each node of a world stands, in the order of their places.
+pub fn print_nodes<W: Write>(world: &World, out: &mut W) -> Result<(), ScriptFault>
+    ensures { OnOk result (Appends (W.contents out.old) (W.contents out.new) (nodes_text world.now)) }
+{
+    nodes(world, out).map_err(|_| ScriptFault::WriteFailed)
 }
 
 // How many happenings applied, and how the world stands.
