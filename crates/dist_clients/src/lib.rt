@@ -5,6 +5,7 @@
 //! stands, and a time is a number that the caller gives.
 #![tactic(auto)]
 
+mod carrying;
 mod client;
 mod clients;
 mod holding;
@@ -12,6 +13,7 @@ mod laws;
 mod open_error;
 mod question;
 mod replying;
+mod sweeping;
 mod table;
 #[cfg(test)]
 mod tests;

@@ -1,0 +1,13 @@
+-- What was said since some bytes were written, after one write more.
+use Rattle.std.proofs.Common.{◌≡◌, ℕ, ◌+◌, ◌-◌, ◌≤◌, List, Option, length, take, drop, ap, ◌∙◌}
+use Rattle.std.specs.Io.KnownBytes.{append_known}
+use Rattle.dist_streams.proofs.Rooms.{take_more}
+use Rattle.dist_streams.proofs.Talks.{append_known-append}
+
+pub told_on : (before old new : Option (List ℕ)) (text slice : List ℕ) (done count : ℕ) → slice ≡ text → done ≤ length text → new ≡ append_known old (take count (take (length slice - done) (drop done slice))) → old ≡ append_known before (take done text) → new ≡ append_known before (take (done + count) text)
+told_on before old new text slice done count same within written told =
+    written
+    ∙ ap (λ (s : List ℕ). append_known old (take count (take (length s - done) (drop done s)))) same
+    ∙ ap (λ (known : Option (List ℕ)). append_known known (take count (take (length text - done) (drop done text)))) told
+    ∙ append_known-append before (take done text) (take count (take (length text - done) (drop done text)))
+    ∙ ap (λ (l : List ℕ). append_known before l) (take_more done count text within)

@@ -1,0 +1,2 @@
+pub mod Owed
+pub mod Turns

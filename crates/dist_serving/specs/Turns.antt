@@ -1,0 +1,71 @@
+-- What a read of a connection leads to.
+use Rattle.std.specs.Prelude.{◌≡◌, ℕ, ◌==◌, Bool, true, false, List, Option, None, take, length}
+use Rattle.dist_epmd.specs.Book.{Book, after_closed}
+use Rattle.dist_streams.specs.Stream.{StreamState, Reads, Writes}
+use Rattle.dist_streams.specs.declared.stream.Heard.{Heard}
+use Rattle.dist_streams.specs.declared.stream.Heard.TheVariants as heard
+use Rattle.dist_streams.specs.declared.stream.Took.TheVariants as took
+use Rattle.dist_clients.specs.declared.client.Client.{Client}
+use Rattle.dist_clients.specs.declared.holding.Clients.{Clients}
+use Rattle.dist_clients.specs.declared.turn.Turn.{Turn}
+use Rattle.dist_clients.specs.declared.turn.Turn.TheVariants as turn
+use Rattle.dist_clients.specs.Carrying.{Carries, Moved}
+use Rattle.dist_clients.specs.Clients.{book_of, client_of, OthersStay, Becomes, IsSame}
+use Rattle.dist_clients.specs.Replying.{Outcome, after_piece}
+use Rattle.dist_serving.specs.declared.turns.Step.{Step}
+use Rattle.dist_serving.specs.declared.turns.Step.TheVariants as step
+
+-- the step says that the client has left
+abbrev pub HasLeft : {S : Type 0} → Step S → Type 0
+HasLeft step.Quiet = ⊥
+HasLeft step.More = ⊥
+HasLeft step.Closed = Unit {0}
+HasLeft (step.Leaves stream text) = Unit {0}
+
+-- A client has left, and all others are as they were.
+pub record Left {S : Type 0} (conn : ℕ) (old new : Clients S) : Type 0 where
+  pub gone : client_of new conn ≡ None
+  pub others : OthersStay conn old new
+
+module _ {S : Type 0} (meaning : S → StreamState) where
+  -- A text was said on the stream whole, by one write.
+  abbrev pub SaidWhole : List ℕ → S → S → Type 0
+  SaidWhole text a b = Writes (meaning a) (meaning b) text (took.Bytes (length text))
+
+  -- A client is this one, with a text that was said to it, and the registry is this one.
+  pub record Stays (text : List ℕ) (client : Option (Client S)) (book : Book) (conn : ℕ) (old new : Clients S) : Type 0 where
+    pub registry : book_of new ≡ book
+    pub there : Moved (SaidWhole text) client (client_of new conn)
+    pub others : OthersStay conn old new
+
+  -- A client goes on: it has not asked yet, or was answered that it is registered. Any other does not.
+  abbrev pub GoesOn : Turn S → Option (Client S) → Book → ℕ → Clients S → Clients S → Type 0
+  GoesOn turn.Wait client book conn old new = Becomes client book conn old new
+  GoesOn (turn.Stay text) client book conn old new = Stays text client book conn old new
+  GoesOn (turn.Leave stream text) client book conn old new = ⊥
+
+  -- WHAT A PIECE LEADS TO: what is to be said to a client that leaves is handed out with its stream; one that is registered is
+  -- told so whole, by one write; and a stream is let go only where its client has left.
+  abbrev pub Follows : Outcome S → ℕ → Clients S → Clients S → Step S → Type 0
+  Follows after conn old new step.Quiet = ⊥
+  Follows after conn old new step.More = GoesOn after.turn after.client after.book conn old new
+  Follows after conn old new step.Closed = Left conn old new
+  Follows after conn old new (step.Leaves stream text) = (after.turn ≡ turn.Leave stream text) × Becomes None after.book conn old new
+
+  -- what follows from a piece; where there is none the connection is over
+  abbrev pub FollowsPiece : Bool → List ℕ → ℕ → Clients S → Clients S → Step S → Type 0
+  FollowsPiece true piece conn old new made = (made ≡ step.Closed) × Becomes None (after_closed conn (book_of old)) conn old new
+  FollowsPiece false piece conn old new made = Follows (after_piece conn (client_of old conn) piece (book_of old)) conn old new made
+
+  -- what follows from what was heard
+  abbrev pub FollowsRead : Heard → List ℕ → ℕ → Clients S → Clients S → Step S → Type 0
+  FollowsRead heard.Quiet room conn old new made = (made ≡ step.Quiet) × IsSame old new
+  FollowsRead heard.Failed room conn old new made = (made ≡ step.Closed) × Becomes None (after_closed conn (book_of old)) conn old new
+  FollowsRead (heard.Bytes count) room conn old new made = FollowsPiece (count == 0) (take count room) conn old new made
+
+  -- A read of a connection, and what follows.
+  pub record Turns (room : List ℕ) (conn : ℕ) (old new : Clients S) (made : Step S) : Type 0 where
+    pub heard : Heard
+    pub mid : Clients S
+    pub read : Carries (λ a b. Reads (meaning a) (meaning b) room heard) conn old mid
+    pub follows : FollowsRead heard room conn mid new made
