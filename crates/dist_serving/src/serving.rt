@@ -1,0 +1,45 @@
+//! The loop.
+
+use crate::server::Server;
+use mio::Events;
+use std::alloc::Global;
+use std::io;
+use std::sync::Wait;
+use std::sync::atomic::{AtomicBool, Ordering};
+use std::time::{Clock, Duration, Instant};
+
+// The most that is taken from the system at once.
+const EVENTS: usize = 1024;
+
+// The most bytes of one read: a request and its length fit.
+const ROOM: usize = 4096;
+
+// How long is waited where nothing happens.
+const SECONDS: u64 = 1;
+
+/// Serves for ever. It ends where the system does not tell what is ready, or memory lacks at the start.
+pub fn serve<R: Wait + Clock>(
+    rt: &R,
+    alloc: Global,
+    server: &mut Server,
+    stop: &AtomicBool,
+) -> io::Result<()> {
+    let start = Instant::now(rt)?;
+    let mut events = Events::with_capacity(alloc, EVENTS)?;
+    let mut room = vec![in alloc; 0u8; ROOM]?;
+    for _ in rt.forever() {
+        if stop.load(Ordering::SeqCst) {
+            break;
+        }
+        server.wait(&mut events, Duration::from_secs(SECONDS))?;
+        let now = start.elapsed(rt)?.as_secs();
+        for event in events.iter() {
+            server.serve_client(event.token(), &mut room, now);
+        }
+        for event in events.iter() {
+            server.serve_listener(event.token(), now);
+        }
+        server.sweep(now);
+    }
+    Ok(())
+}

@@ -1,0 +1,129 @@
+-- What the words of a port mapper ask for (ERTS Reference Manual, epmd).
+use Rattle.std.specs.Prelude.{ℕ, ◌^◌, Bool, true, false, ◌&&◌, ◌==◌, List, [], ◌∷◌, Option, Some, None, option_map, Result, Ok, Err, length, codes, nat_lt, nat_le, if◌then◌else◌}
+use Rattle.std.specs.List.{find}
+use Rattle.std.proofs.Common.{Bor}
+use Rattle.std.specs.Cmp.Lexicographic.{pointwise}
+use Rattle.std.specs.Str.{all_ascii_digits}
+use Rattle.std.specs.Str.Parse.{digits_value}
+use Rattle.dist_settings.specs.declared.key.Key.{Key}
+use Rattle.dist_settings.specs.declared.key.Key.TheVariants as key
+use Rattle.dist_settings.specs.declared.reading.Awaits.{Awaits}
+use Rattle.dist_settings.specs.declared.reading.Awaits.TheVariants as awaits
+use Rattle.dist_settings.specs.declared.reading.Reading.{Reading}
+use Rattle.dist_settings.specs.declared.refusal.Refusal.{Refusal}
+use Rattle.dist_settings.specs.declared.refusal.Refusal.TheVariants.{UnknownWord, NotDone, NoValue, BadPort, BadTimeout, BadClients}
+use Rattle.dist_settings.specs.declared.settings.Settings.{Settings}
+use Rattle.dist_settings.specs.declared.settings.Task.TheVariants as task
+
+-- ---- the words that stand by themselves
+
+abbrev pub name_of : Key → List ℕ
+name_of key.Port = codes "-port"
+name_of key.Address = codes "-address"
+name_of key.Timeout = codes "-packet_timeout"
+name_of key.Clients = codes "-max_clients"
+name_of key.Systemd = codes "-systemd"
+name_of key.Names = codes "-names"
+name_of key.Help = codes "--help"
+name_of key.Version = codes "--version"
+name_of key.Daemon = codes "-daemon"
+name_of key.Kill = codes "-kill"
+name_of key.Stop = codes "-stop"
+name_of key.Debug = codes "-d"
+name_of key.Relaxed = codes "-relaxed_command_check"
+
+abbrev pub has_name : List ℕ → Key → Bool
+has_name word k = pointwise ◌==◌ (name_of k) word
+
+abbrev pub all_keys : List Key
+all_keys =
+    key.Port ∷ key.Address ∷ key.Timeout ∷ key.Clients ∷ key.Systemd ∷ key.Names ∷ key.Help ∷ key.Version ∷ key.Daemon ∷ key.Kill ∷ key.Stop ∷ key.Debug
+    ∷ key.Relaxed ∷ []
+
+unfoldable pub key_named : List ℕ → Option Key
+key_named word = find (has_name word) all_keys
+
+-- ---- numbers
+
+-- decimal digits, at least one, that write a number above 0 and up to this one; leading zeros are allowed
+abbrev pub is_number : ℕ → List ℕ → Bool
+is_number most word = nat_lt 0 (length word) && (all_ascii_digits word && (nat_lt 0 (digits_value 10 word) && nat_le (digits_value 10 word) most))
+
+unfoldable pub number_of : ℕ → List ℕ → Option ℕ
+number_of most word = if is_number most word then Some (digits_value 10 word) else None
+
+-- ---- one word
+
+-- what was read so far
+abbrev pub Read : Type 0
+Read = Result Reading Refusal
+
+abbrev pub reads : Settings → Awaits → Read
+reads settings what = Ok (record { settings = settings; awaits = what })
+
+-- what a word that stands by itself makes of what was read before it
+abbrev pub after_key : Settings → Option Key → Read
+after_key s None = Err UnknownWord
+after_key s (Some key.Port) = reads s awaits.Port
+after_key s (Some key.Address) = reads s awaits.Address
+after_key s (Some key.Timeout) = reads s awaits.Timeout
+after_key s (Some key.Clients) = reads s awaits.Clients
+after_key s (Some key.Systemd) = reads (record s { systemd = true }) awaits.Key
+after_key s (Some key.Names) = reads (record s { task = task.Names }) awaits.Key
+after_key s (Some key.Help) = reads (record s { task = task.Help }) awaits.Key
+after_key s (Some key.Version) = reads (record s { task = task.Version }) awaits.Key
+after_key s (Some key.Daemon) = Err NotDone
+after_key s (Some key.Kill) = Err NotDone
+after_key s (Some key.Stop) = Err NotDone
+after_key s (Some key.Debug) = Err NotDone
+after_key s (Some key.Relaxed) = Err NotDone
+
+-- the number that an option awaited, or why there is none
+abbrev pub with_number : Option ℕ → Refusal → (ℕ → Settings) → Read
+with_number None refusal with = Err refusal
+with_number (Some n) refusal with = reads (with n) awaits.Key
+
+-- a word as it was handed over
+abbrev pub Word : Type 0
+Word = Bor (List ℕ)
+
+-- what a word makes of what was read before it, by what it is to be
+abbrev pub after_awaited : Settings → Awaits → Word → Read
+after_awaited s awaits.Key word = after_key s (key_named word.now)
+after_awaited s awaits.Port word = with_number (number_of 65535 word.now) BadPort (λ n. record s { port = n })
+after_awaited s awaits.Address word = reads (record s { addresses = Some word }) awaits.Key
+after_awaited s awaits.Timeout word = with_number (number_of 4294967295 word.now) BadTimeout (λ n. record s { seconds = n })
+after_awaited s awaits.Clients word = with_number (number_of 4294967295 word.now) BadClients (λ n. record s { clients = n })
+
+-- ---- all words
+
+-- Each word counts in turn: a later one stands for an earlier one, and the first that is bad is told.
+abbrev pub after_words : Read → List Word → Read
+after_words (Err refusal) words = Err refusal
+after_words (Ok r) [] = Ok r
+after_words (Ok r) (word ∷ words) = after_words (after_awaited r.settings r.awaits word) words
+
+-- what is asked for without any word, with the addresses of ERL_EPMD_ADDRESS
+abbrev pub usual : Option Word → Settings
+usual address = record { task = task.Serve; port = 4369; addresses = address; seconds = 60; clients = 4096; systemd = false }
+
+-- the same, with the port of ERL_EPMD_PORT
+abbrev pub opening : Option Word → Option Word → Read
+opening None address = reads (usual address) awaits.Key
+opening (Some port) address = after_awaited (usual address) awaits.Port port
+
+-- behind the last word none is awaited that is a value
+abbrev pub settled_at : Settings → Awaits → Result Settings Refusal
+settled_at s awaits.Key = Ok s
+settled_at s awaits.Port = Err NoValue
+settled_at s awaits.Address = Err NoValue
+settled_at s awaits.Timeout = Err NoValue
+settled_at s awaits.Clients = Err NoValue
+
+abbrev pub settled : Read → Result Settings Refusal
+settled (Ok r) = settled_at r.settings r.awaits
+settled (Err refusal) = Err refusal
+
+-- WHAT THE WORDS ASK FOR, and those of the environment
+abbrev pub settings_of : Option Word → Option Word → List Word → Result Settings Refusal
+settings_of port address words = settled (after_words (opening port address) words)

@@ -1,0 +1,99 @@
+//! The words that stand by themselves.
+
+ghost use Rattle.std.specs.Prelude.{◌≡◌, Some, IfSome};
+ghost use Rattle.std.specs.List.{find};
+ghost use Rattle.dist_settings.specs.declared.key.Key.{Key};
+ghost use Rattle.dist_settings.specs.Words.{has_name, key_named, name_of};
+
+/// A word of the command line that is no value of another.
+#[derive(Clone, Copy, PartialEq, Eq)]
+pub enum Key {
+    /// The port comes next.
+    Port,
+    /// The addresses come next.
+    Address,
+    /// The seconds come next.
+    Timeout,
+    /// The most clients come next.
+    Clients,
+    /// The socket is handed over.
+    Systemd,
+    /// The names are asked for.
+    Names,
+    /// The help is asked for.
+    Help,
+    /// The version is asked for.
+    Version,
+    /// `epmd` goes into the background.
+    Daemon,
+    /// `epmd` is ended.
+    Kill,
+    /// A node is unregistered.
+    Stop,
+    /// `epmd` tells what it does.
+    Debug,
+    /// `epmd` is ended though nodes are registered, and nodes are unregistered.
+    Relaxed,
+}
+
+const ALL: [Key; 13] = [
+    Key::Port,
+    Key::Address,
+    Key::Timeout,
+    Key::Clients,
+    Key::Systemd,
+    Key::Names,
+    Key::Help,
+    Key::Version,
+    Key::Daemon,
+    Key::Kill,
+    Key::Stop,
+    Key::Debug,
+    Key::Relaxed,
+];
+
+impl Key {
+    /// The word itself.
+    pub fn name(self) -> &'static str
+        ensures { result.now ≡ name_of self }
+    {
+        match self {
+            Key::Port => "-port",
+            Key::Address => "-address",
+            Key::Timeout => "-packet_timeout",
+            Key::Clients => "-max_clients",
+            Key::Systemd => "-systemd",
+            Key::Names => "-names",
+            Key::Help => "--help",
+            Key::Version => "--version",
+            Key::Daemon => "-daemon",
+            Key::Kill => "-kill",
+            Key::Stop => "-stop",
+            Key::Debug => "-d",
+            Key::Relaxed => "-relaxed_command_check",
+        }
+    }
+
+    /// What this word is.
+    pub fn of_word(word: &str) -> Option<Key>
+        ensures found { IfSome result (λ key. name_of key ≡ word.now) }
+        ensures every { (key : Key) → name_of key ≡ word.now → result ≡ Some key }
+        ensures named { result ≡ key_named word.now }
+    {
+        called(word, &ALL)
+    }
+
+    // Whether it is this word.
+    fn has_name(self, word: &str) -> bool
+        ensures { result ≡ has_name word.now self }
+    {
+        self.name().as_bytes() == word.as_bytes()
+    }
+}
+
+// The first of these that is this word.
+fn called(word: &str, keys: &[Key]) -> Option<Key>
+    ensures { result ≡ find (has_name word.now) keys.now }
+{
+    keys.iter().copied().find(|key| key.has_name(word))
+}

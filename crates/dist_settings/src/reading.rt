@@ -1,0 +1,146 @@
+//! Reads the words.
+
+ghost use Rattle.std.specs.Prelude.{◌≡◌, ◌≤◌, IfSome};
+ghost use Rattle.dist_settings.specs.Words.{number_of, after_awaited, after_key, key_named, opening, reads, settled_at, settings_of, usual};
+
+use crate::key::Key;
+use crate::refusal::Refusal;
+use crate::settings::{Settings, Task};
+use dist_numerals::number_32;
+
+/// Where a port mapper listens, unless it is told otherwise. Source: ERTS Reference Manual, epmd.
+const PORT: u16 = 4369;
+
+/// After how many seconds a client is closed that has not asked. Source: ERTS Reference Manual, epmd.
+const SECONDS: u32 = 60;
+
+/// The most clients at once. Our own choice: four for each registration.
+const CLIENTS: u32 = 4096;
+
+/// What the next word is to be.
+#[derive(Clone, Copy, PartialEq, Eq)]
+pub enum Awaits {
+    /// A word that stands by itself.
+    Key,
+    /// The port.
+    Port,
+    /// The addresses.
+    Address,
+    /// The seconds.
+    Timeout,
+    /// The most clients.
+    Clients,
+}
+
+/// What was read so far.
+#[derive(Clone, Copy)]
+pub struct Reading<'a> {
+    /// What it asks for.
+    pub settings: Settings<'a>,
+    /// What the next word is to be.
+    pub awaits: Awaits,
+}
+
+fn reads<'a>(settings: Settings<'a>, awaits: Awaits) -> Result<Reading<'a>, Refusal>
+    ensures { result ≡ reads settings.entry awaits }
+{
+    Ok(Reading { settings, awaits })
+}
+
+// The number above 0 and up to this one that a word writes in decimal digits.
+#[tactic(auto, unfolding(crate::specs::Words::number_of))]
+fn number_of(word: &str, most: u32) -> Option<u32>
+    ensures number { result ≡ number_of most word.now }
+    ensures bound { IfSome result (λ n. n ≤ most) }
+{
+    let number = number_32(word.as_bytes())?;
+    if number == 0 || number > most {
+        return None;
+    }
+    Some(number)
+}
+
+impl<'a> Settings<'a> {
+    // What is asked for without any word, with these addresses.
+    fn usual(addresses: Option<&'a str>) -> Settings<'a>
+        ensures { result ≡ usual addresses.entry }
+    {
+        Settings {
+            task: Task::Serve,
+            port: PORT,
+            addresses,
+            seconds: SECONDS,
+            clients: CLIENTS,
+            systemd: false,
+        }
+    }
+
+    // Takes a word that stands by itself.
+    fn after_key(mut self, word: &str) -> Result<Reading<'a>, Refusal>
+        ensures { result ≡ after_key self.entry (key_named word.now) }
+    {
+        match Key::of_word(word) {
+            None => return Err(Refusal::UnknownWord),
+            Some(Key::Port) => return reads(self, Awaits::Port),
+            Some(Key::Address) => return reads(self, Awaits::Address),
+            Some(Key::Timeout) => return reads(self, Awaits::Timeout),
+            Some(Key::Clients) => return reads(self, Awaits::Clients),
+            Some(Key::Systemd) => self.systemd = true,
+            Some(Key::Names) => self.task = Task::Names,
+            Some(Key::Help) => self.task = Task::Help,
+            Some(Key::Version) => self.task = Task::Version,
+            Some(_) => return Err(Refusal::NotDone),
+        }
+        reads(self, Awaits::Key)
+    }
+
+    // Takes a word that is to be this.
+    fn after(mut self, awaits: Awaits, word: &'a str) -> Result<Reading<'a>, Refusal>
+        ensures { result ≡ after_awaited self.entry awaits word.entry }
+    {
+        match awaits {
+            Awaits::Key => return self.after_key(word),
+            Awaits::Port => {
+                self.port = number_of(word, 65535).ok_or(Refusal::BadPort)? as u16;
+            }
+            Awaits::Address => self.addresses = Some(word),
+            Awaits::Timeout => {
+                self.seconds = number_of(word, u32::MAX).ok_or(Refusal::BadTimeout)?;
+            }
+            Awaits::Clients => {
+                self.clients = number_of(word, u32::MAX).ok_or(Refusal::BadClients)?;
+            }
+        }
+        reads(self, Awaits::Key)
+    }
+}
+
+// What the words of the environment ask for.
+fn opening<'a>(port: Option<&'a str>, address: Option<&'a str>) -> Result<Reading<'a>, Refusal>
+    ensures { result ≡ opening port.entry address.entry }
+{
+    let settings = Settings::usual(address);
+    match port {
+        Some(word) => settings.after(Awaits::Port, word),
+        None => reads(settings, Awaits::Key),
+    }
+}
+
+/// What the words after the program's name ask for, and before them the words of ERL_EPMD_PORT and ERL_EPMD_ADDRESS. A later
+/// word stands for an earlier one, and the first that is bad is told.
+pub fn settings_of<'a>(
+    words: &[&'a str],
+    port: Option<&'a str>,
+    address: Option<&'a str>,
+) -> Result<Settings<'a>, Refusal>
+    ensures { result ≡ settings_of port.entry address.entry words.now }
+{
+    let mut reading = opening(port, address)?;
+    for word in words {
+        reading = reading.settings.after(reading.awaits, word)?;
+    }
+    match reading.awaits {
+        Awaits::Key => Ok(reading.settings),
+        _ => Err(Refusal::NoValue),
+    }
+}

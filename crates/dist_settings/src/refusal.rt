@@ -1,0 +1,27 @@
+//! Why the words ask for nothing.
+
+use thiserror::Error;
+
+/// Why the words ask for nothing: the first that is met, where those of the environment come before those of the command line.
+/// Whoever started the program is to blame.
+#[derive(Clone, Copy, Debug, PartialEq, Eq, Error)]
+pub enum Refusal {
+    /// A word is none of the program's.
+    #[error("no such word: 'distmapd --help' tells them")]
+    UnknownWord,
+    /// A word of `epmd` asks for what is not done here.
+    #[error("-daemon, -kill, -stop, -d and -relaxed_command_check are not done here: it stays in the foreground, and a signal ends it")]
+    NotDone,
+    /// The last word wants a value behind it.
+    #[error("the last word wants a value behind it")]
+    NoValue,
+    /// The port is no number from 1 to 65,535.
+    #[error("-port and ERL_EPMD_PORT want a number from 1 to 65535")]
+    BadPort,
+    /// The time is no number of seconds from 1 to 4,294,967,295.
+    #[error("-packet_timeout wants a number of seconds from 1 to 4294967295")]
+    BadTimeout,
+    /// The most clients are no number from 1 to 4,294,967,295.
+    #[error("-max_clients wants a number from 1 to 4294967295")]
+    BadClients,
+}
