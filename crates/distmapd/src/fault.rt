@@ -1,0 +1,53 @@
+//! Why the program ends.
+
+use dist_settings::Refusal;
+use std::alloc::AllocError;
+use thiserror::Error;
+
+/// Why the program ends.
+#[derive(Debug, Drop, Error)]
+pub enum Fault {
+    /// The words of the command line or the environment ask for nothing. Whoever started it is to blame.
+    #[error("{0}")]
+    BadWords(Refusal),
+    /// A word is no UTF-8. Whoever started it is to blame.
+    #[error("a word of the command line is no UTF-8")]
+    NoText,
+    /// An address is no IP address. Whoever started it is to blame.
+    #[error("-address and ERL_EPMD_ADDRESS want IP addresses with commas between them")]
+    BadAddress,
+    /// It can't listen: the port is taken, an address is not this host's, or no socket was handed over.
+    #[error("ListenFailed: the port is taken, an address is not of this host, or no socket was handed over")]
+    ListenFailed,
+    /// The system doesn't tell what is ready.
+    #[error("ServeFailed")]
+    ServeFailed,
+    /// Nobody listens at the port of the port mapper.
+    #[error("ConnectFailed: no port mapper listens at that port of this host")]
+    ConnectFailed,
+    /// The port mapper gives no answer.
+    #[error("NoAnswer")]
+    NoAnswer,
+    /// What was asked for could not be written.
+    #[error("WriteFailed")]
+    WriteFailed,
+    /// No memory was left.
+    #[error("NoMemory")]
+    NoMemory,
+}
+
+impl Fault {
+    /// The status that the program ends with.
+    pub fn status(&self) -> u8 {
+        match self {
+            Fault::BadWords(_) | Fault::NoText | Fault::BadAddress => 2,
+            _ => 1,
+        }
+    }
+}
+
+impl From<AllocError> for Fault {
+    fn from(_error: AllocError) -> Fault {
+        Fault::NoMemory
+    }
+}
