@@ -31,8 +31,10 @@ fn port_of(address: SocketAddr) -> u16 {
 }
 
 fn timed(socket: TcpStream, dialler_port: u16) -> io::Result<Connection> {
+    socket.set_read_timeout(Some(one_turn()))?;
+    socket.set_write_timeout(Some(one_turn()))?;
     Ok(Connection {
-        stream: SocketStream::timed(socket, one_turn())?,
+        stream: SocketStream::new(socket),
         dialler_port,
     })
 }

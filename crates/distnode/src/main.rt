@@ -11,11 +11,11 @@ mod run;
 use dist_commands::{Order, order_of};
 use dist_faults::Fault;
 use dist_play::enact;
-use dist_streams::{SocketStream, connect};
+use dist_streams::SocketStream;
 use std::alloc::{AllocError, Global};
 use std::fs::File;
 use std::io::{ErrorKind, Write};
-use std::net::{Ipv4Addr, Net, SocketAddr, TcpListener, TcpStream};
+use std::net::{Ipv4Addr, Net, TcpListener, TcpStream};
 use std::process::ExitCode;
 use std::random::RandomSource;
 use std::sync::Wait;
@@ -25,10 +25,6 @@ use std::{env, io};
 
 /// How long a read or a write waits for the port mapper: the length of a turn.
 const TURN_IN_MILLISECONDS: u64 = 5;
-
-/// How long a connection to the port mapper may take. Our own choice: the time after which a node gives up a handshake, and
-/// one second more.
-const CONNECT_IN_SECONDS: u64 = 8;
 
 fn main(rt: HostRuntime) -> ExitCode {
     ExitCode::from(answer(&rt, &rt, rt.alloc()))
@@ -123,8 +119,9 @@ where
 
 // A connection to the port mapper of this host, whose reads and writes wait for one turn.
 fn connected(rt: &HostRuntime, port: u16) -> io::Result<SocketStream> {
-    let address = SocketAddr::from((Ipv4Addr::LOCALHOST, port));
-    let limit = Duration::from_secs(CONNECT_IN_SECONDS);
+    let socket = TcpStream::connect(rt, (Ipv4Addr::LOCALHOST, port))?;
     let turn = Duration::from_millis(TURN_IN_MILLISECONDS);
-    connect(rt, &address, limit, turn)
+    socket.set_read_timeout(Some(turn))?;
+    socket.set_write_timeout(Some(turn))?;
+    Ok(SocketStream::new(socket))
 }
