@@ -57,6 +57,7 @@ fn memory_refused_in_a_call(rt: HostRuntime) {
         told_word(seen.told),
         still_word(seen.still),
     ];
-    let is_gone = seen.steps <= 3 && seen.entries == 0 && seen.ups == 0;
-    assert_eq!(rt; (words, is_gone), ([why, why, why], true));
+    assert_eq!(rt; words, [why, why, why]);
+    assert!(rt; seen.steps <= 3, "{} steps", seen.steps);
+    assert!(rt; seen.entries == 0 && seen.ups == 0);
 }

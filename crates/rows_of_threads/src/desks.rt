@@ -1,11 +1,11 @@
 //! A desk in memory and the desk of a seat answer alike.
 
-use crate::locking::{Closing, closing_both, frame, locked, refusal};
+use crate::locking::{Closing, closing_both, frame, locked};
 use crate::setting::{CHALLENGE, NAME_OF_A, REPLY, accepted};
 use crate::shown::still_word;
 use dist_core::{Event, StepError, Still, Why};
 use dist_drive::Desk;
-use dist_locked::{LockedNode, Seat, SeatDesk};
+use dist_locked::SeatDesk;
 use dist_peers::EndId;
 use std::alloc::Global;
 use std::sync::Wait;
@@ -89,28 +89,16 @@ fn by_memory(alloc: Global, lines: &mut String) -> Option<usize> {
     Some(desk.list().len())
 }
 
-// Adds what the desk of a seat answers. The seat, and how many steps it made.
-fn seat_told<R: Wait>(
-    rt: &R,
-    alloc: Global,
-    node: &LockedNode,
-    seat: Seat,
-    lines: &mut String,
-) -> Option<(Seat, usize)> {
-    let mut desk = SeatDesk::new(rt, alloc, node, seat, EndId(0)).ok()?;
-    let _ = battery(alloc, &mut desk, lines);
-    let (seat, steps) = desk.into_parts();
-    Some((seat, steps.len()))
-}
-
 // Adds what the desk of a seat answers. How many steps it made, how many receipts the seat has, and what `close` says.
 fn by_seat<R: Wait>(rt: &R, alloc: Global, lines: &mut String) -> Option<(usize, usize, Closing)> {
     let (node, mut first, second) = locked(alloc)?;
-    let _ = refusal(rt, &node, &mut first, &Event::Incoming { link: 1 }, 0);
-    let (first, steps) = seat_told(rt, alloc, &node, first, lines)?;
+    let _ = node.step(rt, &mut first, &Event::Incoming { link: 1 }, 0);
+    let mut desk = SeatDesk::new(rt, alloc, &node, first, EndId(0)).ok()?;
+    let _ = battery(alloc, &mut desk, lines);
+    let (first, steps) = desk.into_parts();
     let receipts = first.receipts().len();
     let closing = closing_both(alloc, node, first, second)?;
-    Some((steps, receipts, closing))
+    Some((steps.len(), receipts, closing))
 }
 
 #[test]
@@ -119,7 +107,7 @@ fn desks_answer_alike(rt: HostRuntime) {
     let (mut by_desk, mut by_its_seat) = (String::new(alloc), String::new(alloc));
     let made = by_memory(alloc, &mut by_desk);
     let seen = by_seat(&rt, alloc, &mut by_its_seat);
-    let closing: Closing = Ok((4, 0, 0));
-    let told = (by_desk.as_str(), by_its_seat.as_str(), made, seen);
-    assert_eq!(rt; told, (ROWS, ROWS, Some(3), Some((3, 4, closing))));
+    assert_eq!(rt; [by_desk.as_str(), by_its_seat.as_str()], [ROWS, ROWS]);
+    assert_eq!(rt; made, Some(3));
+    assert_eq!(rt; seen, Some((3, 4, Ok((4, 0, 0)))));
 }

@@ -1,8 +1,8 @@
 //! Node b under a lock with two seats, what it is told, and how its book is closed.
 
 use crate::setting::setup_of_b;
-use dist_core::{Event, StepError};
-use dist_locked::{Book, CloseError, Closed, LockedNode, Seat, Tickets, close};
+use dist_core::Event;
+use dist_locked::{Book, CloseError, LockedNode, Seat, Tickets, close};
 use dist_names::ByteString;
 use dist_peers::EndId;
 use std::alloc::{AllocError, Global};
@@ -42,21 +42,10 @@ pub fn locked(alloc: Global) -> Option<(LockedNode, Seat, Seat)> {
     Some((node, first, second))
 }
 
-/// Makes a step. Why it is refused, where it is.
-pub fn refusal<R: Wait>(
-    rt: &R,
-    node: &LockedNode,
-    seat: &mut Seat,
-    event: &Event,
-    fresh: u32,
-) -> Option<StepError> {
-    node.step(rt, seat, event, fresh).err()
-}
-
 /// So many connections come. Whether all steps were made.
 pub fn come<R: Wait>(rt: &R, node: &LockedNode, seat: &mut Seat, links: u64) -> bool {
     for link in 0..links {
-        if refusal(rt, node, seat, &Event::Incoming { link }, 0).is_some() {
+        if node.step(rt, seat, &Event::Incoming { link }, 0).is_err() {
             return false;
         }
     }
@@ -74,16 +63,15 @@ pub fn both(alloc: Global, first: Seat, second: Seat) -> Result<Vec<Seat>, Alloc
 /// What `close` says: how many lines the history has, how many ends are up and how many are open, or the refusal.
 pub type Closing = Result<(usize, usize, usize), CloseError>;
 
-fn counted(closed: &Closed) -> (usize, usize, usize) {
-    let node = &closed.node;
-    (closed.history.len(), node.ups(), node.open_ends())
-}
-
 /// What `close` says of this book and these seats.
 pub fn closing(book: Book, seats: Vec<Seat>) -> Closing {
     match close(book, seats) {
-        Ok(closed) => Ok(counted(&closed)),
-        Err((error, _, _)) => Err(error),
+        Ok(closed) => Ok((
+            closed.history.len(),
+            closed.node.ups(),
+            closed.node.open_ends(),
+        )),
+        Err(refused) => Err(refused.0),
     }
 }
 

@@ -24,12 +24,12 @@ fn node_a(alloc: Global) -> Option<Request> {
 }
 
 // The result, and the creation.
-fn alive(answer: &Answer) -> Option<(u8, u32)> {
+fn alive(answer: Answer) -> Option<(u8, u32)> {
     match answer {
         Answer::AliveX {
             result_code,
             creation,
-        } => Some((*result_code, *creation)),
+        } => Some((result_code, creation)),
         _ => None,
     }
 }
@@ -42,10 +42,8 @@ fn register_a<R: Wait>(
     conn: u64,
 ) -> Option<(u8, u32)> {
     let request = node_a(alloc)?;
-    match SharedMapper::new(rt, shared).ask(alloc, conn, &request) {
-        Ok(answer) => alive(&answer),
-        Err(_) => None,
-    }
+    let answer = SharedMapper::new(rt, shared).ask(alloc, conn, &request);
+    alive(answer.ok()?)
 }
 
 // The connection whose node was registered, where the other was refused; else 0.

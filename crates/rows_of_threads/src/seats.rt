@@ -1,6 +1,6 @@
 //! Two seats at one node, a seat of another node, and the queue of dial orders.
 
-use crate::locking::{Closing, alone, closing, closing_both, come, frame, seated, tickets};
+use crate::locking::{Closing, closing, closing_both, come, frame, locked, seated, tickets};
 use crate::orders::orders_in_turn;
 use crate::setting::{CHALLENGE, NAME_OF_A};
 use crate::shown::still_word;
@@ -20,12 +20,6 @@ fn in_words(alloc: Global, receipt: &Receipt) -> Option<String> {
     format!(in alloc; "line {at} ticket {ticket} seat {seat} end {end} says [{said}]\n").ok()
 }
 
-// Adds a receipt.
-fn put_receipt(alloc: Global, receipt: &Receipt, lines: &mut String) -> Option<()> {
-    let line = in_words(alloc, receipt)?;
-    lines.push_str(line.as_str()).ok()
-}
-
 // Makes a step, and adds its receipt. Whether it was made.
 fn tell<R: Wait>(
     rt: &R,
@@ -35,10 +29,9 @@ fn tell<R: Wait>(
     event: &Event,
     lines: &mut String,
 ) -> Option<()> {
-    match node.step(rt, seat, event, CHALLENGE) {
-        Ok(receipt) => put_receipt(alloc, &receipt, lines),
-        Err(_) => None,
-    }
+    let receipt = node.step(rt, seat, event, CHALLENGE).ok()?;
+    let line = in_words(alloc, &receipt)?;
+    lines.push_str(line.as_str()).ok()
 }
 
 // A connection comes at the first seat, and the name of node a at the second.
@@ -46,29 +39,28 @@ fn tell_both<R: Wait>(
     rt: &R,
     alloc: Global,
     node: &LockedNode,
-    seats: &mut [Seat],
+    first: &mut Seat,
+    second: &mut Seat,
     lines: &mut String,
 ) -> Option<()> {
-    let came = Event::Incoming { link: 1 };
-    tell(rt, alloc, node, seats.get_mut(0)?, &came, lines)?;
+    tell(rt, alloc, node, first, &Event::Incoming { link: 1 }, lines)?;
     let named = frame(alloc, NAME_OF_A)?;
-    tell(rt, alloc, node, seats.get_mut(1)?, &named, lines)
+    tell(rt, alloc, node, second, &named, lines)
 }
 
-// What `close` says of these seats and one more.
-fn closing_with(book: Book, mut seats: Vec<Seat>, seat: Seat) -> Option<Closing> {
-    match seats.push(seat) {
-        Ok(()) => Some(closing(book, seats)),
+// What `close` says where a seat is there alone.
+fn close_without(alloc: Global, book: Book, seat: Seat) -> Option<(CloseError, Book, Vec<Seat>)> {
+    let mut alone = Vec::new(alloc);
+    alone.push(seat).ok()?;
+    close(book, alone).err()
+}
+
+// What `close` says without the second seat, and then with it.
+fn closings(alloc: Global, book: Book, first: Seat, second: Seat) -> Option<(CloseError, Closing)> {
+    let (error, book, mut seats) = close_without(alloc, book, first)?;
+    match seats.push(second) {
+        Ok(()) => Some((error, closing(book, seats))),
         Err(_) => None,
-    }
-}
-
-// What `close` says without the last seat, and then with it.
-fn closings(book: Book, mut seats: Vec<Seat>) -> Option<(CloseError, Closing)> {
-    let last = seats.pop()?;
-    match close(book, seats) {
-        Ok(_) => None,
-        Err((error, book, seats)) => Some((error, closing_with(book, seats, last)?)),
     }
 }
 
@@ -78,10 +70,10 @@ fn two_seats<R: Wait>(
     alloc: Global,
     lines: &mut String,
 ) -> Option<(&'static str, CloseError, Closing)> {
-    let (node, mut seats) = alone(alloc)?;
-    let _ = tell_both(rt, alloc, &node, &mut seats, lines);
+    let (node, mut first, mut second) = locked(alloc)?;
+    let _ = tell_both(rt, alloc, &node, &mut first, &mut second, lines);
     let still = still_word(node.still(rt, EndId(0)));
-    let (error, closing) = closings(node.into_book(), seats)?;
+    let (error, closing) = closings(alloc, node.into_book(), first, second)?;
     Some((still, error, closing))
 }
 
@@ -128,9 +120,10 @@ fn two_seats_in_words<R: Wait>(rt: &R, alloc: Global) -> Option<String> {
 fn two_seats_and_orders(rt: HostRuntime) -> Result<(), Fail> {
     let alloc = rt.alloc();
     let seen = two_seats_in_words(&rt, alloc).ok_or("no memory")?;
-    let (foreign, orders) = (foreign_seat(&rt, alloc), orders_in_turn(&rt, alloc));
-    let (absent, in_turn) = (CloseError::ReceiptAbsent, [0, 0, 6, 4, 5, 0, 0, 7]);
-    let wanted = (RECEIPTS, Some(Err(absent)), Some((in_turn, 0)));
-    assert_eq!(rt; (seen.as_str(), foreign, orders), wanted);
+    assert_eq!(rt; seen.as_str(), RECEIPTS);
+    let foreign = foreign_seat(&rt, alloc);
+    assert_eq!(rt; foreign, Some(Err(CloseError::ReceiptAbsent)));
+    let orders = orders_in_turn(&rt, alloc);
+    assert_eq!(rt; orders, Some(([0, 0, 6, 4, 5, 0, 0, 7], 0)));
     Ok(())
 }

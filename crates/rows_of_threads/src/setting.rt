@@ -57,25 +57,11 @@ pub fn setup_of_b(alloc: Global) -> Option<Setup> {
     setup(alloc, "b@127.0.0.1", 0x101000104, 6)
 }
 
-// Whether a step is made.
-fn takes(alloc: Global, node: &mut Node, event: &Event) -> bool {
-    node.step(alloc, event, 0).is_ok()
-}
-
-// The desk of the first end of a node, where the steps were made.
-fn desk_where(alloc: Global, node: Node, are_made: bool) -> Option<MemoryDesk> {
-    if are_made {
-        MemoryDesk::new(alloc, node, EndId(0)).ok()
-    } else {
-        None
-    }
-}
-
 /// The desk of the first end of node b, to which a connection came.
 pub fn accepted(alloc: Global) -> Option<MemoryDesk> {
     let mut node = Node::new(alloc, setup_of_b(alloc)?);
-    let is_made = takes(alloc, &mut node, &Event::Incoming { link: 1 });
-    desk_where(alloc, node, is_made)
+    node.step(alloc, &Event::Incoming { link: 1 }, 0).ok()?;
+    MemoryDesk::new(alloc, node, EndId(0)).ok()
 }
 
 // Node a dials this peer, and the connection is there. Whether the steps were made.
@@ -85,15 +71,19 @@ fn dial(alloc: Global, node: &mut Node, peer: NodeName) -> bool {
         end_: EndId(0),
         link: 1,
     };
-    takes(alloc, node, &Event::Dial { peer, opening }) && takes(alloc, node, &opened)
+    node.step(alloc, &Event::Dial { peer, opening }, 0).is_ok()
+        && node.step(alloc, &opened, 0).is_ok()
 }
 
 /// The desk of the first end of node a, which dialled node b.
 pub fn dialled(alloc: Global) -> Option<MemoryDesk> {
     let peer = NodeName::new(alloc, b"b@127.0.0.1").ok()?;
     let mut node = Node::new(alloc, setup_of_a(alloc)?);
-    let is_made = dial(alloc, &mut node, peer);
-    desk_where(alloc, node, is_made)
+    if dial(alloc, &mut node, peer) {
+        MemoryDesk::new(alloc, node, EndId(0)).ok()
+    } else {
+        None
+    }
 }
 
 fn put_bytes(alloc: Global, all: &mut Vec<u8>, digits: &str) -> Option<()> {

@@ -1,7 +1,7 @@
 //! Each request for memory of a node under a lock refused in turn, as `rt try --test --fail-alloc N` does for N = 1, 2, ..:
 //! where one is refused before the first step, there is nothing to be seen.
 
-use crate::locking::{Closing, alone, closing, frame, refusal};
+use crate::locking::{Closing, alone, closing, frame};
 use crate::setting::{CHALLENGE, NAME_OF_A, REPLY};
 use dist_core::{Event, StepError, Still, Why};
 use dist_locked::{Book, LockedNode, Seat, step_on};
@@ -37,10 +37,10 @@ fn is_made<R: Wait>(
     which: usize,
     event: &Event,
 ) -> Option<bool> {
-    match refusal(rt, node, seats.get_mut(which)?, event, CHALLENGE) {
-        None => Some(true),
-        Some(StepError::NoMemory) => Some(false),
-        Some(_) => None,
+    match node.step(rt, seats.get_mut(which)?, event, CHALLENGE) {
+        Ok(_) => Some(true),
+        Err(StepError::NoMemory) => Some(false),
+        Err(_) => None,
     }
 }
 
@@ -128,10 +128,10 @@ fn memory_refused_in_a_step(rt: HostRuntime) {
     let Some(seen) = watched(&rt, rt.alloc()) else {
         return;
     };
+    assert_ne!(rt; seen.made, None);
     let made = seen.made.unwrap_or(0);
+    assert_eq!(rt; seen.standing, standing_after(made));
+    assert!(rt; seen.are_lost);
     let lost = made.min(1) + made / 4;
-    let closing: Closing = Ok((made.saturating_add(lost), 0, 0));
-    let wanted = (Some(made), standing_after(made), true, closing);
-    let told = (seen.made, seen.standing, seen.are_lost, seen.closing);
-    assert_eq!(rt; told, wanted);
+    assert_eq!(rt; seen.closing, Ok((made.saturating_add(lost), 0, 0)));
 }
