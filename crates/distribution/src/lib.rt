@@ -59,8 +59,10 @@
 //! }
 //! ```
 //!
-//!    Read so, not a byte behind the last frame is taken. `Frames` takes the handshake in whatever pieces it comes, and `drive`
-//!    does all of this for a node that only keeps its connections.
+//!    Read so, not a byte behind the last frame is taken. `handshake` does all of this for a `Desk`, reads what comes, and hands
+//!    out the record and the bytes behind the last frame, with which `Packets::behind_handshake` begins. `drive` does it for a
+//!    node that only keeps its connections. Where the connection ends before the end is up, `Node::awaits` says which message was
+//!    due: an acknowledgement, mostly, since the other side has another cookie.
 //!
 //! 5. The stream is the program's. `Packets` parts what comes into packets; one of no bytes is a tick. `header` is what stands
 //!    before a packet that is written, and `tick` a whole one. `Ticker` says when a tick is due and when a silent peer is given
@@ -87,9 +89,10 @@
 #![tactic(auto)]
 
 pub use dist_core::{
-    Event, NameList, Node, Note, Opening, Reply, Setup, StepError, Still, UpRecord, Version, Why,
+    Awaited, Event, NameList, Node, Note, Opening, Reply, Setup, StepError, Still, UpRecord,
+    Version, Why,
 };
-pub use dist_drive::{Desk, Draws, MemoryDesk, Outcome, drive, opening_for};
+pub use dist_drive::{Desk, Draws, MemoryDesk, Outcome, Reached, drive, handshake, opening_for};
 pub use dist_epmd::{AliveReq, NodeInfo, PortInfo};
 pub use dist_flag_names::{Dflag, Release, Told, expanded, missing, told_by};
 pub use dist_frames::Frames;
