@@ -1,6 +1,6 @@
 //! Why the program ends.
 
-use dist_settings::Refusal;
+use crate::refusal::Refusal;
 use std::alloc::AllocError;
 use thiserror::Error;
 

@@ -2,14 +2,19 @@
 #![tactic(auto)]
 
 mod fault;
+mod key;
 mod names;
+mod reading;
+mod refusal;
+mod settings;
 mod sockets;
 
 use crate::fault::Fault;
 use crate::names::print_names;
+use crate::reading::settings_of;
+use crate::settings::{Settings, Task};
 use crate::sockets::{listeners, port_of};
 use dist_serving::{Limits, Server, serve};
-use dist_settings::{Settings, Task, settings_of};
 use std::alloc::{AllocError, Global};
 use std::env;
 use std::io::{self, ErrorKind, Write};

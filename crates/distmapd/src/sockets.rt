@@ -1,7 +1,7 @@
 //! The sockets at which the program listens.
 
 use crate::fault::Fault;
-use dist_settings::Settings;
+use crate::settings::Settings;
 use mio::net::TcpListener;
 use os::FromRawFd;
 use std::alloc::Global;

@@ -1,6 +1,6 @@
-//! Plays rows of bytes: what comes of names, cookies and their digests, frames and handshake messages, and over streams in
-//! memory what a registry, a client or the codec of the port mapper makes of them. The rows are files in the folder that the
-//! program runs in.
+//! Plays rows of bytes: what comes of names, cookies and their digests, frames, packets and handshake messages, and over
+//! streams in memory what a registry, a client or the codec of the port mapper makes of them. The rows are files in the folder
+//! that the program runs in.
 //!
 //! What the rows expect is typed from the ERTS User's Guide (EPMD Protocol, Distribution Protocol), from captured handshakes,
 //! from other programs (digests) and from the rules of `docs/PROTOCOL.md`. Each file is played with its bytes in one piece
@@ -13,6 +13,7 @@ mod digits;
 mod frames;
 mod handshake;
 mod names;
+mod packets;
 mod readers;
 mod reading;
 mod refusals;
@@ -25,11 +26,12 @@ use std::process::ExitCode;
 use std::{fs, io};
 
 /// The files of rows, and what they are about.
-const FILES: [(&str, Subject); 13] = [
+const FILES: [(&str, Subject); 14] = [
     ("node_names", Subject::Names),
     ("cookies", Subject::Cookies),
     ("digests", Subject::Cookies),
     ("frames", Subject::Frames),
+    ("packets", Subject::Packets),
     ("handshake_messages", Subject::Handshake),
     ("sentences", Subject::Refusals),
     ("registry_session", Subject::PortMapper),

@@ -7,6 +7,7 @@ use crate::digits::word;
 use crate::frames::frames_told;
 use crate::handshake::message_told;
 use crate::names::name_told;
+use crate::packets::packets_told;
 use crate::reading::{length_told, read_told};
 use crate::refusals::sentences_told;
 use crate::served::served;
@@ -19,6 +20,7 @@ pub enum Subject {
     Names,
     Cookies,
     Frames,
+    Packets,
     Handshake,
     Refusals,
     PortMapper,
@@ -81,6 +83,7 @@ fn told(
         Subject::Names => name_told(alloc, case),
         Subject::Cookies => cookie_told(alloc, case, pieces),
         Subject::Frames => frames_told(alloc, case, pieces),
+        Subject::Packets => packets_told(alloc, case, pieces),
         Subject::Handshake => message_told(alloc, case),
         Subject::Refusals => sentences_told(alloc),
         Subject::PortMapper => mapper_told(alloc, registry, case, pieces),

@@ -4,9 +4,9 @@ use Rattle.std.specs.Prelude.{IfSome}
 use Rattle.std.specs.List.{find}
 use Rattle.std.specs.Cmp.Lexicographic.{pointwise}
 use Rattle.std.proofs.lemmas.Bool.{eqb-true, and_parts}
-use Rattle.dist_settings.specs.declared.key.Key.{Key}
-use Rattle.dist_settings.specs.declared.key.Key.TheVariants as key
-use Rattle.dist_settings.specs.Words.{name_of, key_named, has_name, all_keys}
+use Rattle.distmapd.specs.declared.key.Key.{Key}
+use Rattle.distmapd.specs.declared.key.Key.TheVariants as key
+use Rattle.distmapd.specs.Words.{name_of, key_named, has_name, all_keys}
 
 one-text : (xs ys : List ℕ) → pointwise ◌==◌ xs ys ≡ true → xs ≡ ys
 one-text [] [] e = refl

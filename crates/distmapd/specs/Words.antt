@@ -5,15 +5,15 @@ use Rattle.std.proofs.Common.{Bor}
 use Rattle.std.specs.Cmp.Lexicographic.{pointwise}
 use Rattle.std.specs.Str.{all_ascii_digits}
 use Rattle.std.specs.Str.Parse.{digits_value}
-use Rattle.dist_settings.specs.declared.key.Key.{Key}
-use Rattle.dist_settings.specs.declared.key.Key.TheVariants as key
-use Rattle.dist_settings.specs.declared.reading.Awaits.{Awaits}
-use Rattle.dist_settings.specs.declared.reading.Awaits.TheVariants as awaits
-use Rattle.dist_settings.specs.declared.reading.Reading.{Reading}
-use Rattle.dist_settings.specs.declared.refusal.Refusal.{Refusal}
-use Rattle.dist_settings.specs.declared.refusal.Refusal.TheVariants.{UnknownWord, NotDone, NoValue, BadPort, BadTimeout, BadClients}
-use Rattle.dist_settings.specs.declared.settings.Settings.{Settings}
-use Rattle.dist_settings.specs.declared.settings.Task.TheVariants as task
+use Rattle.distmapd.specs.declared.key.Key.{Key}
+use Rattle.distmapd.specs.declared.key.Key.TheVariants as key
+use Rattle.distmapd.specs.declared.reading.Awaits.{Awaits}
+use Rattle.distmapd.specs.declared.reading.Awaits.TheVariants as awaits
+use Rattle.distmapd.specs.declared.reading.Reading.{Reading}
+use Rattle.distmapd.specs.declared.refusal.Refusal.{Refusal}
+use Rattle.distmapd.specs.declared.refusal.Refusal.TheVariants.{UnknownWord, NotDone, NoValue, BadPort, BadTimeout, BadClients}
+use Rattle.distmapd.specs.declared.settings.Settings.{Settings}
+use Rattle.distmapd.specs.declared.settings.Task.TheVariants as task
 
 -- ---- the words that stand by themselves
 

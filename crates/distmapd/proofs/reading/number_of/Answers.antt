@@ -1,7 +1,7 @@
 use Rattle.std.proofs.Common.{ℕ, List, ◌<◌, ◌^◌, ◌∙◌, ap, arith, sym, subst}
 use Rattle.std.specs.Str.Parse.{IsNumeral, digits_value}
-use Rattle.dist_settings.proofs.Numbers.{number_none, number_some, lacks, has}
-use Rattle.dist_settings.proofs.reading.number_of.Goals as goal
+use Rattle.distmapd.proofs.Numbers.{number_none, number_some, lacks, has}
+use Rattle.distmapd.proofs.reading.number_of.Goals as goal
 
 pub returns-in_err-number-clause-number : goal.returns-in_err-number-clause-number
 returns-in_err-number-clause-number c =

@@ -1,7 +1,9 @@
-//! Reads the words.
+//! What the words of the command line and of the environment ask for, in the words of `epmd` (ERTS Reference Manual, epmd).
+//!
+//! It reads no environment, and it knows no address: words come in as texts, and the addresses stay a text.
 
 ghost use Rattle.std.specs.Prelude.{◌≡◌, ◌≤◌, IfSome};
-ghost use Rattle.dist_settings.specs.Words.{number_of, after_awaited, after_key, key_named, opening, reads, settled_at, settings_of, usual};
+ghost use Rattle.distmapd.specs.Words.{number_of, after_awaited, after_key, key_named, opening, reads, settled_at, settings_of, usual};
 
 use crate::key::Key;
 use crate::refusal::Refusal;

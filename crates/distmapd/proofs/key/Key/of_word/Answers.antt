@@ -1,9 +1,9 @@
 use Rattle.std.proofs.Common.{◌≡◌, ◌∙◌, subst, sym, Option}
 use Rattle.std.specs.Prelude.{IfSome}
-use Rattle.dist_settings.specs.declared.key.Key.{Key}
-use Rattle.dist_settings.specs.Words.{name_of, key_named}
-use Rattle.dist_settings.proofs.Naming.{found, every}
-use Rattle.dist_settings.proofs.key.Key.of_word.Goals as goal
+use Rattle.distmapd.specs.declared.key.Key.{Key}
+use Rattle.distmapd.specs.Words.{name_of, key_named}
+use Rattle.distmapd.proofs.Naming.{found, every}
+use Rattle.distmapd.proofs.key.Key.of_word.Goals as goal
 
 pub returns-clause-found : goal.returns-clause-found
 unfolding key_named

@@ -2,8 +2,8 @@
 
 ghost use Rattle.std.specs.Prelude.{◌≡◌, Some, IfSome};
 ghost use Rattle.std.specs.List.{find};
-ghost use Rattle.dist_settings.specs.declared.key.Key.{Key};
-ghost use Rattle.dist_settings.specs.Words.{has_name, key_named, name_of};
+ghost use Rattle.distmapd.specs.declared.key.Key.{Key};
+ghost use Rattle.distmapd.specs.Words.{has_name, key_named, name_of};
 
 /// A word of the command line that is no value of another.
 #[derive(Clone, Copy, PartialEq, Eq)]
