@@ -15,13 +15,11 @@ mod question;
 mod replying;
 mod sweeping;
 mod table;
-#[cfg(test)]
-mod tests;
 mod turn;
 
 pub use client::{Client, Talk};
 pub use holding::Clients;
-pub use laws::a_frame_asks_once;
+pub use laws::{a_frame_asks_once, any_pieces};
 pub use open_error::OpenError;
 pub use question::Question;
 pub use turn::Turn;
