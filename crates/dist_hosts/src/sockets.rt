@@ -2,13 +2,16 @@
 
 ghost use Rattle.std.specs.Prelude.{◌≡◌, ◌+◌, ◌*◌};
 
-use dist_drive::SocketStream;
-use std::net::{Ipv4Addr, Net, Shutdown, SocketAddr, TcpListener, TcpStream};
+use dist_streams::{SocketStream, connect};
+use std::net::{Ipv4Addr, Net, SocketAddr, TcpListener, TcpStream};
 use std::time::{Clock, Duration};
 use std::{io, thread};
 
 // How long a read, a write or an accept waits.
 const TURN_IN_MILLISECONDS: u64 = 10;
+
+// How long a connect waits, as where too many connections wait to be accepted.
+const CONNECT_IN_SECONDS: u64 = 8;
 
 fn one_turn() -> Duration {
     Duration::from_millis(TURN_IN_MILLISECONDS)
@@ -23,20 +26,11 @@ pub struct Connection {
 
 /// Lets the other side see that nothing more will be said. The socket stays open, so its port is not used again.
 pub fn say_goodbye(stream: &SocketStream) {
-    let _ = stream.get_ref().shutdown(Shutdown::Write);
+    let _ = stream.shut();
 }
 
 fn port_of(address: SocketAddr) -> u16 {
     address.port()
-}
-
-fn timed(socket: TcpStream, dialler_port: u16) -> io::Result<Connection> {
-    socket.set_read_timeout(Some(one_turn()))?;
-    socket.set_write_timeout(Some(one_turn()))?;
-    Ok(Connection {
-        stream: SocketStream::new(socket),
-        dialler_port,
-    })
 }
 
 /// A connection to a port of this host.
@@ -44,9 +38,14 @@ pub fn connected<R: Net<Listener = TcpListener, Stream = TcpStream>>(
     rt: &R,
     port: u16,
 ) -> io::Result<Connection> {
-    let socket = TcpStream::connect(rt, (Ipv4Addr::LOCALHOST, port))?;
-    let dialler_port = port_of(socket.local_addr()?);
-    timed(socket, dialler_port)
+    let address = SocketAddr::from((Ipv4Addr::LOCALHOST, port));
+    let limit = Duration::from_secs(CONNECT_IN_SECONDS);
+    let stream = connect(rt, &address, limit, one_turn())?;
+    let dialler_port = port_of(stream.get_ref().local_addr()?);
+    Ok(Connection {
+        stream,
+        dialler_port,
+    })
 }
 
 /// A listener at a port of this host, and its port.
@@ -62,7 +61,10 @@ pub fn listening<R: Net<Listener = TcpListener, Stream = TcpStream>>(
 
 fn taken(listener: &TcpListener) -> io::Result<Connection> {
     let (socket, from) = listener.accept()?;
-    timed(socket, port_of(from))
+    Ok(Connection {
+        stream: SocketStream::timed(socket, one_turn())?,
+        dialler_port: port_of(from),
+    })
 }
 
 /// The next connection, where one has come. Else waits for a turn.

@@ -101,18 +101,18 @@ impl<'a, R: Net<Listener = TcpListener, Stream = TcpStream> + Wait> System<'a, R
         Ok(())
     }
 
-    fn to_mapper(&self, address: SocketAddr) -> io::Result<TcpStream> {
+    fn to_mapper(&self, address: SocketAddr, limit: Duration) -> io::Result<TcpStream> {
         if self.wrong == Wrong::NoMapper(next(&self.to_mapper)) {
             return refused();
         }
-        self.rt.connect(address)
+        self.rt.connect_timeout(address, limit)
     }
 
-    fn to_node(&self, address: SocketAddr) -> io::Result<TcpStream> {
+    fn to_node(&self, address: SocketAddr, limit: Duration) -> io::Result<TcpStream> {
         if self.wrong == Wrong::NoPeer {
             return refused();
         }
-        let socket = self.rt.connect(address)?;
+        let socket = self.rt.connect_timeout(address, limit)?;
         if self.wrong == Wrong::Cuts {
             match next(&self.to_nodes) {
                 0 => socket.shutdown(Shutdown::Both)?,
@@ -146,11 +146,16 @@ impl<'a, R: Net<Listener = TcpListener, Stream = TcpStream> + Wait> Net for Syst
         Ok(listener)
     }
 
-    fn connect(&self, address: SocketAddr) -> io::Result<TcpStream> {
+    // A run waits for no connection without end.
+    fn connect(&self, _address: SocketAddr) -> io::Result<TcpStream> {
+        refused()
+    }
+
+    fn connect_timeout(&self, address: SocketAddr, limit: Duration) -> io::Result<TcpStream> {
         if address.port() == self.mapper_port() {
-            self.to_mapper(address)
+            self.to_mapper(address, limit)
         } else {
-            self.to_node(address)
+            self.to_node(address, limit)
         }
     }
 }
