@@ -4,10 +4,6 @@
 #![tactic(auto)]
 
 #[cfg(test)]
-mod crawling;
-#[cfg(test)]
 mod memory;
 #[cfg(test)]
 mod sockets;
-#[cfg(test)]
-mod streams;
