@@ -22,15 +22,6 @@ impl Model for DeskSlot {
 }
 
 impl DeskSlot {
-    /// A place that holds none, as C sets it to zero.
-    pub fn empty() -> DeskSlot
-        ensures { result.desk ≡ None }
-    {
-        DeskSlot {
-            at: std::ptr::null_mut(),
-        }
-    }
-
     // Reads the pointer, and what the slot owned goes with it.
     fn take_parts(&mut self, alloc: Global) -> Parts<Desk, Global>
         requires { (s : Desk) × (self.old.desk ≡ Some s) }
