@@ -93,8 +93,10 @@ impl Packets {
         ensures { self.new ≡ self.old }
     {
         let lacks = self.bytes.capacity().saturating_sub(self.bytes.len()) < more;
-        if lacks && self.bytes.len() - self.start <= self.start {
-            let _ = self.bytes.drain(..self.start);
+        let pending = self.bytes.len() - self.start;
+        if lacks && pending <= self.start {
+            self.bytes.copy_within(self.start.., 0);
+            self.bytes.truncate(pending);
             self.start = 0;
         }
     }
