@@ -8,55 +8,47 @@ use std::alloc::Global;
 const MOST_PACKETS: usize = 1000;
 
 /// The packets of a stream, `-` for a tick, and what comes then: `.` for nothing yet, or the length of a packet that is too
-/// long. The stream is begun with its front at each place in turn, and the rest is fed; `other` where this makes a difference.
+/// long. In one piece the stream came with the last bytes of the handshake.
 pub fn packets_told(alloc: Global, case: &str, pieces: &str) -> Option<String> {
     let most = word(case, 0).parse::<usize>().ok()?;
     let stream = bytes_in(alloc, word(case, 1))?;
-    let size = if pieces == "whole" { stream.len() } else { 1 };
-    let told = packets_behind(alloc, most, &stream, 0, size)?;
-    for front in 1..=stream.len() {
-        let other = packets_behind(alloc, most, &stream, front, size)?;
-        if other.as_str() != told.as_str() {
-            return String::from_str(alloc, "other").ok();
-        }
-    }
-    Some(told)
-}
-
-// What comes of a stream whose front has come, and of which the rest comes in pieces of this size.
-fn packets_behind(
-    alloc: Global,
-    most: usize,
-    stream: &[u8],
-    front: usize,
-    size: usize,
-) -> Option<String> {
-    let (begun, rest) = stream.split_at_checked(front)?;
-    let begun = Vec::from_slice(alloc, begun).ok()?;
+    let (begun, rest) = if pieces == "whole" {
+        (stream, Vec::new(alloc))
+    } else {
+        (Vec::new(alloc), stream)
+    };
     let mut packets = Packets::behind_handshake(alloc, most, begun);
     let mut told = String::new(alloc);
-    let mut last = move_out(alloc, &mut packets, &mut told)?;
-    for piece in rest.chunks(size.max(1)) {
+    move_out(alloc, &mut packets, &mut told)?;
+    for piece in rest.chunks(1) {
         packets.feed(piece).ok()?;
-        last = move_out(alloc, &mut packets, &mut told)?;
+        move_out(alloc, &mut packets, &mut told)?;
     }
-    told.push_str(&last).ok()?;
+    push_end(alloc, &packets, &mut told)?;
     Some(told)
 }
 
-// Moves out the packets that have come, and tells what comes then.
-fn move_out(alloc: Global, packets: &mut Packets, told: &mut String) -> Option<String> {
+// Moves out the packets that have come, and tells them.
+fn move_out(alloc: Global, packets: &mut Packets, told: &mut String) -> Option<()> {
     for _ in 0..MOST_PACKETS {
-        match packets.next_packet() {
-            Ok(Some(packet)) => {
-                let digits = digits_of(alloc, &packet)?;
-                told.push_str(&digits).ok()?;
-                told.push_str(" ").ok()?;
-            }
-            Ok(None) => return String::from_str(alloc, ".").ok(),
-            Err(PacketError::TooLong(len)) => return format!(in alloc; "{len}").ok(),
-            Err(PacketError::NoMemory) => return None,
-        }
+        let Ok(Some(packet)) = packets.next_packet() else {
+            return Some(());
+        };
+        let digits = digits_of(alloc, &packet)?;
+        told.push_str(&digits).ok()?;
+        told.push_str(" ").ok()?;
     }
     None
+}
+
+// Tells what comes behind the packets.
+fn push_end(alloc: Global, packets: &Packets, told: &mut String) -> Option<()> {
+    match packets.front() {
+        Ok(_) => told.push_str(".").ok(),
+        Err(PacketError::TooLong(len)) => {
+            let len = format!(in alloc; "{len}").ok()?;
+            told.push_str(&len).ok()
+        }
+        Err(PacketError::NoMemory) => None,
+    }
 }
