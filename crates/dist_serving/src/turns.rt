@@ -1,14 +1,13 @@
 //! What comes on a connection, and what is said to its client.
 
-ghost use Rattle.std.specs.Prelude.{◌≡◌, ◌<◌, ◌≤◌, true, false, None, length};
-ghost use Rattle.std.specs.Option.{MatchOption};
+ghost use Rattle.std.specs.Prelude.{◌≡◌, ◌<◌, ◌≤◌, true, false, IfSome, None, length};
 ghost use Rattle.dist_epmd.specs.Book.{after_closed};
 ghost use Rattle.dist_clients.specs.Carrying.{Carries};
-ghost use Rattle.dist_clients.specs.Clients.{book_of, client_of, Becomes, OthersStay, IsSame};
+ghost use Rattle.dist_clients.specs.Clients.{book_of, client_of, Becomes, OthersStay};
 ghost use Rattle.dist_clients.specs.Replying.{after_piece};
-ghost use Rattle.dist_serving.specs.declared.turns.Step.TheVariants.{Closed, Quiet};
+ghost use Rattle.dist_serving.specs.declared.turns.Step.TheVariants.{Closed};
 ghost use Rattle.dist_streams.specs.Stream.{heard_count};
-ghost use Rattle.dist_serving.specs.Turns.{Follows, FollowsRead, HasLeft, SaidWhole, Turns};
+ghost use Rattle.dist_serving.specs.Turns.{Chain, CutShort, Follows, FollowsRead, HasLeft, SaidWhole, TurnsAny};
 
 use dist_clients::{Clients, Turn};
 use dist_names::ByteString;
@@ -30,13 +29,13 @@ pub enum Step<S> {
 
 // Says a text by one write. Answers whether it went out whole.
 fn is_said_whole<S: Stream + Drop>(clients: &mut Clients<S>, conn: u64, text: &[u8]) -> bool
+    // The caller's.
+    requires { 0 < length text.now }
     ensures whole { result ≡ true → Carries (SaidWhole S.meaning text.now) conn clients.old clients.new }
+    ensures cut { result ≡ false → IfSome (client_of clients.old conn) (λ client. CutShort S.meaning text.now client.stream) }
     ensures registry { book_of clients.new ≡ book_of clients.old }
     ensures others { OthersStay conn clients.old clients.new }
 {
-    if text.is_empty() {
-        return false;
-    }
     match clients.write(conn, text) {
         Some(Took::Bytes(count)) => count == text.len(),
         Some(Took::Quiet | Took::Failed) | None => false,
@@ -46,7 +45,10 @@ fn is_said_whole<S: Stream + Drop>(clients: &mut Clients<S>, conn: u64, text: &[
 /// Says the answer to a registration, which goes out whole and by one write; else the client is closed. Answers whether it
 /// stays.
 pub fn stay<S: Stream + Drop>(clients: &mut Clients<S>, conn: u64, text: &[u8]) -> bool
+    // Such an answer has bytes.
+    requires { 0 < length text.now }
     ensures stays { result ≡ true → Carries (SaidWhole S.meaning text.now) conn clients.old clients.new }
+    ensures cut { result ≡ false → IfSome (client_of clients.old conn) (λ client. CutShort S.meaning text.now client.stream) }
     ensures closed { result ≡ false → Becomes None (after_closed conn (book_of clients.old)) conn clients.old clients.new }
 {
     if is_said_whole(clients, conn, text) {
@@ -63,7 +65,7 @@ fn heard<S: Stream + Drop>(
     conn: u64,
     piece: &[u8],
 ) -> Step<S>
-    ensures follows { Follows S.meaning (after_piece conn (client_of clients.old conn) piece.now (book_of clients.old)) conn clients.old clients.new result }
+    ensures follows { Follows S.meaning (after_piece conn (client_of clients.old conn) piece.now (book_of clients.old)) piece.now conn clients.old clients.new result }
     ensures others { OthersStay conn clients.old clients.new }
     ensures left { HasLeft result → client_of clients.new conn ≡ None }
 {
@@ -126,7 +128,7 @@ pub fn read_once<S: Stream + Drop>(
 ) -> Step<S>
     // The caller has room for bytes.
     requires { 0 < length room.old }
-    ensures turns { MatchOption (client_of clients.old conn) ((result ≡ Quiet) × IsSame clients.old clients.new) (λ client. Turns S.meaning room.new conn clients.old clients.new result) }
+    ensures turns { TurnsAny S.meaning room.new conn clients.old clients.new result }
     ensures others { OthersStay conn clients.old clients.new }
     ensures left { HasLeft result → client_of clients.new conn ≡ None }
 {
@@ -149,6 +151,7 @@ pub fn read_all<S: Stream + Drop>(
 ) -> Step<S>
     // The caller has room for bytes.
     requires { 0 < length room.old }
+    ensures turns { Chain S.meaning conn clients.old clients.new result }
     ensures others { OthersStay conn clients.old clients.new }
     ensures left { HasLeft result → client_of clients.new conn ≡ None }
 {
