@@ -1,2 +1,3 @@
+pub mod Owings
 pub mod Telling
 pub mod Turning

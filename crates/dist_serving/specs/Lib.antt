@@ -1,2 +1,4 @@
 pub mod Owed
+pub mod Owing
+pub mod Serving
 pub mod Turns

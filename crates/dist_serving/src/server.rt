@@ -1,6 +1,13 @@
 //! The sockets of a port mapper and their clients.
 
-use crate::owed::Owed;
+ghost use Rattle.std.specs.Prelude.{◌≡◌, ◌<◌, ◌≤◌, ◌-◌, not, filter, nat_le};
+ghost use Rattle.dist_clients.specs.Clients.{book_of, clients_of};
+ghost use Rattle.dist_clients.specs.Sweeping.{is_late};
+ghost use Rattle.dist_serving.specs.Owed.{since_of};
+ghost use Rattle.dist_serving.specs.Owing.{all_owed};
+ghost use Rattle.dist_serving.specs.Serving.{clients_at, oldest_of, owing_at, seconds_of, swept_at, MakesRoom};
+
+use crate::owing::Owing;
 use crate::turns::{Step, read_all};
 use dist_clients::Clients;
 use dist_names::ByteString;
@@ -9,7 +16,6 @@ use mio::net::{TcpListener, TcpStream};
 use mio::unix::SourceFd;
 use mio::{Events, Interest, Poll, Token};
 use std::alloc::Global;
-use std::collections::BTreeMap;
 use std::io::{self, ErrorKind};
 use std::net::{self, IpAddr, Net};
 use std::os::fd::AsRawFd;
@@ -21,13 +27,10 @@ const ACCEPTS: usize = 256;
 // The most listeners.
 const LISTENERS: usize = 16;
 
-// The most answers that are kept for clients that do not read.
-const MOST_OWED: usize = 64;
-
 /// What a port mapper puts up with.
 #[derive(Clone, Copy, Debug, PartialEq, Eq)]
 pub struct Limits {
-    /// The most clients at once.
+    /// The most clients at once, with those that have left and are owed something.
     pub clients: usize,
     /// After how many seconds a client is closed that has not asked, or does not read its answer.
     pub seconds: u64,
@@ -40,8 +43,8 @@ pub struct Server {
     poll: Poll,
     listeners: Vec<TcpListener>,
     clients: Clients<SocketStream>,
-    // What is said to those that have left, by the numbers of their connections.
-    owed: BTreeMap<u64, Owed<SocketStream>>,
+    // What is said to those that have left.
+    owing: Owing<SocketStream>,
     limits: Limits,
     // Connections may wait at a listener, and none could be accepted.
     stuck: bool,
@@ -73,6 +76,18 @@ fn token_of(conn: u64) -> Option<Token> {
     }
 }
 
+// Closes the client that is here for the longest without having asked; where all have asked, what is owed on the oldest connection
+// is dropped. Answers whether that made room.
+fn make_room<S: Drop>(clients: &mut Clients<S>, owing: &mut Owing<S>) -> bool
+    ensures { MakesRoom (oldest_of clients.old) clients.old clients.new owing.old owing.new result }
+{
+    if clients.oldest().is_none() {
+        return owing.drop_first();
+    }
+    let _ = clients.close_oldest();
+    true
+}
+
 impl Server {
     /// A port mapper without listeners. `port` is told to clients as its own, and `first` is the first creation.
     pub fn new(
@@ -87,7 +102,7 @@ impl Server {
             poll: Poll::new(net)?,
             listeners: Vec::new(alloc),
             clients: Clients::new(alloc, port, first),
-            owed: BTreeMap::new(alloc),
+            owing: Owing::new(alloc),
             limits,
             stuck: false,
             swept: 0,
@@ -114,7 +129,7 @@ impl Server {
     }
 
     // Asks to be told again of a listener at which connections may wait.
-    fn rearm(&mut self, place: usize) {
+    fn rearm(&self, place: usize) {
         if let Some(listener) = self.listeners.get(place) {
             let fd = listener.as_raw_fd();
             let token = Token(usize::MAX - place);
@@ -123,15 +138,20 @@ impl Server {
         }
     }
 
-    // Closes the client that is here for the longest without having asked. Answers whether there was one.
+    // Makes room for one connection more. Answers whether there was some to make.
     fn drop_oldest(&mut self) -> bool {
-        self.clients.close_oldest().is_some() || self.owed.pop_first().is_some()
+        make_room(&mut self.clients, &mut self.owing)
+    }
+
+    // Whether all places are taken.
+    fn is_full(&self) -> bool {
+        self.clients.len().saturating_add(self.owing.len()) >= self.limits.clients
     }
 
     // Takes a connection in. Where all places are taken, the oldest client that has not asked makes room; where there is
     // none, the new one is closed.
     fn take(&mut self, stream: TcpStream, from: IpAddr, now: u64) {
-        if self.clients.len() >= self.limits.clients && !self.drop_oldest() {
+        if self.is_full() && !self.drop_oldest() {
             return;
         }
         let local = is_local(&stream, from);
@@ -145,7 +165,7 @@ impl Server {
         }
     }
 
-    fn watch(&mut self, fd: i32, conn: u64) -> bool {
+    fn watch(&self, fd: i32, conn: u64) -> bool {
         match token_of(conn) {
             Some(token) => self
                 .poll
@@ -182,22 +202,17 @@ impl Server {
 
     // Says the last bytes to a client, and closes its socket, or keeps what the socket does not take yet.
     fn leave(&mut self, conn: u64, stream: SocketStream, text: ByteString, now: u64) {
-        let mut owed = Owed::new(stream, text, now);
-        if owed.go_on().failed || owed.is_said() {
-            return;
-        }
-        if self.owed.len() >= MOST_OWED {
-            let _ = self.owed.pop_first();
-        }
-        let fd = owed.stream().get_ref().as_raw_fd();
-        if self.owed.insert(conn, owed).is_ok() {
-            self.await_room(fd, conn);
+        if self.owing.leave(conn, stream, text, now) {
+            self.await_room(conn);
         }
     }
 
     // Asks to be told, also again, when the socket takes more.
-    fn await_room(&self, fd: i32, conn: u64) {
-        if let Some(token) = token_of(conn) {
+    fn await_room(&self, conn: u64) {
+        if let Some(stream) = self.owing.stream(conn)
+            && let Some(token) = token_of(conn)
+        {
+            let fd = stream.get_ref().as_raw_fd();
             let registry = self.poll.registry();
             let _ = registry.reregister(&mut SourceFd(&fd), token, Interest::WRITABLE);
         }
@@ -205,15 +220,8 @@ impl Server {
 
     // Goes on to say what is owed to a client, and closes its socket where all is said.
     fn go_on(&mut self, conn: u64) {
-        let Some(owed) = self.owed.get_mut(&conn) else {
-            return;
-        };
-        let is_over = owed.go_on().failed || owed.is_said();
-        let fd = owed.stream().get_ref().as_raw_fd();
-        if is_over {
-            let _ = self.owed.remove(&conn);
-        } else {
-            self.await_room(fd, conn);
+        if self.owing.go_on(conn) {
+            self.await_room(conn);
         }
     }
 
@@ -230,7 +238,7 @@ impl Server {
     }
 
     // Asks to be told again of a connection that may have more to read.
-    fn rewatch(&mut self, conn: u64) {
+    fn rewatch(&self, conn: u64) {
         if let Some(stream) = self.clients.stream(conn)
             && let Some(token) = token_of(conn)
         {
@@ -257,20 +265,37 @@ impl Server {
         }
     }
 
+    // Looks at the listeners again where none could be accepted.
+    fn wake(&mut self)
+        ensures clients { clients_at self.new ≡ clients_at self.old }
+        ensures owing { owing_at self.new ≡ owing_at self.old }
+    {
+        if !self.stuck {
+            return;
+        }
+        self.stuck = false;
+        for place in 0..LISTENERS {
+            self.rearm(place);
+        }
+    }
+
     /// Once a second: closes whoever is late, and looks at the listeners again where none could be accepted.
-    pub fn sweep(&mut self, now: u64) {
+    pub fn sweep(&mut self, now: u64)
+        ensures clients { swept_at self.old < now → clients_of (clients_at self.new) ≡ filter (λ e. not (is_late now (seconds_of self.old) e.1)) (clients_of (clients_at self.old)) }
+        ensures owed { swept_at self.old < now → all_owed (owing_at self.new) ≡ filter (λ e. not (nat_le (seconds_of self.old) (now - since_of e.1))) (all_owed (owing_at self.old)) }
+
+        // A registration is never late.
+        ensures registry { book_of (clients_at self.new) ≡ book_of (clients_at self.old) }
+
+        ensures again { now ≤ swept_at self.old → (clients_at self.new ≡ clients_at self.old) × (owing_at self.new ≡ owing_at self.old) }
+    {
         if now <= self.swept {
             return;
         }
         self.swept = now;
         let seconds = self.limits.seconds;
         self.clients.drop_late(now, seconds);
-        self.owed.retain(|_conn, owed| !owed.is_late(now, seconds));
-        if self.stuck {
-            self.stuck = false;
-            for place in 0..LISTENERS {
-                self.rearm(place);
-            }
-        }
+        self.owing.drop_late(now, seconds);
+        self.wake();
     }
 }

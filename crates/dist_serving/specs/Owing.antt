@@ -1,0 +1,66 @@
+-- What is owed to all clients that have left.
+use Rattle.std.specs.Prelude.{◌≡◌, ℕ, ◌==◌, ◌||◌, ◌++◌, Bool, true, false, List, Option, Some, None, length, take, drop, nat_le, if◌then◌else◌}
+use Rattle.std.specs.Io.KnownBytes.{append_known}
+use Rattle.std.specs.Ordering.{nat_cmp}
+use Rattle.std.specs.BTreeMap.{BTreeMap, get, Updates}
+use Rattle.dist_streams.specs.Stream.{StreamState}
+use Rattle.dist_serving.specs.declared.owed.Owed.{Owed}
+use Rattle.dist_serving.specs.declared.owing.Owing.{Owing}
+use Rattle.dist_serving.specs.Owed.{stream_of, text_of, since_of, said_of, left_of, IsTold}
+
+module _ {S : Type 0} where
+  -- all that is owed, with the numbers of the connections, in the order in which they came
+  abbrev pub all_owed : Owing S → List (ℕ × Owed S)
+  all_owed owing = owing.owed.entries
+
+  -- what is owed on a connection
+  abbrev pub owed_to : Owing S → ℕ → Option (Owed S)
+  owed_to owing conn = get nat_cmp owing.owed conn
+
+  -- what stays where one more is to be kept: of 64 the oldest connection's is dropped
+  abbrev pub but_oldest : List (ℕ × Owed S) → List (ℕ × Owed S)
+  but_oldest all = if nat_le 64 (length all) then drop 1 all else all
+
+  -- on every other connection is owed what was
+  abbrev pub OthersOwed : ℕ → Owing S → Owing S → Type 0
+  OthersOwed conn old new = (other : ℕ) → (conn == other) ≡ false → owed_to new other ≡ owed_to old other
+
+module _ {S : Type 0} (meaning : S → StreamState) where
+  -- A FIRST TRY TO SAY A TEXT, since so much was written on its stream. It is over where the write failed or all is said.
+  pub record FirstTry (stream : S) (text : List ℕ) (now : ℕ) (owed : Owed S) (over : Bool) : Type 0 where
+    pub whole : text_of owed ≡ text
+    pub since : since_of owed ≡ now
+    pub told : IsTold meaning (meaning stream).written owed
+    pub failed : Bool
+    pub marked : (meaning (stream_of owed)).write_failed ≡ (failed || (meaning stream).write_failed)
+    pub is_over : over ≡ (failed || nat_le (length (left_of owed)) 0)
+
+  -- ONE TRY MORE: some of what was left is said, from its first byte, and nothing else. It is over where the write failed or all is
+  -- said.
+  pub record TryMore (old new : Owed S) (over : Bool) : Type 0 where
+    pub whole : text_of new ≡ text_of old
+    pub since : since_of new ≡ since_of old
+    pub count : ℕ
+    pub said : said_of new ≡ said_of old ++ take count (left_of old)
+    pub left : left_of new ≡ drop count (left_of old)
+    pub written : (meaning (stream_of new)).written ≡ append_known (meaning (stream_of old)).written (take count (left_of old))
+    pub failed : Bool
+    pub marked : (meaning (stream_of new)).write_failed ≡ (failed || (meaning (stream_of old)).write_failed)
+    pub is_over : over ≡ (failed || nat_le (length (left_of new)) 0)
+
+  -- Something is owed before and after, and one try more leads from one to the other.
+  abbrev pub Tried : Bool → Option (Owed S) → Option (Owed S) → Type 0
+  Tried over (Some old) (Some new) = TryMore old new over
+  Tried over (Some old) None = ⊥
+  Tried over None new = ⊥
+
+  -- The same in a table, where all others are as they were.
+  pub record TriedIn (conn : ℕ) (old new : BTreeMap ℕ (Owed S)) (over : Bool) : Type 0 where
+    pub there : Tried over (get nat_cmp old conn) (get nat_cmp new conn)
+    pub others : Updates nat_cmp old new conn (get nat_cmp new conn)
+
+  -- WHAT IS OWED ON A CONNECTION AFTER ONE TRY MORE: what goes on stays, and what is over is owed no longer
+  abbrev pub AfterTry : Bool → Option (Owed S) → Option (Owed S) → Type 0
+  AfterTry goes None new = (new ≡ None) × (goes ≡ false)
+  AfterTry goes (Some old) None = (goes ≡ false) × ((last : Owed S) × TryMore old last true)
+  AfterTry goes (Some old) (Some new) = (goes ≡ true) × TryMore old new false
