@@ -1,5 +1,5 @@
 //! Nodes that listen and are registered, and what the threads of a run are given: sockets whose calls wait for one turn,
-//! seats, challenges, and the loop of the port mapper.
+//! seats, challenges, and a port mapper.
 //!
 //! No thread is started here: the crate of the run does that. What a node does stands in the crates below.
 #![tactic(auto)]

@@ -1,67 +1,77 @@
-//! The thread of the port mapper.
+//! The port mapper of a run.
 
-use crate::sockets::accepted;
-use dist_drive::{Mapper, Served, SocketStream, serve_registry};
-use dist_locked::{LockedRegistry, SharedMapper};
+ghost use Rattle.std.specs.Prelude.{◌≡◌, ◌≢◌, ◌≤◌, ◌+◌, ◌*◌};
+ghost use Rattle.std.specs.IoError.{error_kind};
+ghost use Rattle.dist_hosts.specs.declared.run_error.RunError.TheVariants.{ListenFailed, NoMemory};
+
+use crate::run_error::RunError;
+use crate::sockets::one_turn;
+use dist_serving::{Limits, Server, serve};
 use std::alloc::Global;
-use std::net::TcpListener;
+use std::io::{self, ErrorKind};
+use std::net::{Net, TcpListener};
 use std::sync::Wait;
-use std::sync::atomic::{AtomicBool, Ordering};
+use std::sync::atomic::AtomicBool;
 use std::time::Clock;
 
-/// The most turns of a connection to the port mapper. It serves one connection after another, so whoever says nothing
-/// holds the others up for this long: half a second at most.
-const MOST_TURNS: usize = 50;
+// The first creation that the port mapper gives.
+const FIRST_CREATION: u32 = 1;
 
-// Serves a connection. One that keeps a node registered is kept, any other is closed. It is closed unserved where no room
-// is left to keep it.
-fn serve<M: Mapper>(
-    alloc: Global,
-    mut stream: SocketStream,
-    mapper: &mut M,
-    conn: u64,
-    turns: usize,
-    kept: &mut Vec<SocketStream>,
-) {
-    if kept.reserve(1).is_err() {
-        return;
-    }
-    if let Ok(Served::Registered) = serve_registry(alloc, &mut stream, mapper, conn, turns)
-        && kept.push(stream).is_err()
-    {
-        mapper.closed(conn);
+// The most clients of the port mapper at once: 1,024 nodes that are registered, and others that ask.
+const CLIENTS: usize = 1280;
+
+const TURNS_OF_A_SECOND: usize = 100;
+
+// After how many seconds a client is closed that has not asked. Seconds are counted without their parts, so one more than
+// its turns take lets it have them all.
+fn seconds_for(turns: usize) -> u64
+    ensures enough { turns + 100 ≤ result * 100 }
+    ensures no_more { result * 100 ≤ turns + 200 }
+{
+    turns.div_ceil(TURNS_OF_A_SECOND) as u64 + 1
+}
+
+// Why there is no port mapper.
+fn fault_of(error: io::Error) -> RunError
+    ensures memory { error_kind error ≡ ErrorKind.OutOfMemory → result ≡ NoMemory }
+    ensures system { error_kind error ≢ ErrorKind.OutOfMemory → result ≡ ListenFailed }
+{
+    match error.kind() {
+        ErrorKind::OutOfMemory => RunError::NoMemory,
+        _ => RunError::ListenFailed,
     }
 }
 
-/// Serves one connection after another until it is told to stop, and hands out the connections that keep nodes
-/// registered.
-pub fn serve_all<R: Wait + Clock>(
+fn serve_at<R: Net + Wait + Clock>(
     rt: &R,
     alloc: Global,
-    listener: &TcpListener,
-    registry: &LockedRegistry,
+    listener: TcpListener,
+    port: u16,
+    limits: Limits,
+    stop: &AtomicBool,
+) -> io::Result<()> {
+    let mut server = Server::new(rt, alloc, port, FIRST_CREATION, limits)?;
+    server.add_listener(mio::net::TcpListener::from_std(listener))?;
+    serve(rt, alloc, &mut server, one_turn(), stop)
+}
+
+/// Serves all clients of the port mapper at this listener and its port, until it is told to stop. A node stays registered as
+/// long as its connection does. Where it ends before it is told to, the listener is closed: ListenFailed where the system does
+/// not tell what comes.
+pub fn serve_all<R: Net + Wait + Clock>(
+    rt: &R,
+    alloc: Global,
+    listener: TcpListener,
+    port: u16,
     turns: usize,
     stop: &AtomicBool,
-) -> Vec<SocketStream> {
-    let turns = turns.min(MOST_TURNS);
-    let mut kept = Vec::new(alloc);
-    let mut mapper = SharedMapper::new(rt, registry);
-    let mut conn = 0u64;
-    for _ in rt.forever() {
-        if stop.load(Ordering::SeqCst) {
-            break;
-        }
-        if let Some(connection) = accepted(rt, listener) {
-            serve(
-                alloc,
-                connection.stream,
-                &mut mapper,
-                conn,
-                turns,
-                &mut kept,
-            );
-            conn = conn.saturating_add(1);
-        }
+) -> Result<(), RunError> {
+    let limits = Limits {
+        clients: CLIENTS,
+        seconds: seconds_for(turns),
+    };
+    match serve_at(rt, alloc, listener, port, limits, stop) {
+        Ok(()) => Ok(()),
+        Err(error) => Err(fault_of(error)),
     }
-    kept
 }

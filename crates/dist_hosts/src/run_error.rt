@@ -15,7 +15,7 @@ use std::fmt;
 pub enum RunError {
     /// The system gave no random bytes to seed the challenges with.
     NoRandomBytes,
-    /// The system gave no socket to listen on, or not at the port of the file.
+    /// The system gave no socket to listen on, or not at the port of the file, or does not tell the port mapper of what comes.
     ListenFailed,
     /// The port mapper of this run couldn't be connected to.
     ConnectFailed,

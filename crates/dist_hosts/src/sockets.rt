@@ -7,13 +7,13 @@ use std::net::{Ipv4Addr, Net, SocketAddr, TcpListener, TcpStream};
 use std::time::{Clock, Duration};
 use std::{io, thread};
 
-// How long a read, a write or an accept waits.
 const TURN_IN_MILLISECONDS: u64 = 10;
 
 // How long a connect waits, as where too many connections wait to be accepted.
 const CONNECT_IN_SECONDS: u64 = 8;
 
-fn one_turn() -> Duration {
+/// How long a read, a write or an accept waits.
+pub fn one_turn() -> Duration {
     Duration::from_millis(TURN_IN_MILLISECONDS)
 }
 

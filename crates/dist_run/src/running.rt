@@ -6,11 +6,10 @@ ghost use Rattle.std.specs.List.Sorted.{IsNonDecreasingBy};
 use crate::crew::Rest;
 use crate::site::{Dial, Site};
 use crate::threads::{Ended, Pools, run_threads};
-use dist_epmd::Registry;
 use dist_hosts::{
     Challenges, Host, OrderFault, Pool, RunError, SharedOut, listening, serve_all, started,
 };
-use dist_locked::{Book, Closed, Gate, LockedRegistry, Seat, Tickets, close};
+use dist_locked::{Book, Closed, Gate, Seat, Tickets, close};
 use dist_plan::{DialPlan, NodePlan, Plan};
 use rand::make_rng;
 use rand::rngs::StdRng;
@@ -23,9 +22,6 @@ use std::thread;
 use std::thread::Threads;
 use std::time::Clock;
 use std::vec::IntoIter;
-
-/// The first creation that the port mapper gives.
-const FIRST_CREATION: u32 = 1;
 
 /// What a run leaves.
 #[derive(Drop)]
@@ -214,11 +210,11 @@ where
     ran_of(alloc, hosts, ended)
 }
 
-// Serves the port mapper while the nodes run.
+// Serves the port mapper while the nodes run. Where it ended before it was told to, that is the run's fault.
 fn run_beside<R, G>(
     rt: &R,
     alloc: Global,
-    listener: &TcpListener,
+    listener: TcpListener,
     port: u16,
     plan: Plan,
     gate: &G,
@@ -228,19 +224,16 @@ where
     R: Net<Listener = TcpListener, Stream = TcpStream> + Threads + Wait + Clock + Sync,
     G: Gate + Sync,
 {
-    let registry = LockedRegistry::new(Registry::new(alloc, port, FIRST_CREATION));
     let stop = AtomicBool::new(false);
-    let (registry, stop) = (&registry, &stop);
-    let turns = plan.turns as usize;
+    let (turns, stop) = (plan.turns as usize, &stop);
     thread::scope(thread::scope_env(), rt, move |scope| {
-        let serving = scope.spawn(move || serve_all(rt, alloc, listener, registry, turns, stop));
+        let serving = scope.spawn(move || serve_all(rt, alloc, listener, port, turns, stop));
         let Ok(handle) = serving else {
             return Err(RunError::ThreadFailed);
         };
         let ran = run_hosts(rt, alloc, plan, port, gate, challenges);
         stop.store(true, Ordering::SeqCst);
-        let _kept = handle.join(rt);
-        ran
+        handle.join(rt).and(ran)
     })
 }
 
@@ -265,5 +258,5 @@ where
     let Ok((listener, port)) = listening(rt, plan.port) else {
         return Err(RunError::ListenFailed);
     };
-    run_beside(rt, alloc, &listener, port, plan, gate, challenges)
+    run_beside(rt, alloc, listener, port, plan, gate, challenges)
 }

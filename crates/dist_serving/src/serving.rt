@@ -14,15 +14,14 @@ const EVENTS: usize = 1024;
 // The most bytes of one read: a request and its length fit.
 const ROOM: usize = 4096;
 
-// How long is waited where nothing happens.
-const SECONDS: u64 = 1;
-
-/// Serves until it is told to stop, which it looks at once a second or more often. It ends with an `Err` where the system does
-/// not tell what is ready, or memory lacks at the start.
+/// Serves until it is told to stop. Where nothing happens it waits for `most`: that long it takes to see that it is told to
+/// stop, or that a client is late. It ends with an `Err` where the system does not tell what is ready, or memory lacks at the
+/// start.
 pub fn serve<R: Wait + Clock>(
     rt: &R,
     alloc: Global,
     server: &mut Server,
+    most: Duration,
     stop: &AtomicBool,
 ) -> io::Result<()> {
     let start = Instant::now(rt)?;
@@ -32,7 +31,7 @@ pub fn serve<R: Wait + Clock>(
         if stop.load(Ordering::SeqCst) {
             break;
         }
-        server.wait(&mut events, Duration::from_secs(SECONDS))?;
+        server.wait(&mut events, most)?;
         let now = start.elapsed(rt)?.as_secs();
         for event in events.iter() {
             server.serve_client(event.token(), &mut room, now);

@@ -22,7 +22,7 @@ use std::net::Net;
 use std::process::ExitCode;
 use std::sync::Wait;
 use std::sync::atomic::AtomicBool;
-use std::time::{Clock, SystemTime, UNIX_EPOCH};
+use std::time::{Clock, Duration, SystemTime, UNIX_EPOCH};
 
 /// How the program is called.
 const HELP: &str =
@@ -48,6 +48,9 @@ const VERSION: &str = "distmapd 0.1\n";
 
 // The least creation: below it stand those that nodes without one use. Source: OTP, erl_epmd.
 const LEAST_CREATION: u32 = 4;
+
+// How long is waited where nothing happens: once a second it is looked for clients that are late.
+const SECONDS: u64 = 1;
 
 fn main(rt: HostRuntime) -> ExitCode {
     let (mut out, mut err) = (rt.stdout(), rt.stderr());
@@ -148,5 +151,11 @@ fn serve_at<R: Net + Wait + Clock>(
     for socket in sockets {
         server.add_listener(socket)?;
     }
-    serve(rt, alloc, &mut server, &AtomicBool::new(false))
+    serve(
+        rt,
+        alloc,
+        &mut server,
+        Duration::from_secs(SECONDS),
+        &AtomicBool::new(false),
+    )
 }

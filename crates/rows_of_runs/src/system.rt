@@ -48,7 +48,7 @@ pub struct System<'a, R> {
     to_nodes: AtomicUsize,
     held: AtomicUsize,
     passed: AtomicUsize,
-    strangers: Mutex<Option<[TcpStream; 4]>>,
+    strangers: Mutex<Option<[TcpStream; 8]>>,
 }
 
 impl<'a, R> System<'a, R> {
@@ -93,6 +93,10 @@ impl<'a, R: Net<Listener = TcpListener, Stream = TcpStream> + Wait> System<'a, R
         let mapper_port = self.mapper_port();
         let clients = [
             self.client(mapper_port, b"")?,
+            self.client(mapper_port, b"")?,
+            self.client(mapper_port, b"\x00")?,
+            self.client(mapper_port, b"\x00\x0e\x78")?,
+            self.client(mapper_port, b"\xff\xff\x78")?,
             self.client(mapper_port, b"\x00\x00")?,
             self.client(node_port, b"")?,
             self.client(node_port, b"\x00\x05hello")?,

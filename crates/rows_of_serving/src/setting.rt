@@ -89,7 +89,7 @@ fn opened<R: Net>(rt: &R, alloc: Global, limits: Limits) -> Option<(Server, Sock
 
 // Serves, and tells whether it ended because it was told to.
 fn serves<R: Wait + Clock>(rt: &R, alloc: Global, mut server: Server, stop: &AtomicBool) -> bool {
-    serve(rt, alloc, &mut server, stop).is_ok()
+    serve(rt, alloc, &mut server, Duration::from_secs(1), stop).is_ok()
 }
 
 // Plays a story, and stops the port mapper behind it.
