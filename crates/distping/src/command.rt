@@ -141,6 +141,9 @@ fn flags_in(matches: &ArgMatches<'_>) -> Result<Flags, Fault> {
     }
 }
 
+// The program's words whose value is a number.
+const NUMBERS: [&str; 4] = ["epmd-port", "port", "listen", "seconds"];
+
 // A port, or another number of 16 bits, where one is given.
 fn number_of(matches: &ArgMatches<'_>, id: &str) -> Result<Option<u16>, Fault> {
     match matches.get_str(id) {
@@ -150,6 +153,15 @@ fn number_of(matches: &ArgMatches<'_>, id: &str) -> Result<Option<u16>, Fault> {
             None => Err(Fault::BadCommandLine),
         },
     }
+}
+
+// The numbers, each where it is given.
+fn numbers_in(matches: &ArgMatches<'_>) -> Result<[Option<u16>; 4], Fault> {
+    let mut numbers = [None; 4];
+    for at in 0..4 {
+        numbers[at] = number_of(matches, NUMBERS[at])?;
+    }
+    Ok(numbers)
 }
 
 /// The name that these bytes are.
@@ -196,20 +208,17 @@ fn wanted_in<'a>(
     let usual_port = mapper_port.unwrap_or(MAPPER_PORT);
     let cookie = cookie_in(matches)?;
     let flags = flags_in(matches)?;
-    let mapper_port = number_of(matches, "epmd-port")?.unwrap_or(usual_port);
-    let port = number_of(matches, "port")?;
-    let listen = number_of(matches, "listen")?;
-    let seconds = number_of(matches, "seconds")?.unwrap_or(USUAL_SECONDS);
+    let [mapper_port, port, listen, seconds] = numbers_in(matches)?;
     let name = own_name_in(alloc, matches)?;
     Ok(Wanted {
         nodes: nodes_in(alloc, matches)?,
         name,
         cookie,
         flags,
-        mapper_port,
+        mapper_port: mapper_port.unwrap_or(usual_port),
         port,
         address: matches.get_str("address"),
-        seconds,
+        seconds: seconds.unwrap_or(USUAL_SECONDS),
         listen,
         json: matches.get_flag("json"),
     })
@@ -225,8 +234,13 @@ fn asked_instead<'a>(kind: ErrorKind) -> Result<Asked<'a>, Fault> {
     }
 }
 
-// To dial what is wanted, where that goes together.
-fn dials<'a>(wanted: Wanted<'a>) -> Result<Asked<'a>, Fault> {
+// To dial what the parser matched, where that goes together.
+fn dials<'a>(
+    alloc: Global,
+    matches: &ArgMatches<'a>,
+    mapper_port: Option<u16>,
+) -> Result<Asked<'a>, Fault> {
+    let wanted = wanted_in(alloc, matches, mapper_port)?;
     match fault_in(&wanted) {
         Some(fault) => Err(fault),
         None => Ok(Asked::Dials(wanted)),
@@ -240,7 +254,7 @@ pub fn asked_of<'a>(
     mapper_port: Option<u16>,
 ) -> Result<Asked<'a>, Fault> {
     match program(alloc)?.try_get_matches_from(words) {
-        Ok(matches) => dials(wanted_in(alloc, &matches, mapper_port)?),
+        Ok(matches) => dials(alloc, &matches, mapper_port),
         Err(error) => asked_instead(error.kind()),
     }
 }

@@ -1,15 +1,12 @@
 //! What is asked of the system's resolver and sockets.
 
-use dist_streams::SocketStream;
+use dist_streams::{SocketStream, connect};
 use std::io::{self, ErrorKind};
-use std::net::{SocketAddr, TcpStream, ToSocketAddrs};
+use std::net::{SocketAddr, ToSocketAddrs};
 use std::time::Duration;
 
-// How long a read or a write waits: the length of a turn.
-const TURN_IN_MILLISECONDS: u64 = 10;
-
 /// Why a place was not reached.
-#[derive(Clone, Copy, Debug, PartialEq, Eq)]
+#[derive(Clone, Copy)]
 pub enum Place {
     /// Its host answered that nobody listens.
     Refused,
@@ -38,12 +35,9 @@ fn place_of(error: &io::Error) -> Place {
     }
 }
 
-/// A stream over a socket, whose reads and writes wait for one turn at most.
-pub fn timed(socket: TcpStream) -> io::Result<SocketStream> {
-    let turn = Duration::from_millis(TURN_IN_MILLISECONDS);
-    socket.set_read_timeout(Some(turn))?;
-    socket.set_write_timeout(Some(turn))?;
-    Ok(SocketStream::new(socket))
+/// How long a read or a write waits: the length of a turn.
+pub fn turn() -> Duration {
+    Duration::from_millis(10)
 }
 
 /// A connection to a port of an address, made within so many seconds, one at least.
@@ -56,8 +50,8 @@ pub fn connected(
     let mut place = *address;
     place.set_port(port);
     let limit = Duration::from_secs(u64::from(seconds.max(1)));
-    match TcpStream::connect_timeout(rt, &place, limit) {
-        Ok(socket) => timed(socket).map_err(|_| Place::Unreachable),
+    match connect(rt, &place, limit, turn()) {
+        Ok(stream) => Ok(stream),
         Err(error) => Err(place_of(&error)),
     }
 }

@@ -9,7 +9,7 @@ use std::io::{ErrorKind, Write};
 use std::{fmt, io};
 
 /// What ends the program before a verdict. Its `Display` is what stands after `distping: ` on standard error.
-#[derive(Clone, Copy, Debug, PartialEq, Eq)]
+#[derive(Clone, Copy)]
 pub enum Fault {
     /// The words of the command line ask for nothing.
     BadCommandLine,

@@ -32,14 +32,22 @@ pub fn text_of(bytes: &[u8]) -> &str {
     std::str::from_utf8(bytes).unwrap_or("?")
 }
 
-// Puts the flags behind a text by name, one space before each.
-fn push_flags(text: &mut String, flags: Flags) -> Result<(), AllocError> {
+/// Puts the flags behind a text by name, with this before the first and that before each other. Whether there are any.
+pub fn push_flags(
+    text: &mut String,
+    flags: Flags,
+    first: &str,
+    other: &str,
+) -> Result<bool, AllocError> {
+    let (mut before, mut any) = (first, false);
     for flag in Dflag::all() {
         if flags.has(flag.flags()) {
-            write!(text, " {}", flag.name())?;
+            text.push_str(before)?;
+            text.push_str(flag.name())?;
+            (before, any) = (other, true);
         }
     }
-    Ok(())
+    Ok(any)
 }
 
 fn release_text(release: Release) -> &'static str {
@@ -80,15 +88,13 @@ fn peer_line(alloc: Global, peer: &Peer) -> Result<String, AllocError> {
     )
 }
 
-// What became of the cookie, in the line of that step.
-fn cookie_text(verdict: Verdict) -> Option<&'static str> {
+// What became of the cookie, in the line of that step. Empty where none was tried.
+fn cookie_text(verdict: Verdict) -> &'static str {
     match verdict {
-        Verdict::Up => Some("✓  cookie    the node took our digest, and its own is right\n"),
-        Verdict::WrongCookie => {
-            Some("✗  cookie    the node closed the connection upon our digest\n")
-        }
-        Verdict::WrongAck => Some("✗  cookie    the node's digest is wrong\n"),
-        _ => None,
+        Verdict::Up => "✓  cookie    the node took our digest, and its own is right\n",
+        Verdict::WrongCookie => "✗  cookie    the node closed the connection upon our digest\n",
+        Verdict::WrongAck => "✗  cookie    the node's digest is wrong\n",
+        _ => "",
     }
 }
 
@@ -107,6 +113,23 @@ fn mark_of(status: Status) -> &'static str {
         Status::Ok | Status::OkSimultaneous => "✓",
         _ => "✗",
     }
+}
+
+// The texts, one behind the other.
+fn joined(alloc: Global, parts: &[&str]) -> Result<String, AllocError> {
+    let mut line = String::new(alloc);
+    for part in parts {
+        line.push_str(part)?;
+    }
+    Ok(line)
+}
+
+// The line of flags by name.
+fn flags_line(alloc: Global, front: &str, flags: Flags) -> Result<String, AllocError> {
+    let mut line = String::from_str(alloc, front)?;
+    push_flags(&mut line, flags, " ", " ")?;
+    line.push('\n')?;
+    Ok(line)
 }
 
 // A mark, a word and sentences.
@@ -147,16 +170,19 @@ impl<'a, W: Write> Lines<'a, W> {
 
     // A line of flags by name.
     fn put_flags(&mut self, front: &str, flags: Flags) -> io::Result<()> {
-        let mut text = format!(in self.alloc; "{front}")?;
-        push_flags(&mut text, flags)?;
-        text.push('\n')?;
+        let text = flags_line(self.alloc, front, flags)?;
         self.put(&text)
+    }
+
+    // A line of texts.
+    fn put_all(&mut self, parts: &[&str]) -> io::Result<()> {
+        let line = joined(self.alloc, parts)?;
+        self.put(&line)
     }
 
     /// Which node is dialled, where there are several.
     pub fn put_node(&mut self, node: &NodeName) -> io::Result<()> {
-        let text = format!(in self.alloc; "-- {}\n", text_of(node.bytes()));
-        self.put_made(text)
+        self.put_all(&["-- ", text_of(node.bytes()), "\n"])
     }
 
     /// A warning where the two names could not dial each other.
@@ -171,14 +197,15 @@ impl<'a, W: Write> Lines<'a, W> {
 
     /// The host has this address.
     pub fn put_address(&mut self, host: &str, address: &SocketAddr) -> io::Result<()> {
-        let ip = address.ip();
-        let text = if address.is_ipv4() {
-            format!(in self.alloc; "✓  host      {host} is {ip}\n")
+        let (mark, hint) = if address.is_ipv4() {
+            ("✓", "")
         } else {
-            format!(in self.alloc;
-                "!  host      {host} is {ip}, and has no IPv4 address: nodes dial it with -proto_dist inet6_tcp alone\n"
+            (
+                "!",
+                ", and has no IPv4 address: nodes dial it with -proto_dist inet6_tcp alone",
             )
         };
+        let text = format!(in self.alloc; "{mark}  host      {host} is {}{hint}\n", address.ip());
         self.put_made(text)
     }
 
@@ -214,8 +241,7 @@ impl<'a, W: Write> Lines<'a, W> {
             return self.put("   epmd      no node at all is registered there\n");
         }
         for line in text_of(names).lines() {
-            let text = format!(in self.alloc; "   epmd      {line}\n")?;
-            self.put(&text)?;
+            self.put_all(&["   epmd      ", line, "\n"])?;
         }
         Ok(())
     }
@@ -254,10 +280,7 @@ impl<'a, W: Write> Lines<'a, W> {
 
     /// What became of the cookie.
     pub fn put_cookie(&mut self, verdict: Verdict) -> io::Result<()> {
-        match cookie_text(verdict) {
-            Some(text) => self.put(text),
-            None => Ok(()),
-        }
+        self.put(cookie_text(verdict))
     }
 
     /// A connection is waited for.
@@ -279,9 +302,7 @@ impl<'a, W: Write> Lines<'a, W> {
     /// What came of a connection that was taken.
     pub fn put_outcome(&mut self, taken: Taken) -> io::Result<()> {
         let mark = if taken.status() == 0 { "✓" } else { "✗" };
-        let (name, cause) = (taken.name(), taken.cause());
-        let text = format!(in self.alloc; "{mark}  {name}: {cause}\n");
-        self.put_made(text)
+        self.put_all(&[mark, "  ", taken.name(), ": ", taken.cause(), "\n"])
     }
 
     // What two nodes have to tell of each other, in a line.

@@ -3,7 +3,7 @@
 ghost use Rattle.std.specs.Prelude.{◌≡◌};
 ghost use Rattle.distping.specs.Listening.{heard_verdict, reply_verdict, taken_status};
 
-use crate::dialling::timed;
+use crate::dialling::turn;
 use crate::fault::Fault;
 use crate::lines::Lines;
 use dist_messages::{Form, Message, MessageError, Side, Status, decode};
@@ -274,7 +274,10 @@ fn accepted<W: Write>(
         return Err(Fault::ListenFailed);
     };
     lines.put_taken(&address)?;
-    timed(socket).map_err(|_| Fault::ListenFailed)
+    match SocketStream::timed(socket, turn()) {
+        Ok(stream) => Ok(stream),
+        Err(_) => Err(Fault::ListenFailed),
+    }
 }
 
 // Hears the name, tells it, and goes on from there.

@@ -219,7 +219,7 @@ fn tell<W: Write>(
     if !lines.quiet {
         return Ok(lines.put_verdict(verdict)?);
     }
-    let text = object_of(lines.alloc, dial, found, verdict).map_err(|_| Fault::NoMemory)?;
+    let text = object_of(lines.alloc, dial, found, verdict)?;
     put(lines.out, &text)
 }
 
@@ -252,9 +252,22 @@ fn probe_one<'n, W: Write>(
         lines.put_node(node)?;
     }
     let mut found = Found::nothing();
-    let verdict = probe(rt, dial, lines, &mut found)?;
-    tell(dial, &found, verdict, lines)?;
-    Ok(half_of(node, &found, verdict))
+    match probed(rt, dial, lines, &mut found) {
+        Ok(verdict) => Ok(half_of(node, &found, verdict)),
+        Err(fault) => Err(fault),
+    }
+}
+
+// Probes a node, and tells what it comes to. What was found stands in `found`.
+fn probed<W: Write>(
+    rt: &HostRuntime,
+    dial: &Dial<'_>,
+    lines: &mut Lines<'_, W>,
+    found: &mut Found,
+) -> Result<Verdict, Fault> {
+    let verdict = probe(rt, dial, lines, found)?;
+    tell(dial, found, verdict, lines)?;
+    Ok(verdict)
 }
 
 // What is left of a node. What another node said of itself is nothing of it.
@@ -278,9 +291,7 @@ fn pair_one<W: Write>(
 ) -> Result<u8, Fault> {
     let pairing = pairing_of(first, second);
     if lines.quiet {
-        let text = pair_object(lines.alloc, first.node, second.node, pairing).map_err(
-            |_| Fault::NoMemory,
-        )?;
+        let text = pair_object(lines.alloc, first.node, second.node, pairing)?;
         put(lines.out, &text)?;
     } else {
         lines.put_pair(first.node, second.node, pairing)?;
@@ -330,17 +341,29 @@ fn behind_the_first<'h, 'n>(halves: &'h [Half<'n>]) -> &'h [Half<'n>] {
 fn dial_each<'n, W: Write>(
     rt: &HostRuntime,
     wanted: &'n Wanted<'_>,
+    cookie: Option<&Cookie>,
     lines: &mut Lines<'_, W>,
     halves: &mut Vec<Half<'n>>,
 ) -> Result<u8, Fault> {
-    let cookie = cookie_of(rt, lines.alloc, wanted.cookie)?;
     let mut status = 0;
     for node in &wanted.nodes {
-        let half = dial_one(rt, wanted, node, cookie.as_ref(), lines)?;
+        let half = dial_one(rt, wanted, node, cookie, lines)?;
         status = first_of(status, half.verdict.status());
         halves.push(half)?;
     }
     Ok(status)
+}
+
+// The same, and then tells of each two of them.
+fn dial_and_pair<'n, W: Write>(
+    rt: &HostRuntime,
+    wanted: &'n Wanted<'_>,
+    cookie: Option<&Cookie>,
+    lines: &mut Lines<'_, W>,
+    halves: &mut Vec<Half<'n>>,
+) -> Result<u8, Fault> {
+    let status = dial_each(rt, wanted, cookie, lines, halves)?;
+    Ok(first_of(status, pair_all(halves, lines)?))
 }
 
 // Dials all nodes, and tells of each two of them.
@@ -351,7 +374,7 @@ fn dial_all<W: Write>(rt: &HostRuntime, wanted: &Wanted<'_>, out: &mut W) -> Res
         out,
         quiet: wanted.json,
     };
+    let cookie = cookie_of(rt, alloc, wanted.cookie)?;
     let mut halves = Vec::new(alloc);
-    let status = dial_each(rt, wanted, &mut lines, &mut halves)?;
-    Ok(first_of(status, pair_all(&halves, &mut lines)?))
+    dial_and_pair(rt, wanted, cookie.as_ref(), &mut lines, &mut halves)
 }

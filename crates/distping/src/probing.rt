@@ -54,6 +54,14 @@ impl Found {
     }
 }
 
+/// Why the port mapper gave no registration.
+enum Unknown {
+    /// It was not reached.
+    Place(Place),
+    /// The lookup went wrong.
+    Lookup(LookupError),
+}
+
 /// What ends a probe.
 #[derive(Drop)]
 enum Stop {
@@ -224,6 +232,24 @@ fn unregistered<W: Write>(
     Ok(verdict)
 }
 
+// Asks the port mapper for the node.
+fn looked_up(
+    rt: &HostRuntime,
+    alloc: Global,
+    dial: &Dial<'_>,
+    address: &SocketAddr,
+) -> Result<PortInfo, Unknown> {
+    match mapper_at(rt, dial, address) {
+        Ok(mut stream) => {
+            match lookup(alloc, &mut stream, dial.node.short(), dial.wanted.turns()) {
+                Ok(info) => Ok(info),
+                Err(error) => Err(Unknown::Lookup(error)),
+            }
+        }
+        Err(place) => Err(Unknown::Place(place)),
+    }
+}
+
 // What the port mapper knows of the node.
 fn registration_of<W: Write>(
     rt: &HostRuntime,
@@ -231,17 +257,15 @@ fn registration_of<W: Write>(
     address: &SocketAddr,
     lines: &mut Lines<'_, W>,
 ) -> Result<PortInfo, Stop> {
-    let wanted = dial.wanted;
-    let mut stream = match mapper_at(rt, dial, address) {
-        Ok(stream) => stream,
-        Err(place) => return Err(no_mapper(dial, place, lines)?),
-    };
-    match lookup(lines.alloc, &mut stream, dial.node.short(), wanted.turns()) {
+    match looked_up(rt, lines.alloc, dial, address) {
         Ok(info) => {
-            lines.put_registration(wanted.mapper_port, &info)?;
+            lines.put_registration(dial.wanted.mapper_port, &info)?;
             Ok(info)
         }
-        Err(error) => Err(Stop::Verdict(unregistered(rt, dial, address, error, lines)?)),
+        Err(Unknown::Place(place)) => Err(no_mapper(dial, place, lines)?),
+        Err(Unknown::Lookup(error)) => {
+            Err(Stop::Verdict(unregistered(rt, dial, address, error, lines)?))
+        }
     }
 }
 
@@ -321,6 +345,21 @@ fn talk(
     Ok(ask_node(alloc, stream, &setup, dial.node, fresh, replies, limit))
 }
 
+// Connects to the node, and talks with it.
+fn talked<W: Write>(
+    rt: &HostRuntime,
+    dial: &Dial<'_>,
+    address: &SocketAddr,
+    port: u16,
+    lines: &mut Lines<'_, W>,
+) -> Result<Report, Stop> {
+    let mut stream = node_at(rt, dial, address, port, lines)?;
+    match talk(rt, lines.alloc, dial, &mut stream) {
+        Ok(report) => Ok(report),
+        Err(fault) => Err(Stop::Fault(fault)),
+    }
+}
+
 // Asks the node at this place, and tells what it said.
 fn asked<W: Write>(
     rt: &HostRuntime,
@@ -330,12 +369,11 @@ fn asked<W: Write>(
     lines: &mut Lines<'_, W>,
     found: &mut Found,
 ) -> Result<Verdict, Stop> {
-    let mut stream = node_at(rt, dial, address, port, lines)?;
-    let report = talk(rt, lines.alloc, dial, &mut stream)?;
-    put_report(dial, &report, lines)?;
-    let verdict = report.verdict();
+    let report = talked(rt, dial, address, port, lines)?;
+    let (verdict, put) = (report.verdict(), put_report(dial, &report, lines));
     found.status = report.status;
     found.peer = report.peer;
+    put?;
     Ok(verdict)
 }
 
@@ -352,7 +390,9 @@ fn steps<W: Write>(
     let port = port_of(rt, dial, &address, lines, found)?;
     found.port = Some(port);
     let verdict = asked(rt, dial, &address, port, lines, found)?;
-    if verdict == Verdict::Gone(Awaited::Status) && is_tls(rt, dial, &address, port) {
+    if let Verdict::Gone(Awaited::Status) = verdict
+        && is_tls(rt, dial, &address, port)
+    {
         return Ok(Verdict::Foreign(Service::Tls));
     }
     Ok(verdict)
