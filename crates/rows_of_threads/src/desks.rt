@@ -1,48 +1,27 @@
 //! A desk in memory and the desk of a seat answer alike.
 
-use crate::locking::{Closing, closing_both, frame, locked};
-use crate::setting::{CHALLENGE, NAME_OF_A, REPLY, accepted};
-use crate::shown::still_word;
-use dist_core::{Event, StepError, Still, Why};
+use crate::drives::desk_of;
+use crate::seats::{Closing, closing_with, seated, told};
+use crate::setting::{CHALLENGE, event, number, still_word, word};
+use dist_core::StepError;
 use dist_drive::Desk;
-use dist_locked::SeatDesk;
+use dist_locked::{LockedNode, Seat, SeatDesk};
 use dist_peers::EndId;
 use std::alloc::Global;
 use std::sync::Wait;
 use std::test::*;
 
-// What end 0 is told: events of other ends, out of turn, a whole handshake, a frame behind it, two losses. What any desk of
-// it answers, how long the newest reply's text is, and how the end stands then. A closed end is told by its cause.
+// What a desk of end 0 is told: an event of another end, one out of turn, a whole handshake, a frame behind it, two losses.
+// What any such desk answers, how long the newest reply's text is, and how the end stands then. A closed end is told by its
+// cause.
 const ROWS: &str = "\
-tick 1: NoSuchEnd, 0 said, Pending
-incoming 2: NoSuchEnd, 0 said, Pending
-tick 0: WrongPhase, 0 said, Pending
-name: taken, 37 said, Pending
-reply: taken, 19 said, Up
-name: WrongPhase, 19 said, Up
-ended: taken, 0 said, Ended
-replaced: Ended, 0 said, Ended
-";
-
-fn lost(why: Why) -> Event {
-    Event::Lost {
-        end_: EndId(0),
-        why,
-    }
-}
-
-fn event(alloc: Global, words: &str) -> Option<Event> {
-    Some(match words {
-        "tick 0" => Event::Tick { end_: EndId(0) },
-        "tick 1" => Event::Tick { end_: EndId(1) },
-        "incoming 2" => Event::Incoming { link: 2 },
-        "name" => frame(alloc, NAME_OF_A)?,
-        "reply" => frame(alloc, REPLY)?,
-        "ended" => lost(Why::Ended),
-        "replaced" => lost(Why::Replaced),
-        _ => return None,
-    })
-}
+another NoSuchEnd 0 Pending
+tick WrongPhase 0 Pending
+name taken 37 Pending
+reply taken 19 Up
+name WrongPhase 19 Up
+ended taken 0 Ended
+replaced Ended 0 Ended";
 
 // That the event was taken, why the end is closed, or the refusal's name.
 fn answer_word(answer: Result<(), StepError>) -> &'static str {
@@ -53,61 +32,59 @@ fn answer_word(answer: Result<(), StepError>) -> &'static str {
     }
 }
 
-// What a desk was told, and what is seen of it.
-fn line_of(
-    alloc: Global,
-    words: &str,
-    answer: Result<(), StepError>,
-    said: usize,
-    still: Still,
-) -> Option<String> {
-    let answer = answer_word(answer);
-    let still = still_word(still);
-    format!(in alloc; "{words}: {answer}, {said} said, {still}\n").ok()
+// Whether a desk answers as its row says.
+fn is_so<D: Desk>(alloc: Global, desk: &mut D, row: &str) -> Option<bool> {
+    let answer = answer_word(desk.step(event(alloc, word(row, 0))?, CHALLENGE));
+    let said = match desk.last() {
+        Some(reply) => reply.say.len() as u64,
+        None => 0,
+    };
+    let still = still_word(desk.still(EndId(0)));
+    let are_words = answer == word(row, 1) && still == word(row, 3);
+    Some(are_words && said == number(word(row, 2), 9999))
 }
 
-fn put_answer<D: Desk>(alloc: Global, desk: &mut D, words: &str, lines: &mut String) -> Option<()> {
-    let answer = desk.step(event(alloc, words)?, CHALLENGE);
-    let said = desk.last().map_or(0, |reply| reply.say.len());
-    let line = line_of(alloc, words, answer, said, desk.still(EndId(0)))?;
-    lines.push_str(line.as_str()).ok()
-}
-
-// Adds what any desk of end 0 answers to all that it is told.
-fn battery<D: Desk>(alloc: Global, desk: &mut D, lines: &mut String) -> Option<()> {
-    for row in ROWS.lines() {
-        let (words, _) = row.split_once(": ")?;
-        put_answer(alloc, desk, words, lines)?;
+// The first row in which a desk answers otherwise.
+fn first_wrong<D: Desk>(alloc: Global, desk: &mut D) -> Option<usize> {
+    for (place, row) in ROWS.lines().enumerate() {
+        if is_so(alloc, desk, row) != Some(true) {
+            return Some(place);
+        }
     }
-    Some(())
+    None
 }
 
-// Adds what the desk in memory answers. How many steps it made.
-fn by_memory(alloc: Global, lines: &mut String) -> Option<usize> {
-    let mut desk = accepted(alloc)?;
-    let _ = battery(alloc, &mut desk, lines);
-    Some(desk.list().len())
+// Of the desk in memory. `None`: memory was refused, here and below.
+fn wrong_in_memory(alloc: Global) -> Option<Option<usize>> {
+    let mut desk = desk_of(alloc, "accepted")?;
+    Some(first_wrong(alloc, &mut desk))
 }
 
-// Adds what the desk of a seat answers. How many steps it made, how many receipts the seat has, and what `close` says.
-fn by_seat<R: Wait>(rt: &R, alloc: Global, lines: &mut String) -> Option<(usize, usize, Closing)> {
-    let (node, mut first, second) = locked(alloc)?;
-    let _ = node.step(rt, &mut first, &Event::Incoming { link: 1 }, 0);
-    let mut desk = SeatDesk::new(rt, alloc, &node, first, EndId(0)).ok()?;
-    let _ = battery(alloc, &mut desk, lines);
-    let (first, steps) = desk.into_parts();
-    let receipts = first.receipts().len();
-    let closing = closing_both(alloc, node, first, second)?;
-    Some((steps.len(), receipts, closing))
+// Of the desk of this seat, which comes back.
+fn wrong_at<R: Wait>(
+    rt: &R,
+    alloc: Global,
+    node: &LockedNode,
+    seat: Seat,
+) -> Option<(Option<usize>, Seat)> {
+    let mut desk = SeatDesk::new(rt, alloc, node, seat, EndId(0)).ok()?;
+    let wrong = first_wrong(alloc, &mut desk);
+    Some((wrong, desk.into_parts().0))
+}
+
+// Of the desk of a seat, whose node the other seat told that a connection came; and what `close` says then.
+fn wrong_at_a_seat<R: Wait>(rt: &R, alloc: Global) -> Option<(Option<usize>, Closing)> {
+    let (node, mut seats) = seated(alloc)?;
+    let _ = told(rt, alloc, &node, &mut seats, 1);
+    let (wrong, seat) = wrong_at(rt, alloc, &node, seats.pop()?)?;
+    Some((wrong, closing_with(node, seats, seat)?))
 }
 
 #[test]
 fn desks_answer_alike(rt: HostRuntime) {
-    let alloc = rt.alloc();
-    let (mut by_desk, mut by_its_seat) = (String::new(alloc), String::new(alloc));
-    let made = by_memory(alloc, &mut by_desk);
-    let seen = by_seat(&rt, alloc, &mut by_its_seat);
-    assert_eq!(rt; [by_desk.as_str(), by_its_seat.as_str()], [ROWS, ROWS]);
-    assert_eq!(rt; made, Some(3));
-    assert_eq!(rt; seen, Some((3, 4, Ok((4, 0, 0)))));
+    let wrong = (
+        wrong_in_memory(rt.alloc()),
+        wrong_at_a_seat(&rt, rt.alloc()),
+    );
+    assert_eq!(rt; wrong, (Some(None), Some((None, Ok([4, 0, 0, 0])))));
 }

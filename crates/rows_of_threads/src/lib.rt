@@ -4,30 +4,14 @@
 #![tactic(auto)]
 
 #[cfg(test)]
-mod calls;
-#[cfg(test)]
-mod cuts;
-#[cfg(test)]
 mod desks;
 #[cfg(test)]
-mod driven;
-#[cfg(test)]
 mod drives;
-#[cfg(test)]
-mod locking;
-#[cfg(test)]
-mod orders;
 #[cfg(test)]
 mod registry;
 #[cfg(test)]
 mod seats;
 #[cfg(test)]
 mod setting;
-#[cfg(test)]
-mod shown;
-#[cfg(test)]
-mod silent;
-#[cfg(test)]
-mod steps;
 #[cfg(test)]
 mod threads;

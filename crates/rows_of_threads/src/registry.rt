@@ -24,12 +24,12 @@ fn node_a(alloc: Global) -> Option<Request> {
 }
 
 // The result, and the creation.
-fn alive(answer: Answer) -> Option<(u8, u32)> {
+fn alive(answer: &Answer) -> Option<(u8, u32)> {
     match answer {
         Answer::AliveX {
             result_code,
             creation,
-        } => Some((result_code, creation)),
+        } => Some((*result_code, *creation)),
         _ => None,
     }
 }
@@ -42,19 +42,18 @@ fn register_a<R: Wait>(
     conn: u64,
 ) -> Option<(u8, u32)> {
     let request = node_a(alloc)?;
-    let answer = SharedMapper::new(rt, shared).ask(alloc, conn, &request);
-    alive(answer.ok()?)
+    match SharedMapper::new(rt, shared).ask(alloc, conn, &request) {
+        Ok(answer) => alive(&answer),
+        Err(_) => None,
+    }
 }
 
 // The connection whose node was registered, where the other was refused; else 0.
-fn first_of(one: Option<(u8, u32)>, two: Option<(u8, u32)>) -> u64 {
-    let (registered, refused) = (Some((0, 1)), Some((1, 0)));
-    if one == registered && two == refused {
-        1
-    } else if two == registered && one == refused {
-        2
-    } else {
-        0
+fn first_of(told: (Option<(u8, u32)>, Option<(u8, u32)>)) -> u64 {
+    match told {
+        (Some((0, 1)), Some((1, 0))) => 1,
+        (Some((1, 0)), Some((0, 1))) => 2,
+        _ => 0,
     }
 }
 
@@ -63,13 +62,13 @@ fn two_threads_register(rt: HostRuntime) {
     let alloc = rt.alloc();
     let registry = LockedRegistry::new(Registry::new(alloc, 4369, 1));
     let shared = &registry;
-    let (one, two) = thread::join(
+    let told = thread::join(
         &rt,
         move || register_a(&rt, alloc, shared, 1),
         move || register_a(&rt, alloc, shared, 2),
     );
-    let registered = first_of(one, two);
-    assert!(rt; registered != 0, "{one:?} and {two:?}");
-    SharedMapper::new(&rt, shared).closed(registered);
-    assert_eq!(rt; register_a(&rt, alloc, shared, 3), Some((0, 2)));
+    let first = first_of(told);
+    SharedMapper::new(&rt, shared).closed(first);
+    let third = register_a(&rt, alloc, shared, 3);
+    assert_eq!(rt; (first != 0, third), (true, Some((0, 2))));
 }

@@ -1,129 +1,163 @@
-//! Two seats at one node, a seat of another node, and the queue of dial orders.
+//! Node b under a lock with two seats, which tell it something in turn, and the queue of dial orders.
 
-use crate::locking::{Closing, closing, closing_both, come, frame, locked, seated, tickets};
-use crate::orders::orders_in_turn;
-use crate::setting::{CHALLENGE, NAME_OF_A};
-use crate::shown::still_word;
-use dist_core::Event;
-use dist_locked::{Book, CloseError, LockedNode, Receipt, Seat, Tickets, close};
-use dist_peers::EndId;
+use crate::setting::{CHALLENGE, event, setup_of};
+use dist_core::StepError;
+use dist_locked::{CloseError, Closed, DialOrder, LockedNode, Orders, Seat, Tickets, close};
 use std::alloc::Global;
 use std::sync::{Arc, Wait};
 use std::test::*;
 
-// A receipt, but for its event.
-fn in_words(alloc: Global, receipt: &Receipt) -> Option<String> {
-    let (line, reply) = (&receipt.line, &receipt.line.reply);
-    let said = hex::encode(alloc, reply.say.as_slice()).ok()?;
-    let (at, end) = (receipt.at_, reply.end_.0);
-    let (ticket, seat) = (line.ticket, line.seat);
-    format!(in alloc; "line {at} ticket {ticket} seat {seat} end {end} says [{said}]\n").ok()
+// The frame of the status `ok` of node b, and that of its challenge 123456789.
+const GREETING_OF_B: &[u8] =
+    b"\x00\x03sok\x00\x1eN\x00\x00\x00\x01\x01\x00\x01\x04\x07\x5b\xcd\x15\x00\x00\x00\x06\x00\x0bb@127.0.0.1";
+
+/// Node b under a lock, and its two seats.
+pub fn seated(alloc: Global) -> Option<(LockedNode, Vec<Seat>)> {
+    let tickets = Arc::new(alloc, Tickets::new()).ok()?;
+    let made = LockedNode::new(alloc, setup_of(alloc, false)?, tickets, 2);
+    made.ok()
 }
 
-// Makes a step, and adds its receipt. Whether it was made.
-fn tell<R: Wait>(
+// Tells a node something. Whether the step is made, and not refused for want of memory; `None`: it is refused for another reason,
+// or memory was refused before it.
+fn is_made<R: Wait>(
     rt: &R,
     alloc: Global,
     node: &LockedNode,
     seat: &mut Seat,
-    event: &Event,
-    lines: &mut String,
-) -> Option<()> {
-    let receipt = node.step(rt, seat, event, CHALLENGE).ok()?;
-    let line = in_words(alloc, &receipt)?;
-    lines.push_str(line.as_str()).ok()
+    word: &str,
+) -> Option<bool> {
+    let event = event(alloc, word)?;
+    match node.step(rt, seat, &event, CHALLENGE).err() {
+        None => Some(true),
+        Some(StepError::NoMemory) => Some(false),
+        Some(_) => None,
+    }
 }
 
-// A connection comes at the first seat, and the name of node a at the second.
-fn tell_both<R: Wait>(
+// What the seats tell in turn.
+const TOLD: [&str; 4] = ["incoming", "name", "reply", "incoming"];
+
+/// Makes so many steps, the seats in turn, until one lacks memory. How many were made, unless one was refused for another
+/// reason, or memory was refused before a step.
+pub fn told<R: Wait>(
     rt: &R,
     alloc: Global,
     node: &LockedNode,
-    first: &mut Seat,
-    second: &mut Seat,
-    lines: &mut String,
-) -> Option<()> {
-    tell(rt, alloc, node, first, &Event::Incoming { link: 1 }, lines)?;
-    let named = frame(alloc, NAME_OF_A)?;
-    tell(rt, alloc, node, second, &named, lines)
+    seats: &mut [Seat],
+    most: usize,
+) -> Option<usize> {
+    for (place, word) in TOLD.iter().take(most).enumerate() {
+        let seat = seats.get_mut(place % 2)?;
+        if !is_made(rt, alloc, node, seat, word)? {
+            return Some(place);
+        }
+    }
+    Some(most)
 }
 
-// What `close` says where a seat is there alone.
-fn close_without(alloc: Global, book: Book, seat: Seat) -> Option<(CloseError, Book, Vec<Seat>)> {
-    let mut alone = Vec::new(alloc);
-    alone.push(seat).ok()?;
-    close(book, alone).err()
+/// What `close` says: how many lines the history has, how many entries the node, how many of its ends are up and how many are
+/// open, or the refusal.
+pub type Closing = Result<[usize; 4], CloseError>;
+
+fn counted(closed: &Closed) -> [usize; 4] {
+    let node = &closed.node;
+    let lines = closed.history.len();
+    [lines, node.entries(), node.ups(), node.open_ends()]
 }
 
-// What `close` says without the second seat, and then with it.
-fn closings(alloc: Global, book: Book, first: Seat, second: Seat) -> Option<(CloseError, Closing)> {
-    let (error, book, mut seats) = close_without(alloc, book, first)?;
-    match seats.push(second) {
-        Ok(()) => Some((error, closing(book, seats))),
+/// What `close` says of this node and these seats.
+pub fn closing(node: LockedNode, seats: Vec<Seat>) -> Closing {
+    match close(node.into_book(), seats) {
+        Ok(closed) => Ok(counted(&closed)),
+        Err((error, _, _)) => Err(error),
+    }
+}
+
+/// What `close` says of this node and these seats, and one more.
+pub fn closing_with(node: LockedNode, mut seats: Vec<Seat>, seat: Seat) -> Option<Closing> {
+    match seats.push(seat) {
+        Ok(()) => Some(closing(node, seats)),
         Err(_) => None,
     }
 }
 
-// How the end stands after the steps of both seats, and what `close` says. The receipts are added.
-fn two_seats<R: Wait>(
-    rt: &R,
-    alloc: Global,
-    lines: &mut String,
-) -> Option<(&'static str, CloseError, Closing)> {
-    let (node, mut first, mut second) = locked(alloc)?;
-    let _ = tell_both(rt, alloc, &node, &mut first, &mut second, lines);
-    let still = still_word(node.still(rt, EndId(0)));
-    let (error, closing) = closings(alloc, node.into_book(), first, second)?;
-    Some((still, error, closing))
+// Whether the newest receipt of the second seat says the status and the challenge of node b, with its name, flags and creation.
+fn is_greeting(seats: &[Seat]) -> Option<bool> {
+    let receipt = seats.get(1)?.receipts().last()?;
+    Some(receipt.line.reply.say.as_slice() == GREETING_OF_B)
 }
 
-// Node b, and its first seat or its second after so many steps.
-fn seat_after<R: Wait>(
-    rt: &R,
-    alloc: Global,
-    tickets: Arc<Tickets, Global>,
-    which: usize,
-    steps: u64,
-) -> Option<(LockedNode, Seat)> {
-    let (node, mut seats) = seated(alloc, tickets)?;
-    seats.truncate(which);
-    let mut seat = seats.pop()?;
-    if come(rt, &node, &mut seat, steps) {
-        Some((node, seat))
-    } else {
-        None
+// Whether a locked node keeps its setup: the second seat tells it a name.
+fn is_kept<R: Wait>(rt: &R, alloc: Global) -> Option<bool> {
+    let (node, mut seats) = seated(alloc)?;
+    let _ = told(rt, alloc, &node, &mut seats, 2);
+    is_greeting(&seats)
+}
+
+// What `close` says after so many steps.
+const CLOSINGS: [[usize; 4]; 5] = [
+    [0, 0, 0, 0],
+    [1, 0, 0, 1],
+    [2, 1, 0, 1],
+    [3, 1, 1, 1],
+    [4, 1, 1, 2],
+];
+
+// Whether `close` says of the steps that were made what it has to. `None`: memory was refused before a step.
+fn is_closed<R: Wait>(rt: &R, alloc: Global) -> Option<bool> {
+    let (node, mut seats) = seated(alloc)?;
+    let made = told(rt, alloc, &node, &mut seats, 4);
+    let closing = closing(node, seats);
+    let wanted = CLOSINGS.get(made?)?;
+    Some(closing == Ok(*wanted))
+}
+
+// Each request for memory of a node under a lock refused in turn, as `rt try --test --fail-alloc N` does for N = 1, 2, ..: a step
+// that lacks memory leaves the node, its history and the seats as they were.
+#[test]
+fn memory_refused_in_a_step(rt: HostRuntime) {
+    assert!(rt; is_closed(&rt, rt.alloc()) != Some(false));
+}
+
+// The order that came back, or 0.
+fn refused(answer: Result<(), DialOrder>) -> u32 {
+    match answer {
+        Ok(()) => 0,
+        Err(order) => order.0,
     }
 }
 
-// What `close` says of the first seat of a node and the second of another node, which shares its tickets.
-fn foreign_seat<R: Wait>(rt: &R, alloc: Global) -> Option<Closing> {
-    let tickets = tickets(alloc)?;
-    let shared = Arc::try_clone(&tickets).ok()?;
-    let (node, own) = seat_after(rt, alloc, shared, 1, 1)?;
-    let (_, foreign) = seat_after(rt, alloc, tickets, 2, 3)?;
-    closing_both(alloc, node, own, foreign)
+// The order that was taken, or 0.
+fn taken(answer: Option<DialOrder>) -> u32 {
+    match answer {
+        Some(order) => order.0,
+        None => 0,
+    }
 }
 
-const RECEIPTS: &str = "\
-line 0 ticket 0 seat 0 end 0 says []
-line 1 ticket 1 seat 1 end 0 says [0003736f6b001e4e0000000101000104075bcd1500000006000b62403132372e302e302e31]
-Some((\"Pending\", MissingSeat, Ok((2, 0, 1))))";
-
-// The receipts of both seats, and what is seen of them.
-fn two_seats_in_words<R: Wait>(rt: &R, alloc: Global) -> Option<String> {
-    let mut lines = String::new(alloc);
-    let seen = two_seats(rt, alloc, &mut lines);
-    format!(in alloc; "{lines}{seen:?}").ok()
+// The orders 4, 5 and 6 are put into a queue of two, three are taken, 7 is put and taken: what each call answers, and how
+// many orders are left.
+fn orders_in_turn<R: Wait>(rt: &R, alloc: Global) -> Option<([u32; 8], u64)> {
+    let (orders, mut put, mut one, two) = Orders::new(alloc, 2).ok()?;
+    let answers = [
+        refused(orders.put(rt, &mut put, DialOrder(4))),
+        refused(orders.put(rt, &mut put, DialOrder(5))),
+        refused(orders.put(rt, &mut put, DialOrder(6))),
+        taken(orders.take(rt, &mut one)),
+        taken(orders.take(rt, &mut one)),
+        taken(orders.take(rt, &mut one)),
+        refused(orders.put(rt, &mut put, DialOrder(7))),
+        taken(orders.take(rt, &mut one)),
+    ];
+    Some((answers, orders.settle(rt, put, one, two)))
 }
 
 #[test]
-fn two_seats_and_orders(rt: HostRuntime) -> Result<(), Fail> {
-    let alloc = rt.alloc();
-    let seen = two_seats_in_words(&rt, alloc).ok_or("no memory")?;
-    assert_eq!(rt; seen.as_str(), RECEIPTS);
-    let foreign = foreign_seat(&rt, alloc);
-    assert_eq!(rt; foreign, Some(Err(CloseError::ReceiptAbsent)));
-    let orders = orders_in_turn(&rt, alloc);
-    assert_eq!(rt; orders, Some(([0, 0, 6, 4, 5, 0, 0, 7], 0)));
-    Ok(())
+fn two_seats_and_orders(rt: HostRuntime) {
+    let is_kept = is_kept(&rt, rt.alloc());
+    let is_closed = is_closed(&rt, rt.alloc());
+    let orders = orders_in_turn(&rt, rt.alloc());
+    let wanted = (Some(true), Some(true), Some(([0, 0, 6, 4, 5, 0, 0, 7], 0)));
+    assert_eq!(rt; (is_kept, is_closed, orders), wanted);
 }

@@ -1,24 +1,17 @@
-//! What the rows share: two nodes, what each says in a handshake, and where a driven call's challenges come from.
+//! What the rows share: two nodes, what each says in a handshake, what a node is told, and where challenges come from.
 
-use dist_core::{Event, Node, Opening, Setup, Version};
-use dist_drive::{Draws, MemoryDesk};
-use dist_names::{Creation, Flags, NodeName};
+use dist_core::{Event, Opening, Setup, Still, Version, Why};
+use dist_drive::Draws;
+use dist_names::{ByteString, Creation, Flags, NodeName};
 use dist_peers::EndId;
 use dist_secret::{Cookie, Cookies};
 use std::alloc::Global;
 
-/// The frame of the name of node a, version 6.
-pub const NAME_OF_A: &str = "001a4e000000040100000400000005000b61403132372e302e302e31";
+// The frame of the name of node a, version 6.
+const NAME_OF_A: &str = "001a4e000000040100000400000005000b61403132372e302e302e31";
 
-/// The frame of its reply to the challenge 123456789.
-pub const REPLY: &str = "001572075bcd15d174ab98d277d9f5a5611c2c9f419d9f";
-
-/// The frame of the status `ok` of node b, and that of its challenge 123456789.
-pub const GREETING_OF_B: &str =
-    "0003736f6b001e4e0000000101000104075bcd1500000006000b62403132372e302e302e31";
-
-/// The frame of its acknowledgement.
-pub const ACKNOWLEDGEMENT: &str = "001161d174ab98d277d9f5a5611c2c9f419d9f";
+// The frame of its reply to the challenge 123456789.
+const REPLY: &str = "001572075bcd15d174ab98d277d9f5a5611c2c9f419d9f";
 
 /// The challenge of node b.
 pub const CHALLENGE: u32 = 123456789;
@@ -37,9 +30,19 @@ impl Draws for Same {
     }
 }
 
-fn setup(alloc: Global, name: &str, flags: u64, creation: u32) -> Option<Setup> {
+fn name_of(alloc: Global, text: &str) -> Option<NodeName> {
+    NodeName::new(alloc, text.as_bytes()).ok()
+}
+
+/// The setup of node a, or else of node b.
+pub fn setup_of(alloc: Global, is_a: bool) -> Option<Setup> {
+    let (name, flags, creation) = if is_a {
+        ("a@127.0.0.1", 0x401000004, 5)
+    } else {
+        ("b@127.0.0.1", 0x101000104, 6)
+    };
     Some(Setup {
-        name: NodeName::new(alloc, name.as_bytes()).ok()?,
+        name: name_of(alloc, name)?,
         cookies: Cookies::new(alloc, Cookie::from_bytes(alloc, COOKIE.as_bytes()).ok()?),
         version: Version::Six,
         flags: Flags(flags),
@@ -49,54 +52,60 @@ fn setup(alloc: Global, name: &str, flags: u64, creation: u32) -> Option<Setup> 
     })
 }
 
-pub fn setup_of_a(alloc: Global) -> Option<Setup> {
-    setup(alloc, "a@127.0.0.1", 0x401000004, 5)
-}
-
-pub fn setup_of_b(alloc: Global) -> Option<Setup> {
-    setup(alloc, "b@127.0.0.1", 0x101000104, 6)
-}
-
-/// The desk of the first end of node b, to which a connection came.
-pub fn accepted(alloc: Global) -> Option<MemoryDesk> {
-    let mut node = Node::new(alloc, setup_of_b(alloc)?);
-    node.step(alloc, &Event::Incoming { link: 1 }, 0).ok()?;
-    MemoryDesk::new(alloc, node, EndId(0)).ok()
-}
-
-// Node a dials this peer, and the connection is there. Whether the steps were made.
-fn dial(alloc: Global, node: &mut Node, peer: NodeName) -> bool {
-    let opening = Opening::New;
-    let opened = Event::Opened {
+// A frame of end 0, from the digits of its length and its body.
+fn frame(alloc: Global, text: &str) -> Option<Event> {
+    let body = hex::decode(alloc, text.get(4..)?).ok()?;
+    let body = ByteString::from_vec(body);
+    Some(Event::Frame {
         end_: EndId(0),
-        link: 1,
-    };
-    node.step(alloc, &Event::Dial { peer, opening }, 0).is_ok()
-        && node.step(alloc, &opened, 0).is_ok()
+        body,
+    })
 }
 
-/// The desk of the first end of node a, which dialled node b.
-pub fn dialled(alloc: Global) -> Option<MemoryDesk> {
-    let peer = NodeName::new(alloc, b"b@127.0.0.1").ok()?;
-    let mut node = Node::new(alloc, setup_of_a(alloc)?);
-    if dial(alloc, &mut node, peer) {
-        MemoryDesk::new(alloc, node, EndId(0)).ok()
-    } else {
-        None
+/// What end 0 of a node is told, or its node: a dial to node b, that it is `opened`, that a connection is `incoming`, the
+/// `name` of node a and its `reply`, that the end has `ended` or is `replaced`, and else that a tick is due on end 0, or on
+/// `another`.
+pub fn event(alloc: Global, word: &str) -> Option<Event> {
+    let end_ = EndId(0);
+    let opening = Opening::New;
+    Some(match word {
+        "dial" => Event::Dial {
+            peer: name_of(alloc, "b@127.0.0.1")?,
+            opening,
+        },
+        "opened" => Event::Opened { end_, link: 1 },
+        "incoming" => Event::Incoming { link: 1 },
+        "name" => frame(alloc, NAME_OF_A)?,
+        "reply" => frame(alloc, REPLY)?,
+        "ended" => Event::Lost {
+            end_,
+            why: Why::Ended,
+        },
+        "replaced" => Event::Lost {
+            end_,
+            why: Why::Replaced,
+        },
+        "another" => Event::Tick { end_: EndId(1) },
+        _ => Event::Tick { end_ },
+    })
+}
+
+/// How an end stands, or why it is closed.
+pub fn still_word(still: Still) -> &'static str {
+    match still {
+        Still::NoSuchEnd => "NoSuchEnd",
+        Still::Gone(why) => why.name(),
+        Still::Pending => "Pending",
+        Still::Up => "Up",
     }
 }
 
-fn put_bytes(alloc: Global, all: &mut Vec<u8>, digits: &str) -> Option<()> {
-    let bytes = hex::decode(alloc, digits).ok()?;
-    all.extend_from_slice(&bytes).ok()?;
-    Some(())
+/// The word at this place of a row.
+pub fn word(row: &str, place: usize) -> &str {
+    row.split(' ').nth(place).unwrap_or("")
 }
 
-/// The bytes that the digits of these texts write, one behind the other.
-pub fn bytes_of(alloc: Global, texts: &[&str]) -> Option<Vec<u8>> {
-    let mut all = Vec::new(alloc);
-    for digits in texts {
-        put_bytes(alloc, &mut all, digits)?;
-    }
-    Some(all)
+/// The number that a word is, or else another.
+pub fn number(word: &str, other: u64) -> u64 {
+    word.parse::<u64>().unwrap_or(other)
 }
