@@ -53,8 +53,8 @@ told_in kind.Lost words =
 told_in kind.Tick words = first_in end_in words >>= (λ end_. Some (line.Event (event.Tick end_)))
 
 -- THE LINE OF AN EVENT: a first word of the table, what stands behind it, and no word more
-abbrev pub line_in : List ℕ → List (List ℕ) → Option Line
-line_in word words =
-    meaning_in event_kinds word >>= (λ kind.
-    told_in kind words >>= (λ told.
-    if_done (behind (words_behind kind) words) told))
+abbrev pub line_in : List (List ℕ) → Option Line
+line_in words =
+    first_in (meaning_in event_kinds) words >>= (λ kind.
+    told_in kind (drop 1 words) >>= (λ told.
+    if_done (behind (words_behind kind) (drop 1 words)) told))

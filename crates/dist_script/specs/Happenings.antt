@@ -70,8 +70,8 @@ told_in kind.Tick words =
     Some (happening.Tick node end_)))
 
 -- THE LINE OF A HAPPENING: a first word of the table, what stands behind it, and no word more
-abbrev pub line_in : List ℕ → List (List ℕ) → Option Happening
-line_in word words =
-    meaning_in happening_kinds word >>= (λ kind.
-    told_in kind words >>= (λ told.
-    if_done (behind (words_behind kind) words) told))
+abbrev pub line_in : List (List ℕ) → Option Happening
+line_in words =
+    first_in (meaning_in happening_kinds) words >>= (λ kind.
+    told_in kind (drop 1 words) >>= (λ told.
+    if_done (behind (words_behind kind) (drop 1 words)) told))

@@ -2,3 +2,4 @@ pub mod Fields
 pub mod Events
 pub mod Happenings
 pub mod Nodes
+pub mod Scripts

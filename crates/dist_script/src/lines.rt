@@ -83,12 +83,12 @@ fn told(alloc: Global, kind: Kind, words: &mut Words<'_>) -> Result<Line, LineFa
     }))
 }
 
-/// What a line tells the node, from its first word and those behind it.
+/// What a line tells the node.
 #[tactic(auto, using(crate::proofs::Reading::not_done))]
-pub fn line_of(alloc: Global, word: &[u8], words: &mut Words<'_>) -> Result<Line, LineFault>
-    ensures { Reads result (line_in word.now words.old) }
+pub fn line_of(alloc: Global, words: &mut Words<'_>) -> Result<Line, LineFault>
+    ensures { Reads result (line_in words.old) }
 {
-    let Some(kind) = meaning_of(&KINDS, word) else {
+    let Some(kind) = meaning_of(&KINDS, words.word()?) else {
         return Err(LineFault::Bad);
     };
     let told = told(alloc, kind, words)?;

@@ -1,5 +1,12 @@
 //! A script: the lines that set nodes up, and the lines of what happens to them.
 
+ghost use Rattle.std.specs.Prelude.{◌≡◌, ◌⊎◌, false, true, is_some, Ok, Err, Some, None, MatchResult};
+ghost use Rattle.dist_words.specs.Words.{words_of};
+ghost use Rattle.dist_words.specs.declared.fault.ScriptFault.TheVariants.{BadLine, NoMemory};
+ghost use Rattle.dist_words.specs.declared.words.LineFault.TheVariants.{Bad};
+ghost use Rattle.dist_script.specs.Happenings as happenings;
+ghost use Rattle.dist_script.specs.Scripts.{lines_of, nothing, with_node, with_event, with_happening, is_either, with_words, with_line, with_lines, script_in, says};
+
 use crate::happenings::happening_of;
 use crate::lines::line_of;
 use crate::node_line::setup_of;
@@ -9,6 +16,7 @@ use dist_names::ByteString;
 use dist_peers::EndId;
 use dist_words::{LineFault, ScriptFault, Words, first_line, is_skipped};
 use std::alloc::Global;
+use std::marker::Model;
 
 /// What a line tells the one node of a script.
 #[derive(Drop)]
@@ -47,8 +55,18 @@ struct Draft {
     happenings: Vec<Happening>,
 }
 
+impl Model for Draft {
+    ghost use Rattle.dist_script.specs.Scripts.{SoFar};
+
+    ghost Value = { SoFar };
+
+    ghost view = { λ d. record { nodes = d.nodes.items; has_lines = d.has_lines; events = d.events.items; happenings = d.happenings.items } };
+}
+
 impl Draft {
-    fn new(alloc: Global) -> Draft {
+    fn new(alloc: Global) -> Draft
+        ensures { result ≡ nothing }
+    {
         Draft {
             nodes: Vec::new(alloc),
             has_lines: false,
@@ -58,37 +76,49 @@ impl Draft {
     }
 
     // Takes a line that is not skipped. The lines of the nodes stand before all others.
-    fn take(&mut self, alloc: Global, text: &[u8]) -> Result<(), LineFault> {
+    fn take(&mut self, alloc: Global, text: &[u8]) -> Result<(), LineFault>
+        ensures { MatchResult result (λ _. with_words self.old (words_of text.now) ≡ Some self.new) (λ fault. fault ≡ Bad → with_words self.old (words_of text.now) ≡ None) }
+    {
         let mut words = Words::new(text);
-        let kind = words.word()?;
-        if kind == b"node".as_slice() {
+        if words.skip(b"node") {
             return self.set_up(alloc, &mut words);
         }
         self.has_lines = true;
         match self.nodes.len() {
             0 => is_line(alloc, text),
-            1 => self.tell(alloc, kind, &mut words),
-            _ => self.happen(alloc, kind, &mut words),
+            1 => self.tell(alloc, &mut words),
+            _ => self.happen(alloc, &mut words),
         }
     }
 
-    fn tell(&mut self, alloc: Global, kind: &[u8], words: &mut Words<'_>) -> Result<(), LineFault> {
-        self.events.push(line_of(alloc, kind, words)?)?;
+    fn set_up(&mut self, alloc: Global, words: &mut Words<'_>) -> Result<(), LineFault>
+        ensures { MatchResult result (λ _. with_node self.old words.old ≡ Some self.new) (λ fault. fault ≡ Bad → with_node self.old words.old ≡ None) }
+    {
+        if self.has_lines {
+            return Err(LineFault::Bad);
+        }
+        self.nodes.push(setup_of(alloc, words)?)?;
         Ok(())
     }
 
-    fn happen(
-        &mut self,
-        alloc: Global,
-        kind: &[u8],
-        words: &mut Words<'_>,
-    ) -> Result<(), LineFault> {
-        self.happenings.push(happening_of(alloc, kind, words)?)?;
+    fn tell(&mut self, alloc: Global, words: &mut Words<'_>) -> Result<(), LineFault>
+        ensures { MatchResult result (λ _. with_event self.old words.old ≡ Some self.new) (λ fault. fault ≡ Bad → with_event self.old words.old ≡ None) }
+    {
+        self.events.push(line_of(alloc, words)?)?;
+        Ok(())
+    }
+
+    fn happen(&mut self, alloc: Global, words: &mut Words<'_>) -> Result<(), LineFault>
+        ensures { MatchResult result (λ _. with_happening self.old words.old ≡ Some self.new) (λ fault. fault ≡ Bad → with_happening self.old words.old ≡ None) }
+    {
+        self.happenings.push(happening_of(alloc, words)?)?;
         Ok(())
     }
 
     // Takes a line of this number, unless it is skipped.
-    fn take_line(&mut self, alloc: Global, text: &[u8], number: usize) -> Result<(), ScriptFault> {
+    fn take_line(&mut self, alloc: Global, text: &[u8], number: usize) -> Result<(), ScriptFault>
+        ensures { MatchResult result (λ _. with_line self.old text.now ≡ Some self.new) (λ fault. (fault ≡ NoMemory) ⊎ ((fault ≡ BadLine number) × (with_line self.old text.now ≡ None))) }
+    {
         if is_skipped(text) {
             return Ok(());
         }
@@ -98,39 +128,36 @@ impl Draft {
             Err(LineFault::NoMemory) => Err(ScriptFault::NoMemory),
         }
     }
-
-    fn set_up(&mut self, alloc: Global, words: &mut Words<'_>) -> Result<(), LineFault> {
-        if self.has_lines {
-            return Err(LineFault::Bad);
-        }
-        self.nodes.push(setup_of(alloc, words)?)?;
-        Ok(())
-    }
 }
 
 // A line behind no node, which may be of either language. Nothing is kept of it, since such a script has no node.
-fn is_line(alloc: Global, text: &[u8]) -> Result<(), LineFault> {
-    let mut words = Words::new(text);
-    match line_of(alloc, words.word()?, &mut words) {
+fn is_line(alloc: Global, text: &[u8]) -> Result<(), LineFault>
+    ensures { MatchResult result (λ _. is_either (words_of text.now) ≡ true) (λ fault. fault ≡ Bad → is_either (words_of text.now) ≡ false) }
+{
+    match line_of(alloc, &mut Words::new(text)) {
         Ok(_) => Ok(()),
         Err(LineFault::Bad) => is_happening(alloc, text),
         Err(LineFault::NoMemory) => Err(LineFault::NoMemory),
     }
 }
 
-fn is_happening(alloc: Global, text: &[u8]) -> Result<(), LineFault> {
-    let mut words = Words::new(text);
-    happening_of(alloc, words.word()?, &mut words)?;
+fn is_happening(alloc: Global, text: &[u8]) -> Result<(), LineFault>
+    ensures { MatchResult result (λ _. is_some (happenings.line_in (words_of text.now)) ≡ true) (λ fault. fault ≡ Bad → happenings.line_in (words_of text.now) ≡ None) }
+{
+    happening_of(alloc, &mut Words::new(text))?;
     Ok(())
 }
 
-fn draft_of(alloc: Global, text: &[u8]) -> Result<Draft, ScriptFault> {
+// What all lines of a text say.
+fn draft_of(alloc: Global, text: &[u8]) -> Result<Draft, ScriptFault>
+    ensures { MatchResult result (λ draft. with_lines nothing 1 (lines_of text.now) ≡ Ok draft) (λ fault. (fault ≡ NoMemory) ⊎ (with_lines nothing 1 (lines_of text.now) ≡ Err fault)) }
+{
     let mut draft = Draft::new(alloc);
     let mut number = 0usize;
     let mut rest = Some(text);
     while let Some(text) = rest {
         let (line, behind) = first_line(text);
-        number = number.saturating_add(1);
+        number += 1;
         draft.take_line(alloc, line, number)?;
         rest = behind;
     }
@@ -138,7 +165,10 @@ fn draft_of(alloc: Global, text: &[u8]) -> Result<Draft, ScriptFault> {
 }
 
 /// The script that a text is. The first line that is no line of a script is told before a missing node.
-pub fn script_of(alloc: Global, text: &[u8]) -> Result<Script, ScriptFault> {
+#[tactic(auto, using(crate::proofs::Scripts::several, crate::proofs::Scripts::one_node, crate::proofs::Scripts::no_nodes, crate::proofs::Scripts::not_read))]
+pub fn script_of(alloc: Global, text: &[u8]) -> Result<Script, ScriptFault>
+    ensures { MatchResult result (λ script. script_in text.now ≡ Ok (says script)) (λ fault. (fault ≡ NoMemory) ⊎ (script_in text.now ≡ Err fault)) }
+{
     let Draft {
         mut nodes,
         has_lines: _,

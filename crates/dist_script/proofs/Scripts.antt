@@ -1,0 +1,167 @@
+-- The lines of a script, one after the other.
+use Rattle.std.proofs.Common.{◌≡◌, ℕ, suc, ◌+◌, ◌<◌, ◌≤◌, Bool, true, false, cond, List, [], ◌∷◌, ◌++◌, length, drop, Option, Some, None, Result, Ok, Err, refl, sym, ap, subst, ◌∙◌, arith, length-append, Bor, option_copied, ◌⊎◌, inl, inr}
+use Rattle.std.specs.Prelude.{codes, ◌==◌, slice_index, MatchOption, MatchResult, IsErrAnd}
+use Rattle.dist_setup.specs.declared.setup.Setup.{Setup}
+use Rattle.dist_words.specs.Words.{before_first, words_of, is_skipped}
+use Rattle.dist_words.specs.declared.fault.ScriptFault.{ScriptFault}
+use Rattle.dist_words.specs.declared.fault.ScriptFault.TheVariants.{BadLine, NoNode, NoMemory}
+use Rattle.dist_words.specs.declared.words.LineFault.{LineFault}
+use Rattle.dist_words.specs.declared.words.LineFault.TheVariants.{Bad}
+use Rattle.dist_agreement.specs.declared.happening.Happening.{Happening}
+use Rattle.dist_script.specs.declared.script.Line.{Line}
+use Rattle.dist_script.specs.Scripts.{SoFar, nothing, lines_of, with_node, with_event, with_happening, is_either, with_told, with_words, with_line, unless_bad, with_lines, Says, Events, Happenings, whole, all_good, script_in}
+use Rattle.dist_script.proofs.Reading.{begun, not_begun}
+
+-- ---- one line
+
+-- what a line does, by whether it sets a node up
+abbrev by_node : Bool → SoFar → List (List ℕ) → Option SoFar
+by_node b s words = cond b (with_node s (drop 1 words)) (with_told s.nodes (record s { has_lines = true }) words)
+
+pub a_node : (s : SoFar) (words rest : List (List ℕ)) → words ≡ codes "node" ∷ rest → with_words s words ≡ with_node s rest
+a_node s words rest e = ap (λ b. by_node b s words) (begun (codes "node") words rest e) ∙ ap (λ ws. with_node s (drop 1 ws)) e
+
+no_node : (s : SoFar) (words : List (List ℕ)) → ((rest : List (List ℕ)) → words ≡ codes "node" ∷ rest → ⊥) → with_words s words ≡ with_told s.nodes (record s { has_lines = true }) words
+no_node s words h = ap (λ b. by_node b s words) (not_begun (codes "node") words h)
+
+none_there : (nodes : List Setup) (s : SoFar) (words : List (List ℕ)) → length nodes ≡ 0 → with_told nodes s words ≡ cond (is_either words) (Some s) None
+none_there [] s words e = refl
+none_there (node ∷ nodes) s words e = absurd (omega arith)
+
+one_there : (nodes : List Setup) (s : SoFar) (words : List (List ℕ)) → length nodes ≡ 1 → with_told nodes s words ≡ with_event s words
+one_there [] s words e = absurd (omega arith)
+one_there (node ∷ []) s words e = refl
+one_there (node ∷ other ∷ nodes) s words e = absurd (omega arith)
+
+more_there : (nodes : List Setup) (s : SoFar) (words : List (List ℕ)) → 1 < length nodes → with_told nodes s words ≡ with_happening s words
+more_there [] s words lt = absurd (omega arith)
+more_there (node ∷ []) s words lt = absurd (omega arith)
+more_there (node ∷ other ∷ nodes) s words lt = refl
+
+-- a line that sets no node up, by how many nodes stand before it
+module _ (s : SoFar) (words : List (List ℕ)) (other : (rest : List (List ℕ)) → words ≡ codes "node" ∷ rest → ⊥) where
+  pub behind_none : length s.nodes ≡ 0 → with_words s words ≡ cond (is_either words) (Some (record s { has_lines = true })) None
+  behind_none e = no_node s words other ∙ none_there s.nodes (record s { has_lines = true }) words e
+
+  pub behind_one : length s.nodes ≡ 1 → with_words s words ≡ with_event (record s { has_lines = true }) words
+  behind_one e = no_node s words other ∙ one_there s.nodes (record s { has_lines = true }) words e
+
+  pub behind_more : 1 < length s.nodes → with_words s words ≡ with_happening (record s { has_lines = true }) words
+  behind_more lt = no_node s words other ∙ more_there s.nodes (record s { has_lines = true }) words lt
+
+-- ---- the lines of a text
+
+-- the lines that are left where this is what is left of the text
+abbrev pub lines_in : Option (List ℕ) → List (List ℕ)
+lines_in None = []
+lines_in (Some text) = lines_of text
+
+-- no line feed stands at the first so many places
+abbrev NoFeed : ℕ → List ℕ → Type 0
+NoFeed n text = (i : ℕ) → i < n → (slice_index text i == 10) ≡ true → ⊥
+
+other_byte : (c : ℕ) → ((c == 10) ≡ true → ⊥) → (c == 10) ≡ false
+other_byte c h = elim (c == 10) as (λ b. (c == 10) ≡ b → b ≡ false) [ true ↦ λ e. absurd (h e) | false ↦ λ e. refl ] refl
+
+grows : (c : ℕ) (cs : List ℕ) → (c == 10) ≡ false → lines_of (c ∷ cs) ≡ before_first c (lines_of cs)
+grows c cs e = ap (λ b. cond b ([] ∷ lines_of cs) (before_first c (lines_of cs))) e
+
+last_line : (line : List ℕ) → NoFeed (length line) line → lines_of line ≡ line ∷ []
+last_line [] h = refl
+last_line (c ∷ cs) h =
+    grows c cs (other_byte c (h 0 (omega arith)))
+    ∙ ap (before_first c) (last_line cs (λ i lt. h (suc i) (omega arith)))
+
+line_and_rest : (line rest : List ℕ) → NoFeed (length line) (line ++ 10 ∷ rest) → lines_of (line ++ 10 ∷ rest) ≡ line ∷ lines_of rest
+line_and_rest [] rest h = refl
+line_and_rest (c ∷ cs) rest h =
+    grows c (cs ++ 10 ∷ rest) (other_byte c (h 0 (omega arith)))
+    ∙ ap (before_first c) (line_and_rest cs rest (λ i lt. h (suc i) (omega arith)))
+
+-- a line, and what is left behind it
+abbrev Parts : List ℕ → List ℕ → Option (Bor (List ℕ)) → Type 0
+Parts text line behind = MatchOption behind (line ≡ text) (λ rest. line ++ 10 ∷ rest.now ≡ text)
+
+next_line : (text line : List ℕ) (behind : Option (Bor (List ℕ))) → Parts text line behind → NoFeed (length line) text → lines_of text ≡ line ∷ lines_in (option_copied behind)
+next_line text line None e h = ap lines_of (sym e) ∙ last_line line (subst (NoFeed (length line)) (sym e) h)
+next_line text line (Some rest) e h = ap lines_of (sym e) ∙ line_and_rest line rest.now (subst (NoFeed (length line)) (sym e) h)
+
+-- so many bytes are left, and one more where a line is
+abbrev pub bytes_left : Option (List ℕ) → ℕ
+bytes_left None = 0
+bytes_left (Some text) = suc (length text)
+
+pub fewer_left : (text line : List ℕ) (behind : Option (Bor (List ℕ))) → Parts text line behind → bytes_left (option_copied behind) + 1 ≤ suc (length text)
+fewer_left text line None e = omega arith
+fewer_left text line (Some rest) e = let n : length (line ++ 10 ∷ rest.now) ≡ length text = ap (λ (x : List ℕ). length x) e in omega (arith, n, length-append line (10 ∷ rest.now))
+
+-- ---- all lines in turn
+
+-- what was read so far, and then the lines that are left, are all lines
+module _ (all : Result SoFar ScriptFault) (s : SoFar) (number : ℕ) (text line : List ℕ) (behind : Option (Bor (List ℕ))) (so : all ≡ with_lines s (number + 1) (lines_of text)) (parts : Parts text line behind) (first : NoFeed (length line) text) where
+  by_line : (o : Option SoFar) → with_line s line ≡ o → all ≡ unless_bad (number + 1) o (λ more. with_lines more (number + 1 + 1) (lines_in (option_copied behind)))
+  by_line o e =
+      so
+      ∙ ap (with_lines s (number + 1)) (next_line text line behind parts first)
+      ∙ ap (λ (p : Option SoFar). unless_bad (number + 1) p (λ more. with_lines more (number + 1 + 1) (lines_in (option_copied behind)))) e
+
+  pub line_taken : (more : SoFar) → with_line s line ≡ Some more → all ≡ with_lines more (number + 1 + 1) (lines_in (option_copied behind))
+  line_taken more e = by_line (Some more) e
+
+  pub line_bad : (fault : ScriptFault) → (fault ≡ NoMemory) ⊎ ((fault ≡ BadLine (number + 1)) × (with_line s line ≡ None)) → (fault ≡ NoMemory) ⊎ (all ≡ Err fault)
+  line_bad fault (inl e) = inl e
+  line_bad fault (inr e) = inr (by_line None e.1 ∙ ap Err (sym e.0))
+
+-- ---- one line, from what its words do
+
+-- an answer that a step gives, of a line that takes that step
+pub by_step : {A : Type 0} (r : Result A LineFault) (step line : Option SoFar) (more : SoFar) → line ≡ step → MatchResult r (λ _. step ≡ Some more) (λ fault. fault ≡ Bad → step ≡ None) → MatchResult r (λ _. line ≡ Some more) (λ fault. fault ≡ Bad → line ≡ None)
+by_step r step line more e h = subst (λ (o : Option SoFar). MatchResult r (λ _. o ≡ Some more) (λ fault. fault ≡ Bad → o ≡ None)) (sym e) h
+
+-- the same of a line that may be of either form
+pub by_either : {A : Type 0} (r : Result A LineFault) (is : Bool) (line : Option SoFar) (more : SoFar) → line ≡ cond is (Some more) None → MatchResult r (λ _. is ≡ true) (λ fault. fault ≡ Bad → is ≡ false) → MatchResult r (λ _. line ≡ Some more) (λ fault. fault ≡ Bad → line ≡ None)
+by_either (Ok u) is line more e h = e ∙ ap (λ b. cond b (Some more) None) h
+by_either (Err fault) is line more e h = λ bad. e ∙ ap (λ b. cond b (Some more) None) (h bad)
+
+pub skipped : (s : SoFar) (line : List ℕ) → is_skipped line ≡ true → with_line s line ≡ Some s
+skipped s line e = ap (λ b. cond b (Some s) (with_words s (words_of line))) e
+
+pub not_skipped : (s : SoFar) (line : List ℕ) → is_skipped line ≡ false → with_line s line ≡ with_words s (words_of line)
+not_skipped s line e = ap (λ b. cond b (Some s) (with_words s (words_of line))) e
+
+-- ---- the whole script
+
+last_alone : (nodes before : List Setup) (node : Setup) → nodes ≡ before ++ node ∷ [] → length nodes ≤ 1 → nodes ≡ node ∷ []
+last_alone nodes [] node e le = e
+last_alone nodes (first ∷ before) node e le = let n : length nodes ≡ suc (length (before ++ node ∷ [])) = ap (λ (x : List Setup). length x) e in absurd (omega (arith, n, le, length-append before (node ∷ [])))
+
+of_several : (nodes : List Setup) (s : SoFar) → 1 < length nodes → whole nodes s ≡ Ok (Happenings nodes s.happenings)
+of_several [] s lt = absurd (omega arith)
+of_several (node ∷ []) s lt = absurd (omega arith)
+of_several (node ∷ other ∷ nodes) s lt = refl
+
+of_none : (nodes : List Setup) (s : SoFar) → length nodes ≡ 0 → whole nodes s ≡ Err NoNode
+of_none [] s e = refl
+of_none (node ∷ nodes) s e = absurd (omega arith)
+
+module _ (text : List ℕ) (nodes : List Setup) (has : Bool) (told : List Line) (done : List Happening) (s : SoFar) (so : with_lines nothing 1 (lines_of text) ≡ Ok s) (is : record { nodes = nodes; has_lines = has; events = told; happenings = done } ≡ s) where
+  read : script_in text ≡ whole nodes (record { nodes = nodes; has_lines = has; events = told; happenings = done })
+  read = ap all_good (so ∙ ap Ok (sym is))
+
+  pub several : 1 < length nodes → script_in text ≡ Ok (Happenings nodes done)
+  several lt = read ∙ of_several nodes (record { nodes = nodes; has_lines = has; events = told; happenings = done }) lt
+
+  pub one_node : (node : Setup) (before : List Setup) → nodes ≡ before ++ node ∷ [] → length nodes ≤ 1 → script_in text ≡ Ok (Events node told)
+  one_node node before e le = read ∙ ap (λ ns. whole ns (record { nodes = nodes; has_lines = has; events = told; happenings = done })) (last_alone nodes before node e le)
+
+  pub no_nodes : length nodes ≡ 0 → script_in text ≡ Err NoNode
+  no_nodes e = read ∙ of_none nodes (record { nodes = nodes; has_lines = has; events = told; happenings = done }) e
+
+pub not_read : (text : List ℕ) (fault : ScriptFault) → (fault ≡ NoMemory) ⊎ (with_lines nothing 1 (lines_of text) ≡ Err fault) → (fault ≡ NoMemory) ⊎ (script_in text ≡ Err fault)
+not_read text fault (inl e) = inl e
+not_read text fault (inr e) = inr (ap all_good e)
+
+-- what an exit by `?` answers
+pub at_fault : {X : Type 0} (P : X → Type 0) (Q : ScriptFault → Type 0) (r : Result X ScriptFault) (fault : ScriptFault) → IsErrAnd r (λ y. y ≡ fault) → Q fault → MatchResult r P Q
+at_fault P Q (Ok x) fault h q = absurd h
+at_fault P Q (Err y) fault h q = subst Q (sym h) q
