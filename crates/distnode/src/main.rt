@@ -6,6 +6,7 @@
 
 mod cookie;
 mod names;
+mod output;
 mod run;
 
 use dist_commands::{Order, order_of};

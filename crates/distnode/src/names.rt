@@ -4,6 +4,7 @@ ghost use Rattle.std.specs.Prelude.{◌≡◌, ◌≤◌, IfErr, OnOk};
 ghost use Rattle.dist_faults.specs.Fault.{status_of};
 ghost use Rattle.distnode.specs.Printed.{PrintsNames};
 
+use crate::output::write_text;
 use dist_faults::Fault;
 use dist_mapper::ask_names;
 use dist_streams::Stream;
@@ -21,9 +22,7 @@ fn perform<S: Stream, W: Write>(alloc: Global, stream: &mut S, out: &mut W) -> R
     ensures printed { OnOk result (PrintsNames (S.meaning stream.old) (S.meaning stream.new) MOST_TURNS (W.contents out.old) (W.contents out.new)) }
 {
     let (_port, text) = ask_names(alloc, stream, MOST_TURNS).map_err(Fault::NoAnswer)?;
-    out.write_all(text.as_slice())
-        .map_err(|_| Fault::WriteFailed)?;
-    out.flush().map_err(|_| Fault::WriteFailed)
+    write_text(out, text.as_slice())
 }
 
 /// Asks a port mapper for the nodes that it knows, and prints the text of its answer as it came. Answers the exit
