@@ -1,9 +1,18 @@
 -- What is printed in parts.
-use Rattle.std.proofs.Common.{◌≡◌, ◌∙◌, ℕ, zero, suc, ◌+◌, ◌<◌, List, [], ◌∷◌, ◌++◌, Option, length, take, get_or, sym, ap, subst, arith, append-nil, append_assoc}
+use Rattle.std.proofs.Common.{◌≡◌, ◌∙◌, ℕ, zero, suc, ◌+◌, ◌<◌, List, [], ◌∷◌, ◌++◌, codes, Option, length, take, get_or, refl, sym, ap, subst, arith, append-nil, append_assoc}
 use Rattle.std.specs.Io.KnownBytes.{Appends}
 use Rattle.std.proofs.KnownBytes.{Appends-nil, Appends-trans}
+use Rattle.dist_agreement.specs.World.{World}
+use Rattle.dist_books.specs.declared.closing.Closed.{Closed}
+use Rattle.dist_audit.specs.declared.audit_error.AuditError.{AuditError}
+use Rattle.dist_audit.specs.Audit.{AreOfOneWorld, EachLinkComesHome, EachTakesItsBody, Tells, TellsFirst, world_of}
+use Rattle.dist_faults.specs.declared.fault.Fault.{Fault}
+use Rattle.dist_faults.specs.declared.fault.Fault.TheVariants as fault
+use Rattle.dist_faults.specs.Fault.{status_of}
 use Rattle.dist_hosts.specs.declared.order_fault.OrderFault.{OrderFault}
-use Rattle.distnode.specs.Printed.{order_line, orders_text}
+use Rattle.dist_play.specs.Worlds.{nodes_text, PutsAgreements}
+use Rattle.dist_play.proofs.Printing.{in_three}
+use Rattle.distnode.specs.Printed.{order_line, orders_text, closed_node, closed_text, refusal_text, Puts, IsHeld, IsAudited, IsOfRun}
 
 -- nothing more
 pub nothing : (a : Option (List ℕ)) → Appends a a []
@@ -19,3 +28,47 @@ pub order_more : (a b c : Option (List ℕ)) (fs : List OrderFault) (i : ℕ) (d
 order_more a b c fs i d lt p q =
     let next : suc i ≡ i + 1 = omega arith in
     subst (λ k. Appends a c (orders_text (take k fs))) next (subst (λ t. Appends a c t) (sym (more_orders fs i d lt)) (Appends-trans a b c _ _ p q))
+
+-- ---- the closed nodes
+
+more_closed : (cs : List Closed) (i : ℕ) (d : Closed) → i < length cs → closed_text (take (suc i) cs) ≡ closed_text (take i cs) ++ closed_node (get_or cs i d)
+more_closed [] i d lt = absurd (omega arith)
+more_closed (c ∷ cs) zero d lt = append-nil (closed_node c)
+more_closed (c ∷ cs) (suc i) d lt = ap (λ t. closed_node c ++ t) (more_closed cs i d (omega arith)) ∙ sym (append_assoc (closed_node c) (closed_text (take i cs)) (closed_node (get_or cs i d)))
+
+-- one node more
+pub closed_more : (a b c : Option (List ℕ)) (cs : List Closed) (i : ℕ) (d : Closed) → i < length cs → Appends a b (closed_text (take i cs)) → Appends b c (closed_node (get_or cs i d)) → Appends a c (closed_text (take (i + 1) cs))
+closed_more a b c cs i d lt p q =
+    let next : suc i ≡ i + 1 = omega arith in
+    subst (λ k. Appends a c (closed_text (take k cs))) next (subst (λ t. Appends a c t) (sym (more_closed cs i d lt)) (Appends-trans a b c _ _ p q))
+
+-- ---- the whole
+
+-- the world, its agreements, and that the audit holds
+pub held : (w : World) (a b c d : Option (List ℕ)) → Appends a b (nodes_text w) → PutsAgreements w b c → Appends c d (codes "audit holds\n") → Puts (IsHeld w) a d
+held w a b c d p q r = (nodes_text w ++ q.0 ++ codes "audit holds\n", (q.0, q.1, refl), in_three a b c d (nodes_text w) q.0 (codes "audit holds\n") p q.2 r)
+
+-- where the audit holds
+pub says_held : (cs : List Closed) (w : World) (a b : Option (List ℕ)) → w ≡ world_of cs → AreOfOneWorld cs → EachLinkComesHome cs → EachTakesItsBody cs → Puts (IsHeld w) a b → Puts (IsAudited 0 cs) a b
+says_held cs w a b is one links bodies p = (p.0, (one, links, bodies, subst (λ v. IsHeld v p.0) is p.1), p.2)
+
+-- where it refuses
+pub says_refused : (cs : List Closed) (e : AuditError) (a b : Option (List ℕ)) → Tells e cs → TellsFirst e cs → Appends a b (refusal_text e cs) → Puts (IsAudited 1 cs) a b
+says_refused cs e a b tells first p = (refusal_text e cs, (e, tells, first, refl), p)
+
+-- the orders, and then what is said
+pub of_run : (status : ℕ) (fs gs : List OrderFault) (cs ds : List Closed) (a b c : Option (List ℕ)) → gs ≡ fs → ds ≡ cs → Appends a b (orders_text gs) → Puts (IsAudited status ds) b c → Puts (IsOfRun status fs cs) a c
+of_run status fs gs cs ds a b c e d p q = (orders_text fs ++ q.0, (q.0, subst (λ x. IsAudited status x q.0) d q.1, refl), Appends-trans a b c (orders_text fs) q.0 (subst (λ x. Appends a b (orders_text x)) e p) q.2)
+
+-- no fault ends with status 0
+pub never_zero : (f : Fault) → status_of f ≡ 0 → ⊥
+never_zero fault.BadCommandLine e = cc
+never_zero fault.BadNodesFile e = cc
+never_zero (fault.RunEnded why) e = cc
+never_zero fault.ReadFailed e = cc
+never_zero fault.WriteFailed e = cc
+never_zero fault.OpenFailed e = cc
+never_zero (fault.NoCookie why) e = cc
+never_zero fault.ConnectFailed e = cc
+never_zero (fault.NoAnswer why) e = cc
+never_zero fault.NoMemory e = cc

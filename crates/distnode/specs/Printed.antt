@@ -1,5 +1,5 @@
 -- WHAT THE COMMANDS PRINT.
-use Rattle.std.specs.Prelude.{◌≡◌, ℕ, List, [], ◌∷◌, ◌++◌, length, codes, decimal, Option, Ok}
+use Rattle.std.specs.Prelude.{◌≡◌, ℕ, zero, suc, List, [], ◌∷◌, ◌++◌, length, codes, decimal, Option, Some, Ok}
 use Rattle.std.specs.List.{concat}
 use Rattle.std.specs.Io.KnownBytes.{Appends}
 use Rattle.hex.specs.Hex.{encode_lower}
@@ -8,8 +8,19 @@ use Rattle.dist_secret.specs.Hearing.{Hears}
 use Rattle.dist_streams.specs.Stream.{StreamState}
 use Rattle.dist_epmd.specs.declared.message.Request.TheVariants.{Names}
 use Rattle.dist_mapper.specs.Asking.{AsksFor, names_meant}
+use Rattle.dist_agreement.specs.World.{World}
+use Rattle.dist_books.specs.declared.closing.Closed.{Closed}
+use Rattle.dist_audit.specs.declared.audit_error.AuditError.{AuditError}
+use Rattle.dist_audit.specs.Audit.{AreOfOneWorld, EachLinkComesHome, EachTakesItsBody, Tells, TellsFirst, world_of}
+use Rattle.dist_audit.specs.Refusals.{refusal_name, refusal_number}
 use Rattle.dist_hosts.specs.Words.{order_refusal_name}
 use Rattle.dist_hosts.specs.declared.order_fault.OrderFault.{OrderFault}
+use Rattle.dist_play.specs.Lines.{node_text}
+use Rattle.dist_play.specs.Worlds.{nodes_text, AreAgreements}
+
+-- a text of which this is so is written behind what stood
+abbrev pub Puts : (List ℕ → Type 0) → Option (List ℕ) → Option (List ℕ) → Type 0
+Puts Is old new = (text : List ℕ) × Is text × Appends old new text
 
 -- ---- `cookie`
 
@@ -37,3 +48,39 @@ order_line fault = codes "order " ++ decimal fault.number ++ codes " " ++ order_
 abbrev pub orders_text : List OrderFault → List ℕ
 orders_text [] = []
 orders_text (fault ∷ faults) = order_line fault ++ orders_text faults
+
+-- the line and the table of a node as it was closed
+abbrev pub closed_node : Closed → List ℕ
+closed_node closed = let n = closed.node in let s = n.setup in node_text s.name (Some n)
+
+-- those of each
+abbrev pub closed_text : List Closed → List ℕ
+closed_text [] = []
+closed_text (closed ∷ others) = closed_node closed ++ closed_text others
+
+-- audit refused N NAME
+abbrev pub refused_line : AuditError → List ℕ
+refused_line e = concat (codes "audit refused " ∷ decimal (refusal_number e) ∷ codes " " ∷ refusal_name e ∷ codes "\n" ∷ [])
+
+-- WHERE THE AUDIT REFUSES: the nodes as they were closed, and why
+abbrev pub refusal_text : AuditError → List Closed → List ℕ
+refusal_text e closed = closed_text closed ++ refused_line e
+
+-- WHERE IT HOLDS: the nodes of the audited world, what each two of them agree on, and `audit holds`
+abbrev pub IsHeld : World → List ℕ → Type 0
+IsHeld w text = (agreements : List ℕ) × AreAgreements w agreements × (text ≡ nodes_text w ++ agreements ++ codes "audit holds\n")
+
+-- WHAT IS SAID OF CLOSED NODES, by the exit status: with 0 they are of one world, whose text it is; with 1 the audit's first
+-- refusal is told
+abbrev pub IsAudited : ℕ → List Closed → List ℕ → Type 0
+IsAudited zero closed text = AreOfOneWorld closed × EachLinkComesHome closed × EachTakesItsBody closed × IsHeld (world_of closed) text
+IsAudited (suc zero) closed text = (e : AuditError) × Tells e closed × TellsFirst e closed × (text ≡ refusal_text e closed)
+IsAudited (suc (suc status)) closed text = ⊥
+
+-- THE TEXT OF A RUN: the orders that made no dial, and what is said of its closed nodes
+abbrev pub IsOfRun : ℕ → List OrderFault → List Closed → List ℕ → Type 0
+IsOfRun status faults closed text = (said : List ℕ) × IsAudited status closed said × (text ≡ orders_text faults ++ said)
+
+-- WHAT `run` PRINTS, by the exit status: the text of a run, of some orders and some closed nodes
+abbrev pub PrintsRun : ℕ → Option (List ℕ) → Option (List ℕ) → Type 0
+PrintsRun status old new = (faults : List OrderFault) × (closed : List Closed) × Puts (IsOfRun status faults closed) old new

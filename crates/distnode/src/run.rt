@@ -2,20 +2,19 @@
 
 ghost use Rattle.std.specs.Prelude.{◌≡◌, ◌≤◌, IfOk, OnOk};
 ghost use Rattle.std.specs.Io.KnownBytes.{Appends};
-ghost use Rattle.dist_audit.specs.declared.audit_error.AuditError.{AuditError};
-ghost use Rattle.dist_audit.specs.Audit.{AreOfOneWorld, EachLinkComesHome, EachTakesItsBody, Tells, TellsFirst};
-ghost use Rattle.distnode.specs.Printed.{order_line, orders_text};
+ghost use Rattle.distnode.specs.Printed.{order_line, orders_text, closed_text, refused_line, refusal_text, Puts, IsHeld, IsAudited, IsOfRun, PrintsRun};
 
+use crate::output::write_text;
 use dist_audit::{AuditError, audit};
-use dist_faults::{Fault, written};
+use dist_faults::Fault;
 use dist_locked::{Closed, Gate, Open};
 use dist_plan::{Plan, PlanError, plan_of};
 use dist_play::{print, print_agreements, print_nodes};
 use dist_run::{OrderFault, Ran, run_plan};
-use dist_words::{Piece, put, read_text};
+use dist_words::{Piece, ScriptFault, put, read_text};
 use dist_world::World;
 use std::alloc::Global;
-use std::io::{BufWriter, Read, Write};
+use std::io::{Read, Write};
 use std::net::{Net, TcpListener, TcpStream};
 use std::random::RandomSource;
 use std::sync::Wait;
@@ -58,42 +57,93 @@ fn print_faults<W: Write>(out: &mut W, faults: &[OrderFault]) -> io::Result<()>
     Ok(())
 }
 
-// The nodes of the audit's world, and what each two of them agree on.
-fn print_world<W: Write>(alloc: Global, out: &mut W, world: &World) -> Result<(), Fault> {
+// The nodes of the audit's world, what each two of them agree on, and that it holds.
+fn print_world<W: Write>(alloc: Global, out: &mut W, world: &World) -> Result<(), ScriptFault>
+    ensures { OnOk result (Puts (IsHeld world.now) (W.contents out.old) (W.contents out.new)) }
+{
     print_nodes(world, out)?;
     print_agreements(alloc, world, out)?;
-    written(writeln!(out, "audit holds"))
+    match out.write_all(b"audit holds\n") {
+        Ok(()) => Ok(()),
+        Err(_) => Err(ScriptFault::WriteFailed),
+    }
+}
+
+// The nodes as they were closed.
+#[tactic(auto, using(crate::proofs::Printing::nothing, crate::proofs::Printing::closed_more))]
+fn print_closed<W: Write>(out: &mut W, all: &[Closed]) -> io::Result<()>
+    ensures { OnOk result (Appends (W.contents out.old) (W.contents out.new) (closed_text all.now)) }
+{
+    for closed in all {
+        print::node(out, closed.node.name(), Some(&closed.node))?;
+    }
+    Ok(())
+}
+
+// Why no world has the histories of the closed nodes.
+fn print_error<W: Write>(out: &mut W, error: AuditError) -> io::Result<()>
+    ensures { OnOk result (Appends (W.contents out.old) (W.contents out.new) (refused_line error)) }
+{
+    put(
+        out,
+        &[
+            Piece::Text(b"audit refused "),
+            Piece::Number(u64::from(error.number())),
+            Piece::Text(b" "),
+            Piece::Text(error.name().as_bytes()),
+            Piece::Text(b"\n"),
+        ],
+    )
 }
 
 // The nodes as they were closed, and why no world has their histories.
-fn print_refusal<W: Write>(out: &mut W, all: &[Closed], error: AuditError) -> Result<(), Fault> {
-    for closed in all {
-        written(print::node(out, closed.node.name(), Some(&closed.node)))?;
+fn print_refusal<W: Write>(out: &mut W, all: &[Closed], error: AuditError) -> io::Result<()>
+    ensures { OnOk result (Appends (W.contents out.old) (W.contents out.new) (refusal_text error all.now)) }
+{
+    print_closed(out, all)?;
+    print_error(out, error)
+}
+
+// What the audit says of closed nodes. Answers the exit status.
+#[tactic(auto, using(crate::proofs::Printing::says_held, crate::proofs::Printing::says_refused))]
+fn print_audit<W: Write>(alloc: Global, out: &mut W, all: &[Closed]) -> Result<u8, ScriptFault>
+    ensures status { IfOk result (λ status. status ≤ 1) }
+    ensures printed { IfOk result (λ status. Puts (IsAudited status all.now) (W.contents out.old) (W.contents out.new)) }
+{
+    match audit(alloc, all) {
+        Ok(world) => {
+            print_world(alloc, out, &world)?;
+            Ok(0)
+        }
+        Err(error) => match print_refusal(out, all, error) {
+            Ok(()) => Ok(1),
+            Err(_) => Err(ScriptFault::WriteFailed),
+        },
     }
-    let (number, name) = (error.number(), error.name());
-    written(writeln!(out, "audit refused {number} {name}"))
 }
 
 // What the nodes left, and what the audit says of it. Answers the exit status.
-fn print_ran<W: Write>(alloc: Global, out: &mut W, ran: &Ran) -> Result<u8, Fault>
+fn print_ran<W: Write>(alloc: Global, out: &mut W, ran: &Ran) -> Result<u8, ScriptFault>
     ensures status { IfOk result (λ status. status ≤ 1) }
-    ensures holds { IfOk result (λ status. status ≡ 0 → AreOfOneWorld ran.now.closed.items) }
-    ensures links { IfOk result (λ status. status ≡ 0 → EachLinkComesHome ran.now.closed.items) }
-    ensures bodies { IfOk result (λ status. status ≡ 0 → EachTakesItsBody ran.now.closed.items) }
-    ensures refused { IfOk result (λ status. status ≡ 1 → (e : AuditError) × Tells e ran.now.closed.items × TellsFirst e ran.now.closed.items) }
+    ensures printed { IfOk result (λ status. Puts (IsOfRun status ran.now.faults.items ran.now.closed.items) (W.contents out.old) (W.contents out.new)) }
 {
-    written(print_faults(out, ran.faults.as_slice()))?;
-    let status = match audit(alloc, ran.closed.as_slice()) {
-        Ok(world) => {
-            print_world(alloc, out, &world)?;
-            0
-        }
-        Err(error) => {
-            print_refusal(out, ran.closed.as_slice(), error)?;
-            1
-        }
+    let Ok(()) = print_faults(out, ran.faults.as_slice()) else {
+        return Err(ScriptFault::WriteFailed);
     };
-    written(out.flush())?;
+    let status = print_audit(alloc, out, ran.closed.as_slice())?;
+    Ok(status)
+}
+
+// Prints what a run left. Answers the exit status.
+fn put_ran<W: Write>(alloc: Global, ran: &Ran, out: &mut W) -> Result<u8, Fault>
+    ensures status { IfOk result (λ status. status ≤ 1) }
+    ensures printed { IfOk result (λ status. Puts (IsOfRun status ran.now.faults.items ran.now.closed.items) (W.contents out.old) (W.contents out.new)) }
+{
+    let mut text = Vec::new(alloc);
+    let Ok(status) = print_ran(alloc, &mut text, ran) else {
+        return Err(Fault::NoMemory);
+    };
+    write_text(out, text.as_slice())?;
     Ok(status)
 }
 
@@ -113,20 +163,20 @@ where
         + RandomSource
         + Sync,
     G: Gate + Sync,
-    ensures { IfOk result (λ status. status ≤ 1) }
+    ensures status { IfOk result (λ status. status ≤ 1) }
+    ensures printed { IfOk result (λ status. PrintsRun status (W.contents out.old) (W.contents out.new)) }
 {
     let plan = plan_in(alloc, text)?;
     let ran = run_plan(rt, alloc, plan, gate).map_err(Fault::RunEnded)?;
-    let mut out = BufWriter::new(alloc, out).map_err(|_| Fault::NoMemory)?;
-    print_ran(alloc, &mut out, &ran)
+    put_ran(alloc, &ran, out)
 }
 
 /// Runs the nodes of a nodes file on this host until all their connections were quiet for as many turns as it says, and
 /// prints the orders that made no dial, then what the audit says: for each node its line and its table and for each two that
 /// are up with one another what they agree on, all from the audit's world, and `audit holds`; or the tables of the closed
 /// nodes and `audit refused`. Answers the exit status: 0 where the audit holds, 2 for a text that is no nodes file, 1 for a
-/// refused audit or another fault. A fault is told on `err`; nothing was printed then, unless a write failed or memory ran
-/// out.
+/// refused audit or another fault. A fault is told on `err`; nothing was printed then, unless a write failed.
+#[tactic(auto, using(crate::proofs::Printing::never_zero))]
 pub fn run_nodes<R, G, W: Write, E: Write>(
     rt: &R,
     alloc: Global,
@@ -143,7 +193,10 @@ where
         + RandomSource
         + Sync,
     G: Gate + Sync,
-    ensures { result ≤ 2 }
+    ensures status { result ≤ 2 }
+
+    // Status 0 comes only where the audit holds, and what was printed is the text of the world that it found.
+    ensures printed { result ≡ 0 → PrintsRun 0 (W.contents out.old) (W.contents out.new) }
 {
     match perform(rt, alloc, text, gate, out) {
         Ok(status) => status,
@@ -152,6 +205,7 @@ where
 }
 
 /// Runs the nodes of a nodes file that is read here. One above 1,048,576 bytes, or that isn't UTF-8, is a bad one.
+#[tactic(auto, using(crate::proofs::Printing::never_zero))]
 pub fn run_file<R, F: Read, W: Write, E: Write>(
     rt: &R,
     alloc: Global,
@@ -166,7 +220,8 @@ where
         + Clock
         + RandomSource
         + Sync,
-    ensures { result ≤ 2 }
+    ensures status { result ≤ 2 }
+    ensures printed { result ≡ 0 → PrintsRun 0 (W.contents out.old) (W.contents out.new) }
 {
     let bytes = match read_text(alloc, file) {
         Ok(bytes) => bytes,
