@@ -12,20 +12,16 @@ mod run;
 use dist_commands::{Order, order_of};
 use dist_faults::Fault;
 use dist_play::enact;
-use dist_streams::SocketStream;
 use std::alloc::{AllocError, Global};
+use std::env;
 use std::fs::File;
 use std::io::{ErrorKind, Write};
-use std::net::{Ipv4Addr, Net, TcpListener, TcpStream};
+use std::net::{Net, TcpListener, TcpStream};
 use std::process::ExitCode;
 use std::random::RandomSource;
 use std::sync::Wait;
 use std::thread::Threads;
-use std::time::{Clock, Duration};
-use std::{env, io};
-
-/// How long a read or a write waits for the port mapper: the length of a turn.
-const TURN_IN_MILLISECONDS: u64 = 5;
+use std::time::Clock;
 
 fn main(rt: HostRuntime) -> ExitCode {
     ExitCode::from(answer(&rt, &rt, rt.alloc()))
@@ -107,7 +103,7 @@ where
             Ok(mut file) => cookie::cookie(alloc, &mut file, challenge, out, err),
             Err(_) => Fault::OpenFailed.tell(err),
         },
-        Order::Names { port } => match connected(rt, port) {
+        Order::Names { port } => match names::connected(rt, port) {
             Ok(mut stream) => names::names(alloc, &mut stream, out, err),
             Err(_) => Fault::ConnectFailed.tell(err),
         },
@@ -116,13 +112,4 @@ where
             Err(_) => Fault::OpenFailed.tell(err),
         },
     }
-}
-
-// A connection to the port mapper of this host, whose reads and writes wait for one turn.
-fn connected(rt: &HostRuntime, port: u16) -> io::Result<SocketStream> {
-    let socket = TcpStream::connect(rt, (Ipv4Addr::LOCALHOST, port))?;
-    let turn = Duration::from_millis(TURN_IN_MILLISECONDS);
-    socket.set_read_timeout(Some(turn))?;
-    socket.set_write_timeout(Some(turn))?;
-    Ok(SocketStream::new(socket))
 }

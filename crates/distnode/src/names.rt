@@ -7,15 +7,31 @@ ghost use Rattle.distnode.specs.Printed.{PrintsNames};
 use crate::output::write_text;
 use dist_faults::Fault;
 use dist_mapper::ask_names;
-use dist_streams::Stream;
+use dist_streams::{SocketStream, Stream, connect};
 use std::alloc::Global;
-use std::io::Write;
+use std::io::{self, Write};
+use std::net::{Ipv4Addr, SocketAddr};
+use std::time::Duration;
 
 /// The most turns. A turn is one read or one write, a quiet one among them, which over a socket waits for at most 5
 /// milliseconds. A real port mapper writes each line of its answer by itself, so that as many reads may be needed as it
 /// knows nodes: an `epmd` holds some 1,018, and there is room for 1,024. A silent one is given up after some seconds. Our
 /// own choice.
 const MOST_TURNS: usize = 1280;
+
+/// How long a read or a write waits: the length of a turn.
+const TURN_IN_MILLISECONDS: u64 = 5;
+
+/// How long a connect may take. Where so many connections wait to be accepted that the system drops further ones, a connect
+/// without a limit waits some two minutes. Our own choice.
+const CONNECT_IN_SECONDS: u64 = 8;
+
+/// A connection to the port mapper of this host, each read and write of which waits for one turn.
+pub fn connected(rt: &HostRuntime, port: u16) -> io::Result<SocketStream> {
+    let address = SocketAddr::from((Ipv4Addr::LOCALHOST, port));
+    let turn = Duration::from_millis(TURN_IN_MILLISECONDS);
+    connect(rt, &address, Duration::from_secs(CONNECT_IN_SECONDS), turn)
+}
 
 fn perform<S: Stream, W: Write>(alloc: Global, stream: &mut S, out: &mut W) -> Result<(), Fault>
     ensures status { IfErr result (λ fault. status_of fault ≡ 1) }
