@@ -9,7 +9,7 @@ use dist_mapper::LookupError;
 use dist_secret::CookieError;
 use dist_words::ScriptFault;
 use std::io::Write;
-use std::{fmt, io};
+use std::fmt;
 
 /// What ends a command. Its `Display` is what stands after `distnode: ` on standard error.
 #[derive(Clone, Copy, Debug, PartialEq, Eq)]
@@ -95,9 +95,4 @@ impl Fault {
         let _ = writeln!(err, "distnode: {self}");
         self.status()
     }
-}
-
-/// A write that failed, as a fault.
-pub fn written(outcome: io::Result<()>) -> Result<(), Fault> {
-    outcome.map_err(|_| Fault::WriteFailed)
 }

@@ -3,4 +3,4 @@
 
 mod fault;
 
-pub use fault::{Fault, written};
+pub use fault::Fault;
