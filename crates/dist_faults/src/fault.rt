@@ -8,8 +8,8 @@ use dist_hosts::RunError;
 use dist_mapper::LookupError;
 use dist_secret::CookieError;
 use dist_words::ScriptFault;
-use std::io::Write;
 use std::fmt;
+use std::io::Write;
 
 /// What ends a command. Its `Display` is what stands after `distnode: ` on standard error.
 #[derive(Clone, Copy, Debug, PartialEq, Eq)]

@@ -1,8 +1,8 @@
 -- Words that stand in a line as often as there are cookies, or names.
-use Rattle.std.proofs.Common.{◌≡◌, ℕ, Bool, true, false, cond, List, [], ◌∷◌, ◌++◌, drop, Option, Some, None, option_map, refl, sym, ap, subst, ◌∙◌}
+use Rattle.std.proofs.Common.{◌≡◌, ℕ, false, cond, List, [], ◌∷◌, ◌++◌, drop, Option, Some, None, option_map, refl, sym, ap, ◌∙◌}
 use Rattle.std.proofs.lemmas.List.{append-nil, append_assoc}
 use Rattle.std.specs.Prelude.{codes, option_and_then}
-use Rattle.dist_names.specs.Order.{Name, same_name}
+use Rattle.dist_names.specs.Order.{Name}
 use Rattle.dist_secret.specs.Cookies.{CookieTable}
 use Rattle.dist_script.specs.Fields.{◌>>=◌, first_in, name_in}
 use Rattle.dist_script.specs.Nodes.{Cookies, begins, cookie_in, cookie_added, further_in, cookies_in, names_in}

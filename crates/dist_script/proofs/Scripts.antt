@@ -9,7 +9,7 @@ use Rattle.dist_words.specs.declared.words.LineFault.{LineFault}
 use Rattle.dist_words.specs.declared.words.LineFault.TheVariants.{Bad}
 use Rattle.dist_agreement.specs.declared.happening.Happening.{Happening}
 use Rattle.dist_script.specs.declared.script.Line.{Line}
-use Rattle.dist_script.specs.Scripts.{SoFar, nothing, lines_of, with_node, with_event, with_happening, is_either, with_told, with_words, with_line, unless_bad, with_lines, Says, Events, Happenings, whole, all_good, script_in}
+use Rattle.dist_script.specs.Scripts.{SoFar, nothing, lines_of, with_node, with_event, with_happening, is_either, with_told, with_words, with_line, unless_bad, with_lines, Events, Happenings, whole, all_good, script_in}
 use Rattle.dist_script.proofs.Reading.{begun, not_begun}
 
 -- ---- one line

@@ -1,6 +1,5 @@
 -- The lines of a script that tell its one node something.
 use Rattle.std.specs.Prelude.{ℕ, List, [], ◌∷◌, drop, codes, Option, Some}
-use Rattle.dist_core.specs.declared.event.Event.{Event}
 use Rattle.dist_core.specs.declared.event.Event.TheVariants as event
 use Rattle.dist_script.specs.declared.script.Line.{Line}
 use Rattle.dist_script.specs.declared.script.Line.TheVariants as line

@@ -4,7 +4,6 @@ use Rattle.std.specs.Result.{result_ok}
 use Rattle.std.specs.List.{list_all}
 use Rattle.dist_names.specs.Order.{Name, same_name}
 use Rattle.dist_names.specs.declared.flags.Flags.{Flags}
-use Rattle.dist_names.specs.declared.creation.Creation.{Creation}
 use Rattle.dist_secret.specs.Cookie.{cookie_of}
 use Rattle.dist_secret.specs.Cookies.{CookieTable, is_full_for, with_cookie}
 use Rattle.dist_setup.specs.declared.setup.Setup.{Setup}

@@ -1,4 +1,4 @@
-use Rattle.std.proofs.Common.{◌≡◌, ℕ, suc, ◌+◌, ◌≤◌, length}
+use Rattle.std.proofs.Common.{◌≡◌, suc, ◌+◌, ◌≤◌, length}
 use Rattle.std.specs.Prelude.{option_copied}
 use Rattle.dist_script.specs.Scripts.{lines_of, nothing, with_lines}
 use Rattle.dist_script.proofs.Scripts.{lines_in, bytes_left}
