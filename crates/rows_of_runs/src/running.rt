@@ -29,32 +29,20 @@ fn write_ups(text: &mut String, ran: &Ran) -> Option<()> {
     Some(())
 }
 
-fn write_audit(text: &mut String, alloc: Global, ran: &Ran) -> Option<()> {
-    match audit(alloc, ran.closed.as_slice()) {
-        Ok(_) => text.push_str(", audit holds").ok(),
-        Err(error) => {
-            let (number, word) = (error.number(), error.name());
-            write!(text, ", audit refused {number} {word}").ok()
-        }
-    }
-}
-
 fn told(alloc: Global, ran: &Ran) -> Option<String> {
     let mut text = String::new(alloc);
     write_faults(&mut text, ran)?;
     write_ups(&mut text, ran)?;
-    write_audit(&mut text, alloc, ran)?;
+    let audit = match audit(alloc, ran.closed.as_slice()) {
+        Ok(_) => "holds",
+        Err(error) => error.name(),
+    };
+    write!(text, ", audit {audit}").ok()?;
     Some(text)
 }
 
-/// Runs the nodes of a text on a system with something wrong. What is no nodes file is told as want of memory, as where there
-/// was none for the text.
-pub fn run_of<R>(
-    rt: &R,
-    alloc: Global,
-    wrong: Wrong,
-    nodes: Option<String>,
-) -> Result<String, RunError>
+/// Runs the nodes of a text on a system with something wrong. What is no nodes file is told as want of memory.
+pub fn run_of<R>(rt: &R, alloc: Global, wrong: Wrong, nodes: &str) -> Result<String, RunError>
 where
     R: Net<Listener = TcpListener, Stream = TcpStream>
         + Threads
@@ -63,8 +51,7 @@ where
         + RandomSource
         + Sync,
 {
-    let text = nodes.ok_or(RunError::NoMemory)?;
-    let Ok(plan) = plan_of(alloc, &text) else {
+    let Ok(plan) = plan_of(alloc, nodes) else {
         return Err(RunError::NoMemory);
     };
     let system = System::new(rt, wrong);
@@ -80,50 +67,4 @@ pub fn text_of(ran: &Result<String, RunError>) -> &str {
         Ok(text) => text.as_str(),
         Err(error) => error.name(),
     }
-}
-
-/// Nodes of one cookie, of which the second takes its peers from a list.
-pub const NODES: &str = r#"node = [
-  { name = "a@127.0.0.1", cookie = "secret", flags = "401000004" },
-  { name = "b@127.0.0.1", cookie = "secret", flags = "101000104", allow = ["PEER@127.0.0.1"] },
-]
-"#;
-
-/// Who dials whom.
-pub const NOBODY_ITSELF_AND_A_PEER: &str = r#"dial = [
-  { from = "a@127.0.0.1", to = "z@127.0.0.1" },
-  { from = "b@127.0.0.1", to = "b@127.0.0.1" },
-  { from = "a@127.0.0.1", to = "b@127.0.0.1" },
-]
-"#;
-
-/// Who dials whom.
-pub const A_PEER: &str = r#"dial = [{ from = "a@127.0.0.1", to = "b@127.0.0.1" }]"#;
-
-/// Who dials whom.
-pub const EACH_OTHER: &str = r#"dial = [
-  { from = "a@127.0.0.1", to = "b@127.0.0.1" },
-  { from = "b@127.0.0.1", to = "a@127.0.0.1" },
-]
-"#;
-
-/// Two nodes that dial one each.
-pub const FOUR_NODES: &str = r#"turns = 2000
-node = [
-  { name = "a@127.0.0.1", cookie = "secret", flags = "401000004" },
-  { name = "b@127.0.0.1", cookie = "secret", flags = "101000104" },
-  { name = "c@127.0.0.1", cookie = "secret", flags = "101000104" },
-  { name = "d@127.0.0.1", cookie = "secret", flags = "101000104" },
-]
-dial = [
-  { from = "a@127.0.0.1", to = "b@127.0.0.1" },
-  { from = "c@127.0.0.1", to = "d@127.0.0.1" },
-]
-"#;
-
-/// A file of the nodes `NODES`, the second of which takes this peer, and of these dials.
-pub fn file_of(alloc: Global, peer: &str, dials: &str) -> Option<String> {
-    let mut text = NODES.replacen(alloc, "PEER", peer, 1).ok()?;
-    text.push_str(dials).ok()?;
-    Some(text)
 }

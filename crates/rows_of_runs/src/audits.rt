@@ -1,0 +1,282 @@
+//! Histories of two nodes under locks, and what the audit answers to them: as they were kept, and altered in one place.
+
+use dist_audit::audit;
+use dist_core::{Event, Opening, Setup, Version};
+use dist_locked::{Closed, Line, LockedNode, Seat, Tickets, close};
+use dist_names::{ByteString, Creation, Flags, NodeName};
+use dist_peers::EndId;
+use dist_secret::{Cookie, Cookies};
+use dist_world::Agreement;
+use std::alloc::Global;
+use std::sync::{Arc, Wait};
+use std::test::*;
+
+const COOKIE: &str = "ABCDEFGHIJKLMNOPQRSTUVWXYZabcdefghijklmnopqrstuvwxyz0";
+
+// The challenge of both nodes.
+const CHALLENGE: u32 = 123456789;
+
+// One handshake: whose step it is, and what its end 0 does. Frames stand in hexadecimal digits, with their length. Tickets of a:
+// 0 dial, 1 opened, 4, 5, 7 frames. Of b: 2 incoming, 3, 6 frames.
+const HANDSHAKE: &str = "\
+a dials
+a opens
+b accepts
+b hears 001a4e000000040100000400000005000b61403132372e302e302e31
+a hears 0003736f6b
+a hears 001e4e0000000101000104075bcd1500000006000b62403132372e302e302e31
+b hears 001572075bcd15d174ab98d277d9f5a5611c2c9f419d9f
+a hears 001161d174ab98d277d9f5a5611c2c9f419d9f";
+
+// A node with its one seat.
+#[derive(Drop)]
+struct Side {
+    node: LockedNode,
+    seats: Vec<Seat>,
+}
+
+fn name_of(alloc: Global, is_a: bool) -> Option<NodeName> {
+    let text = if is_a { "a@127.0.0.1" } else { "b@127.0.0.1" };
+    NodeName::new(alloc, text.as_bytes()).ok()
+}
+
+fn setup_of(alloc: Global, is_a: bool) -> Option<Setup> {
+    let (flags, creation) = if is_a {
+        (0x401000004, 5)
+    } else {
+        (0x101000104, 6)
+    };
+    Some(Setup {
+        name: name_of(alloc, is_a)?,
+        cookies: Cookies::new(alloc, Cookie::from_bytes(alloc, COOKIE.as_bytes()).ok()?),
+        version: Version::Six,
+        flags: Flags(flags),
+        required: Flags(0),
+        creation: Creation(creation),
+        allow: None,
+    })
+}
+
+fn side_of(alloc: Global, tickets: Arc<Tickets, Global>, is_a: bool) -> Option<Side> {
+    let setup = setup_of(alloc, is_a)?;
+    let (node, seats) = LockedNode::new(alloc, setup, tickets, 1).ok()?;
+    Some(Side { node, seats })
+}
+
+// Nodes a and b, which draw their tickets from one counter.
+fn opening(alloc: Global) -> Option<(Side, Side)> {
+    let tickets = Arc::new(alloc, Tickets::new()).ok()?;
+    let shared = Arc::try_clone(&tickets).ok()?;
+    let a = side_of(alloc, tickets, true)?;
+    Some((a, side_of(alloc, shared, false)?))
+}
+
+fn frame(alloc: Global, line: &str) -> Option<Event> {
+    let body = hex::decode(alloc, line.get("a hears 0000".len()..)?).ok()?;
+    let body = ByteString::from_vec(body);
+    let end_ = EndId(0);
+    Some(Event::Frame { end_, body })
+}
+
+fn event_of(alloc: Global, line: &str) -> Option<Event> {
+    Some(match line {
+        "a dials" => Event::Dial {
+            peer: name_of(alloc, false)?,
+            opening: Opening::New,
+        },
+        "a opens" => Event::Opened {
+            end_: EndId(0),
+            link: 0,
+        },
+        "b accepts" => Event::Incoming { link: 0 },
+        _ => frame(alloc, line)?,
+    })
+}
+
+fn step(rt: &impl Wait, alloc: Global, side: &mut Side, line: &str) -> Option<()> {
+    let event = event_of(alloc, line)?;
+    let seat = side.seats.first_mut()?;
+    side.node.step(rt, seat, &event, CHALLENGE).ok()?;
+    Some(())
+}
+
+fn play(rt: &impl Wait, alloc: Global, sides: &mut (Side, Side), text: &str) -> Option<()> {
+    for line in text.lines() {
+        let side = if line.starts_with('a') {
+            &mut sides.0
+        } else {
+            &mut sides.1
+        };
+        step(rt, alloc, side, line)?;
+    }
+    Some(())
+}
+
+fn put_closed(all: &mut Vec<Closed>, side: Side) -> Option<()> {
+    let closed = close(side.node.into_book(), side.seats).ok()?;
+    all.push(closed).ok()
+}
+
+// The closed nodes a and b, after the steps of this text. `None`: memory was refused, or the text is wrong.
+fn played(rt: &impl Wait, alloc: Global, text: &str) -> Option<Vec<Closed>> {
+    let mut sides = opening(alloc)?;
+    play(rt, alloc, &mut sides, text)?;
+    let mut all = Vec::new(alloc);
+    put_closed(&mut all, sides.0)?;
+    put_closed(&mut all, sides.1)?;
+    Some(all)
+}
+
+// What the audit answers: the refusal's name, or whether nodes 0 and 1 agree on connection 0, with the flags and the creations of
+// these setups.
+fn answer(alloc: Global, all: &[Closed]) -> &'static str {
+    let world = match audit(alloc, all) {
+        Ok(world) => world,
+        Err(error) => return error.name(),
+    };
+    let agreed = Agreement {
+        conn: 0,
+        common: Flags(0x1000004),
+        creation_a: Some(Creation(5)),
+        creation_b: Some(Creation(6)),
+    };
+    match world.both_up(0, 1) {
+        Some(found) if found == agreed => "agreed",
+        Some(_) => "agreed otherwise",
+        None => "not agreed",
+    }
+}
+
+// Alters the first byte. The same alteration once more undoes it.
+fn flip(alloc: Global, text: &mut ByteString) -> Option<()> {
+    let mut bytes = Vec::from_slice(alloc, text.as_slice()).ok()?;
+    *bytes.first_mut()? ^= 1;
+    *text = ByteString::from_vec(bytes);
+    Some(())
+}
+
+// Alters the link of a connection that came, the body of a frame, or what was said; or else sets the ticket.
+fn alter(alloc: Global, line: &mut Line, what: &str) -> Option<()> {
+    match (what, &mut line.event) {
+        ("link", Event::Incoming { link }) => *link ^= 1024,
+        ("body", Event::Frame { body, .. }) => return flip(alloc, body),
+        ("say", _) => return flip(alloc, &mut line.reply.say),
+        (ticket, _) => line.ticket = ticket.parse::<u64>().ok()?,
+    }
+    Some(())
+}
+
+fn number(row: &str, place: usize) -> Option<usize> {
+    row.split(' ').nth(place)?.parse::<usize>().ok()
+}
+
+fn leave_out(history: &mut Vec<Line>) {
+    let _ = history.pop();
+}
+
+// Alters a line of a history, `NODE LINE WHAT`, or leaves its last line out, `NODE LINE out`.
+fn alter_at(alloc: Global, all: &mut [Closed], row: &str) -> Option<()> {
+    let history = &mut all.get_mut(number(row, 0)?)?.history;
+    if row.ends_with("out") {
+        leave_out(history);
+        return Some(());
+    }
+    let line = history.get_mut(number(row, 1)?)?;
+    alter(alloc, line, row.split(' ').nth(2)?)
+}
+
+// Does what each line says, and tells the first of which the audit answers otherwise.
+fn first_wrong(alloc: Global, all: &mut [Closed], text: &'static str) -> Option<&'static str> {
+    for line in text.lines() {
+        let is_so = match line.split_once("? ") {
+            Some((_, wanted)) => answer(alloc, all) == wanted,
+            None => alter_at(alloc, all, line).is_some(),
+        };
+        if !is_so {
+            return Some(line);
+        }
+    }
+    None
+}
+
+// A ticket of the other node; two tickets exchanged; the link of the connection that came, a byte of a frame's body, and a
+// byte of what was said last, each undone. Then each ticket twice as great and one more (shifted_tickets), the connection that
+// came one below that of `opened`, and one below that of the dial. Then the tickets as they were, without the last line.
+const ALTERED: &str = "\
+? agreed
+0 2 3
+? TicketTwice
+0 2 5
+0 3 4
+? TicketFalls
+0 2 4
+0 3 5
+? agreed
+1 0 link
+? Unpaired
+1 0 link
+1 1 body
+? NotSent
+1 1 body
+1 2 say
+? OtherReply
+1 2 say
+? agreed
+0 4 15
+0 3 11
+0 2 9
+0 1 3
+0 0 1
+1 2 13
+1 1 7
+1 0 5
+? agreed
+1 0 2
+? agreed
+1 0 0
+? OtherReply
+1 0 5
+0 4 out
+? OtherReply";
+
+// What the histories of a handshake first do otherwise.
+fn wrong<R: Wait>(rt: &R, alloc: Global) -> Option<&'static str> {
+    match played(rt, alloc, HANDSHAKE) {
+        Some(mut all) => first_wrong(alloc, &mut all, ALTERED),
+        None => Some("no history"),
+    }
+}
+
+#[test]
+fn audited_handshake(rt: HostRuntime) {
+    assert_eq!(rt; wrong(&rt, rt.alloc()), None);
+}
+
+// What the audit answers to no history, and to one node alone, to which a connection came that nobody dialled.
+fn small(rt: &impl Wait, alloc: Global) -> Option<(&'static str, &'static str)> {
+    let all = played(rt, alloc, "b accepts")?;
+    Some((answer(alloc, &[]), answer(alloc, all.get(1..)?)))
+}
+
+#[test]
+fn small_audits(rt: HostRuntime) {
+    assert_eq!(rt; small(&rt, rt.alloc()), Some(("not agreed", "Unpaired")));
+}
+
+// Whether an audit answers that both agree, or lacks memory and the next audit of the same histories answers so.
+fn is_agreed(rt: &impl Wait, alloc: Global) -> Option<bool> {
+    let all = played(rt, alloc, HANDSHAKE)?;
+    let told = answer(alloc, &all);
+    Some(told == "agreed" || told == "NoMemory" && answer(alloc, &all) == "agreed")
+}
+
+// Each request for memory refused in turn: where one is refused before the audit, all is done once more; else the audit says so,
+// unless a vector that grows can do with less.
+#[test]
+fn audit_memory_refused(rt: HostRuntime) {
+    let told = match is_agreed(&rt, rt.alloc()) {
+        None => is_agreed(&rt, rt.alloc()),
+        told => told,
+    };
+    assert_eq!(rt; told, Some(true));
+}
