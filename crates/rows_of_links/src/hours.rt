@@ -1,6 +1,6 @@
 //! Links that are kept for an hour of told time: no clock, and nobody waits.
 
-use distribution::{Due, FaultStream, Limited, PacketError, Packets, Ticker, tick};
+use distribution::{Due, FaultStream, Limited, Packets, Ticker, tick};
 use std::alloc::Global;
 use std::test::*;
 
@@ -15,133 +15,62 @@ const STEP: u64 = 5_000;
 
 const STEPS: u64 = 720;
 
-/// A link over memory.
-#[derive(Drop)]
-struct Link {
-    stream: FaultStream,
-    packets: Packets,
-    ticker: Ticker,
-}
-
-/// What the peer says: these bytes, and then so many zeros; how many at once, and every so many milliseconds; and what comes of
-/// it: how many ticks were said to it, how many packets came, or the length of one that is refused.
-struct Row {
-    front: [u8; 4],
-    zeros: usize,
-    size: usize,
-    pace: u64,
-    ticks: usize,
-    came: Result<usize, PacketError>,
-}
-
-const ROWS: [Row; 4] = [
-    // Ticks and nothing else.
-    Row {
-        front: [0, 0, 0, 0],
-        zeros: 956,
-        size: 4,
-        pace: 15_000,
-        ticks: 240,
-        came: Ok(240),
-    },
-    // A packet of 356 bytes, a byte each 10 seconds.
-    Row {
-        front: [0, 0, 1, 100],
-        zeros: 356,
-        size: 1,
-        pace: 10_000,
-        ticks: 240,
-        came: Ok(1),
-    },
-    // A packet that is a byte longer than is taken, refused with the fourth byte.
-    Row {
-        front: [0, 0, 3, 233],
-        zeros: 356,
-        size: 1,
-        pace: 10_000,
-        ticks: 2,
-        came: Err(PacketError::TooLong(1001)),
-    },
-    // The longest that can be announced.
-    Row {
-        front: [255, 255, 255, 255],
-        zeros: 356,
-        size: 1,
-        pace: 10_000,
-        ticks: 2,
-        came: Err(PacketError::TooLong(4_294_967_295)),
-    },
-];
-
-// The link on which the peer says what a row has.
-fn link_of(alloc: Global, row: &Row) -> Option<Link> {
-    let mut said = Vec::from_slice(alloc, &row.front).ok()?;
-    for _ in 0..row.zeros {
-        said.push(0).ok()?;
-    }
-    let mut stream = FaultStream::new(alloc, said);
-    stream.read_sizes.push(row.size).ok()?;
-    Some(Link {
-        stream,
-        packets: Packets::new(alloc, MOST),
-        ticker: Ticker::new(QUARTER, 0),
-    })
-}
-
-impl Link {
-    // Says a tick where one is due. `None` where the peer is to be given up.
-    fn say(&mut self, now: u64) -> Option<()> {
-        match self.ticker.due(now) {
-            Due::Nothing { .. } => Some(()),
-            Due::GiveUp => None,
-            Due::Tick => {
-                self.ticker.said(now);
-                let mut limited = Limited {
-                    stream: &mut self.stream,
-                    left: 1,
-                };
-                limited.write_all(&tick()).ok()
-            }
+// Says a tick where one is due. `None` where the peer is to be given up, or the tick can't be said.
+fn say(ticker: &mut Ticker, limited: &mut Limited<'_, FaultStream>, now: u64) -> Option<()> {
+    match ticker.due(now) {
+        Due::Nothing { .. } => Some(()),
+        Due::GiveUp => None,
+        Due::Tick => {
+            ticker.said(now);
+            limited.write_all(&tick()).ok()
         }
     }
-
-    // Hears a piece, which ends one packet at most. How many came whole.
-    fn hear(&mut self, now: u64) -> Result<usize, PacketError> {
-        let mut room = [0u8; 64];
-        let mut limited = Limited {
-            stream: &mut self.stream,
-            left: 1,
-        };
-        let Ok(count) = limited.read(&mut room) else {
-            return Ok(0);
-        };
-        self.ticker.heard(now);
-        self.packets.feed(&room[..count])?;
-        Ok(usize::from(self.packets.next_packet()?.is_some()))
-    }
 }
 
-// An hour on such a link: how many ticks were said, and what came.
-fn hour(alloc: Global, row: &Row) -> Option<(usize, Result<usize, PacketError>)> {
-    let mut link = link_of(alloc, row)?;
-    let mut came: usize = 0;
+// Hears a piece, which ends one packet at most. Whether it ends one.
+fn hear(packets: &mut Packets, limited: &mut Limited<'_, FaultStream>) -> Option<bool> {
+    let mut room = [0u8; 64];
+    let count = limited.read(&mut room).ok()?;
+    packets.feed(room.get(..count)?).ok()?;
+    Some(packets.next_packet().ok()?.is_some())
+}
+
+// An hour with a peer that says these bytes, so many at once, and says something every so many steps: how many ticks were said
+// to it, and how many packets came.
+fn hour(alloc: Global, said: &[u8], size: usize, pace: u64) -> Option<(usize, usize)> {
+    let mut stream = FaultStream::new(alloc, Vec::from_slice(alloc, said).ok()?);
+    stream.read_sizes.push(size).ok()?;
+    let mut limited = Limited {
+        stream: &mut stream,
+        left: 2000,
+    };
+    let mut packets = Packets::new(alloc, MOST);
+    let mut ticker = Ticker::new(QUARTER, 0);
+    let mut came = 0usize;
     for step in 1..STEPS + 1 {
         let now = step * STEP;
-        link.say(now)?;
-        if now.checked_rem(row.pace) == Some(0) {
-            match link.hear(now) {
-                Ok(count) => came = came.saturating_add(count),
-                Err(error) => return Some((link.stream.written().len() / 4, Err(error))),
-            }
+        say(&mut ticker, &mut limited, now)?;
+        if step.checked_rem(pace) == Some(0) {
+            ticker.heard(now);
+            came = came.saturating_add(usize::from(hear(&mut packets, &mut limited)?));
         }
     }
-    Some((link.stream.written().len() / 4, Ok(came)))
+    Some((stream.written().len() / 4, came))
 }
 
+// A tick every 15 seconds, and nothing else.
 #[test]
-fn no_tick_is_missed(rt: HostRuntime) {
-    for row in &ROWS {
-        let kept = hour(rt.alloc(), row);
-        assert!(rt; kept == Some((row.ticks, row.came)), "{kept:?}");
-    }
+fn a_peer_that_ticks_is_kept(rt: HostRuntime) {
+    let kept = hour(rt.alloc(), &[0; 960], 4, 3);
+    assert!(rt; kept == Some((240, 240)), "{kept:?}");
+}
+
+// The first 360 bytes of a packet of 1,000, a byte every 10 seconds.
+#[test]
+fn a_peer_that_says_a_byte_at_a_time_misses_no_tick(rt: HostRuntime) {
+    let mut said = [0; 360];
+    said[2] = 3;
+    said[3] = 232;
+    let kept = hour(rt.alloc(), &said, 1, 2);
+    assert!(rt; kept == Some((240, 0)), "{kept:?}");
 }
