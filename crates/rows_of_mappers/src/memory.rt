@@ -7,10 +7,11 @@ use dist_names::ByteString;
 use std::alloc::Global;
 use std::test::*;
 
-// A lookup of `a`, and the question for all names, in their frames.
-const LOOKUP: &[u8] = b"\x00\x02\x7aa";
+/// A lookup of `a`, in its frame.
+pub const LOOKUP: &[u8] = b"\x00\x02\x7aa";
 
-const NAMES: &[u8] = b"\x00\x01\x6e";
+/// The question for all names, in its frame.
+pub const NAMES: &[u8] = b"\x00\x01\x6e";
 
 // What a lookup, a registration and a question for all names are answered.
 const ANSWERS: [&[u8]; 3] = [
