@@ -52,9 +52,9 @@ pub struct Server {
     swept: u64,
 }
 
-// Whether a client at this address is on this host.
+// Whether a client at this address is on this host. At a socket for addresses of both kinds one of IPv4 comes as one of IPv6.
 fn is_local(stream: &TcpStream, from: IpAddr) -> bool {
-    if from.is_loopback() {
+    if from.to_canonical().is_loopback() {
         return true;
     }
     match stream.local_addr() {
