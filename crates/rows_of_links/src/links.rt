@@ -2,9 +2,9 @@
 
 use crate::sockets::{TURNS, both_ends};
 use distribution::{
-    ByteString, Cookie, Cookies, Creation, Draws, EndId, Event, Flags, Frames, Limited, MemoryDesk,
-    Node, NodeName, Opening, Outcome, Release, Setup, SocketStream, Stream, Version, Why, drive,
-    tick,
+    ByteString, Cookie, Cookies, Creation, Draws, EndId, Event, Flags, Limited, MemoryDesk, Node,
+    NodeName, Opening, Outcome, Reached, Release, Setup, SocketStream, Version, Why, drive,
+    handshake, tick,
 };
 use std::alloc::Global;
 use std::test::*;
@@ -59,70 +59,51 @@ fn take(alloc: Global, stream: SocketStream, cookie: &str) -> Option<Outcome> {
     ))
 }
 
-// Reads a piece, and hands the frames in it on. Whether the end came up.
-fn turn_of(
-    alloc: Global,
-    limited: &mut Limited<'_, SocketStream>,
-    frames: &mut Frames,
-    node: &mut Node,
-    end_: EndId,
-) -> Option<bool> {
-    let mut room = [0u8; 64];
-    let count = limited.read(&mut room).ok()?;
-    frames.feed(&room[..count]).ok()?;
-    for _ in 0..3 {
-        let Some(body) = frames.next_short().ok()? else {
-            break;
-        };
-        let body = ByteString::from_vec(body);
-        let reply = node.step(alloc, &Event::Frame { end_, body }, 42).ok()?;
-        limited.write_all(reply.say.as_slice()).ok()?;
-        if reply.up.is_some() {
-            return Some(true);
-        }
-    }
-    Some(false)
+// Node a that dials node b: a desk with its end, and what the end says first.
+fn dialled(alloc: Global, cookie: &str) -> Option<(MemoryDesk, EndId, ByteString)> {
+    let mut node = node_of(alloc, "a@127.0.0.1", cookie, 6)?;
+    let dial = Event::Dial {
+        peer: NodeName::new(alloc, b"b@127.0.0.1").ok()?,
+        opening: Opening::New,
+    };
+    let end_ = node.step(alloc, &dial, 0).ok()?.end_;
+    let opened = node.step(alloc, &Event::Opened { end_, link: 0 }, 0).ok()?;
+    Some((MemoryDesk::new(alloc, node, end_).ok()?, end_, opened.say))
 }
 
-// Node a dials node b over the connection, says a tick where it is up, and leaves.
-fn join_and_leave(alloc: Global, stream: SocketStream, cookie: &str) -> Option<()> {
+// Node a joins node b over the connection. The creation that it was told.
+fn join(alloc: Global, stream: &mut SocketStream, cookie: &str) -> Option<Creation> {
+    let (mut desk, end_, first) = dialled(alloc, cookie)?;
+    let mut challenge = Challenge { number: 42 };
+    let first = first.as_slice();
+    match handshake(alloc, stream, &mut desk, &mut challenge, end_, first, TURNS) {
+        Reached::Up { record, rest: _ } => record.creation,
+        Reached::Ended(_) => None,
+    }
+}
+
+// The same; it says a tick where it is up, and leaves.
+fn join_and_leave(alloc: Global, stream: SocketStream, cookie: &str) -> Option<Creation> {
     let mut stream = stream;
-    let mut node = node_of(alloc, "a@127.0.0.1", cookie, 6)?;
-    let peer = NodeName::new(alloc, b"b@127.0.0.1").ok()?;
-    let opening = Opening::New;
-    let end_ = node
-        .step(alloc, &Event::Dial { peer, opening }, 0)
-        .ok()?
-        .end_;
-    let opened = node.step(alloc, &Event::Opened { end_, link: 0 }, 0).ok()?;
+    let creation = join(alloc, &mut stream, cookie)?;
     let mut limited = Limited {
         stream: &mut stream,
-        left: TURNS,
+        left: 1,
     };
-    limited.write_all(opened.say.as_slice()).ok()?;
-    let mut frames = Frames::new(alloc);
-    for _ in 0..TURNS {
-        if turn_of(alloc, &mut limited, &mut frames, &mut node, end_)? {
-            break;
-        }
-    }
     limited.write_all(&tick()).ok()?;
-    let record = node.record_of(end_)?;
-    if record.creation != Some(Creation(7)) {
-        return None;
-    }
-    stream.shut().ok()
+    stream.shut().ok()?;
+    Some(creation)
 }
 
-// The cookies of the two nodes, whether a came up with b, and how b's end was closed.
-const CASES: [(&str, &str, bool, Why); 2] = [
-    ("secret", "secret", true, Why::Ended),
-    ("secret", "other", false, Why::WrongDigest),
+// The cookies of the two nodes, the creation of b where a came up with it, and how b's end was closed.
+const CASES: [(&str, &str, Option<Creation>, Why); 2] = [
+    ("secret", "secret", Some(Creation(7)), Why::Ended),
+    ("secret", "other", None, Why::WrongDigest),
 ];
 
 #[test]
 fn a_node_is_joined_and_left(rt: HostRuntime) {
-    for (ours, theirs, up, why) in CASES {
+    for (ours, theirs, creation, why) in CASES {
         let Some((dialled, accepted)) = both_ends(&rt) else {
             panic!(rt; "no connection");
         };
@@ -133,7 +114,7 @@ fn a_node_is_joined_and_left(rt: HostRuntime) {
             move || join_and_leave(alloc, dialled, ours),
         );
         assert!(rt;
-            taken == Some(Outcome::Closed(why)) && joined.is_some() == up,
+            taken == Some(Outcome::Closed(why)) && joined == creation,
             "{taken:?}"
         );
     }

@@ -2,7 +2,7 @@
 //! succeeds.
 
 use crate::memory::{LOOKUP, NAMES};
-use crate::sockets::REGISTRATION;
+use crate::served::REGISTRATION;
 use dist_clients::{Clients, Turn};
 use std::alloc::Global;
 use std::test::*;

@@ -1,6 +1,6 @@
 //! Each allocation failing in turn: `rt try --test --fail-alloc N`. With ample memory each call succeeds.
 
-use crate::sockets::REGISTRATION;
+use crate::served::REGISTRATION;
 use dist_epmd::{NodeInfo, Registry};
 use dist_mapper::{FaultStream, LookupError, Served, ask_names, lookup, register, serve_registry};
 use dist_names::ByteString;
