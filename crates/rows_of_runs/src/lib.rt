@@ -1,9 +1,6 @@
-//! What runs on sockets of this host leave, each audited, and what the audit answers to histories of two nodes under locks, as
-//! they were kept and altered in one place. It holds tests alone. Every listener is at a port that the system chooses.
+//! What runs on sockets of this host leave, each audited. It holds tests alone. Every listener is at a port that the system chooses.
 #![tactic(auto)]
 
-#[cfg(test)]
-mod audits;
 #[cfg(test)]
 mod crowds;
 #[cfg(test)]

@@ -1,8 +1,11 @@
-//! Tests, from outside, of driven ends, of the queue of dial orders, and of nodes and registries under locks.
+//! Tests, from outside, of driven ends, of the queue of dial orders, and of nodes and registries under locks,
+//! and of what the audit answers to histories.
 //!
 //! They stand in a crate of their own, so that no crate is proved a second time for its tests.
 #![tactic(auto)]
 
+#[cfg(test)]
+mod audits;
 #[cfg(test)]
 mod desks;
 #[cfg(test)]

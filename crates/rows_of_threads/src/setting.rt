@@ -52,8 +52,8 @@ pub fn setup_of(alloc: Global, is_a: bool) -> Option<Setup> {
     })
 }
 
-// A frame of end 0, from the digits of its length and its body.
-fn frame(alloc: Global, text: &str) -> Option<Event> {
+/// A frame of end 0, from the digits of its length and its body.
+pub fn frame(alloc: Global, text: &str) -> Option<Event> {
     let body = hex::decode(alloc, text.get(4..)?).ok()?;
     let body = ByteString::from_vec(body);
     Some(Event::Frame {

@@ -1,60 +1,33 @@
 //! Histories of two nodes under locks, and what the audit answers to them: as they were kept, and altered in one place.
 
+use crate::setting::{CHALLENGE, event, frame, setup_of, word};
 use dist_audit::audit;
-use dist_core::{Event, Opening, Setup, Version};
+use dist_core::Event;
 use dist_locked::{Closed, Line, LockedNode, Seat, Tickets, close};
-use dist_names::{ByteString, Creation, Flags, NodeName};
-use dist_peers::EndId;
-use dist_secret::{Cookie, Cookies};
+use dist_names::{ByteString, Creation, Flags};
 use dist_world::Agreement;
 use std::alloc::Global;
 use std::sync::{Arc, Wait};
 use std::test::*;
 
-const COOKIE: &str = "ABCDEFGHIJKLMNOPQRSTUVWXYZabcdefghijklmnopqrstuvwxyz0";
-
-// The challenge of both nodes.
-const CHALLENGE: u32 = 123456789;
-
-// One handshake: whose step it is, and what its end 0 does. Frames stand in hexadecimal digits, with their length. Tickets of a:
-// 0 dial, 1 opened, 4, 5, 7 frames. Of b: 2 incoming, 3, 6 frames.
+// One handshake: whose step it is, and what its node is told. The frames of the status `ok` of node b, of its challenge and of its
+// acknowledgement stand in hexadecimal digits, with their length. Tickets of a: 0 dial, 1 opened, 4, 5, 7 frames. Of b:
+// 2 incoming, 3, 6 frames.
 const HANDSHAKE: &str = "\
-a dials
-a opens
-b accepts
-b hears 001a4e000000040100000400000005000b61403132372e302e302e31
-a hears 0003736f6b
-a hears 001e4e0000000101000104075bcd1500000006000b62403132372e302e302e31
-b hears 001572075bcd15d174ab98d277d9f5a5611c2c9f419d9f
-a hears 001161d174ab98d277d9f5a5611c2c9f419d9f";
+a dial
+a opened
+b incoming
+b name
+a 0003736f6b
+a 001e4e0000000101000104075bcd1500000006000b62403132372e302e302e31
+b reply
+a 001161d174ab98d277d9f5a5611c2c9f419d9f";
 
 // A node with its one seat.
 #[derive(Drop)]
 struct Side {
     node: LockedNode,
     seats: Vec<Seat>,
-}
-
-fn name_of(alloc: Global, is_a: bool) -> Option<NodeName> {
-    let text = if is_a { "a@127.0.0.1" } else { "b@127.0.0.1" };
-    NodeName::new(alloc, text.as_bytes()).ok()
-}
-
-fn setup_of(alloc: Global, is_a: bool) -> Option<Setup> {
-    let (flags, creation) = if is_a {
-        (0x401000004, 5)
-    } else {
-        (0x101000104, 6)
-    };
-    Some(Setup {
-        name: name_of(alloc, is_a)?,
-        cookies: Cookies::new(alloc, Cookie::from_bytes(alloc, COOKIE.as_bytes()).ok()?),
-        version: Version::Six,
-        flags: Flags(flags),
-        required: Flags(0),
-        creation: Creation(creation),
-        allow: None,
-    })
 }
 
 fn side_of(alloc: Global, tickets: Arc<Tickets, Global>, is_a: bool) -> Option<Side> {
@@ -71,30 +44,17 @@ fn opening(alloc: Global) -> Option<(Side, Side)> {
     Some((a, side_of(alloc, shared, false)?))
 }
 
-fn frame(alloc: Global, line: &str) -> Option<Event> {
-    let body = hex::decode(alloc, line.get("a hears 0000".len()..)?).ok()?;
-    let body = ByteString::from_vec(body);
-    let end_ = EndId(0);
-    Some(Event::Frame { end_, body })
+// What a node is told: a word, or a frame.
+fn event_of(alloc: Global, told: &str) -> Option<Event> {
+    if told.starts_with('0') {
+        frame(alloc, told)
+    } else {
+        event(alloc, told)
+    }
 }
 
-fn event_of(alloc: Global, line: &str) -> Option<Event> {
-    Some(match line {
-        "a dials" => Event::Dial {
-            peer: name_of(alloc, false)?,
-            opening: Opening::New,
-        },
-        "a opens" => Event::Opened {
-            end_: EndId(0),
-            link: 0,
-        },
-        "b accepts" => Event::Incoming { link: 0 },
-        _ => frame(alloc, line)?,
-    })
-}
-
-fn step(rt: &impl Wait, alloc: Global, side: &mut Side, line: &str) -> Option<()> {
-    let event = event_of(alloc, line)?;
+fn step(rt: &impl Wait, alloc: Global, side: &mut Side, told: &str) -> Option<()> {
+    let event = event_of(alloc, told)?;
     let seat = side.seats.first_mut()?;
     side.node.step(rt, seat, &event, CHALLENGE).ok()?;
     Some(())
@@ -107,7 +67,7 @@ fn play(rt: &impl Wait, alloc: Global, sides: &mut (Side, Side), text: &str) -> 
         } else {
             &mut sides.1
         };
-        step(rt, alloc, side, line)?;
+        step(rt, alloc, side, word(line, 1))?;
     }
     Some(())
 }
@@ -167,7 +127,7 @@ fn alter(alloc: Global, line: &mut Line, what: &str) -> Option<()> {
 }
 
 fn number(row: &str, place: usize) -> Option<usize> {
-    row.split(' ').nth(place)?.parse::<usize>().ok()
+    word(row, place).parse::<usize>().ok()
 }
 
 fn leave_out(history: &mut Vec<Line>) {
@@ -182,7 +142,7 @@ fn alter_at(alloc: Global, all: &mut [Closed], row: &str) -> Option<()> {
         return Some(());
     }
     let line = history.get_mut(number(row, 1)?)?;
-    alter(alloc, line, row.split(' ').nth(2)?)
+    alter(alloc, line, word(row, 2))
 }
 
 // Does what each line says, and tells the first of which the audit answers otherwise.
@@ -254,7 +214,7 @@ fn audited_handshake(rt: HostRuntime) {
 
 // What the audit answers to no history, and to one node alone, to which a connection came that nobody dialled.
 fn small(rt: &impl Wait, alloc: Global) -> Option<(&'static str, &'static str)> {
-    let all = played(rt, alloc, "b accepts")?;
+    let all = played(rt, alloc, "b incoming")?;
     Some((answer(alloc, &[]), answer(alloc, all.get(1..)?)))
 }
 
