@@ -6,9 +6,9 @@ use Rattle.dist_agreement.specs.World.{World}
 use Rattle.dist_books.specs.declared.closing.Closed.{Closed}
 use Rattle.dist_audit.specs.declared.audit_error.AuditError.{AuditError}
 use Rattle.dist_audit.specs.Audit.{AreOfOneWorld, EachLinkComesHome, EachTakesItsBody, Tells, TellsFirst, world_of}
-use Rattle.dist_faults.specs.declared.fault.Fault.{Fault}
-use Rattle.dist_faults.specs.declared.fault.Fault.TheVariants as fault
-use Rattle.dist_faults.specs.Fault.{status_of}
+use Rattle.distnode.specs.declared.fault.Fault.{Fault}
+use Rattle.distnode.specs.declared.fault.Fault.TheVariants as fault
+use Rattle.distnode.specs.Fault.{status_of}
 use Rattle.dist_hosts.specs.declared.order_fault.OrderFault.{OrderFault}
 use Rattle.dist_play.specs.Worlds.{nodes_text, PutsAgreements}
 use Rattle.dist_play.proofs.Printing.{in_three}

@@ -2,11 +2,11 @@
 
 ghost use Rattle.std.specs.Prelude.{◌≡◌, ◌≤◌, IfErr, IfOk, OnOk};
 ghost use Rattle.std.specs.Io.KnownBytes.{Appends};
-ghost use Rattle.dist_faults.specs.Fault.{status_of};
+ghost use Rattle.distnode.specs.Fault.{status_of};
 ghost use Rattle.distnode.specs.Printed.{cookie_line, PrintsCookie};
 
+use crate::fault::Fault;
 use crate::output::write_text;
-use dist_faults::Fault;
 use dist_secret::{Cookie, digest, read_cookie};
 use dist_words::{Piece, put};
 use std::alloc::Global;

@@ -5,12 +5,13 @@
 #![tactic(auto)]
 
 mod cookie;
+mod fault;
 mod names;
 mod output;
 mod run;
 
+use crate::fault::Fault;
 use dist_commands::{Order, order_of};
-use dist_faults::Fault;
 use dist_play::enact;
 use std::alloc::{AllocError, Global};
 use std::env;

@@ -1,11 +1,11 @@
 //! The command `names`: what a port mapper answers about the nodes that it knows.
 
 ghost use Rattle.std.specs.Prelude.{◌≡◌, ◌≤◌, IfErr, OnOk};
-ghost use Rattle.dist_faults.specs.Fault.{status_of};
+ghost use Rattle.distnode.specs.Fault.{status_of};
 ghost use Rattle.distnode.specs.Printed.{PrintsNames};
 
+use crate::fault::Fault;
 use crate::output::write_text;
-use dist_faults::Fault;
 use dist_mapper::ask_names;
 use dist_streams::{SocketStream, Stream, connect};
 use std::alloc::Global;

@@ -2,9 +2,9 @@
 
 ghost use Rattle.std.specs.Prelude.{◌≡◌, IfErr, OnOk};
 ghost use Rattle.std.specs.Io.KnownBytes.{Appends};
-ghost use Rattle.dist_faults.specs.Fault.{status_of};
+ghost use Rattle.distnode.specs.Fault.{status_of};
 
-use dist_faults::Fault;
+use crate::fault::Fault;
 use std::io::Write;
 
 /// Writes a text, to the last byte, and flushes it.

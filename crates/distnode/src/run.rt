@@ -4,9 +4,9 @@ ghost use Rattle.std.specs.Prelude.{◌≡◌, ◌≤◌, IfOk, OnOk};
 ghost use Rattle.std.specs.Io.KnownBytes.{Appends};
 ghost use Rattle.distnode.specs.Printed.{order_line, orders_text, closed_text, refused_line, refusal_text, Puts, IsHeld, IsAudited, IsOfRun, PrintsRun};
 
+use crate::fault::Fault;
 use crate::output::write_text;
 use dist_audit::{AuditError, audit};
-use dist_faults::Fault;
 use dist_locked::{Closed, Gate, Open};
 use dist_plan::{Plan, PlanError, plan_of};
 use dist_play::{print, print_agreements, print_nodes};

@@ -1,7 +1,7 @@
 //! What ends a command before its work is done, and how that is told.
 
 ghost use Rattle.std.specs.Prelude.{◌≡◌};
-ghost use Rattle.dist_faults.specs.Fault.{status_of};
+ghost use Rattle.distnode.specs.Fault.{status_of};
 
 use dist_commands::OrderError;
 use dist_hosts::RunError;
