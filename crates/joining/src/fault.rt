@@ -1,13 +1,12 @@
 //! What ends the program, and how that is told.
 
-use distribution::{CookieError, LookupError, PacketError, StepError, TurnError, Why};
+use distribution::{Awaited, CookieError, LookupError, PacketError, StepError, TurnError, Why};
 use std::alloc::{AllocError, AllocFailed};
+use std::io;
 use std::io::{ErrorKind, Write};
-use std::{fmt, io};
 
-/// What ends the program otherwise than at the end of its input. Its `Display` is what stands after `joining: ` on standard
-/// error.
-#[derive(Clone, Copy, Debug, PartialEq, Eq)]
+/// What ends the program otherwise than at the end of its input.
+#[derive(Clone, Copy)]
 pub enum Fault {
     /// The words of the command line ask for nothing.
     BadCommandLine,
@@ -25,8 +24,8 @@ pub enum Fault {
     NotFound(LookupError),
     /// The node's port was not reached.
     NoNode,
-    /// The handshake did not come to its end, for this cause.
-    NotUp(Why),
+    /// The handshake did not come to its end, for this cause. Where the connection failed, the message that was awaited.
+    NotUp(Why, Option<Awaited>),
     /// The link was up, and is lost, for this cause.
     Lost(Why),
     /// The system gave no random bytes, no time or no thread.
@@ -39,46 +38,65 @@ pub enum Fault {
     NoMemory,
 }
 
-/// The cause of a connection's end, where a read or a write failed.
-pub fn why_of(error: TurnError) -> Why {
-    match error {
+/// The link is lost, since a read or a write failed.
+pub fn lost(error: TurnError) -> Fault {
+    Fault::Lost(match error {
         TurnError::Ended => Why::Ended,
         TurnError::ReadFailed => Why::ReadFailed,
         TurnError::WriteFailed => Why::WriteFailed,
         TurnError::Limit => Why::GaveUp,
+    })
+}
+
+// What is told of a handshake that did not come to its end. A node that finds another cookie says nothing, and closes.
+fn not_up_text(awaited: Option<Awaited>) -> &'static str {
+    match awaited {
+        Some(Awaited::Status) =>
+            ": the handshake did not end well: the node said nothing to our name",
+        Some(Awaited::Challenge) =>
+            ": the handshake did not end well: the node did not say its challenge",
+        Some(Awaited::Ack) =>
+            ": the handshake did not end well: the node did not acknowledge our digest, as where it has another cookie",
+        _ => ": the handshake did not end well",
     }
 }
 
 impl Fault {
-    // What is told of it, where it bears no cause.
-    fn text(self) -> &'static str {
+    // What is told of it: a word, and what stands behind it, but for the sentence of an error that it bears.
+    fn text(self) -> (&'static str, &'static str) {
         match self {
-            Fault::BadCommandLine => "bad command line (joining --help)",
-            Fault::BadName =>
-                "a node's name has one @, something on both sides, and 3 to 255 bytes",
-            Fault::OpenFailed => "OpenFailed: the cookie's file",
-            Fault::NoCookie(error) => error.name(),
-            Fault::NoHost => "NoHost: the host part of the node's name has no address here",
-            Fault::NoMapper => "ConnectFailed: the port mapper",
-            Fault::NotFound(error) => error.name(),
-            Fault::NoNode => "ConnectFailed: the node",
-            Fault::NotUp(why) | Fault::Lost(why) => why.name(),
-            Fault::SystemFailed => "SystemFailed: no random bytes, no time or no thread",
-            Fault::LongPacket => "TooLong: a packet",
-            Fault::WriteFailed => "WriteFailed",
-            Fault::NoMemory => "NoMemory",
+            Fault::BadCommandLine => ("bad command line", " (joining --help)"),
+            Fault::BadName => (
+                "a node's name",
+                " has one @, something on both sides, and 3 to 255 bytes",
+            ),
+            Fault::OpenFailed => ("OpenFailed", ": the cookie's file"),
+            Fault::NoCookie(error) => (error.name(), ": "),
+            Fault::NoHost => (
+                "NoHost",
+                ": the host part of the node's name has no address here",
+            ),
+            Fault::NoMapper => ("ConnectFailed", ": the port mapper"),
+            Fault::NotFound(error) => (error.name(), ": "),
+            Fault::NoNode => ("ConnectFailed", ": the node"),
+            Fault::NotUp(why, awaited) => (why.name(), not_up_text(awaited)),
+            Fault::Lost(why) => (why.name(), ": the link is lost"),
+            Fault::SystemFailed => ("SystemFailed", ": no random bytes, no time or no thread"),
+            Fault::LongPacket => ("TooLong", ": a packet"),
+            Fault::WriteFailed => ("WriteFailed", ""),
+            Fault::NoMemory => ("NoMemory", ""),
         }
     }
 
-    /// The exit status: 2 where the command line is at fault, 3 where the node was not joined, 4 where the link was lost, else 1.
-    pub fn status(self) -> u8 {
+    // The exit status: 2 where the command line is at fault, 3 where the node was not joined, 4 where the link was lost, else 1.
+    fn status(self) -> u8 {
         match self {
             Fault::BadCommandLine | Fault::BadName => 2,
             Fault::NoHost
             | Fault::NoMapper
             | Fault::NotFound(_)
             | Fault::NoNode
-            | Fault::NotUp(_) => 3,
+            | Fault::NotUp(..) => 3,
             Fault::Lost(_) | Fault::LongPacket => 4,
             _ => 1,
         }
@@ -86,21 +104,13 @@ impl Fault {
 
     /// Tells the fault on standard error and answers the exit status. Where it cannot be told nothing is lost but the text.
     pub fn tell<E: Write>(self, err: &mut E) -> u8 {
-        let _ = writeln!(err, "joining: {self}");
+        let (word, behind) = self.text();
+        let _ = match self {
+            Fault::NoCookie(error) => writeln!(err, "joining: {word}{behind}{error}"),
+            Fault::NotFound(error) => writeln!(err, "joining: {word}{behind}{error}"),
+            _ => writeln!(err, "joining: {word}{behind}"),
+        };
         self.status()
-    }
-}
-
-impl fmt::Display for Fault {
-    fn fmt<W: fmt::Write>(&self, f: &mut fmt::Formatter<W>) -> fmt::Result {
-        f.write_str(self.text())?;
-        match self {
-            Fault::NoCookie(error) => write!(f, ": {error}"),
-            Fault::NotFound(error) => write!(f, ": {error}"),
-            Fault::NotUp(_) => f.write_str(": the handshake did not end well"),
-            Fault::Lost(_) => f.write_str(": the link is lost"),
-            _ => Ok(()),
-        }
     }
 }
 
@@ -117,8 +127,8 @@ impl From<StepError> for Fault {
     fn from(error: StepError) -> Fault {
         match error {
             StepError::NoMemory => Fault::NoMemory,
-            StepError::Gone(why) => Fault::NotUp(why),
-            _ => Fault::NotUp(Why::GaveUp),
+            StepError::Gone(why) => Fault::NotUp(why, None),
+            _ => Fault::NotUp(Why::GaveUp, None),
         }
     }
 }

@@ -1,53 +1,88 @@
-//! The handshake of a dialled end, frame by frame. No byte behind a frame is read, so what follows the last one is still in the
-//! stream.
+//! The handshake of a dialled end whose connection is there.
 
-use crate::fault::{Fault, why_of};
-use distribution::{ByteString, EndId, Event, Limited, Node, Reply, Stream, UpRecord, Why};
+use crate::dialling::MOST_TURNS;
+use crate::fault::Fault;
+use crate::link::Link;
+use distribution::{
+    Awaited, ByteString, Desk, Draws, EndId, Event, MemoryDesk, Node, Outcome, Packets, Reached,
+    SocketStream, Why, handshake,
+};
 use std::alloc::Global;
 
-/// How many frames a dialled end hears: a status, a challenge, an acknowledgement.
-const FRAMES: usize = 3;
+/// The most bytes of a packet that is taken. Our own choice; Erlang nodes cut larger messages into fragments of 64 KiB where
+/// both sides announce `DFLAG_FRAGMENTS`, which this one does not.
+const MOST_OF_PACKET: usize = 16_777_216;
 
-// The body of the next frame.
-fn heard<S: Stream>(alloc: Global, limited: &mut Limited<'_, S>) -> Result<ByteString, Fault> {
-    let mut length = [0u8; 2];
-    limited
-        .read_exact(&mut length)
-        .map_err(|error| Fault::NotUp(why_of(error)))?;
-    let mut body = vec![in alloc; 0u8; usize::from(u16::from_be_bytes(length))]?;
-    limited
-        .read_exact(&mut body)
-        .map_err(|error| Fault::NotUp(why_of(error)))?;
-    Ok(ByteString::from_vec(body))
+/// What a dialled end hears, in order.
+const HEARD: [Awaited; 3] = [Awaited::Status, Awaited::Challenge, Awaited::Ack];
+
+/// The challenge of one connection. A dialled end says one.
+#[derive(Drop)]
+struct Challenge {
+    number: u32,
 }
 
-// Writes what a reply says. The record, where the end is up.
-fn said<S: Stream>(limited: &mut Limited<'_, S>, reply: Reply) -> Result<Option<UpRecord>, Fault> {
-    limited
-        .write_all(reply.say.as_slice())
-        .map_err(|error| Fault::NotUp(why_of(error)))?;
-    match reply.closed {
-        Some((_, why)) => Err(Fault::NotUp(why)),
-        None => Ok(reply.up),
+impl Draws for Challenge {
+    ghost use Rattle.std.specs.Prelude.{◌≡◌};
+
+    ghost gives = { λ before number after. number ≡ before.number };
+
+    fn draw(&mut self) -> u32 {
+        self.number
     }
 }
 
-/// Drives a dialled end whose connection is there until it is up. `fresh` is its challenge, drawn anew for each connection.
-pub fn shaken<S: Stream>(
+// Tells the node that the connection is there. What the end says first.
+fn opened(alloc: Global, node: &mut Node, end_: EndId) -> Result<ByteString, Fault> {
+    Ok(node.step(alloc, &Event::Opened { end_, link: 0 }, 0)?.say)
+}
+
+// Which message was awaited where the connection failed: `handshake` has told its loss, as the step behind those of the frames.
+// Where the turns ran out it told nothing, and the end is open. Else the end was closed upon a message, and awaited none.
+fn awaited(desk: &MemoryDesk, end_: EndId) -> Option<Awaited> {
+    match desk.list().split_last() {
+        Some(((Event::Lost { .. }, _, _), frames)) => HEARD.get(frames.len()).copied(),
+        _ => desk.node().awaits(end_),
+    }
+}
+
+// The fault of a handshake that ended so.
+fn not_up(desk: &MemoryDesk, end_: EndId, outcome: Outcome) -> Fault {
+    let why = match outcome {
+        Outcome::Closed(why) => why,
+        Outcome::Limit => Why::GaveUp,
+    };
+    Fault::NotUp(why, awaited(desk, end_))
+}
+
+/// Drives the end until it is up. The packets of the link begin with what was read behind the last frame.
+pub fn come_up(
     alloc: Global,
-    limited: &mut Limited<'_, S>,
-    node: &mut Node,
+    stream: SocketStream,
+    node: Node,
     end_: EndId,
-    fresh: u32,
-) -> Result<UpRecord, Fault> {
-    let opened = node.step(alloc, &Event::Opened { end_, link: 0 }, 0)?;
-    said(limited, opened)?;
-    for _ in 0..FRAMES {
-        let body = heard(alloc, limited)?;
-        let reply = node.step(alloc, &Event::Frame { end_, body }, fresh)?;
-        if let Some(record) = said(limited, reply)? {
-            return Ok(record);
-        }
+    challenge: u32,
+) -> Result<Link, Fault> {
+    let mut stream = stream;
+    let mut node = node;
+    let first = opened(alloc, &mut node, end_)?;
+    let mut desk = MemoryDesk::new(alloc, node, end_)?;
+    let mut challenge = Challenge { number: challenge };
+    let first = first.as_slice();
+    match handshake(
+        alloc,
+        &mut stream,
+        &mut desk,
+        &mut challenge,
+        end_,
+        first,
+        MOST_TURNS,
+    ) {
+        Reached::Up { record, rest } => Ok(Link {
+            stream,
+            record,
+            packets: Packets::behind_handshake(alloc, MOST_OF_PACKET, rest),
+        }),
+        Reached::Ended(outcome) => Err(not_up(&desk, end_, outcome)),
     }
-    Err(Fault::NotUp(Why::Unexpected))
 }

@@ -1,8 +1,8 @@
 //! The link, once it is up: what comes is told, a tick is said where nothing was said for a while, and a silent peer is given
 //! up.
 
-use crate::fault::{Fault, why_of};
-use distribution::{Due, Limited, Packets, Stream, Ticker, Why, tick};
+use crate::fault::{Fault, lost};
+use distribution::{Due, Limited, Packets, SocketStream, Ticker, UpRecord, Why, tick};
 use std::io::Write;
 use std::sync::atomic::{AtomicBool, Ordering};
 use std::time::{Clock, Instant};
@@ -15,26 +15,26 @@ const TURNS_OF_A_TICK: usize = 10;
 
 /// A link that is up.
 #[derive(Drop)]
-pub struct Link<S> {
+pub struct Link {
     /// The connection.
-    pub stream: S,
+    pub stream: SocketStream,
+    /// What is known of the peer.
+    pub record: UpRecord,
     /// The packets that come on it.
     pub packets: Packets,
-    /// When something was read and written last.
-    pub ticker: Ticker,
 }
 
-/// How many milliseconds have gone by since then.
-pub fn millis_since<R: Clock>(rt: &R, start: &Instant) -> Result<u64, Fault> {
+// How many milliseconds have gone by since then.
+fn millis_since<R: Clock>(rt: &R, start: &Instant) -> Result<u64, Fault> {
     match start.elapsed(rt) {
         Ok(elapsed) => Ok(u64::try_from(elapsed.as_millis()).unwrap_or(u64::MAX)),
         Err(_) => Err(Fault::SystemFailed),
     }
 }
 
-impl<S: Stream> Link<S> {
+impl Link {
     // Reads what has come, if something comes within a turn.
-    fn hear(&mut self, now: u64) -> Result<(), Fault> {
+    fn hear(&mut self, ticker: &mut Ticker, now: u64) -> Result<(), Fault> {
         let mut room = [0u8; PIECE];
         let mut limited = Limited {
             stream: &mut self.stream,
@@ -43,60 +43,78 @@ impl<S: Stream> Link<S> {
         match limited.read(&mut room) {
             Ok(0) => Ok(()),
             Ok(count) => {
-                self.ticker.heard(now);
+                ticker.heard(now);
                 Ok(self.packets.feed(&room[..count])?)
             }
-            Err(error) => Err(Fault::Lost(why_of(error))),
+            Err(error) => Err(lost(error)),
         }
+    }
+
+    // Tells the next packet that came whole. Whether there was one.
+    fn tell_packet<W: Write>(&mut self, out: &mut W) -> Result<bool, Fault> {
+        let len = match self.packets.front()? {
+            Some(packet) => packet.len(),
+            None => return Ok(false),
+        };
+        self.packets.drop_front();
+        writeln!(out, "packet {len}")?;
+        Ok(true)
     }
 
     // Tells the packets that came whole. A piece has fewer than it has bytes.
     fn tell_packets<W: Write>(&mut self, out: &mut W) -> Result<(), Fault> {
         for _ in 0..PIECE {
-            let Some(packet) = self.packets.front()? else {
+            if !self.tell_packet(out)? {
                 break;
-            };
-            writeln!(out, "packet {}", packet.len())?;
-            self.packets.drop_front();
+            }
         }
         Ok(out.flush()?)
     }
 
     // Says a tick.
-    fn say_tick(&mut self, now: u64) -> Result<(), Fault> {
+    fn say_tick(&mut self, ticker: &mut Ticker, now: u64) -> Result<(), Fault> {
         let mut limited = Limited {
             stream: &mut self.stream,
             left: TURNS_OF_A_TICK,
         };
         match limited.write_all(&tick()) {
             Ok(()) => {
-                self.ticker.said(now);
+                ticker.said(now);
                 Ok(())
             }
-            Err(error) => Err(Fault::Lost(why_of(error))),
+            Err(error) => Err(lost(error)),
         }
     }
 
-    /// Keeps the link until `ended` says that the program is to leave, or the link is lost. `start` is the time from which the
-    /// ticker counts.
+    // Does what is due.
+    fn turn(&mut self, ticker: &mut Ticker, now: u64) -> Result<(), Fault> {
+        match ticker.due(now) {
+            Due::Nothing { wait: _ } => self.hear(ticker, now),
+            Due::Tick => self.say_tick(ticker, now),
+            Due::GiveUp => Err(Fault::Lost(Why::GaveUp)),
+        }
+    }
+
+    /// Keeps the link until `ended` says that the program is to leave, or the link is lost. `quarter` is a quarter of the time
+    /// after which a silent peer is given up, in milliseconds.
     pub fn stay<R: Clock, W: Write>(
         &mut self,
         rt: &R,
-        start: &Instant,
+        quarter: u32,
         ended: &AtomicBool,
         out: &mut W,
     ) -> Result<(), Fault> {
+        let Ok(start) = Instant::now(rt) else {
+            return Err(Fault::SystemFailed);
+        };
+        let mut ticker = Ticker::new(quarter, 0);
         for _ in 0..u64::MAX {
             self.tell_packets(out)?;
             if ended.load(Ordering::SeqCst) {
                 break;
             }
-            let now = millis_since(rt, start)?;
-            match self.ticker.due(now) {
-                Due::Nothing { wait: _ } => self.hear(now)?,
-                Due::Tick => self.say_tick(now)?,
-                Due::GiveUp => return Err(Fault::Lost(Why::GaveUp)),
-            }
+            let now = millis_since(rt, &start)?;
+            self.turn(&mut ticker, now)?;
         }
         Ok(())
     }

@@ -9,21 +9,28 @@ mod dialling;
 mod fault;
 mod handshake;
 mod link;
+mod telling;
 
-use command::{Asked, Wanted, asked_of, name_of};
-use dialling::{Joined, join_node};
+use command::{Asked, Wanted, asked_of};
+use dialling::{drawn, join_node, located};
 use dist_numerals::number_16;
-use distribution::{Cookie, Dflag, NodeName, Packets, Ticker, UpRecord, read_cookie};
+use distribution::{
+    Cookie, Cookies, Creation, Flags, NameError, Node, NodeName, Release, Setup, Version,
+    read_cookie,
+};
 use fault::Fault;
-use link::{Link, millis_since};
+use link::Link;
 use std::alloc::{AllocError, Global};
 use std::fs::File;
 use std::io::{self, ErrorKind, Write};
 use std::process::ExitCode;
 use std::sync::Arc;
 use std::sync::atomic::{AtomicBool, Ordering};
-use std::time::Instant;
 use std::{env, thread};
+use telling::tell_up;
+
+/// Where a port mapper listens, unless the environment or the command line says otherwise. Source: ERTS User's Guide, epmd.
+const MAPPER_PORT: u16 = 4369;
 
 /// How the program is called.
 const HELP: &str =
@@ -40,10 +47,6 @@ Joins a live Erlang node as a hidden node, tells each packet that comes, and lea
 
 Status: 0 left, 1 a fault here, 2 a bad command line, 3 not joined, 4 the link is lost.
 ";
-
-/// The most bytes of a packet that is taken. Our own choice; Erlang nodes cut larger messages into fragments of 64 KiB where
-/// both sides announce `DFLAG_FRAGMENTS`, which this one does not.
-const MOST_OF_PACKET: usize = 16_777_216;
 
 /// A mark that threads share.
 type Mark = Arc<AtomicBool, Global>;
@@ -75,101 +78,118 @@ fn watch<R: Input + Drop>(rt: R, ended: &AtomicBool) {
     ended.store(true, Ordering::SeqCst);
 }
 
+// Does what the command line asks for.
+fn perform(rt: &HostRuntime, ended: &AtomicBool) -> Result<(), Fault> {
+    let words = words_of(rt)?;
+    match asked_of(rt.alloc(), &words, usual_mapper_port(rt))? {
+        Asked::Help => Ok(rt.stdout().write_all(HELP.as_bytes())?),
+        Asked::Joins(wanted) => join_and_stay(rt, &wanted, ended),
+    }
+}
+
 // The words behind the program's name. One that is no UTF-8 is no word of a command.
-fn words_of(rt: &HostRuntime, alloc: Global) -> Result<Vec<String>, Fault> {
+fn words_of(rt: &HostRuntime) -> Result<Vec<String>, Fault> {
     match env::args(rt) {
-        Ok(words) => words.skip(1).collect(alloc).map_err(|_| Fault::NoMemory),
+        Ok(words) => Ok(words.skip(1).collect(rt.alloc())?),
         Err(error) if error.kind() == ErrorKind::OutOfMemory => Err(Fault::NoMemory),
         Err(_) => Err(Fault::BadCommandLine),
     }
 }
 
-// The port mapper's port that the environment names, as `erl` reads it.
-fn named_mapper_port(rt: &HostRuntime) -> Option<u16> {
-    number_16(env::var(rt, "ERL_EPMD_PORT").ok()?.as_bytes())
+// The port mapper's port where the command line names none, as `erl` reads it.
+fn usual_mapper_port(rt: &HostRuntime) -> u16 {
+    match env::var(rt, "ERL_EPMD_PORT") {
+        Ok(port) => number_16(port.as_bytes()).unwrap_or(MAPPER_PORT),
+        Err(_) => MAPPER_PORT,
+    }
 }
 
-// Does what the command line asks for.
-fn perform(rt: &HostRuntime, ended: &AtomicBool) -> Result<(), Fault> {
-    let alloc = rt.alloc();
-    let words = words_of(rt, alloc)?;
-    let texts: Vec<&str> = words.iter().map(|word| word.as_str()).collect(alloc)?;
-    match asked_of(alloc, &texts, named_mapper_port(rt))? {
-        Asked::Help => Ok(rt.stdout().write_all(HELP.as_bytes())?),
-        Asked::Joins(wanted) => join_and_stay(rt, alloc, &wanted, ended),
+// The name that these bytes are.
+fn name_of(alloc: Global, bytes: &[u8]) -> Result<NodeName, Fault> {
+    match NodeName::new(alloc, bytes) {
+        Ok(name) => Ok(name),
+        Err(NameError::NoMemory) => Err(Fault::NoMemory),
+        Err(_) => Err(Fault::BadName),
+    }
+}
+
+// A name at the node's host, so that it is as long or short as the node's.
+fn name_beside(alloc: Global, peer: &NodeName) -> Result<NodeName, Fault> {
+    let mut text = Vec::from_slice(alloc, b"joining@")?;
+    text.extend_from_slice(peer.host())?;
+    name_of(alloc, &text)
+}
+
+// The own name: the one that is given, else one at the node's host.
+fn own_name(alloc: Global, wanted: &Wanted<'_>, peer: &NodeName) -> Result<NodeName, Fault> {
+    match wanted.name {
+        Some(name) => name_of(alloc, name.as_bytes()),
+        None => name_beside(alloc, peer),
     }
 }
 
 // The cookie of a file.
-fn cookie_at(rt: &HostRuntime, alloc: Global, path: &str) -> Result<Cookie, Fault> {
+fn cookie_at(rt: &HostRuntime, path: &str) -> Result<Cookie, Fault> {
     match File::open(rt, path) {
-        Ok(mut file) => read_cookie(alloc, &mut file).map_err(Fault::NoCookie),
+        Ok(mut file) => read_cookie(rt.alloc(), &mut file).map_err(Fault::NoCookie),
         Err(_) => Err(Fault::OpenFailed),
     }
 }
 
-// The cookie of the file that is named, else of the home folder's.
-fn cookie_of(rt: &HostRuntime, alloc: Global, file: Option<&str>) -> Result<Cookie, Fault> {
-    if let Some(path) = file {
-        return cookie_at(rt, alloc, path);
-    }
+// The cookie of the home folder.
+fn home_cookie(rt: &HostRuntime) -> Result<Cookie, Fault> {
     let Ok(home) = env::var(rt, "HOME") else {
         return Err(Fault::OpenFailed);
     };
-    let path = format!(in alloc; "{home}/.erlang.cookie")?;
-    cookie_at(rt, alloc, &path)
+    let path = format!(in rt.alloc(); "{home}/.erlang.cookie")?;
+    cookie_at(rt, &path)
 }
 
-// The own name: the one that is given, else one at the node's host, so that it is as long or short as the node's.
-fn own_name(alloc: Global, wanted: &Wanted<'_>) -> Result<NodeName, Fault> {
-    if let Some(name) = &wanted.name {
-        return Ok(name.try_clone(alloc)?);
+// The cookie of the file that is named, else of the home folder's.
+fn cookie_of(rt: &HostRuntime, file: Option<&str>) -> Result<Cookie, Fault> {
+    match file {
+        Some(path) => cookie_at(rt, path),
+        None => home_cookie(rt),
     }
-    let mut text = Vec::from_slice(alloc, b"joining@")?;
-    text.extend_from_slice(wanted.node.host())?;
-    name_of(alloc, &text)
 }
 
-// Tells what is known of the peer.
-fn tell_up<W: Write>(out: &mut W, record: &UpRecord) -> io::Result<()> {
-    let peer = std::str::from_utf8(record.peer.bytes()).unwrap_or("?");
-    write!(out, "up {peer}")?;
-    if let Some(creation) = record.creation {
-        write!(out, " creation {}", creation.0)?;
+// What the node of this program is set up with: hidden, since its flags are without `PUBLISHED`.
+fn setup_of(alloc: Global, name: NodeName, cookie: Cookie, creation: u32) -> Setup {
+    Setup {
+        name,
+        cookies: Cookies::new(alloc, cookie),
+        version: Version::Six,
+        flags: Release::Otp28.required(),
+        required: Flags(0),
+        creation: Creation(creation),
+        allow: None,
     }
-    write!(out, "\nflags")?;
-    for flag in Dflag::all() {
-        if record.common.has(flag.flags()) {
-            write!(out, " {}", flag.name())?;
-        }
-    }
-    writeln!(out)?;
-    out.flush()
+}
+
+// The node of this program.
+fn node_of(rt: &HostRuntime, wanted: &Wanted<'_>, peer: &NodeName) -> Result<Node, Fault> {
+    let alloc = rt.alloc();
+    let creation = drawn(rt)?;
+    let name = own_name(alloc, wanted, peer)?;
+    let cookie = cookie_of(rt, wanted.cookie_file)?;
+    Ok(Node::new(alloc, setup_of(alloc, name, cookie, creation)))
+}
+
+// Joins the node.
+fn joined(rt: &HostRuntime, wanted: &Wanted<'_>) -> Result<Link, Fault> {
+    let alloc = rt.alloc();
+    let peer = name_of(alloc, wanted.node.as_bytes())?;
+    let node = node_of(rt, wanted, &peer)?;
+    let place = located(rt, alloc, &peer, wanted.mapper_port)?;
+    join_node(rt, alloc, node, peer, place)
 }
 
 // Joins the node, and keeps the link until the input ends.
-fn join_and_stay(
-    rt: &HostRuntime,
-    alloc: Global,
-    wanted: &Wanted<'_>,
-    ended: &AtomicBool,
-) -> Result<(), Fault> {
-    let cookie = cookie_of(rt, alloc, wanted.cookie_file)?;
-    let name = own_name(alloc, wanted)?;
-    let Joined { stream, record } = join_node(rt, alloc, wanted, name, cookie)?;
+fn join_and_stay(rt: &HostRuntime, wanted: &Wanted<'_>, ended: &AtomicBool) -> Result<(), Fault> {
+    let mut link = joined(rt, wanted)?;
     let mut out = rt.stdout();
-    tell_up(&mut out, &record)?;
-    let Ok(start) = Instant::now(rt) else {
-        return Err(Fault::SystemFailed);
-    };
-    let quarter = u32::from(wanted.net_ticktime) * 250;
-    let mut link = Link {
-        stream,
-        packets: Packets::new(alloc, MOST_OF_PACKET),
-        ticker: Ticker::new(quarter, 0),
-    };
-    link.stay(rt, &start, ended, &mut out)?;
+    tell_up(&mut out, &link.record)?;
+    link.stay(rt, u32::from(wanted.net_ticktime) * 250, ended, &mut out)?;
     let _ = link.stream.shut();
-    writeln!(out, "left")?;
-    Ok(())
+    Ok(out.write_all(b"left\n")?)
 }

@@ -1,0 +1,32 @@
+//! What is told of a peer that is joined.
+
+use distribution::{Dflag, Flags, UpRecord};
+use std::io::{self, Write};
+
+// The names of the flags, each behind a blank.
+fn tell_flags<W: Write>(out: &mut W, flags: Flags) -> io::Result<()> {
+    for flag in &Dflag::all() {
+        if flags.has(flag.flags()) {
+            write!(out, " {}", flag.name())?;
+        }
+    }
+    Ok(())
+}
+
+// The peer's name, and its creation where it is known.
+fn tell_peer<W: Write>(out: &mut W, record: &UpRecord) -> io::Result<()> {
+    let peer = std::str::from_utf8(record.peer.bytes()).unwrap_or("?");
+    match record.creation {
+        Some(creation) => write!(out, "up {peer} creation {}", creation.0),
+        None => write!(out, "up {peer}"),
+    }
+}
+
+/// Tells what is known of the peer.
+pub fn tell_up<W: Write>(out: &mut W, record: &UpRecord) -> io::Result<()> {
+    tell_peer(out, record)?;
+    out.write_all(b"\nflags")?;
+    tell_flags(out, record.common)?;
+    out.write_all(b"\n")?;
+    out.flush()
+}
