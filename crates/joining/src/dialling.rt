@@ -1,10 +1,10 @@
 //! How a node is joined: the port mapper is asked where it listens, a connection is made, and the handshake driven.
 
 use crate::fault::Fault;
-use crate::handshake::come_up;
+use crate::handshake::shaken;
 use crate::link::Link;
 use distribution::{
-    EndId, Event, Node, NodeName, Opening, SocketStream, connect, lookup, opening_for,
+    EndId, Event, Node, NodeName, Opening, Reply, SocketStream, connect, lookup, opening_for,
 };
 use std::alloc::Global;
 use std::net::{SocketAddr, ToSocketAddrs};
@@ -20,9 +20,9 @@ const CONNECT_IN_SECONDS: u64 = 8;
 /// How many reads and writes a lookup and a handshake may take each: 8 seconds of silence. A node gives up after 7.
 pub const MOST_TURNS: usize = 160;
 
-/// Where a node listens, and which opening it knows.
+// Where a node listens, and which opening it knows.
 #[derive(Clone, Copy)]
-pub struct Place {
+struct Place {
     address: SocketAddr,
     opening: Opening,
 }
@@ -39,13 +39,8 @@ pub fn drawn(rt: &HostRuntime) -> Result<u32, Fault> {
 // The first IPv4 address of a host. A node listens at one unless it is told otherwise.
 fn resolved(rt: &HostRuntime, host: &[u8]) -> Option<SocketAddr> {
     let host = std::str::from_utf8(host).ok()?;
-    let mut found = None;
-    for address in (host, 0u16).to_socket_addrs(rt).ok()? {
-        if address.is_ipv4() && found.is_none() {
-            found = Some(address);
-        }
-    }
-    found
+    let mut addresses = (host, 0u16).to_socket_addrs(rt).ok()?;
+    addresses.find(|address| address.is_ipv4())
 }
 
 // A connection to this address.
@@ -55,8 +50,8 @@ fn connected(rt: &HostRuntime, address: &SocketAddr) -> Option<SocketStream> {
     connect(rt, address, limit, turn).ok()
 }
 
-/// Where the port mapper of its host says that a node listens.
-pub fn located(
+// Where the port mapper of its host says that a node listens.
+fn located(
     rt: &HostRuntime,
     alloc: Global,
     node: &NodeName,
@@ -79,14 +74,18 @@ pub fn located(
     }
 }
 
-// The end of a node that dials another.
-fn dial(alloc: Global, node: &mut Node, peer: NodeName, opening: Opening) -> Result<EndId, Fault> {
-    let dial = Event::Dial { peer, opening };
-    Ok(node.step(alloc, &dial, 0)?.end_)
+/// What the node says to an event that bears no challenge.
+pub fn told(alloc: Global, node: &mut Node, event: Event) -> Result<Reply, Fault> {
+    Ok(node.step(alloc, &event, 0)?)
 }
 
-/// Joins the node that listens there.
-pub fn join_node(
+// The end of a node that dials another.
+fn dial(alloc: Global, node: &mut Node, peer: NodeName, opening: Opening) -> Result<EndId, Fault> {
+    Ok(told(alloc, node, Event::Dial { peer, opening })?.end_)
+}
+
+// Joins the node that listens there.
+fn join_at(
     rt: &HostRuntime,
     alloc: Global,
     node: Node,
@@ -95,9 +94,20 @@ pub fn join_node(
 ) -> Result<Link, Fault> {
     let mut node = node;
     let end_ = dial(alloc, &mut node, peer, place.opening)?;
-    let challenge = drawn(rt)?;
     match connected(rt, &place.address) {
-        Some(stream) => come_up(alloc, stream, node, end_, challenge),
+        Some(stream) => shaken(rt, alloc, stream, node, end_),
         None => Err(Fault::NoNode),
     }
+}
+
+/// Joins a node, of which the port mapper of its host knows where it listens.
+pub fn join_node(
+    rt: &HostRuntime,
+    alloc: Global,
+    node: Node,
+    peer: NodeName,
+    mapper_port: u16,
+) -> Result<Link, Fault> {
+    let place = located(rt, alloc, &peer, mapper_port)?;
+    join_at(rt, alloc, node, peer, place)
 }

@@ -62,29 +62,34 @@ fn not_up_text(awaited: Option<Awaited>) -> &'static str {
 }
 
 impl Fault {
-    // What is told of it: a word, and what stands behind it, but for the sentence of an error that it bears.
-    fn text(self) -> (&'static str, &'static str) {
+    // What is told of it first.
+    fn text(self) -> &'static str {
         match self {
-            Fault::BadCommandLine => ("bad command line", " (joining --help)"),
-            Fault::BadName => (
-                "a node's name",
-                " has one @, something on both sides, and 3 to 255 bytes",
-            ),
-            Fault::OpenFailed => ("OpenFailed", ": the cookie's file"),
-            Fault::NoCookie(error) => (error.name(), ": "),
-            Fault::NoHost => (
-                "NoHost",
-                ": the host part of the node's name has no address here",
-            ),
-            Fault::NoMapper => ("ConnectFailed", ": the port mapper"),
-            Fault::NotFound(error) => (error.name(), ": "),
-            Fault::NoNode => ("ConnectFailed", ": the node"),
-            Fault::NotUp(why, awaited) => (why.name(), not_up_text(awaited)),
-            Fault::Lost(why) => (why.name(), ": the link is lost"),
-            Fault::SystemFailed => ("SystemFailed", ": no random bytes, no time or no thread"),
-            Fault::LongPacket => ("TooLong", ": a packet"),
-            Fault::WriteFailed => ("WriteFailed", ""),
-            Fault::NoMemory => ("NoMemory", ""),
+            Fault::BadCommandLine => "bad command line (joining --help)",
+            Fault::BadName =>
+                "a node's name has one @, something on both sides, and 3 to 255 bytes",
+            Fault::OpenFailed => "OpenFailed: the cookie's file",
+            Fault::NoCookie(error) => error.name(),
+            Fault::NoHost => "NoHost: the host part of the node's name has no address here",
+            Fault::NoMapper => "ConnectFailed: the port mapper",
+            Fault::NotFound(error) => error.name(),
+            Fault::NoNode => "ConnectFailed: the node",
+            Fault::NotUp(why, _) | Fault::Lost(why) => why.name(),
+            Fault::SystemFailed => "SystemFailed: no random bytes, no time or no thread",
+            Fault::LongPacket => "TooLong: a packet",
+            Fault::WriteFailed => "WriteFailed",
+            Fault::NoMemory => "NoMemory",
+        }
+    }
+
+    // Tells what stands behind that.
+    fn tell_behind<E: Write>(self, err: &mut E) -> io::Result<()> {
+        match self {
+            Fault::NoCookie(error) => write!(err, ": {error}"),
+            Fault::NotFound(error) => write!(err, ": {error}"),
+            Fault::NotUp(_, awaited) => err.write_all(not_up_text(awaited).as_bytes()),
+            Fault::Lost(_) => err.write_all(b": the link is lost"),
+            _ => Ok(()),
         }
     }
 
@@ -104,12 +109,10 @@ impl Fault {
 
     /// Tells the fault on standard error and answers the exit status. Where it cannot be told nothing is lost but the text.
     pub fn tell<E: Write>(self, err: &mut E) -> u8 {
-        let (word, behind) = self.text();
-        let _ = match self {
-            Fault::NoCookie(error) => writeln!(err, "joining: {word}{behind}{error}"),
-            Fault::NotFound(error) => writeln!(err, "joining: {word}{behind}{error}"),
-            _ => writeln!(err, "joining: {word}{behind}"),
-        };
+        let _ = err.write_all(b"joining: ");
+        let _ = err.write_all(self.text().as_bytes());
+        let _ = self.tell_behind(err);
+        let _ = err.write_all(b"\n");
         self.status()
     }
 }

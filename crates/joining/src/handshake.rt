@@ -1,6 +1,6 @@
 //! The handshake of a dialled end whose connection is there.
 
-use crate::dialling::MOST_TURNS;
+use crate::dialling::{MOST_TURNS, drawn, told};
 use crate::fault::Fault;
 use crate::link::Link;
 use distribution::{
@@ -34,7 +34,7 @@ impl Draws for Challenge {
 
 // Tells the node that the connection is there. What the end says first.
 fn opened(alloc: Global, node: &mut Node, end_: EndId) -> Result<ByteString, Fault> {
-    Ok(node.step(alloc, &Event::Opened { end_, link: 0 }, 0)?.say)
+    Ok(told(alloc, node, Event::Opened { end_, link: 0 })?.say)
 }
 
 // Which message was awaited where the connection failed: `handshake` has told its loss, as the step behind those of the frames.
@@ -55,24 +55,21 @@ fn not_up(desk: &MemoryDesk, end_: EndId, outcome: Outcome) -> Fault {
     Fault::NotUp(why, awaited(desk, end_))
 }
 
-/// Drives the end until it is up. The packets of the link begin with what was read behind the last frame.
-pub fn come_up(
+// Drives the end until it is up. The packets of the link begin with what was read behind the last frame.
+fn come_up(
     alloc: Global,
     stream: SocketStream,
-    node: Node,
+    desk: &mut MemoryDesk,
     end_: EndId,
-    challenge: u32,
+    first: &[u8],
+    challenge: Challenge,
 ) -> Result<Link, Fault> {
     let mut stream = stream;
-    let mut node = node;
-    let first = opened(alloc, &mut node, end_)?;
-    let mut desk = MemoryDesk::new(alloc, node, end_)?;
-    let mut challenge = Challenge { number: challenge };
-    let first = first.as_slice();
+    let mut challenge = challenge;
     match handshake(
         alloc,
         &mut stream,
-        &mut desk,
+        desk,
         &mut challenge,
         end_,
         first,
@@ -83,6 +80,21 @@ pub fn come_up(
             record,
             packets: Packets::behind_handshake(alloc, MOST_OF_PACKET, rest),
         }),
-        Reached::Ended(outcome) => Err(not_up(&desk, end_, outcome)),
+        Reached::Ended(outcome) => Err(not_up(desk, end_, outcome)),
     }
+}
+
+/// Makes the handshake of a dialled end whose connection is there.
+pub fn shaken(
+    rt: &HostRuntime,
+    alloc: Global,
+    stream: SocketStream,
+    node: Node,
+    end_: EndId,
+) -> Result<Link, Fault> {
+    let mut node = node;
+    let challenge = Challenge { number: drawn(rt)? };
+    let first = opened(alloc, &mut node, end_)?;
+    let mut desk = MemoryDesk::new(alloc, node, end_)?;
+    come_up(alloc, stream, &mut desk, end_, first.as_slice(), challenge)
 }

@@ -86,8 +86,14 @@ impl Link {
         }
     }
 
-    // Does what is due.
-    fn turn(&mut self, ticker: &mut Ticker, now: u64) -> Result<(), Fault> {
+    // Does what is due now. `start` is the time from which the ticker counts.
+    fn turn<R: Clock>(
+        &mut self,
+        rt: &R,
+        start: &Instant,
+        ticker: &mut Ticker,
+    ) -> Result<(), Fault> {
+        let now = millis_since(rt, start)?;
         match ticker.due(now) {
             Due::Nothing { wait: _ } => self.hear(ticker, now),
             Due::Tick => self.say_tick(ticker, now),
@@ -113,8 +119,7 @@ impl Link {
             if ended.load(Ordering::SeqCst) {
                 break;
             }
-            let now = millis_since(rt, &start)?;
-            self.turn(&mut ticker, now)?;
+            self.turn(rt, &start, &mut ticker)?;
         }
         Ok(())
     }

@@ -12,7 +12,7 @@ mod link;
 mod telling;
 
 use command::{Asked, Wanted, asked_of};
-use dialling::{drawn, join_node, located};
+use dialling::{drawn, join_node};
 use dist_numerals::number_16;
 use distribution::{
     Cookie, Cookies, Creation, Flags, NameError, Node, NodeName, Release, Setup, Version,
@@ -180,16 +180,26 @@ fn joined(rt: &HostRuntime, wanted: &Wanted<'_>) -> Result<Link, Fault> {
     let alloc = rt.alloc();
     let peer = name_of(alloc, wanted.node.as_bytes())?;
     let node = node_of(rt, wanted, &peer)?;
-    let place = located(rt, alloc, &peer, wanted.mapper_port)?;
-    join_node(rt, alloc, node, peer, place)
+    join_node(rt, alloc, node, peer, wanted.mapper_port)
+}
+
+// Keeps the link until the input ends, and leaves.
+fn stay<W: Write>(
+    rt: &HostRuntime,
+    link: &mut Link,
+    quarter: u32,
+    ended: &AtomicBool,
+    out: &mut W,
+) -> Result<(), Fault> {
+    tell_up(out, &link.record)?;
+    link.stay(rt, quarter, ended, out)?;
+    let _ = link.stream.shut();
+    Ok(out.write_all(b"left\n")?)
 }
 
 // Joins the node, and keeps the link until the input ends.
 fn join_and_stay(rt: &HostRuntime, wanted: &Wanted<'_>, ended: &AtomicBool) -> Result<(), Fault> {
     let mut link = joined(rt, wanted)?;
-    let mut out = rt.stdout();
-    tell_up(&mut out, &link.record)?;
-    link.stay(rt, u32::from(wanted.net_ticktime) * 250, ended, &mut out)?;
-    let _ = link.stream.shut();
-    Ok(out.write_all(b"left\n")?)
+    let quarter = u32::from(wanted.net_ticktime) * 250;
+    stay(rt, &mut link, quarter, ended, &mut rt.stdout())
 }

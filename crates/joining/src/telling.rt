@@ -3,30 +3,28 @@
 use distribution::{Dflag, Flags, UpRecord};
 use std::io::{self, Write};
 
-// The names of the flags, each behind a blank.
+// The names of the flags, each behind a blank, to the end of the line.
 fn tell_flags<W: Write>(out: &mut W, flags: Flags) -> io::Result<()> {
     for flag in &Dflag::all() {
         if flags.has(flag.flags()) {
             write!(out, " {}", flag.name())?;
         }
     }
-    Ok(())
+    out.write_all(b"\n")
 }
 
-// The peer's name, and its creation where it is known.
+// The peer's name, and its creation where it is known, and the front of the line of flags.
 fn tell_peer<W: Write>(out: &mut W, record: &UpRecord) -> io::Result<()> {
     let peer = std::str::from_utf8(record.peer.bytes()).unwrap_or("?");
     match record.creation {
-        Some(creation) => write!(out, "up {peer} creation {}", creation.0),
-        None => write!(out, "up {peer}"),
+        Some(creation) => write!(out, "up {peer} creation {}\nflags", creation.0),
+        None => write!(out, "up {peer}\nflags"),
     }
 }
 
 /// Tells what is known of the peer.
 pub fn tell_up<W: Write>(out: &mut W, record: &UpRecord) -> io::Result<()> {
     tell_peer(out, record)?;
-    out.write_all(b"\nflags")?;
     tell_flags(out, record.common)?;
-    out.write_all(b"\n")?;
     out.flush()
 }
