@@ -43,22 +43,15 @@ struct Matched<'a> {
     net_ticktime: Option<&'a str>,
 }
 
-// The program's words: the node, and those that stand before their value.
-const WORDS: [&str; 5] = ["node", "name", "cookie-file", "epmd-port", "net-ticktime"];
-
-fn argument<'a>(alloc: Global, id: &'a str) -> Arg<'a> {
-    let argument = Arg::new(alloc, id).action(ArgAction::Set);
-    if id == "node" {
-        argument
-    } else {
-        argument.long(id)
-    }
-}
+// The program's words that take a value.
+const VALUES: [&str; 4] = ["name", "cookie-file", "epmd-port", "net-ticktime"];
 
 fn program<'a>(alloc: Global) -> Result<Command<'a>, AllocError> {
-    let mut program = Command::new(alloc, "joining").no_binary_name(true);
-    for id in WORDS {
-        program = program.arg(argument(alloc, id))?;
+    let mut program = Command::new(alloc, "joining")
+        .no_binary_name(true)
+        .arg(Arg::new(alloc, "node").action(ArgAction::Set))?;
+    for id in VALUES {
+        program = program.arg(Arg::new(alloc, id).long(id).action(ArgAction::Set))?;
     }
     Ok(program)
 }

@@ -4,7 +4,7 @@ use crate::fault::Fault;
 use crate::handshake::shaken;
 use crate::link::Link;
 use distribution::{
-    EndId, Event, Node, NodeName, Opening, Reply, SocketStream, connect, lookup, opening_for,
+    EndId, Event, Node, NodeName, Opening, Packets, SocketStream, connect, lookup, opening_for,
 };
 use std::alloc::Global;
 use std::net::{SocketAddr, ToSocketAddrs};
@@ -20,11 +20,16 @@ const CONNECT_IN_SECONDS: u64 = 8;
 /// How many reads and writes a lookup and a handshake may take each: 8 seconds of silence. A node gives up after 7.
 pub const MOST_TURNS: usize = 160;
 
-// Where a node listens, and which opening it knows.
+/// The most bytes of a packet that is taken. Our own choice; Erlang nodes cut larger messages into fragments of 64 KiB where
+/// both sides announce `DFLAG_FRAGMENTS`, which this one does not.
+const MOST_OF_PACKET: usize = 16_777_216;
+
+// How a node is dialled: where it listens, which opening it knows, and the challenge of this one connection.
 #[derive(Clone, Copy)]
-struct Place {
+struct Way {
     address: SocketAddr,
     opening: Opening,
+    challenge: u32,
 }
 
 /// A random number of 32 bits.
@@ -50,13 +55,14 @@ fn connected(rt: &HostRuntime, address: &SocketAddr) -> Option<SocketStream> {
     connect(rt, address, limit, turn).ok()
 }
 
-// Where the port mapper of its host says that a node listens.
-fn located(
+// The way to a node, as the port mapper of its host knows it.
+fn way_to(
     rt: &HostRuntime,
     alloc: Global,
     node: &NodeName,
     mapper_port: u16,
-) -> Result<Place, Fault> {
+) -> Result<Way, Fault> {
+    let challenge = drawn(rt)?;
     let Some(mut address) = resolved(rt, node.host()) else {
         return Err(Fault::NoHost);
     };
@@ -68,34 +74,51 @@ fn located(
         Ok(info) => {
             address.set_port(info.port);
             let opening = opening_for(&info);
-            Ok(Place { address, opening })
+            Ok(Way {
+                address,
+                opening,
+                challenge,
+            })
         }
         Err(error) => Err(Fault::NotFound(error)),
     }
 }
 
-/// What the node says to an event that bears no challenge.
-pub fn told(alloc: Global, node: &mut Node, event: Event) -> Result<Reply, Fault> {
-    Ok(node.step(alloc, &event, 0)?)
-}
-
 // The end of a node that dials another.
 fn dial(alloc: Global, node: &mut Node, peer: NodeName, opening: Opening) -> Result<EndId, Fault> {
-    Ok(told(alloc, node, Event::Dial { peer, opening })?.end_)
+    let dial = Event::Dial { peer, opening };
+    Ok(node.step(alloc, &dial, 0)?.end_)
 }
 
-// Joins the node that listens there.
-fn join_at(
+// The link over a connection that an end dialled.
+fn linked(
+    alloc: Global,
+    stream: SocketStream,
+    node: Node,
+    end_: EndId,
+    challenge: u32,
+) -> Result<Link, Fault> {
+    let mut stream = stream;
+    let (record, rest) = shaken(alloc, &mut stream, node, end_, challenge)?;
+    Ok(Link {
+        stream,
+        record,
+        packets: Packets::behind_handshake(alloc, MOST_OF_PACKET, rest),
+    })
+}
+
+// Joins the node to which this is the way.
+fn join_by(
     rt: &HostRuntime,
     alloc: Global,
     node: Node,
     peer: NodeName,
-    place: Place,
+    way: Way,
 ) -> Result<Link, Fault> {
     let mut node = node;
-    let end_ = dial(alloc, &mut node, peer, place.opening)?;
-    match connected(rt, &place.address) {
-        Some(stream) => shaken(rt, alloc, stream, node, end_),
+    let end_ = dial(alloc, &mut node, peer, way.opening)?;
+    match connected(rt, &way.address) {
+        Some(stream) => linked(alloc, stream, node, end_, way.challenge),
         None => Err(Fault::NoNode),
     }
 }
@@ -108,6 +131,6 @@ pub fn join_node(
     peer: NodeName,
     mapper_port: u16,
 ) -> Result<Link, Fault> {
-    let place = located(rt, alloc, &peer, mapper_port)?;
-    join_at(rt, alloc, node, peer, place)
+    let way = way_to(rt, alloc, &peer, mapper_port)?;
+    join_by(rt, alloc, node, peer, way)
 }

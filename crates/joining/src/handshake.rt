@@ -1,17 +1,12 @@
 //! The handshake of a dialled end whose connection is there.
 
-use crate::dialling::{MOST_TURNS, drawn, told};
+use crate::dialling::MOST_TURNS;
 use crate::fault::Fault;
-use crate::link::Link;
 use distribution::{
-    Awaited, ByteString, Desk, Draws, EndId, Event, MemoryDesk, Node, Outcome, Packets, Reached,
-    SocketStream, Why, handshake,
+    Awaited, ByteString, Draws, EndId, Event, MemoryDesk, Node, Outcome, Reached, SocketStream,
+    UpRecord, Why, handshake,
 };
 use std::alloc::Global;
-
-/// The most bytes of a packet that is taken. Our own choice; Erlang nodes cut larger messages into fragments of 64 KiB where
-/// both sides announce `DFLAG_FRAGMENTS`, which this one does not.
-const MOST_OF_PACKET: usize = 16_777_216;
 
 /// What a dialled end hears, in order.
 const HEARD: [Awaited; 3] = [Awaited::Status, Awaited::Challenge, Awaited::Ack];
@@ -34,7 +29,7 @@ impl Draws for Challenge {
 
 // Tells the node that the connection is there. What the end says first.
 fn opened(alloc: Global, node: &mut Node, end_: EndId) -> Result<ByteString, Fault> {
-    Ok(told(alloc, node, Event::Opened { end_, link: 0 })?.say)
+    Ok(node.step(alloc, &Event::Opened { end_, link: 0 }, 0)?.say)
 }
 
 // Which message was awaited where the connection failed: `handshake` has told its loss, as the step behind those of the frames.
@@ -55,45 +50,32 @@ fn not_up(desk: &MemoryDesk, end_: EndId, outcome: Outcome) -> Fault {
     Fault::NotUp(why, awaited(desk, end_))
 }
 
-// Drives the end until it is up. The packets of the link begin with what was read behind the last frame.
+// Drives the end until it is up.
 fn come_up(
     alloc: Global,
-    stream: SocketStream,
+    stream: &mut SocketStream,
     desk: &mut MemoryDesk,
     end_: EndId,
     first: &[u8],
-    challenge: Challenge,
-) -> Result<Link, Fault> {
-    let mut stream = stream;
-    let mut challenge = challenge;
-    match handshake(
-        alloc,
-        &mut stream,
-        desk,
-        &mut challenge,
-        end_,
-        first,
-        MOST_TURNS,
-    ) {
-        Reached::Up { record, rest } => Ok(Link {
-            stream,
-            record,
-            packets: Packets::behind_handshake(alloc, MOST_OF_PACKET, rest),
-        }),
+    challenge: u32,
+) -> Result<(UpRecord, Vec<u8>), Fault> {
+    let mut challenge = Challenge { number: challenge };
+    match handshake(alloc, stream, desk, &mut challenge, end_, first, MOST_TURNS) {
+        Reached::Up { record, rest } => Ok((record, rest)),
         Reached::Ended(outcome) => Err(not_up(desk, end_, outcome)),
     }
 }
 
-/// Makes the handshake of a dialled end whose connection is there.
+/// Makes the handshake of a dialled end whose connection is there. What is known of the peer, and the bytes that were read
+/// behind the last frame, with which the packets begin.
 pub fn shaken(
-    rt: &HostRuntime,
     alloc: Global,
-    stream: SocketStream,
+    stream: &mut SocketStream,
     node: Node,
     end_: EndId,
-) -> Result<Link, Fault> {
+    challenge: u32,
+) -> Result<(UpRecord, Vec<u8>), Fault> {
     let mut node = node;
-    let challenge = Challenge { number: drawn(rt)? };
     let first = opened(alloc, &mut node, end_)?;
     let mut desk = MemoryDesk::new(alloc, node, end_)?;
     come_up(alloc, stream, &mut desk, end_, first.as_slice(), challenge)

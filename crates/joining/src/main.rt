@@ -81,7 +81,13 @@ fn watch<R: Input + Drop>(rt: R, ended: &AtomicBool) {
 // Does what the command line asks for.
 fn perform(rt: &HostRuntime, ended: &AtomicBool) -> Result<(), Fault> {
     let words = words_of(rt)?;
-    match asked_of(rt.alloc(), &words, usual_mapper_port(rt))? {
+    let asked = asked_of(rt.alloc(), &words, usual_mapper_port(rt))?;
+    follow(rt, asked, ended)
+}
+
+// Does what is asked for.
+fn follow(rt: &HostRuntime, asked: Asked<'_>, ended: &AtomicBool) -> Result<(), Fault> {
+    match asked {
         Asked::Help => Ok(rt.stdout().write_all(HELP.as_bytes())?),
         Asked::Joins(wanted) => join_and_stay(rt, &wanted, ended),
     }
