@@ -24,7 +24,8 @@ pub enum Fault {
     NotFound(LookupError),
     /// The node's port was not reached.
     NoNode,
-    /// The handshake did not come to its end, for this cause. Where the connection failed, the message that was awaited.
+    /// The handshake did not come to its end, for this cause. Where the connection failed or nothing came, the message that was
+    /// awaited.
     NotUp(Why, Option<Awaited>),
     /// The link was up, and is lost, for this cause.
     Lost(Why),

@@ -43,11 +43,11 @@ fn awaited(desk: &MemoryDesk, end_: EndId) -> Option<Awaited> {
 
 // The fault of a handshake that ended so.
 fn not_up(desk: &MemoryDesk, end_: EndId, outcome: Outcome) -> Fault {
-    let why = match outcome {
-        Outcome::Closed(why) => why,
-        Outcome::Limit => Why::GaveUp,
-    };
-    Fault::NotUp(why, awaited(desk, end_))
+    match outcome {
+        Outcome::Closed(Why::NoMemory) => Fault::NoMemory,
+        Outcome::Closed(why) => Fault::NotUp(why, awaited(desk, end_)),
+        Outcome::Limit => Fault::NotUp(Why::GaveUp, awaited(desk, end_)),
+    }
 }
 
 // Drives the end until it is up.

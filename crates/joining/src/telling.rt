@@ -7,8 +7,7 @@ use std::io::{self, Write};
 fn tell_flags<W: Write>(out: &mut W, flags: Flags) -> io::Result<()> {
     for flag in &Dflag::all() {
         if flags.has(flag.flags()) {
-            out.write_all(b" ")?;
-            out.write_all(flag.name().as_bytes())?;
+            write!(out, " {}", flag.name())?;
         }
     }
     out.write_all(b"\n")
