@@ -42,13 +42,14 @@ pub fn up_in(entries: &BTreeMap<NodeName, Entry>, i: usize) -> Option<EndId>
     entries.iter().filter_map(|(_, entry)| entry.up()).nth(i)
 }
 
-/// Gives a name an entry.
+/// Gives a name an entry, and answers the one that it had.
 pub fn put_row(
     entries: &mut BTreeMap<NodeName, Entry>,
     alloc: Global,
     name: &NodeName,
     entry: Entry,
-) -> Result<(), AllocError>
+) -> Result<Option<Entry>, AllocError>
+    ensures was { IfOk result (λ was. was ≡ get name_cmp entries.old name.now) }
     ensures ok { OnOk result (Updates name_cmp entries.old entries.new name.now (Some entry)) }
     ensures len { OnOk result (btree_map_len entries.new ≡ btree_map_len entries.old + (if is_some (get name_cmp entries.old name.now) then 0 else 1)) }
     ensures err { OnErr result (IsUnchanged entries.old entries.new) }
@@ -56,7 +57,7 @@ pub fn put_row(
 {
     let name = name.try_clone(alloc)?;
     match entries.insert(name, entry) {
-        Ok(_) => Ok(()),
+        Ok(was) => Ok(was),
         Err(_) => Err(AllocError),
     }
 }

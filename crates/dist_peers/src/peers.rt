@@ -1,9 +1,9 @@
-ghost use Rattle.std.specs.Prelude.{◌≡◌, IfOk, OnOk, OnErr, true, false, IsSome, length, slice_get};
+ghost use Rattle.std.specs.Prelude.{◌≡◌, IfOk, OnOk, OnErr, true, false, None, IsSome, length, slice_get};
 ghost use Rattle.std.specs.Option.{option_map};
 ghost use Rattle.std.specs.FinMap as map;
 ghost use Rattle.dist_names.specs.Order.{same_name};
 ghost use Rattle.dist_peers.specs.Table.{entry_of, is_waiting, replaced_by, left_by, with_entry, up_ids, OthersStay};
-ghost use Rattle.dist_peers.specs.Verdicts.{is_full, is_greater, dialled, named, verdict_on, Does};
+ghost use Rattle.dist_peers.specs.Verdicts.{is_full, is_greater, ruling, dialled, named, verdict_on, Does};
 
 use crate::by_name::{change_row, drop_row, entry_in, put_row, row_at, set_row, up_count, up_in};
 use crate::entry::{EndId, Entry, PeersError, Verdict};
@@ -140,7 +140,7 @@ impl Peers {
             return Err(PeersError::Full);
         }
         match self.put(peer, Entry::Out(id)) {
-            Ok(()) => Ok(()),
+            Ok(_) => Ok(()),
             Err(_) => Err(PeersError::NoMemory),
         }
     }
@@ -168,9 +168,43 @@ impl Peers {
         }
         let ruling = ruling_of(me.cmp(peer).is_gt(), id, entry);
         match self.put(peer, ruling.entry) {
-            Ok(()) => Ok(ruling.verdict),
+            Ok(_) => Ok(ruling.verdict),
             Err(_) => Err(PeersError::NoMemory),
         }
+    }
+
+    /// A dial to a peer that is known to be idle begins on this end: its entry becomes `Out`. The table is searched once.
+    ///
+    /// Want of memory changes nothing.
+    pub fn dial_idle(&mut self, peer: &NodeName, id: EndId) -> Result<(), AllocError>
+        // `entry` is the test.
+        requires idle { entry_of self.old peer.now ≡ None }
+        // `is_full_for` is the test.
+        requires room { is_full self.old None ≡ false }
+        ensures ok { OnOk result (self.new ≡ map.insert self.old peer.now (Entry.Out id)) }
+        ensures err { OnErr result (self.new ≡ self.old) }
+    {
+        let _ = self.put(peer, Entry::Out(id))?;
+        Ok(())
+    }
+
+    /// A peer's name came on this end, and there is room for its entry: that becomes the one of the table of verdicts. An
+    /// idle peer, as most are, is searched once.
+    ///
+    /// Want of memory changes nothing.
+    #[tactic(auto, using(crate::proofs::Others::put_there, crate::proofs::Others::put_over))]
+    pub fn take_name(&mut self, me: &NodeName, peer: &NodeName, id: EndId) -> Result<(), AllocError>
+        // `is_full_for` is the test.
+        requires room { is_full self.old (entry_of self.old peer.now) ≡ false }
+        ensures ok { OnOk result (self.new ≡ map.insert self.old peer.now (let r = ruling (is_greater me.now peer.now) id (entry_of self.old peer.now) in r.entry)) }
+        ensures err { OnErr result (self.new ≡ self.old) }
+    {
+        let was = self.put(peer, Entry::In(id))?;
+        if was.is_some() {
+            let ruling = ruling_of(me.cmp(peer).is_gt(), id, was);
+            self.set(peer, ruling.entry);
+        }
+        Ok(())
     }
 
     /// This end came up with the peer. Answers the end that was up before, which is closed. It takes no memory.
@@ -198,9 +232,10 @@ impl Peers {
         }
     }
 
-    // Gives a peer an entry; a further peer only where there is room.
-    fn put(&mut self, peer: &NodeName, entry: Entry) -> Result<(), AllocError>
+    // Gives a peer an entry, and answers the one that it had; a further peer only where there is room.
+    fn put(&mut self, peer: &NodeName, entry: Entry) -> Result<Option<Entry>, AllocError>
         requires { is_full self.old (entry_of self.old peer.now) ≡ false }
+        ensures was { IfOk result (λ was. was ≡ entry_of self.old peer.now) }
         ensures ok { OnOk result (self.new ≡ map.insert self.old peer.now entry) }
         ensures err { OnErr result (self.new ≡ self.old) }
     {
