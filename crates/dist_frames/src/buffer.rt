@@ -73,7 +73,9 @@ impl Buffer {
         ensures { self.new ≡ self.old }
     {
         if self.bytes.capacity().saturating_sub(self.bytes.len()) < more {
-            let _ = self.bytes.drain(..self.start);
+            let pending = self.bytes.len() - self.start;
+            self.bytes.copy_within(self.start.., 0);
+            self.bytes.truncate(pending);
             self.start = 0;
         }
     }
@@ -102,7 +104,9 @@ impl Buffer {
             start,
             ..
         } = self;
-        let _ = bytes.drain(..start);
+        let pending = bytes.len() - start;
+        bytes.copy_within(start.., 0);
+        bytes.truncate(pending);
         bytes
     }
 }
