@@ -1,8 +1,10 @@
 //! Writing messages.
 
-ghost use Rattle.std.specs.Prelude.{◌≡◌, ◌<◌, ◌++◌, ◌^◌, length, OnOk};
+ghost use Rattle.std.specs.Prelude.{◌≡◌, ◌<◌, ◌∷◌, ◌++◌, ◌^◌, length, nat_lt, true, false, not, OnOk};
+ghost use Rattle.std.specs.Int.{w16};
+ghost use Rattle.dist_names.specs.Bytes.{number};
 ghost use Rattle.dist_epmd.specs.Answering.{Answers};
-ghost use Rattle.dist_epmd.specs.Layout.{sized, info_text, request_text, written_request, written_answer};
+ghost use Rattle.dist_epmd.specs.Layout.{sized, info_text, request_text, written_request, written_answer, is_spelled, answer_text};
 
 use crate::epmd_error::EpmdError;
 use crate::message::{Answer, NodeInfo, Request};
@@ -11,28 +13,66 @@ use std::alloc::{AllocError, Global};
 // The greatest number that a length of 2 bytes can say.
 const MOST: usize = 65535;
 
+// What has to be written, in two pieces.
+pub fn push_both(bytes: &mut Vec<u8>, first: &[u8], second: &[u8]) -> Result<(), AllocError>
+    ensures { OnOk result (bytes.new.items ≡ bytes.old.items ++ (first.now ++ second.now)) }
+{
+    bytes.extend_from_slice(first)?;
+    bytes.extend_from_slice(second)
+}
+
 fn push_sized(bytes: &mut Vec<u8>, text: &[u8]) -> Result<(), AllocError>
     requires { length text.now < 2 ^ 16 }
     ensures { OnOk result (bytes.new.items ≡ bytes.old.items ++ sized text.now) }
 {
-    bytes.extend_from_slice(&(text.len() as u16).to_be_bytes())?;
-    bytes.extend_from_slice(text)?;
-    Ok(())
+    push_both(bytes, &(text.len() as u16).to_be_bytes(), text)
 }
 
-fn push_info(bytes: &mut Vec<u8>, info: &NodeInfo) -> Result<(), AllocError>
+// The fields of one size.
+fn numbers(info: &NodeInfo) -> [u8; 8]
+    ensures { result ≡ number w16 info.now.port ++ (info.now.node_type ∷ info.now.protocol ∷ number w16 info.now.highest ++ number w16 info.now.lowest) }
+{
+    let [a, b] = info.port.to_be_bytes();
+    let [c, d] = info.highest.to_be_bytes();
+    let [e, f] = info.lowest.to_be_bytes();
+    [a, b, info.node_type, info.protocol, c, d, e, f]
+}
+
+// What stands before them, and the fields of a node.
+fn push_info(bytes: &mut Vec<u8>, before: &[u8], info: &NodeInfo) -> Result<(), AllocError>
     requires name { length info.now.name < 2 ^ 16 }
     requires extra { length info.now.extra < 2 ^ 16 }
-    ensures { OnOk result (bytes.new.items ≡ bytes.old.items ++ info_text info.now) }
+    ensures { OnOk result (bytes.new.items ≡ bytes.old.items ++ (before.now ++ info_text info.now)) }
 {
-    bytes.extend_from_slice(&info.port.to_be_bytes())?;
-    bytes.push(info.node_type)?;
-    bytes.push(info.protocol)?;
-    bytes.extend_from_slice(&info.highest.to_be_bytes())?;
-    bytes.extend_from_slice(&info.lowest.to_be_bytes())?;
+    push_both(bytes, before, &numbers(info))?;
     push_sized(bytes, info.name.as_slice())?;
-    push_sized(bytes, info.extra.as_slice())?;
-    Ok(())
+    push_sized(bytes, info.extra.as_slice())
+}
+
+// Whether a frame takes the request.
+fn is_framed(request: &Request) -> bool
+    ensures { result ≡ not (nat_lt 65535 (length (request_text request.now))) }
+{
+    match request {
+        Request::Alive(info) => {
+            let name = info.name.as_slice().len();
+            name <= MOST - 13 && info.extra.as_slice().len() <= MOST - 13 - name
+        }
+        Request::PortPlease(name) => name.as_slice().len() < MOST,
+        Request::Names => true,
+    }
+}
+
+fn push_request(body: &mut Vec<u8>, request: &Request) -> Result<(), AllocError>
+    // The caller asks `is_framed` first.
+    requires { nat_lt 65535 (length (request_text request.now)) ≡ false }
+    ensures { OnOk result (body.new.items ≡ body.old.items ++ request_text request.now) }
+{
+    match request {
+        Request::Alive(info) => push_info(body, &[0x78], info),
+        Request::PortPlease(name) => push_both(body, &[0x7a], name.as_slice()),
+        Request::Names => body.extend_from_slice(&[0x6e]),
+    }
 }
 
 /// The body that is written for a request (see [`Request`]), without the frame's length before it.
@@ -41,27 +81,45 @@ fn push_info(bytes: &mut Vec<u8>, info: &NodeInfo) -> Result<(), AllocError>
 pub fn encode_request(alloc: Global, request: &Request) -> Result<Vec<u8>, EpmdError>
     ensures exact { Answers (λ v. v.items) result (written_request request.now) }
 {
-    let mut body = Vec::new(alloc);
-    match request {
-        Request::Alive(info) => {
-            let name = info.name.as_slice().len();
-            let extra = info.extra.as_slice().len();
-            if name > MOST - 13 || extra > MOST - 13 - name {
-                return Err(EpmdError::Malformed);
-            }
-            body.push(0x78)?;
-            push_info(&mut body, info)?;
-        }
-        Request::PortPlease(name) => {
-            if name.as_slice().len() > MOST - 1 {
-                return Err(EpmdError::Malformed);
-            }
-            body.push(0x7a)?;
-            body.extend_from_slice(name.as_slice())?;
-        }
-        Request::Names => body.push(0x6e)?,
+    if !is_framed(request) {
+        return Err(EpmdError::Malformed);
     }
+    let mut body = Vec::new(alloc);
+    push_request(&mut body, request)?;
     Ok(body)
+}
+
+// Whether the answer has a spelling.
+fn is_spelled(answer: &Answer) -> bool
+    ensures { result ≡ is_spelled answer.now }
+{
+    match answer {
+        Answer::Port(Ok(info)) => {
+            info.name.as_slice().len() <= MOST && info.extra.as_slice().len() <= MOST
+        }
+        Answer::Port(Err(code)) => *code != 0,
+        _ => true,
+    }
+}
+
+fn push_answer(bytes: &mut Vec<u8>, answer: &Answer) -> Result<(), AllocError>
+    // The caller asks `is_spelled` first.
+    requires { is_spelled answer.now ≡ true }
+    ensures { OnOk result (bytes.new.items ≡ bytes.old.items ++ answer_text answer.now) }
+{
+    match answer {
+        Answer::AliveX {
+            result_code,
+            creation,
+        } => push_both(bytes, &[0x76, *result_code], &creation.to_be_bytes()),
+        Answer::Alive {
+            result_code,
+            creation,
+        } => push_both(bytes, &[0x79, *result_code], &creation.to_be_bytes()),
+        Answer::Port(Ok(info)) => push_info(bytes, &[0x77, 0], info),
+        Answer::Port(Err(code)) => bytes.extend_from_slice(&[0x77, *code]),
+        Answer::Names { port, text } => push_both(bytes, &port.to_be_bytes(), text.as_slice()),
+    }
 }
 
 /// The bytes that are written for an answer (see [`Answer`]).
@@ -71,39 +129,10 @@ pub fn encode_request(alloc: Global, request: &Request) -> Result<Vec<u8>, EpmdE
 pub fn encode_answer(alloc: Global, answer: &Answer) -> Result<Vec<u8>, EpmdError>
     ensures exact { Answers (λ v. v.items) result (written_answer answer.now) }
 {
-    let mut bytes = Vec::new(alloc);
-    match answer {
-        Answer::AliveX {
-            result_code,
-            creation,
-        } => {
-            bytes.extend_from_slice(&[0x76, *result_code])?;
-            bytes.extend_from_slice(&creation.to_be_bytes())?;
-        }
-        Answer::Alive {
-            result_code,
-            creation,
-        } => {
-            bytes.extend_from_slice(&[0x79, *result_code])?;
-            bytes.extend_from_slice(&creation.to_be_bytes())?;
-        }
-        Answer::Port(Ok(info)) => {
-            if info.name.as_slice().len() > MOST || info.extra.as_slice().len() > MOST {
-                return Err(EpmdError::Malformed);
-            }
-            bytes.extend_from_slice(&[0x77, 0])?;
-            push_info(&mut bytes, info)?;
-        }
-        Answer::Port(Err(code)) => {
-            if *code == 0 {
-                return Err(EpmdError::Malformed);
-            }
-            bytes.extend_from_slice(&[0x77, *code])?;
-        }
-        Answer::Names { port, text } => {
-            bytes.extend_from_slice(&port.to_be_bytes())?;
-            bytes.extend_from_slice(text.as_slice())?;
-        }
+    if !is_spelled(answer) {
+        return Err(EpmdError::Malformed);
     }
+    let mut bytes = Vec::new(alloc);
+    push_answer(&mut bytes, answer)?;
     Ok(bytes)
 }

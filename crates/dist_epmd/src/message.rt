@@ -38,7 +38,7 @@ pub const LOWEST: u16 = 5;
 /// | `extra` | | whatever the node adds |
 ///
 /// Reading takes any value of each field. A `name` or `extra` of more than 65,535 bytes has no spelling.
-#[derive(Debug, Drop)]
+#[derive(Drop)]
 pub struct NodeInfo {
     pub port: u16,
     pub node_type: u8,
@@ -114,7 +114,7 @@ pub type PortInfo = NodeInfo;
 ///
 /// This is the body of a frame: the 2 bytes of the frame's length stand before it and are no part of it, and so it has at
 /// most 65,535 bytes.
-#[derive(Debug, Drop)]
+#[derive(Drop)]
 pub enum Request {
     /// Asks to be registered as long as the connection lasts.
     Alive(NodeInfo),
@@ -135,7 +135,7 @@ pub enum Request {
 /// | `Names`, NAMES_RESP | `Names` | port 4 bytes, text to the end |
 ///
 /// A result of 0 is success. The guide's field `Result` is `result_code` here.
-#[derive(Debug, Drop)]
+#[derive(Drop)]
 pub enum Answer {
     /// The answer to a registration by a node that knows version 6 of the handshake.
     AliveX { result_code: u8, creation: u32 },
@@ -148,7 +148,7 @@ pub enum Answer {
 }
 
 /// Which request an answer is awaited for. The answer's first byte does not tell: an answer to `Names` has none.
-#[derive(Clone, Copy, Debug, PartialEq, Eq)]
+#[derive(Clone, Copy, PartialEq, Eq)]
 pub enum Asked {
     /// A registration.
     Alive,

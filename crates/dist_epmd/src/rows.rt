@@ -6,6 +6,7 @@ ghost use Rattle.std.specs.List.{list_all, list_any};
 ghost use Rattle.dist_epmd.specs.Book.{is_short_byte, is_short_name, is_named, is_of, with_row, line_of};
 ghost use Rattle.dist_epmd.specs.Named.{StandAtNames};
 
+use crate::encoding::push_both;
 use crate::row::Row;
 use itoa::Buffer;
 use std::alloc::AllocError;
@@ -85,12 +86,9 @@ fn push_line(bytes: &mut Vec<u8>, row: &Row) -> Result<(), AllocError>
     ensures { OnOk result (bytes.new.items ≡ bytes.old.items ++ line_of row.now) }
 {
     let mut buffer = Buffer::new();
-    bytes.extend_from_slice(b"name ")?;
-    bytes.extend_from_slice(row.info.name.as_slice())?;
-    bytes.extend_from_slice(b" at port ")?;
-    bytes.extend_from_slice(buffer.format(row.info.port).as_bytes())?;
-    bytes.push(b'\n')?;
-    Ok(())
+    push_both(bytes, b"name ", row.info.name.as_slice())?;
+    push_both(bytes, b" at port ", buffer.format(row.info.port).as_bytes())?;
+    bytes.extend_from_slice(b"\n")
 }
 
 pub fn push_lines(bytes: &mut Vec<u8>, rows: &BTreeMap<Vec<u8>, Row>) -> Result<(), AllocError>
