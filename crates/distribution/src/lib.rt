@@ -42,27 +42,24 @@
 //! let opened = node.step(alloc, &Event::Opened { end_, link: 0 }, 0)?;
 //! ```
 //!
-//! 4. What the node says is written, what is read is told as frames, until a reply has the record of an end that is up, or says
-//!    that the end is closed. The last argument of `step` is a random number, drawn anew for each connection; where no challenge
-//!    is said it is ignored. `link` is a number for the caller alone.
+//! 4. `handshake` writes what the end says first, hands on each frame that comes, and writes all that the node says to one,
+//!    until the end is up or closed, or no turn is left. From here on the node is a desk's: `MemoryDesk` holds one, and a program
+//!    with many links has a desk that reaches the node they share. The challenge is a random number, drawn anew for each
+//!    connection; where no challenge is said, the last argument of `step` is ignored. `link` is a number for the caller alone.
 //!
 //! ```text
-//! let mut limited = Limited { stream: &mut stream, left: 160 };
-//! limited.write_all(opened.say.as_slice())?;
-//! loop {
-//!     limited.read_exact(&mut length)?;            // 2 bytes, the greater one first
-//!     limited.read_exact(&mut body)?;              // so many bytes
-//!     let reply = node.step(alloc, &Event::Frame { end_, body }, drawn)?;
-//!     limited.write_all(reply.say.as_slice())?;
-//!     if let Some((_, why)) = reply.closed { .. }  // refused, by the node or by its peer
-//!     if let Some(record) = reply.up { break }     // the peer's name, its creation, the flags of both
+//! let mut desk = MemoryDesk::new(alloc, node, end_)?;
+//! let first = opened.say.as_slice();
+//! match handshake(alloc, &mut stream, &mut desk, &mut challenge, end_, first, 160) {
+//!     Reached::Up { record, rest } => ..     // the peer's name, its creation, the flags of both; what stood behind
+//!     Reached::Ended(outcome) => ..          // refused, by the node or by its peer, or the connection failed
 //! }
 //! ```
 //!
-//!    Read so, not a byte behind the last frame is taken. `handshake` does all of this for a `Desk`, reads what comes, and hands
-//!    out the record and the bytes behind the last frame, with which `Packets::behind_handshake` begins. `drive` does it for a
-//!    node that only keeps its connections. Where the connection ends before the end is up, `Node::awaits` says which message was
-//!    due: an acknowledgement, mostly, since the other side has another cookie.
+//!    `rest` is what was read behind the last frame, with which `Packets::behind_handshake` begins. Where the connection fails
+//!    before the end is up, the steps in the desk's list tell which message was due: an acknowledgement, mostly, since the other
+//!    side has another cookie. A program that reads its frames itself, by `Limited::read_exact` and `Node::step`, asks
+//!    `Node::awaits` before it tells the loss. `drive` does all of this for a node that only keeps its connections.
 //!
 //! 5. The stream is the program's. `Packets` parts what comes into packets; one of no bytes is a tick. `header` is what stands
 //!    before a packet that is written, and `tick` a whole one. `Ticker` says when a tick is due and when a silent peer is given
