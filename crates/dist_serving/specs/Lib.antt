@@ -1,3 +1,4 @@
+pub mod Attending
 pub mod Owed
 pub mod Owing
 pub mod Serving

@@ -28,3 +28,7 @@ module _ {S : Type 0} where
   -- Of this text that front was said on the stream, and no other byte, since so much was written on it.
   abbrev pub IsTold : (S → StreamState) → Option (List ℕ) → Owed S → Type 0
   IsTold meaning before owed = (meaning owed.stream).written ≡ append_known before (said_of owed)
+
+  -- WHAT A CLIENT THAT HAS LEFT IS TOLD IN ALL: what was written on its stream, and then what is left.
+  abbrev pub told_in_all : (S → StreamState) → Owed S → Option (List ℕ)
+  told_in_all meaning owed = append_known (meaning owed.stream).written (left_of owed)

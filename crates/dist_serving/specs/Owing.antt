@@ -2,11 +2,11 @@
 use Rattle.std.specs.Prelude.{◌≡◌, ℕ, ◌==◌, ◌||◌, ◌++◌, Bool, true, false, List, Option, Some, None, length, take, drop, nat_le, if◌then◌else◌}
 use Rattle.std.specs.Io.KnownBytes.{append_known}
 use Rattle.std.specs.Ordering.{nat_cmp}
-use Rattle.std.specs.BTreeMap.{BTreeMap, get, Updates}
+use Rattle.std.specs.BTreeMap.{BTreeMap, get, insert_entry, Updates}
 use Rattle.dist_streams.specs.Stream.{StreamState}
 use Rattle.dist_serving.specs.declared.owed.Owed.{Owed}
 use Rattle.dist_serving.specs.declared.owing.Owing.{Owing}
-use Rattle.dist_serving.specs.Owed.{stream_of, text_of, since_of, said_of, left_of, IsTold}
+use Rattle.dist_serving.specs.Owed.{stream_of, text_of, since_of, said_of, left_of, told_in_all, IsTold}
 
 module _ {S : Type 0} where
   -- all that is owed, with the numbers of the connections, in the order in which they came
@@ -31,6 +31,7 @@ module _ {S : Type 0} (meaning : S → StreamState) where
     pub whole : text_of owed ≡ text
     pub since : since_of owed ≡ now
     pub told : IsTold meaning (meaning stream).written owed
+    pub in_all : told_in_all meaning owed ≡ append_known (meaning stream).written text
     pub failed : Bool
     pub marked : (meaning (stream_of owed)).write_failed ≡ (failed || (meaning stream).write_failed)
     pub is_over : over ≡ (failed || nat_le (length (left_of owed)) 0)
@@ -44,6 +45,7 @@ module _ {S : Type 0} (meaning : S → StreamState) where
     pub said : said_of new ≡ said_of old ++ take count (left_of old)
     pub left : left_of new ≡ drop count (left_of old)
     pub written : (meaning (stream_of new)).written ≡ append_known (meaning (stream_of old)).written (take count (left_of old))
+    pub in_all : told_in_all meaning new ≡ told_in_all meaning old
     pub failed : Bool
     pub marked : (meaning (stream_of new)).write_failed ≡ (failed || (meaning (stream_of old)).write_failed)
     pub is_over : over ≡ (failed || nat_le (length (left_of new)) 0)
@@ -64,3 +66,9 @@ module _ {S : Type 0} (meaning : S → StreamState) where
   AfterTry goes None new = (new ≡ None) × (goes ≡ false)
   AfterTry goes (Some old) None = (goes ≡ false) × ((last : Owed S) × TryMore old last true)
   AfterTry goes (Some old) (Some new) = (goes ≡ true) × TryMore old new false
+
+  -- A CLIENT LEFT WITH A TEXT, of which its stream took a front at once. The rest is owed to it; else all was said, the write
+  -- failed, or memory lacked. Where something was left, a place among what is owed was made first.
+  abbrev pub AfterLeave : Bool → S → List ℕ → ℕ → ℕ → Owing S → Owing S → Type 0
+  AfterLeave true stream text now conn old new = (owed : Owed S) × FirstTry stream text now owed false × (all_owed new ≡ insert_entry nat_cmp (but_oldest (all_owed old)) conn owed)
+  AfterLeave false stream text now conn old new = (owed : Owed S) × (over : Bool) × FirstTry stream text now owed over × (all_owed new ≡ (if over then all_owed old else but_oldest (all_owed old)))

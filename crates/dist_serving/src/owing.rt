@@ -5,7 +5,7 @@ ghost use Rattle.std.specs.Ordering.{nat_cmp};
 ghost use Rattle.std.specs.BTreeMap.{get, insert_entry, IsUnchanged};
 ghost use Rattle.dist_serving.specs.Owed.{stream_of, since_of};
 ghost use Rattle.dist_serving.specs.declared.owed.Owed.{Owed};
-ghost use Rattle.dist_serving.specs.Owing.{all_owed, but_oldest, owed_to, AfterTry, FirstTry, OthersOwed, TriedIn, TryMore};
+ghost use Rattle.dist_serving.specs.Owing.{all_owed, but_oldest, owed_to, AfterLeave, AfterTry, FirstTry, OthersOwed, TriedIn, TryMore};
 
 use crate::owed::Owed;
 use dist_names::ByteString;
@@ -122,8 +122,7 @@ impl<S: Stream + Drop> Owing<S> {
     /// are, that of the oldest connection is dropped. Answers whether something is owed to it: else all is said, the write failed,
     /// or memory lacks, and its connection is closed.
     pub fn leave(&mut self, conn: u64, stream: S, text: ByteString, now: u64) -> bool
-        ensures owed { result ≡ true → (owed : Owed S) × FirstTry S.meaning stream text now owed false × (all_owed self.new ≡ insert_entry nat_cmp (but_oldest (all_owed self.old)) conn owed) }
-        ensures closed { result ≡ false → (owed : Owed S) × (over : Bool) × FirstTry S.meaning stream text now owed over × (all_owed self.new ≡ (if over then all_owed self.old else but_oldest (all_owed self.old))) }
+        ensures { AfterLeave S.meaning result stream text now conn self.old self.new }
     {
         let (owed, is_over) = first_try(stream, text, now);
         if is_over {

@@ -2,7 +2,7 @@
 
 ghost use Rattle.std.specs.Prelude.{◌≡◌, ℕ, ◌++◌, ◌≤◌, ◌-◌, ◌||◌, ◌&&◌, [], List, Option, length, take, drop, nat_le};
 ghost use Rattle.std.specs.Io.KnownBytes.{append_known};
-ghost use Rattle.dist_serving.specs.Owed.{stream_of, text_of, since_of, said_of, left_of, IsTold};
+ghost use Rattle.dist_serving.specs.Owed.{stream_of, text_of, since_of, said_of, left_of, told_in_all, IsTold};
 
 use crate::owed::Owed;
 use dist_names::ByteString;
@@ -54,6 +54,7 @@ impl<S: Stream> Owed<S> {
         ensures since { since_of result ≡ since }
         ensures said { said_of result ≡ [] }
         ensures told { IsTold S.meaning (S.meaning stream).written result }
+        ensures in_all { told_in_all S.meaning result ≡ append_known (S.meaning stream).written text }
     {
         Owed {
             stream,
@@ -97,6 +98,9 @@ impl<S: Stream> Owed<S> {
         ensures left { left_of self.new ≡ drop result.count (left_of self.old) }
         ensures written { (S.meaning (stream_of self.new)).written ≡ append_known (S.meaning (stream_of self.old)).written (take result.count (left_of self.old)) }
         ensures failed { (S.meaning (stream_of self.new)).write_failed ≡ (result.failed || (S.meaning (stream_of self.old)).write_failed) }
+
+        // What was said on its stream and then what is left stays the same: no byte is lost, said twice or exchanged.
+        ensures in_all { told_in_all S.meaning self.new ≡ told_in_all S.meaning self.old }
 
         // In how many pieces it is said does not matter.
         ensures told { (before : Option (List ℕ)) → IsTold S.meaning before self.old → IsTold S.meaning before self.new }

@@ -3,15 +3,17 @@
 ghost use Rattle.std.specs.Prelude.{◌≡◌, ◌<◌, ◌≤◌, ◌-◌, not, filter, nat_le};
 ghost use Rattle.dist_clients.specs.Clients.{book_of, clients_of};
 ghost use Rattle.dist_clients.specs.Sweeping.{is_late};
+ghost use Rattle.dist_serving.specs.Attending.{Attends};
+ghost use Rattle.dist_serving.specs.declared.attending.Watch.{Watch};
 ghost use Rattle.dist_serving.specs.Owed.{since_of};
 ghost use Rattle.dist_serving.specs.Owing.{all_owed};
-ghost use Rattle.dist_serving.specs.Serving.{clients_at, oldest_of, owing_at, seconds_of, swept_at, MakesRoom};
+ghost use Rattle.dist_serving.specs.Serving.{clients_at, oldest_of, owing_at, most_of, seconds_of, swept_at, ComesTo, MakesRoom};
 
+use crate::attending::{Watch, attend};
 use crate::owing::Owing;
-use crate::turns::{Step, read_all};
+use crate::places::{make_room, take_in};
 use dist_clients::Clients;
-use dist_names::ByteString;
-use dist_streams::SocketStream;
+use dist_streams::{SocketStream, Stream};
 use mio::net::{TcpListener, TcpStream};
 use mio::unix::SourceFd;
 use mio::{Events, Interest, Poll, Token};
@@ -76,18 +78,6 @@ fn token_of(conn: u64) -> Option<Token> {
     }
 }
 
-// Closes the client that is here for the longest without having asked; where all have asked, what is owed on the oldest connection
-// is dropped. Answers whether that made room.
-fn make_room<S: Drop>(clients: &mut Clients<S>, owing: &mut Owing<S>) -> bool
-    ensures { MakesRoom (oldest_of clients.old) clients.old clients.new owing.old owing.new result }
-{
-    if clients.oldest().is_none() {
-        return owing.drop_first();
-    }
-    let _ = clients.close_oldest();
-    true
-}
-
 impl Server {
     /// A port mapper without listeners. `port` is told to clients as its own, and `first` is the first creation.
     pub fn new(
@@ -139,25 +129,23 @@ impl Server {
     }
 
     // Makes room for one connection more. Answers whether there was some to make.
-    fn drop_oldest(&mut self) -> bool {
+    fn drop_oldest(&mut self) -> bool
+        ensures { MakesRoom (oldest_of (clients_at self.old)) (clients_at self.old) (clients_at self.new) (owing_at self.old) (owing_at self.new) result }
+    {
         make_room(&mut self.clients, &mut self.owing)
-    }
-
-    // Whether all places are taken.
-    fn is_full(&self) -> bool {
-        self.clients.len().saturating_add(self.owing.len()) >= self.limits.clients
     }
 
     // Takes a connection in. Where all places are taken, the oldest client that has not asked makes room; where there is
     // none, the new one is closed.
-    fn take(&mut self, stream: TcpStream, from: IpAddr, now: u64) {
-        if self.is_full() && !self.drop_oldest() {
-            return;
-        }
+    fn take(&mut self, stream: TcpStream, from: IpAddr, now: u64)
+        ensures { ComesTo now (most_of self.old) (clients_at self.old) (clients_at self.new) (owing_at self.old) (owing_at self.new) }
+    {
         let local = is_local(&stream, from);
         let fd = stream.as_raw_fd();
         let stream = SocketStream::new(net::TcpStream::from(stream));
-        let Ok(conn) = self.clients.open(self.alloc, stream, local, now) else {
+        let most = self.limits.clients;
+        let (clients, owing) = (&mut self.clients, &mut self.owing);
+        let Some(conn) = take_in(clients, owing, self.alloc, stream, local, now, most) else {
             return;
         };
         if !self.watch(fd, conn) {
@@ -200,61 +188,45 @@ impl Server {
         self.rearm(place);
     }
 
-    // Says the last bytes to a client, and closes its socket, or keeps what the socket does not take yet.
-    fn leave(&mut self, conn: u64, stream: SocketStream, text: ByteString, now: u64) {
-        if self.owing.leave(conn, stream, text, now) {
-            self.await_room(conn);
-        }
-    }
-
-    // Asks to be told, also again, when the socket takes more.
-    fn await_room(&self, conn: u64) {
-        if let Some(stream) = self.owing.stream(conn)
-            && let Some(token) = token_of(conn)
-        {
-            let fd = stream.get_ref().as_raw_fd();
+    // Asks to be told, also again, when a connection is ready for this.
+    fn rewatch(&self, conn: u64, fd: i32, interest: Interest) {
+        if let Some(token) = token_of(conn) {
             let registry = self.poll.registry();
-            let _ = registry.reregister(&mut SourceFd(&fd), token, Interest::WRITABLE);
+            let _ = registry.reregister(&mut SourceFd(&fd), token, interest);
         }
     }
 
-    // Goes on to say what is owed to a client, and closes its socket where all is said.
-    fn go_on(&mut self, conn: u64) {
-        if self.owing.go_on(conn) {
-            self.await_room(conn);
+    // Asks for what a connection is to be watched for.
+    fn watch_again(&self, conn: u64, watch: Watch) {
+        match watch {
+            Watch::Nothing => {}
+            Watch::Reading => {
+                if let Some(stream) = self.clients.stream(conn) {
+                    self.rewatch(conn, stream.get_ref().as_raw_fd(), Interest::READABLE);
+                }
+            }
+            Watch::Writing => {
+                if let Some(stream) = self.owing.stream(conn) {
+                    self.rewatch(conn, stream.get_ref().as_raw_fd(), Interest::WRITABLE);
+                }
+            }
         }
     }
 
-    // Reads what came on a connection, and does what is to be done.
-    fn read(&mut self, conn: u64, room: &mut [u8], now: u64) {
-        if room.is_empty() {
-            return;
-        }
-        match read_all(&mut self.clients, self.alloc, conn, room) {
-            Step::More => self.rewatch(conn),
-            Step::Leaves(stream, text) => self.leave(conn, stream, text, now),
-            Step::Quiet | Step::Closed => {}
-        }
-    }
-
-    // Asks to be told again of a connection that may have more to read.
-    fn rewatch(&self, conn: u64) {
-        if let Some(stream) = self.clients.stream(conn)
-            && let Some(token) = token_of(conn)
-        {
-            let fd = stream.get_ref().as_raw_fd();
-            let registry = self.poll.registry();
-            let _ = registry.reregister(&mut SourceFd(&fd), token, Interest::READABLE);
-        }
+    // Does what is to be done for a connection that is ready.
+    fn attend(&mut self, conn: u64, room: &mut [u8], now: u64)
+        ensures { (watch : Watch) × Attends ⟦<SocketStream as Stream>⟧.meaning conn now (clients_at self.old) (clients_at self.new) (owing_at self.old) (owing_at self.new) watch }
+    {
+        let (clients, owing) = (&mut self.clients, &mut self.owing);
+        let watch = attend(clients, owing, self.alloc, conn, room, now);
+        self.watch_again(conn, watch);
     }
 
     /// Serves the clients among what is ready. They come before the listeners: the end of a connection is noticed before a
     /// later connection asks.
     pub fn serve_client(&mut self, token: Token, room: &mut [u8], now: u64) {
         if listener_of(token).is_none() {
-            let conn = token.0 as u64;
-            self.read(conn, room, now);
-            self.go_on(conn);
+            self.attend(token.0 as u64, room, now);
         }
     }
 

@@ -14,6 +14,25 @@ const EVENTS: usize = 1024;
 // The most bytes of one read: a request and its length fit.
 const ROOM: usize = 4096;
 
+fn serve_clients(server: &mut Server, events: &Events, room: &mut [u8], now: u64) {
+    for event in events.iter() {
+        server.serve_client(event.token(), room, now);
+    }
+}
+
+fn serve_listeners(server: &mut Server, events: &Events, now: u64) {
+    for event in events.iter() {
+        server.serve_listener(event.token(), now);
+    }
+}
+
+// One round: the clients among what is ready, then the listeners, then whoever is late.
+fn serve_ready(server: &mut Server, events: &Events, room: &mut [u8], now: u64) {
+    serve_clients(server, events, room, now);
+    serve_listeners(server, events, now);
+    server.sweep(now);
+}
+
 /// Serves until it is told to stop. Where nothing happens it waits for `most`: that long it takes to see that it is told to
 /// stop, or that a client is late. It ends with an `Err` where the system does not tell what is ready, or memory lacks at the
 /// start.
@@ -33,13 +52,7 @@ pub fn serve<R: Wait + Clock>(
         }
         server.wait(&mut events, most)?;
         let now = start.elapsed(rt)?.as_secs();
-        for event in events.iter() {
-            server.serve_client(event.token(), &mut room, now);
-        }
-        for event in events.iter() {
-            server.serve_listener(event.token(), now);
-        }
-        server.sweep(now);
+        serve_ready(server, &events, &mut room, now);
     }
     Ok(())
 }

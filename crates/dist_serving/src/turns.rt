@@ -42,9 +42,9 @@ fn is_said_whole<S: Stream + Drop>(clients: &mut Clients<S>, conn: u64, text: &[
     }
 }
 
-/// Says the answer to a registration, which goes out whole and by one write; else the client is closed. Answers whether it
-/// stays.
-pub fn stay<S: Stream + Drop>(clients: &mut Clients<S>, conn: u64, text: &[u8]) -> bool
+// Says the answer to a registration, which goes out whole and by one write; else the client is closed. Answers whether it
+// stays.
+fn stay<S: Stream + Drop>(clients: &mut Clients<S>, conn: u64, text: &[u8]) -> bool
     // Such an answer has bytes.
     requires { 0 < length text.now }
     ensures stays { result ≡ true → Carries (SaidWhole S.meaning text.now) conn clients.old clients.new }
@@ -119,8 +119,8 @@ fn follow<S: Stream + Drop>(
     }
 }
 
-/// Reads what came on a connection, by one read, and does what is to be done.
-pub fn read_once<S: Stream + Drop>(
+// Reads what came on a connection, by one read, and does what is to be done.
+fn read_once<S: Stream + Drop>(
     clients: &mut Clients<S>,
     alloc: Global,
     conn: u64,
@@ -142,19 +142,20 @@ pub fn read_once<S: Stream + Drop>(
 const READS: usize = 16;
 
 /// Reads what came on a connection, by some reads, until nothing more came or its client has left. Where it goes on to come,
-/// the answer is `More`.
+/// the answer is `More`; so it is where the room is empty, and then nothing is read.
 pub fn read_all<S: Stream + Drop>(
     clients: &mut Clients<S>,
     alloc: Global,
     conn: u64,
     room: &mut [u8],
 ) -> Step<S>
-    // The caller has room for bytes.
-    requires { 0 < length room.old }
     ensures turns { Chain S.meaning conn clients.old clients.new result }
     ensures others { OthersStay conn clients.old clients.new }
     ensures left { HasLeft result → client_of clients.new conn ≡ None }
 {
+    if room.is_empty() {
+        return Step::More;
+    }
     for _ in 0..READS {
         match read_once(clients, alloc, conn, room) {
             Step::More => {}

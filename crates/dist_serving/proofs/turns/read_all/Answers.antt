@@ -1,10 +1,16 @@
-use Rattle.std.proofs.Common.{refl, ◌∙◌, arith}
+use Rattle.std.proofs.Common.{◌<◌, length, rules, refl, ◌∙◌, arith}
+use Rattle.std.proofs.lemmas.Grind.{common_steps}
 use Rattle.dist_serving.specs.Turns.{none, next}
 use Rattle.dist_serving.specs.declared.turns.Step.TheVariants.{More}
 use Rattle.dist_serving.proofs.turns.read_all.Goals as goal
 
 pub loop-init : goal.loop-init
-loop-init g c = record { turns = none; others = λ other apart. refl; room = c.requires }
+loop-init g c =
+    let room : 0 < length c.args.room.now = first_of (search rules, grind (arith, common_steps)) in
+    record { turns = none; others = λ other apart. refl; room = room }
+
+pub returns-then-is_empty-clause-turns : goal.returns-then-is_empty-clause-turns
+returns-then-is_empty-clause-turns g c = none
 
 pub returns-in_default : goal.returns-in_default
 returns-in_default g c = record {
