@@ -65,8 +65,8 @@ fn go_on<S: Stream + Drop>(owing: &mut Owing<S>, conn: u64) -> Watch
 }
 
 /// Does what is to be done for a connection that is ready, and says what it is to be watched for. A client that is here is heard,
-/// by some reads, and told what the table says; where it has left, what is owed to it goes on. Nothing happens where the room is
-/// empty, or nobody is here and nothing is owed.
+/// by some reads, and told what the table says; where it has left, what is owed to it goes on. Where the room is empty nothing is
+/// read, and the connection is to be watched again; where nobody is here and nothing is owed, nothing happens.
 pub fn attend<S: Stream + Drop>(
     clients: &mut Clients<S>,
     owing: &mut Owing<S>,
