@@ -14,15 +14,27 @@ const MAPPER_PORT: u16 = 4369;
 /// How many seconds a connect, a lookup and a talk may take each. A node gives up a handshake after 7. Our own choice.
 const USUAL_SECONDS: u16 = 8;
 
-/// What the command line asks for.
-#[derive(Drop)]
-pub enum Asked<'a> {
-    /// How the program is called.
+/// What is done in place of dialling.
+#[derive(Clone, Copy)]
+pub enum Instead {
+    /// How the program is called is printed.
     Help,
-    /// Which version it is.
+    /// Which version it is is printed.
     Version,
-    /// To dial nodes.
-    Dials(Wanted<'a>),
+    /// The words ask for nothing.
+    Fault(Fault),
+}
+
+impl From<Fault> for Instead {
+    fn from(fault: Fault) -> Instead {
+        Instead::Fault(fault)
+    }
+}
+
+impl From<AllocError> for Instead {
+    fn from(_error: AllocError) -> Instead {
+        Instead::Fault(Fault::NoMemory)
+    }
 }
 
 /// Which cookie is to be tried.
@@ -39,10 +51,17 @@ pub enum CookieSource<'a> {
 /// What is to be dialled, and how.
 #[derive(Drop)]
 pub struct Wanted<'a> {
-    /// The names of the nodes, one at least.
+    /// The names of the nodes, one at least unless it is listened.
     pub nodes: Vec<NodeName>,
     /// The name that the probe gives itself, where one is given.
     pub name: Option<NodeName>,
+    /// The rest.
+    pub choices: Choices<'a>,
+}
+
+/// What is chosen beside names.
+#[derive(Clone, Copy)]
+pub struct Choices<'a> {
     /// The cookie.
     pub cookie: CookieSource<'a>,
     /// What the probe announces.
@@ -61,7 +80,7 @@ pub struct Wanted<'a> {
     pub json: bool,
 }
 
-impl<'a> Wanted<'a> {
+impl<'a> Choices<'a> {
     /// The host to connect to for a node.
     pub fn host<'b>(&'b self, node: &'b NodeName) -> &'b str {
         match self.address {
@@ -76,49 +95,59 @@ impl<'a> Wanted<'a> {
     }
 }
 
-// How a word of the command line is given.
-#[derive(Clone, Copy)]
-enum Kind {
-    // By itself, as often as is wanted.
-    Node,
-    // By its name alone.
-    Switch,
-    // By its name, and a value behind it.
-    Value,
-}
+// The program's words that stand by themselves.
+const SWITCHES: [&str; 2] = ["no-cookie", "json"];
 
-// The program's words.
-const WORDS: [(&str, Kind); 11] = [
-    ("node", Kind::Node),
-    ("no-cookie", Kind::Switch),
-    ("json", Kind::Switch),
-    ("name", Kind::Value),
-    ("cookie", Kind::Value),
-    ("flags", Kind::Value),
-    ("epmd-port", Kind::Value),
-    ("port", Kind::Value),
-    ("address", Kind::Value),
-    ("seconds", Kind::Value),
-    ("listen", Kind::Value),
+// The program's words that a value stands behind.
+const VALUES: [&str; 8] = [
+    "name",
+    "cookie",
+    "flags",
+    "epmd-port",
+    "port",
+    "address",
+    "seconds",
+    "listen",
 ];
 
-fn argument<'a>(alloc: Global, id: &'a str, kind: Kind) -> Arg<'a> {
-    let argument = Arg::new(alloc, id);
-    match kind {
-        Kind::Node => argument.num_args(1..).action(ArgAction::Append),
-        Kind::Switch => argument.long(id).action(ArgAction::SetTrue),
-        Kind::Value => argument.long(id).action(ArgAction::Set),
+// The program with the names of the nodes alone.
+fn bare<'a>(alloc: Global) -> Result<Command<'a>, AllocError> {
+    let nodes = Arg::new(alloc, "node")
+        .num_args(1..)
+        .action(ArgAction::Append);
+    Command::new(alloc, "distping")
+        .no_binary_name(true)
+        .version("0")
+        .arg(nodes)
+}
+
+// The program with one more word.
+fn with_word<'a>(
+    alloc: Global,
+    program: Command<'a>,
+    word: &'a str,
+    action: ArgAction,
+) -> Result<Command<'a>, AllocError> {
+    program.arg(Arg::new(alloc, word).long(word).action(action))
+}
+
+// The program with more words, which are all given in this way.
+fn with_words<'a>(
+    alloc: Global,
+    bare: Command<'a>,
+    words: &[&'a str],
+    action: ArgAction,
+) -> Result<Command<'a>, AllocError> {
+    let mut program = bare;
+    for word in words {
+        program = with_word(alloc, program, word, action)?;
     }
+    Ok(program)
 }
 
 fn program<'a>(alloc: Global) -> Result<Command<'a>, AllocError> {
-    let mut program = Command::new(alloc, "distping")
-        .no_binary_name(true)
-        .version("0");
-    for (id, kind) in WORDS {
-        program = program.arg(argument(alloc, id, kind))?;
-    }
-    Ok(program)
+    let program = with_words(alloc, bare(alloc)?, &SWITCHES, ArgAction::SetTrue)?;
+    with_words(alloc, program, &VALUES, ArgAction::Set)
 }
 
 // The flags of a list of names, else of hexadecimal digits.
@@ -173,11 +202,17 @@ pub fn name_of(alloc: Global, bytes: &[u8]) -> Result<NodeName, Fault> {
     }
 }
 
+// One more name of a node.
+fn push_node(alloc: Global, nodes: &mut Vec<NodeName>, word: &str) -> Result<(), Fault> {
+    let name = name_of(alloc, word.as_bytes())?;
+    Ok(nodes.push(name)?)
+}
+
 // The names of the nodes.
 fn nodes_in(alloc: Global, matches: &ArgMatches<'_>) -> Result<Vec<NodeName>, Fault> {
     let mut nodes = Vec::new(alloc);
     for word in matches.get_strs("node").unwrap_or(&[]) {
-        nodes.push(name_of(alloc, word.as_bytes())?)?;
+        push_node(alloc, &mut nodes, word)?;
     }
     Ok(nodes)
 }
@@ -199,20 +234,12 @@ fn cookie_in<'a>(matches: &ArgMatches<'a>) -> Result<CookieSource<'a>, Fault> {
     }
 }
 
-// What the parser matched asks for.
-fn wanted_in<'a>(
-    alloc: Global,
-    matches: &ArgMatches<'a>,
-    mapper_port: Option<u16>,
-) -> Result<Wanted<'a>, Fault> {
-    let usual_port = mapper_port.unwrap_or(MAPPER_PORT);
+// What the parser matched beside names.
+fn choices_in<'a>(matches: &ArgMatches<'a>, usual_port: u16) -> Result<Choices<'a>, Fault> {
     let cookie = cookie_in(matches)?;
     let flags = flags_in(matches)?;
     let [mapper_port, port, listen, seconds] = numbers_in(matches)?;
-    let name = own_name_in(alloc, matches)?;
-    Ok(Wanted {
-        nodes: nodes_in(alloc, matches)?,
-        name,
+    Ok(Choices {
         cookie,
         flags,
         mapper_port: mapper_port.unwrap_or(usual_port),
@@ -224,55 +251,76 @@ fn wanted_in<'a>(
     })
 }
 
-// What is asked for where the parser matched nothing.
-fn asked_instead<'a>(kind: ErrorKind) -> Result<Asked<'a>, Fault> {
-    match kind {
-        ErrorKind::DisplayHelp => Ok(Asked::Help),
-        ErrorKind::DisplayVersion => Ok(Asked::Version),
-        ErrorKind::OutOfMemory => Err(Fault::NoMemory),
-        _ => Err(Fault::BadCommandLine),
-    }
-}
-
-// To dial what the parser matched, where that goes together.
-fn dials<'a>(
+// What the parser matched.
+fn read_in<'a>(
     alloc: Global,
     matches: &ArgMatches<'a>,
-    mapper_port: Option<u16>,
-) -> Result<Asked<'a>, Fault> {
-    let wanted = wanted_in(alloc, matches, mapper_port)?;
-    match fault_in(&wanted) {
-        Some(fault) => Err(fault),
-        None => Ok(Asked::Dials(wanted)),
-    }
+    usual_port: u16,
+) -> Result<Wanted<'a>, Fault> {
+    let choices = choices_in(matches, usual_port)?;
+    let name = own_name_in(alloc, matches)?;
+    Ok(Wanted {
+        nodes: nodes_in(alloc, matches)?,
+        name,
+        choices,
+    })
 }
 
-/// What these words ask for. `mapper_port` is the number of ERL_EPMD_PORT.
-pub fn asked_of<'a>(
-    alloc: Global,
-    words: &'a [&'a str],
-    mapper_port: Option<u16>,
-) -> Result<Asked<'a>, Fault> {
-    match program(alloc)?.try_get_matches_from(words) {
-        Ok(matches) => dials(alloc, &matches, mapper_port),
-        Err(error) => asked_instead(error.kind()),
+// What does not go together, of a listener.
+fn listener_fault(nodes: usize, is_named: bool) -> Option<Fault> {
+    if nodes == 0 && is_named {
+        None
+    } else {
+        Some(Fault::ListenAlone)
     }
 }
 
 // What does not go together.
-fn fault_in(wanted: &Wanted<'_>) -> Option<Fault> {
-    if wanted.listen.is_some() {
-        return if wanted.name.is_none() || !wanted.nodes.is_empty() {
-            Some(Fault::ListenAlone)
-        } else {
-            None
-        };
+fn fault_in(choices: Choices<'_>, nodes: usize, is_named: bool) -> Option<Fault> {
+    if choices.listen.is_some() {
+        return listener_fault(nodes, is_named);
     }
-    if wanted.nodes.is_empty() {
+    if nodes == 0 {
         Some(Fault::BadCommandLine)
-    } else if wanted.nodes.len() > 1 && (wanted.port.is_some() || wanted.address.is_some()) {
+    } else if nodes > 1 && (choices.port.is_some() || choices.address.is_some()) {
         Some(Fault::OneNodeAlone)
     } else {
         None
+    }
+}
+
+// What the parser matched, where that goes together.
+fn wanted_in<'a>(
+    alloc: Global,
+    matches: &ArgMatches<'a>,
+    usual_port: u16,
+) -> Result<Wanted<'a>, Instead> {
+    let wanted = read_in(alloc, matches, usual_port)?;
+    match fault_in(wanted.choices, wanted.nodes.len(), wanted.name.is_some()) {
+        Some(fault) => Err(Instead::Fault(fault)),
+        None => Ok(wanted),
+    }
+}
+
+// What is done where the parser matched nothing.
+fn instead_of(kind: ErrorKind) -> Instead {
+    match kind {
+        ErrorKind::DisplayHelp => Instead::Help,
+        ErrorKind::DisplayVersion => Instead::Version,
+        ErrorKind::OutOfMemory => Instead::Fault(Fault::NoMemory),
+        _ => Instead::Fault(Fault::BadCommandLine),
+    }
+}
+
+/// What these words ask for. `mapper_port` is the number of ERL_EPMD_PORT.
+pub fn wanted_of<'a>(
+    alloc: Global,
+    words: &'a [&'a str],
+    mapper_port: Option<u16>,
+) -> Result<Wanted<'a>, Instead> {
+    let usual_port = mapper_port.unwrap_or(MAPPER_PORT);
+    match program(alloc)?.try_get_matches_from(words) {
+        Ok(matches) => wanted_in(alloc, &matches, usual_port),
+        Err(error) => Err(instead_of(error.kind())),
     }
 }

@@ -1,30 +1,29 @@
 //! What was found, as one object of JSON. Each text in it is written by serde_json.
 
-use crate::lines::{push_flags, text_of};
+use crate::lines::{Piece, push_flags, push_piece, text_of};
 use crate::pairs::Pairing;
-use crate::probing::{Dial, Found};
+use crate::probing::{Dial, Found, Registration};
 use dist_flag_names::{Dflag, Release, missing, release_of};
 use dist_names::{Flags, NodeName};
 use dist_probe::{Peer, Verdict};
 use serde_json::Value;
 use std::alloc::{AllocError, Global};
-use std::net::SocketAddr;
 
-// The value of a member. What is not known is `null`.
+// The value of a member.
 #[derive(Clone, Copy)]
 enum Member<'a> {
-    Text(Option<&'a str>),
-    Number(u32),
-    Truth(bool),
-    // As hexadecimal digits.
-    Digits(Flags),
-    // By name.
+    // A text.
+    Text(&'a str),
+    // A number, `true`, `false` or `null`.
+    Plain(Piece<'a>),
+    // What has no character that a text of JSON writes in another way.
+    Quoted(Piece<'a>),
+    // Flags by name, as a list.
     Names(Flags),
-    Address(Option<SocketAddr>),
-    // The node's port, and the highest and the lowest version that it speaks.
-    Ports(Option<(u16, u16, u16)>),
-    Port(Option<u16>),
 }
+
+// What is not known.
+const NULL: Member<'static> = Member::Plain(Piece::Text("null"));
 
 fn release_name(release: Release) -> &'static str {
     match release {
@@ -45,34 +44,25 @@ fn push_text(alloc: Global, line: &mut String, text: &str) -> Result<(), AllocEr
 
 // Puts the flags behind a text by name, as a list.
 fn push_names(line: &mut String, flags: Flags) -> Result<(), AllocError> {
-    if push_flags(line, flags, "[\"", "\",\"")? {
-        line.push_str("\"]")
-    } else {
-        line.push_str("[]")
-    }
+    line.push('[')?;
+    push_flags(line, flags, "\"", ",\"", "\"")?;
+    line.push(']')
 }
 
-// Puts what the port mapper knows of a node behind a text.
-fn push_ports(line: &mut String, ports: (u16, u16, u16)) -> Result<(), AllocError> {
-    let (port, highest, lowest) = ports;
-    write!(
-        line,
-        "{{\"port\":{port},\"highest\":{highest},\"lowest\":{lowest}}}"
-    )
+// Puts a piece behind a text, in quotes.
+fn push_quoted(line: &mut String, piece: Piece<'_>) -> Result<(), AllocError> {
+    line.push('"')?;
+    push_piece(line, piece)?;
+    line.push('"')
 }
 
 // Puts the value of a member behind a text.
 fn push_value(alloc: Global, line: &mut String, value: Member<'_>) -> Result<(), AllocError> {
     match value {
-        Member::Text(Some(text)) => push_text(alloc, line, text),
-        Member::Number(number) => write!(line, "{number}"),
-        Member::Port(Some(port)) => write!(line, "{port}"),
-        Member::Truth(truth) => write!(line, "{truth}"),
-        Member::Digits(flags) => write!(line, "\"{:x}\"", flags.0),
+        Member::Text(text) => push_text(alloc, line, text),
+        Member::Plain(piece) => push_piece(line, piece),
+        Member::Quoted(piece) => push_quoted(line, piece),
         Member::Names(flags) => push_names(line, flags),
-        Member::Address(Some(address)) => write!(line, "\"{}\"", address.ip()),
-        Member::Ports(Some(ports)) => push_ports(line, ports),
-        _ => line.push_str("null"),
     }
 }
 
@@ -85,7 +75,9 @@ fn push_members(
 ) -> Result<(), AllocError> {
     let mut mark = first;
     for (key, value) in members {
-        write!(line, "{mark}\"{key}\":")?;
+        line.push(mark)?;
+        push_quoted(line, Piece::Text(key))?;
+        line.push(':')?;
         push_value(alloc, line, *value)?;
         mark = ',';
     }
@@ -101,45 +93,107 @@ fn lacking_of(verdict: Verdict, peer: &Option<Peer>) -> Flags {
     }
 }
 
-// Puts the steps before the node's own words behind a text.
-fn push_steps(
+// A number.
+fn number(number: u16) -> Member<'static> {
+    Member::Plain(Piece::Number(u32::from(number)))
+}
+
+// A port, where there is one.
+fn port_member(port: Option<u16>) -> Member<'static> {
+    match port {
+        Some(port) => number(port),
+        None => NULL,
+    }
+}
+
+// The address of the host, where it has one.
+fn address_member(found: &Found) -> Member<'static> {
+    match found.address {
+        Some(address) => Member::Quoted(Piece::Host(address.ip())),
+        None => NULL,
+    }
+}
+
+// The status that the node said, where it said one.
+fn status_member(found: &Found) -> Member<'static> {
+    match found.status {
+        Some(status) => Member::Text(text_of(status.text())),
+        None => NULL,
+    }
+}
+
+// Puts what the port mapper knows of the node behind a text.
+fn push_registration(
+    alloc: Global,
+    line: &mut String,
+    registration: Registration,
+) -> Result<(), AllocError> {
+    let members = [
+        ("port", number(registration.port)),
+        ("highest", number(registration.highest)),
+        ("lowest", number(registration.lowest)),
+    ];
+    push_members(alloc, line, '{', &members)?;
+    line.push('}')
+}
+
+// Puts the registration behind a text, where there is one.
+fn push_found_registration(
+    alloc: Global,
+    line: &mut String,
+    found: &Found,
+) -> Result<(), AllocError> {
+    line.push_str(",\"epmd\":")?;
+    match found.registration {
+        Some(registration) => push_registration(alloc, line, registration),
+        None => line.push_str("null"),
+    }
+}
+
+// Puts the names and the address behind a text.
+fn push_names_of(
     alloc: Global,
     line: &mut String,
     dial: &Dial<'_>,
     found: &Found,
 ) -> Result<(), AllocError> {
-    let ports = match &found.registration {
-        Some(info) => Some((info.port, info.highest, info.lowest)),
-        None => None,
-    };
-    let status = match found.status {
-        Some(status) => Some(text_of(status.text())),
-        None => None,
-    };
     let members = [
-        ("node", Member::Text(Some(text_of(dial.node.bytes())))),
-        ("name", Member::Text(Some(text_of(dial.own.bytes())))),
-        ("address", Member::Address(found.address)),
-        ("epmd", Member::Ports(ports)),
-        ("port", Member::Port(found.port)),
-        ("status", Member::Text(status)),
+        ("node", Member::Text(text_of(dial.node.bytes()))),
+        ("name", Member::Text(text_of(dial.own.bytes()))),
+        ("address", address_member(found)),
     ];
     push_members(alloc, line, '{', &members)
 }
 
+// Puts the node's port and the status that it said behind a text.
+fn push_answer(alloc: Global, line: &mut String, found: &Found) -> Result<(), AllocError> {
+    let members = [
+        ("port", port_member(found.port)),
+        ("status", status_member(found)),
+    ];
+    push_members(alloc, line, ',', &members)
+}
+
+// Whether the node is hidden.
+fn hidden_member(flags: Flags) -> Member<'static> {
+    let hidden = if flags.has(Dflag::Published.flags()) {
+        "false"
+    } else {
+        "true"
+    };
+    Member::Plain(Piece::Text(hidden))
+}
+
 // Puts what a node says of itself behind a text.
 fn push_peer(alloc: Global, line: &mut String, peer: &Peer) -> Result<(), AllocError> {
-    let release = release_name(release_of(peer.flags));
+    let flags = peer.flags;
     let members = [
-        ("name", Member::Text(Some(text_of(peer.name.as_slice())))),
-        ("creation", Member::Number(peer.creation.0)),
-        ("flags", Member::Digits(peer.flags)),
-        ("flag_names", Member::Names(peer.flags)),
-        ("release", Member::Text(Some(release))),
-        (
-            "hidden",
-            Member::Truth(!peer.flags.has(Dflag::Published.flags())),
-        ),
+        ("name", Member::Text(text_of(peer.name.as_slice()))),
+        ("creation", Member::Plain(Piece::Number(peer.creation.0))),
+        ("flags", Member::Quoted(Piece::Digits(flags))),
+        ("flag_names", Member::Names(flags)),
+        ("release", Member::Text(release_name(release_of(flags)))),
+        ("hidden", hidden_member(flags)),
     ];
     push_members(alloc, line, '{', &members)?;
     line.push('}')
@@ -163,32 +217,58 @@ fn push_verdict(
 ) -> Result<(), AllocError> {
     let members = [
         ("lacking", Member::Names(lacking)),
-        ("verdict", Member::Text(Some(verdict.name()))),
-        ("cause", Member::Text(Some(verdict.cause()))),
-        ("remedy", Member::Text(Some(verdict.remedy()))),
-        ("exit", Member::Number(u32::from(verdict.status()))),
+        ("verdict", Member::Text(verdict.name())),
+        ("cause", Member::Text(verdict.cause())),
+        ("remedy", Member::Text(verdict.remedy())),
+        ("exit", number(u16::from(verdict.status()))),
     ];
     push_members(alloc, line, ',', &members)?;
     line.push_str("}\n")
 }
 
-/// What can be told of two nodes, as one line.
-pub fn pair_object<'a>(
+// Puts what can be told of two nodes behind a text.
+fn push_pair(
     alloc: Global,
-    first: &'a NodeName,
-    second: &'a NodeName,
+    line: &mut String,
+    first: &NodeName,
+    second: &NodeName,
+    pairing: Pairing,
+) -> Result<(), AllocError> {
+    let members = [
+        ("first", Member::Text(text_of(first.bytes()))),
+        ("second", Member::Text(text_of(second.bytes()))),
+        ("pair", Member::Text(pairing.name())),
+        ("cause", Member::Text(pairing.cause())),
+        ("exit", number(u16::from(pairing.status()))),
+    ];
+    push_members(alloc, line, '{', &members)?;
+    line.push_str("}\n")
+}
+
+// Puts what was found of a node, and what it comes to, behind a text.
+fn push_object(
+    alloc: Global,
+    line: &mut String,
+    dial: &Dial<'_>,
+    found: &Found,
+    verdict: Verdict,
+) -> Result<(), AllocError> {
+    push_names_of(alloc, line, dial, found)?;
+    push_found_registration(alloc, line, found)?;
+    push_answer(alloc, line, found)?;
+    push_found_peer(alloc, line, found)?;
+    push_verdict(alloc, line, lacking_of(verdict, &found.peer), verdict)
+}
+
+/// What can be told of two nodes, as one line.
+pub fn pair_object(
+    alloc: Global,
+    first: &NodeName,
+    second: &NodeName,
     pairing: Pairing,
 ) -> Result<String, AllocError> {
-    let members = [
-        ("first", Member::Text(Some(text_of(first.bytes())))),
-        ("second", Member::Text(Some(text_of(second.bytes())))),
-        ("pair", Member::Text(Some(pairing.name()))),
-        ("cause", Member::Text(Some(pairing.cause()))),
-        ("exit", Member::Number(u32::from(pairing.status()))),
-    ];
     let mut line = String::new(alloc);
-    push_members(alloc, &mut line, '{', &members)?;
-    line.push_str("}\n")?;
+    push_pair(alloc, &mut line, first, second, pairing)?;
     Ok(line)
 }
 
@@ -200,8 +280,6 @@ pub fn object_of(
     verdict: Verdict,
 ) -> Result<String, AllocError> {
     let mut line = String::new(alloc);
-    push_steps(alloc, &mut line, dial, found)?;
-    push_found_peer(alloc, &mut line, found)?;
-    push_verdict(alloc, &mut line, lacking_of(verdict, &found.peer), verdict)?;
+    push_object(alloc, &mut line, dial, found, verdict)?;
     Ok(line)
 }

@@ -4,6 +4,7 @@ ghost use Rattle.std.specs.Prelude.{◌≡◌, ◌++◌, IfOk, string_bytes};
 ghost use Rattle.distping.specs.Texts.{TellsVerdict};
 
 use crate::dialling::Place;
+use crate::fault::Fault;
 use crate::listening::Taken;
 use crate::pairs::Pairing;
 use dist_epmd::PortInfo;
@@ -13,18 +14,35 @@ use dist_messages::Status;
 use dist_names::{Flags, NodeName};
 use dist_probe::{Peer, Verdict, style_of};
 use std::alloc::{AllocError, Global};
-use std::io::{self, Write};
-use std::net::SocketAddr;
+use std::io::{Stdout, Write};
+use std::net::{IpAddr, SocketAddr};
 
 /// Where the lines of the steps go.
-#[derive(Drop)]
-pub struct Lines<'a, W> {
+#[derive(Clone, Copy)]
+pub struct Lines {
     /// Where memory for a line comes from.
     pub alloc: Global,
     /// What they are written to.
-    pub out: &'a mut W,
+    pub out: Stdout,
     /// No step is told.
     pub quiet: bool,
+}
+
+/// A piece of a line.
+#[derive(Clone, Copy)]
+pub enum Piece<'a> {
+    /// A text.
+    Text(&'a str),
+    /// A number in decimal digits.
+    Number(u32),
+    /// Flags in hexadecimal digits.
+    Digits(Flags),
+    /// Flags by name, a blank before each.
+    Names(Flags),
+    /// An address without a port.
+    Host(IpAddr),
+    /// Why a lookup went wrong.
+    Lookup(LookupError),
 }
 
 /// The text that bytes are.
@@ -32,22 +50,56 @@ pub fn text_of(bytes: &[u8]) -> &str {
     std::str::from_utf8(bytes).unwrap_or("?")
 }
 
-/// Puts the flags behind a text by name, with this before the first and that before each other. Whether there are any.
-pub fn push_flags(
+/// Puts the flags behind a text by name: this before the first and that before each other, and this behind each.
+pub fn push_flags<'x>(
     text: &mut String,
     flags: Flags,
-    first: &str,
-    other: &str,
-) -> Result<bool, AllocError> {
-    let (mut before, mut any) = (first, false);
+    first: &'x str,
+    other: &'x str,
+    behind: &str,
+) -> Result<(), AllocError> {
+    let mut any = false;
     for flag in Dflag::all() {
         if flags.has(flag.flags()) {
-            text.push_str(before)?;
-            text.push_str(flag.name())?;
-            (before, any) = (other, true);
+            let before = if any { other } else { first };
+            push_within(text, before, flag.name(), behind)?;
+            any = true;
         }
     }
-    Ok(any)
+    Ok(())
+}
+
+// Puts a name behind a text, with this before it and that behind it.
+fn push_within(
+    text: &mut String,
+    before: &str,
+    name: &str,
+    behind: &str,
+) -> Result<(), AllocError> {
+    text.push_str(before)?;
+    text.push_str(name)?;
+    text.push_str(behind)
+}
+
+/// Puts a piece behind a text.
+pub fn push_piece(text: &mut String, piece: Piece<'_>) -> Result<(), AllocError> {
+    match piece {
+        Piece::Text(part) => text.push_str(part),
+        Piece::Number(number) => write!(text, "{number}"),
+        Piece::Digits(flags) => write!(text, "{:x}", flags.0),
+        Piece::Names(flags) => push_flags(text, flags, " ", " ", ""),
+        Piece::Host(host) => write!(text, "{host}"),
+        Piece::Lookup(error) => write!(text, "{error}"),
+    }
+}
+
+// The pieces, one behind the other.
+fn joined(alloc: Global, pieces: &[Piece<'_>]) -> Result<String, AllocError> {
+    let mut line = String::new(alloc);
+    for piece in pieces {
+        push_piece(&mut line, *piece)?;
+    }
+    Ok(line)
 }
 
 fn release_text(release: Release) -> &'static str {
@@ -64,28 +116,18 @@ fn release_text(release: Release) -> &'static str {
 // What stands before the release that the flags tell, and the release.
 fn told_texts(flags: Flags) -> (&'static str, &'static str) {
     match told_by(flags) {
-        Told::Just(release) => ("", release_text(release)),
-        Told::UpTo(release) => ("up to those of ", release_text(release)),
+        Told::Just(release) => (": ", release_text(release)),
+        Told::UpTo(release) => (": up to those of ", release_text(release)),
     }
 }
 
-// Whether a peer is hidden.
+// Whether a peer is hidden, behind its name and before its creation.
 fn kind_of(flags: Flags) -> &'static str {
     if flags.has(Dflag::Published.flags()) {
-        "published"
+        ", published, creation "
     } else {
-        "hidden"
+        ", hidden, creation "
     }
-}
-
-// The line of what a node said of itself.
-fn peer_line(alloc: Global, peer: &Peer) -> Result<String, AllocError> {
-    let (name, creation, flags) = (text_of(peer.name.as_slice()), peer.creation.0, peer.flags.0);
-    let kind = kind_of(peer.flags);
-    let (before, release) = told_texts(peer.flags);
-    format!(in alloc;
-        "✓  node      {name}, {kind}, creation {creation}, flags {flags:x}: {before}{release}\n"
-    )
 }
 
 // What became of the cookie, in the line of that step. Empty where none was tried.
@@ -115,23 +157,6 @@ fn mark_of(status: Status) -> &'static str {
     }
 }
 
-// The texts, one behind the other.
-fn joined(alloc: Global, parts: &[&str]) -> Result<String, AllocError> {
-    let mut line = String::new(alloc);
-    for part in parts {
-        line.push_str(part)?;
-    }
-    Ok(line)
-}
-
-// The line of flags by name.
-fn flags_line(alloc: Global, front: &str, flags: Flags) -> Result<String, AllocError> {
-    let mut line = String::from_str(alloc, front)?;
-    push_flags(&mut line, flags, " ", " ")?;
-    line.push('\n')?;
-    Ok(line)
-}
-
 // A mark, a word and sentences.
 fn marked(alloc: Global, mark: &str, word: &str, sentences: &str) -> Result<String, AllocError>
     ensures { IfOk result (λ text. string_bytes text ≡ mark.now ++ word.now ++ sentences.now) }
@@ -152,123 +177,184 @@ fn verdict_lines(alloc: Global, verdict: Verdict) -> Result<String, AllocError>
     marked(alloc, mark, verdict.name(), &sentences)
 }
 
-impl<'a, W: Write> Lines<'a, W> {
+// The mark of a status of the program.
+fn mark_at(status: u8) -> &'static str {
+    if status == 0 { "✓" } else { "✗" }
+}
+
+// Why a place was not reached.
+fn place_text(place: Place) -> &'static str {
+    match place {
+        Place::Refused => "the connection was refused",
+        Place::Unreachable => "no answer",
+    }
+}
+
+impl Lines {
     /// Writes a text, and flushes.
-    pub fn put(&mut self, text: &str) -> io::Result<()> {
-        if self.quiet {
-            return Ok(());
-        }
-        self.out.write_all(text.as_bytes())?;
-        self.out.flush()
+    pub fn write(self, text: &str) -> Result<(), Fault> {
+        let mut out = self.out;
+        out.write_all(text.as_bytes())?;
+        Ok(out.flush()?)
     }
 
-    // Writes a text that was made, where there was memory for it.
-    fn put_made(&mut self, text: Result<String, AllocError>) -> io::Result<()> {
-        let text = text?;
-        self.put(&text)
+    /// Writes a text that was made, where there was memory for it.
+    pub fn write_made(self, text: Result<String, AllocError>) -> Result<(), Fault> {
+        match text {
+            Ok(text) => self.write(&text),
+            Err(_) => Err(Fault::NoMemory),
+        }
+    }
+
+    // A line of pieces, unless no step is told.
+    fn put(self, pieces: &[Piece<'_>]) -> Result<(), Fault> {
+        if self.quiet {
+            Ok(())
+        } else {
+            self.write_made(joined(self.alloc, pieces))
+        }
     }
 
     // A line of flags by name.
-    fn put_flags(&mut self, front: &str, flags: Flags) -> io::Result<()> {
-        let text = flags_line(self.alloc, front, flags)?;
-        self.put(&text)
-    }
-
-    // A line of texts.
-    fn put_all(&mut self, parts: &[&str]) -> io::Result<()> {
-        let line = joined(self.alloc, parts)?;
-        self.put(&line)
+    fn put_flags(self, front: &str, flags: Flags) -> Result<(), Fault> {
+        self.put(&[Piece::Text(front), Piece::Names(flags), Piece::Text("\n")])
     }
 
     /// Which node is dialled, where there are several.
-    pub fn put_node(&mut self, node: &NodeName) -> io::Result<()> {
-        self.put_all(&["-- ", text_of(node.bytes()), "\n"])
+    pub fn put_node(self, node: &NodeName) -> Result<(), Fault> {
+        let name = text_of(node.bytes());
+        self.put(&[Piece::Text("-- "), Piece::Text(name), Piece::Text("\n")])
     }
 
     /// A warning where the two names could not dial each other.
-    pub fn put_styles(&mut self, own: &NodeName, node: &NodeName) -> io::Result<()> {
+    pub fn put_styles(self, own: &NodeName, node: &NodeName) -> Result<(), Fault> {
         if style_of(own) == style_of(node) {
             return Ok(());
         }
-        self.put(
+        self.put(&[Piece::Text(
             "!  names     one host part has a dot, the other has none: nodes of -name and of -sname never dial each other\n",
-        )
+        )])
     }
 
     /// The host has this address.
-    pub fn put_address(&mut self, host: &str, address: &SocketAddr) -> io::Result<()> {
-        let (mark, hint) = if address.is_ipv4() {
-            ("✓", "")
+    pub fn put_address(self, host: &str, address: &SocketAddr) -> Result<(), Fault> {
+        let (front, hint) = if address.is_ipv4() {
+            ("✓  host      ", "\n")
         } else {
             (
-                "!",
-                ", and has no IPv4 address: nodes dial it with -proto_dist inet6_tcp alone",
+                "!  host      ",
+                ", and has no IPv4 address: nodes dial it with -proto_dist inet6_tcp alone\n",
             )
         };
-        let text = format!(in self.alloc; "{mark}  host      {host} is {}{hint}\n", address.ip());
-        self.put_made(text)
+        self.put(&[
+            Piece::Text(front),
+            Piece::Text(host),
+            Piece::Text(" is "),
+            Piece::Host(address.ip()),
+            Piece::Text(hint),
+        ])
     }
 
     /// The port mapper has this registration.
-    pub fn put_registration(&mut self, mapper_port: u16, info: &PortInfo) -> io::Result<()> {
-        let (name, port) = (text_of(info.name.as_slice()), info.port);
-        let (lowest, highest) = (info.lowest, info.highest);
-        let text = format!(in self.alloc;
-            "✓  epmd      port {mapper_port} answers: {name} listens at port {port}, versions {lowest} to {highest}\n"
-        );
-        self.put_made(text)
+    pub fn put_registration(self, mapper_port: u16, info: &PortInfo) -> Result<(), Fault> {
+        self.put(&[
+            Piece::Text("✓  epmd      port "),
+            Piece::Number(u32::from(mapper_port)),
+            Piece::Text(" answers: "),
+            Piece::Text(text_of(info.name.as_slice())),
+            Piece::Text(" listens at port "),
+            Piece::Number(u32::from(info.port)),
+            Piece::Text(", versions "),
+            Piece::Number(u32::from(info.lowest)),
+            Piece::Text(" to "),
+            Piece::Number(u32::from(info.highest)),
+            Piece::Text("\n"),
+        ])
     }
 
     /// A place was not reached.
-    pub fn put_unreached(&mut self, step: &str, port: u16, place: Place) -> io::Result<()> {
-        let why = match place {
-            Place::Refused => "the connection was refused",
-            Place::Unreachable => "no answer",
-        };
-        let text = format!(in self.alloc; "✗  {step} port {port}: {why}\n");
-        self.put_made(text)
+    pub fn put_unreached(self, step: &str, port: u16, place: Place) -> Result<(), Fault> {
+        self.put(&[
+            Piece::Text("✗  "),
+            Piece::Text(step),
+            Piece::Text(" port "),
+            Piece::Number(u32::from(port)),
+            Piece::Text(": "),
+            Piece::Text(place_text(place)),
+            Piece::Text("\n"),
+        ])
     }
 
     /// The lookup went wrong.
-    pub fn put_no_answer(&mut self, mapper_port: u16, error: LookupError) -> io::Result<()> {
-        let text = format!(in self.alloc; "✗  epmd      port {mapper_port}: {error}\n");
-        self.put_made(text)
+    pub fn put_no_answer(self, mapper_port: u16, error: LookupError) -> Result<(), Fault> {
+        self.put(&[
+            Piece::Text("✗  epmd      port "),
+            Piece::Number(u32::from(mapper_port)),
+            Piece::Text(": "),
+            Piece::Lookup(error),
+            Piece::Text("\n"),
+        ])
     }
 
     /// The port mapper knows these names, which stand in lines.
-    pub fn put_names(&mut self, names: &[u8]) -> io::Result<()> {
+    pub fn put_names(self, names: &[u8]) -> Result<(), Fault> {
         if names.is_empty() {
-            return self.put("   epmd      no node at all is registered there\n");
+            return self.put(&[Piece::Text("   epmd      no node at all is registered there\n")]);
         }
         for line in text_of(names).lines() {
-            self.put_all(&["   epmd      ", line, "\n"])?;
+            self.put(&[
+                Piece::Text("   epmd      "),
+                Piece::Text(line),
+                Piece::Text("\n"),
+            ])?;
         }
         Ok(())
     }
 
     /// The node's port took the connection.
-    pub fn put_connected(&mut self, address: &SocketAddr, port: u16) -> io::Result<()> {
-        let ip = address.ip();
-        let text = format!(in self.alloc; "✓  connect   {ip} port {port}\n");
-        self.put_made(text)
+    pub fn put_connected(self, address: &SocketAddr, port: u16) -> Result<(), Fault> {
+        self.put(&[
+            Piece::Text("✓  connect   "),
+            Piece::Host(address.ip()),
+            Piece::Text(" port "),
+            Piece::Number(u32::from(port)),
+            Piece::Text("\n"),
+        ])
     }
 
     /// The status that the node said upon the own name.
-    pub fn put_status(&mut self, own: &NodeName, flags: Flags, status: Status) -> io::Result<()> {
-        let (mark, name) = (mark_of(status), text_of(own.bytes()));
-        let (flags, said) = (flags.announced().0, text_of(status.text()));
-        let text = format!(in self.alloc;
-            "{mark}  name      said {name} with flags {flags:x}; the node says {said}\n"
-        )?;
-        self.put(&text)
+    pub fn put_status(self, own: &NodeName, flags: Flags, status: Status) -> Result<(), Fault> {
+        self.put(&[
+            Piece::Text(mark_of(status)),
+            Piece::Text("  name      said "),
+            Piece::Text(text_of(own.bytes())),
+            Piece::Text(" with flags "),
+            Piece::Digits(flags.announced()),
+            Piece::Text("; the node says "),
+            Piece::Text(text_of(status.text())),
+            Piece::Text("\n"),
+        ])
     }
 
-    /// What the node said of itself.
-    pub fn put_peer(&mut self, peer: &Peer) -> io::Result<()> {
-        let text = peer_line(self.alloc, peer)?;
-        self.put(&text)?;
-        self.put_flags("   flags    ", peer.flags)?;
-        let lacking = missing(peer.flags, Release::Otp28.required());
+    // The line of what a node said of itself.
+    fn put_peer_line(self, peer: &Peer) -> Result<(), Fault> {
+        let (before, release) = told_texts(peer.flags);
+        self.put(&[
+            Piece::Text("✓  node      "),
+            Piece::Text(text_of(peer.name.as_slice())),
+            Piece::Text(kind_of(peer.flags)),
+            Piece::Number(peer.creation.0),
+            Piece::Text(", flags "),
+            Piece::Digits(peer.flags),
+            Piece::Text(before),
+            Piece::Text(release),
+            Piece::Text("\n"),
+        ])
+    }
+
+    // The flags that releases from 26 on ask for and that these lack.
+    fn put_lacking(self, flags: Flags) -> Result<(), Fault> {
+        let lacking = missing(flags, Release::Otp28.required());
         if lacking.0 == 0 {
             return Ok(());
         }
@@ -278,70 +364,96 @@ impl<'a, W: Write> Lines<'a, W> {
         )
     }
 
+    /// What the node said of itself.
+    pub fn put_peer(self, peer: &Peer) -> Result<(), Fault> {
+        self.put_peer_line(peer)?;
+        self.put_flags("   flags    ", peer.flags)?;
+        self.put_lacking(peer.flags)
+    }
+
     /// What became of the cookie.
-    pub fn put_cookie(&mut self, verdict: Verdict) -> io::Result<()> {
-        self.put(cookie_text(verdict))
+    pub fn put_cookie(self, verdict: Verdict) -> Result<(), Fault> {
+        self.put(&[Piece::Text(cookie_text(verdict))])
     }
 
     /// A connection is waited for.
-    pub fn put_listening(&mut self, port: u16, name: &NodeName) -> io::Result<()> {
-        let name = text_of(name.bytes());
-        let text = format!(in self.alloc;
-            "✓  listen    port {port}, as {name}: waiting for one connection\n"
-        );
-        self.put_made(text)
+    pub fn put_listening(self, port: u16, name: &NodeName) -> Result<(), Fault> {
+        self.put(&[
+            Piece::Text("✓  listen    port "),
+            Piece::Number(u32::from(port)),
+            Piece::Text(", as "),
+            Piece::Text(text_of(name.bytes())),
+            Piece::Text(": waiting for one connection\n"),
+        ])
     }
 
     /// A connection was taken.
-    pub fn put_taken(&mut self, address: &SocketAddr) -> io::Result<()> {
-        let ip = address.ip();
-        let text = format!(in self.alloc; "✓  taken     from {ip}\n");
-        self.put_made(text)
+    pub fn put_taken(self, address: &SocketAddr) -> Result<(), Fault> {
+        self.put(&[
+            Piece::Text("✓  taken     from "),
+            Piece::Host(address.ip()),
+            Piece::Text("\n"),
+        ])
     }
 
     /// What came of a connection that was taken.
-    pub fn put_outcome(&mut self, taken: Taken) -> io::Result<()> {
-        let mark = if taken.status() == 0 { "✓" } else { "✗" };
-        self.put_all(&[mark, "  ", taken.name(), ": ", taken.cause(), "\n"])
+    pub fn put_outcome(self, taken: Taken) -> Result<(), Fault> {
+        self.put(&[
+            Piece::Text(mark_at(taken.status())),
+            Piece::Text("  "),
+            Piece::Text(taken.name()),
+            Piece::Text(": "),
+            Piece::Text(taken.cause()),
+            Piece::Text("\n"),
+        ])
     }
 
     // What two nodes have to tell of each other, in a line.
-    fn put_pair_line(
-        &mut self,
-        first: &NodeName,
-        second: &NodeName,
+    fn put_pair_line<'x>(
+        self,
+        first: &'x NodeName,
+        second: &'x NodeName,
         pairing: Pairing,
-    ) -> io::Result<()> {
-        let mark = pairing_mark(pairing);
-        let (first, second) = (text_of(first.bytes()), text_of(second.bytes()));
-        let (name, cause) = (pairing.name(), pairing.cause());
-        let text = format!(in self.alloc;
-            "{mark}  pair      {first} and {second}: {name}: {cause}\n"
-        );
-        self.put_made(text)
+    ) -> Result<(), Fault> {
+        self.put(&[
+            Piece::Text(pairing_mark(pairing)),
+            Piece::Text("  pair      "),
+            Piece::Text(text_of(first.bytes())),
+            Piece::Text(" and "),
+            Piece::Text(text_of(second.bytes())),
+            Piece::Text(": "),
+            Piece::Text(pairing.name()),
+            Piece::Text(": "),
+            Piece::Text(pairing.cause()),
+            Piece::Text("\n"),
+        ])
     }
 
     /// What can be told of two nodes.
     pub fn put_pair(
-        &mut self,
+        self,
         first: &NodeName,
         second: &NodeName,
         pairing: Pairing,
-    ) -> io::Result<()> {
+    ) -> Result<(), Fault> {
         self.put_pair_line(first, second, pairing)?;
-        if let Pairing::LacksFlags(of_first, of_second) = pairing {
-            self.put_flags("   lacking   the first:", of_first)?;
-            self.put_flags("   lacking   the second:", of_second)?;
+        match pairing {
+            Pairing::LacksFlags(of_first, of_second) => self.put_lacks(of_first, of_second),
+            _ => Ok(()),
         }
-        Ok(())
+    }
+
+    // The flags that each of two nodes lacks.
+    fn put_lacks(self, of_first: Flags, of_second: Flags) -> Result<(), Fault> {
+        self.put_flags("   lacking   the first:", of_first)?;
+        self.put_flags("   lacking   the second:", of_second)
     }
 
     /// What it comes to.
-    pub fn put_verdict(&mut self, verdict: Verdict) -> io::Result<()> {
+    pub fn put_verdict(self, verdict: Verdict) -> Result<(), Fault> {
         if let Verdict::LacksFlags(flags) = verdict {
             self.put_flags("   lacking  ", flags)?;
         }
-        let text = verdict_lines(self.alloc, verdict)?;
-        self.put(&text)
+        self.write_made(verdict_lines(self.alloc, verdict))
     }
 }

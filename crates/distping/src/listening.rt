@@ -6,14 +6,17 @@ ghost use Rattle.distping.specs.Listening.{heard_verdict, reply_verdict, taken_s
 use crate::dialling::turn;
 use crate::fault::Fault;
 use crate::lines::Lines;
+use dist_mapper::{Arrived, read_frame};
 use dist_messages::{Form, Message, MessageError, Side, Status, decode};
 use dist_names::{ByteString, NodeName};
 use dist_probe::{Heard, Peer, Service, heard_instead, service_of};
 use dist_setup::{Setup, ack_frame, challenge_frame, own_digest, status_frame};
-use dist_streams::{Limited, SocketStream, Stream, TurnError};
+use dist_streams::{Limited, SocketStream};
 use std::alloc::Global;
-use std::io::{self, Write};
-use std::net::{Ipv4Addr, TcpListener};
+use std::net::{Ipv4Addr, TcpListener, TcpStream};
+
+// The most bytes of a body that a node says while it shakes hands. Our own choice, as that of the dialling probe.
+const MOST: u16 = 1024;
 
 /// What came of a connection that was taken.
 #[derive(Clone, Copy)]
@@ -94,28 +97,13 @@ fn heard_in(alloc: Global, body: &[u8]) -> Heard {
     }
 }
 
-// The next frame's length.
-fn len_of<S: Stream>(limited: &mut Limited<'_, S>) -> Result<u16, TurnError> {
-    let mut header = [0u8; 2];
-    limited.read_exact(&mut header)?;
-    Ok(u16::from_be_bytes(header))
-}
-
 // The next message of the dialling side.
-fn hear<S: Stream>(alloc: Global, limited: &mut Limited<'_, S>) -> Heard {
-    let len = match len_of(limited) {
-        Ok(len) => len,
-        Err(fault) => return heard_instead(fault),
-    };
-    if len > 1024 {
-        return Heard::Length(len);
-    }
-    let Ok(mut body) = vec![in alloc; 0u8; len as usize] else {
-        return Heard::NoMemory;
-    };
-    match limited.read_exact(&mut body) {
-        Ok(()) => heard_in(alloc, &body),
-        Err(fault) => heard_instead(fault),
+fn hear(alloc: Global, limited: &mut Limited<'_, SocketStream>) -> Heard {
+    match read_frame(alloc, limited, MOST) {
+        Arrived::Body(body) => heard_in(alloc, body.as_slice()),
+        Arrived::Long(len) => Heard::Length(len),
+        Arrived::Stopped(fault) => heard_instead(fault),
+        Arrived::NoMemory => Heard::NoMemory,
     }
 }
 
@@ -167,36 +155,45 @@ fn reply_verdict(wanted: Option<[u8; 16]>, digest: [u8; 16]) -> Taken
 }
 
 // Says a frame and hears what comes upon it.
-fn exchange<S: Stream>(alloc: Global, limited: &mut Limited<'_, S>, text: &ByteString) -> Heard {
+fn exchange(alloc: Global, limited: &mut Limited<'_, SocketStream>, text: &ByteString) -> Heard {
     match limited.write_all(text.as_slice()) {
         Ok(()) => hear(alloc, limited),
         Err(fault) => heard_instead(fault),
     }
 }
 
-// Takes the name with `ok`, says the challenge, and hears what comes upon it.
-fn challenged<S: Stream>(
+// Takes the name with `ok`, and says the challenge, the second frame.
+fn welcomed(
     alloc: Global,
-    limited: &mut Limited<'_, S>,
+    limited: &mut Limited<'_, SocketStream>,
+    challenge: &ByteString,
+) -> Heard {
+    match status_frame(alloc, Status::Ok) {
+        Ok(status) => match limited.write_all(status.as_slice()) {
+            Ok(()) => exchange(alloc, limited, challenge),
+            Err(fault) => heard_instead(fault),
+        },
+        Err(_) => Heard::NoMemory,
+    }
+}
+
+// Takes the name with `ok`, says the challenge, and hears what comes upon it.
+fn challenged(
+    alloc: Global,
+    limited: &mut Limited<'_, SocketStream>,
     setup: &Setup,
     fresh: u32,
 ) -> Heard {
-    let Ok(status) = status_frame(alloc, Status::Ok) else {
-        return Heard::NoMemory;
-    };
-    let Ok(challenge) = challenge_frame(alloc, setup, Form::New, fresh) else {
-        return Heard::NoMemory;
-    };
-    match limited.write_all(status.as_slice()) {
-        Ok(()) => exchange(alloc, limited, &challenge),
-        Err(fault) => heard_instead(fault),
+    match challenge_frame(alloc, setup, Form::New, fresh) {
+        Ok(challenge) => welcomed(alloc, limited, &challenge),
+        Err(_) => Heard::NoMemory,
     }
 }
 
 // Acknowledges a reply whose digest is right.
-fn acknowledged<S: Stream>(
+fn acknowledged(
     alloc: Global,
-    limited: &mut Limited<'_, S>,
+    limited: &mut Limited<'_, SocketStream>,
     setup: &Setup,
     peer: &NodeName,
     challenge: u32,
@@ -211,24 +208,25 @@ fn acknowledged<S: Stream>(
 }
 
 // What comes of a name that was said.
-fn talk<S: Stream>(
+fn talk(
     alloc: Global,
-    limited: &mut Limited<'_, S>,
+    limited: &mut Limited<'_, SocketStream>,
     listen: &Listen<'_>,
     peer: &NodeName,
 ) -> Taken {
-    match challenged(alloc, limited, listen.setup, listen.fresh) {
+    let heard = challenged(alloc, limited, listen.setup, listen.fresh);
+    match &heard {
         Heard::Said(Message::Reply { challenge, digest }) => {
-            replied(alloc, limited, listen, peer, challenge, digest)
+            replied(alloc, limited, listen, peer, *challenge, *digest)
         }
-        other => heard_verdict(Taken::Left, &other),
+        other => heard_verdict(Taken::Left, other),
     }
 }
 
 // What comes of a reply.
-fn replied<S: Stream>(
+fn replied(
     alloc: Global,
-    limited: &mut Limited<'_, S>,
+    limited: &mut Limited<'_, SocketStream>,
     listen: &Listen<'_>,
     peer: &NodeName,
     challenge: u32,
@@ -246,7 +244,7 @@ fn replied<S: Stream>(
 }
 
 /// A node that listens.
-#[derive(Drop)]
+#[derive(Clone, Copy)]
 pub struct Listen<'a> {
     /// What it is set up with.
     pub setup: &'a Setup,
@@ -261,52 +259,73 @@ pub struct Listen<'a> {
 }
 
 // Waits for one connection.
-fn accepted<W: Write>(
-    rt: &HostRuntime,
+fn accepted(rt: &HostRuntime, listen: &Listen<'_>, lines: Lines) -> Result<SocketStream, Fault> {
+    match TcpListener::bind(rt, (Ipv4Addr::UNSPECIFIED, listen.port)) {
+        Ok(listener) => accepted_at(&listener, listen, lines),
+        Err(_) => Err(Fault::ListenFailed),
+    }
+}
+
+// The same at this listener.
+fn accepted_at(
+    listener: &TcpListener,
     listen: &Listen<'_>,
-    lines: &mut Lines<'_, W>,
+    lines: Lines,
 ) -> Result<SocketStream, Fault> {
-    let Ok(listener) = TcpListener::bind(rt, (Ipv4Addr::UNSPECIFIED, listen.port)) else {
-        return Err(Fault::ListenFailed);
-    };
     lines.put_listening(listen.port, &listen.setup.name)?;
-    let Ok((socket, address)) = listener.accept() else {
-        return Err(Fault::ListenFailed);
-    };
-    lines.put_taken(&address)?;
+    match listener.accept() {
+        Ok((socket, address)) => match lines.put_taken(&address) {
+            Ok(()) => timed(socket),
+            Err(fault) => Err(fault),
+        },
+        Err(_) => Err(Fault::ListenFailed),
+    }
+}
+
+// The stream over a socket.
+fn timed(socket: TcpStream) -> Result<SocketStream, Fault> {
     match SocketStream::timed(socket, turn()) {
         Ok(stream) => Ok(stream),
         Err(_) => Err(Fault::ListenFailed),
     }
 }
 
-// Hears the name, tells it, and goes on from there.
-fn heard<S: Stream, W: Write>(
-    limited: &mut Limited<'_, S>,
+// Tells the name that was said, and goes on from there.
+fn greeted(
+    limited: &mut Limited<'_, SocketStream>,
     listen: &Listen<'_>,
-    lines: &mut Lines<'_, W>,
-) -> io::Result<Taken> {
-    let peer = match peer_in(hear(lines.alloc, limited)) {
-        Ok(peer) => peer,
-        Err(taken) => return Ok(taken),
-    };
-    lines.put_peer(&peer)?;
+    lines: Lines,
+    peer: &Peer,
+) -> Result<Taken, Fault> {
+    lines.put_peer(peer)?;
     match NodeName::new(lines.alloc, peer.name.as_slice()) {
         Ok(name) => Ok(talk(lines.alloc, limited, listen, &name)),
         Err(_) => Ok(Taken::Unexpected),
     }
 }
 
+// Hears the name, and goes on from there.
+fn heard(
+    limited: &mut Limited<'_, SocketStream>,
+    listen: &Listen<'_>,
+    lines: Lines,
+) -> Result<Taken, Fault> {
+    match peer_in(hear(lines.alloc, limited)) {
+        Ok(peer) => greeted(limited, listen, lines, &peer),
+        Err(taken) => Ok(taken),
+    }
+}
+
 /// Takes one connection, tells what the other side says, and answers what came of it.
-pub fn take_connection<W: Write>(
+pub fn take_connection(
     rt: &HostRuntime,
     listen: &Listen<'_>,
-    lines: &mut Lines<'_, W>,
+    lines: Lines,
 ) -> Result<Taken, Fault> {
     let mut stream = accepted(rt, listen, lines)?;
     let mut limited = Limited {
         stream: &mut stream,
         left: listen.turns,
     };
-    Ok(heard(&mut limited, listen, lines)?)
+    heard(&mut limited, listen, lines)
 }

@@ -16,7 +16,7 @@ mod listening;
 mod pairs;
 mod probing;
 
-use command::{Asked, CookieSource, Wanted, asked_of, name_of};
+use command::{CookieSource, Instead, Wanted, name_of, wanted_of};
 use dist_names::NodeName;
 use dist_numerals::number_16;
 use dist_probe::Verdict;
@@ -30,7 +30,7 @@ use probing::{Dial, Found, drawn, probe, setup_of};
 use std::alloc::Global;
 use std::env;
 use std::fs::File;
-use std::io::{ErrorKind, Write};
+use std::io::ErrorKind;
 use std::process::ExitCode;
 
 /// How the program is called.
@@ -64,10 +64,9 @@ Status: 0 up, 1 a fault here, 2 a bad command line, 3 the host's name, 4 the por
 const VERSION: &str = "distping 0.1, distribution handshake of version 6\n";
 
 fn main(rt: HostRuntime) -> ExitCode {
-    let (mut out, mut err) = (rt.stdout(), rt.stderr());
-    match perform(&rt, &mut out) {
+    match perform(&rt) {
         Ok(status) => ExitCode::from(status),
-        Err(fault) => ExitCode::from(fault.tell(&mut err)),
+        Err(fault) => ExitCode::from(fault.tell(&mut rt.stderr())),
     }
 }
 
@@ -85,29 +84,44 @@ fn named_mapper_port(rt: &HostRuntime) -> Option<u16> {
     number_16(env::var(rt, "ERL_EPMD_PORT").ok()?.as_bytes())
 }
 
+fn perform(rt: &HostRuntime) -> Result<u8, Fault> {
+    let words = words_of(rt, rt.alloc())?;
+    obey(rt, &words)
+}
+
+// Does what these words ask for.
+fn obey(rt: &HostRuntime, words: &[String]) -> Result<u8, Fault> {
+    let alloc = rt.alloc();
+    let texts: Vec<&str> = words.iter().map(|word| word.as_str()).collect(alloc)?;
+    match wanted_of(alloc, &texts, named_mapper_port(rt)) {
+        Ok(wanted) => follow(rt, &wanted),
+        Err(Instead::Help) => print(rt, HELP),
+        Err(Instead::Version) => print(rt, VERSION),
+        Err(Instead::Fault(fault)) => Err(fault),
+    }
+}
+
+// Where steps are told, unless it is to be quiet.
+fn lines_of(rt: &HostRuntime, quiet: bool) -> Lines {
+    Lines {
+        alloc: rt.alloc(),
+        out: rt.stdout(),
+        quiet,
+    }
+}
+
 // Writes a text that was asked for.
-fn print<W: Write>(out: &mut W, text: &str) -> Result<u8, Fault> {
-    put(out, text)?;
+fn print(rt: &HostRuntime, text: &str) -> Result<u8, Fault> {
+    lines_of(rt, false).write(text)?;
     Ok(0)
 }
 
-fn perform<W: Write>(rt: &HostRuntime, out: &mut W) -> Result<u8, Fault> {
-    let alloc = rt.alloc();
-    let words = words_of(rt, alloc)?;
-    let texts: Vec<&str> = words.iter().map(|word| word.as_str()).collect(alloc)?;
-    let asked = asked_of(alloc, &texts, named_mapper_port(rt))?;
-    follow(rt, &asked, out)
-}
-
-// Does what is asked for.
-fn follow<W: Write>(rt: &HostRuntime, asked: &Asked<'_>, out: &mut W) -> Result<u8, Fault> {
-    match asked {
-        Asked::Help => print(out, HELP),
-        Asked::Version => print(out, VERSION),
-        Asked::Dials(wanted) => match (wanted.listen, &wanted.name) {
-            (Some(port), Some(name)) => take_one(rt, wanted, name, port, out),
-            _ => dial_all(rt, wanted, out),
-        },
+// Does what is asked for, with the cookie that is.
+fn follow(rt: &HostRuntime, wanted: &Wanted<'_>) -> Result<u8, Fault> {
+    let cookie = cookie_of(rt, rt.alloc(), wanted.choices.cookie)?;
+    match (wanted.choices.listen, &wanted.name) {
+        (Some(port), Some(name)) => take_one(rt, wanted, name, port, cookie.as_ref()),
+        _ => dial_all(rt, wanted, cookie.as_ref()),
     }
 }
 
@@ -147,126 +161,96 @@ fn home_cookie(rt: &HostRuntime, alloc: Global, home: &str) -> Result<Option<Coo
 
 // The own name: the one that is given, else one at the node's host, so that it is as long or short as the node's.
 fn own_name(alloc: Global, wanted: &Wanted<'_>, node: &NodeName) -> Result<NodeName, Fault> {
-    if let Some(name) = &wanted.name {
-        return Ok(name.try_clone(alloc)?);
+    match &wanted.name {
+        Some(name) => Ok(name.try_clone(alloc)?),
+        None => usual_name(alloc, node.host()),
     }
+}
+
+// The own name at this host, where none is given.
+fn usual_name(alloc: Global, host: &[u8]) -> Result<NodeName, Fault> {
     let mut text = Vec::from_slice(alloc, b"distping@")?;
-    if text.extend_from_slice(node.host()).is_err() {
-        return Err(Fault::NoMemory);
+    match text.extend_from_slice(host) {
+        Ok(()) => name_of(alloc, &text),
+        Err(_) => Err(Fault::NoMemory),
     }
-    name_of(alloc, &text)
 }
 
 // Takes one connection, and answers the status of what came of it.
-fn take_one<W: Write>(
-    rt: &HostRuntime,
-    wanted: &Wanted<'_>,
-    name: &NodeName,
-    port: u16,
-    out: &mut W,
-) -> Result<u8, Fault> {
-    let cookie = cookie_of(rt, rt.alloc(), wanted.cookie)?;
-    take_with(rt, wanted, name, port, cookie.as_ref(), out)
-}
-
-// The same with this cookie.
-fn take_with<W: Write>(
+fn take_one(
     rt: &HostRuntime,
     wanted: &Wanted<'_>,
     name: &NodeName,
     port: u16,
     cookie: Option<&Cookie>,
-    out: &mut W,
 ) -> Result<u8, Fault> {
-    let (alloc, quiet) = (rt.alloc(), false);
     let (creation, fresh) = (drawn(rt)?, drawn(rt)?);
-    let setup = setup_of(alloc, name, wanted.flags, cookie, creation)?;
+    let choices = &wanted.choices;
+    let setup = setup_of(rt.alloc(), name, choices.flags, cookie, creation)?;
     let one = Listen {
         setup: &setup,
         port,
         fresh,
         compares: cookie.is_some(),
-        turns: wanted.turns(),
+        turns: choices.turns(),
     };
-    listen(rt, &one, &mut Lines { alloc, out, quiet })
+    listen(rt, &one)
 }
 
 // Takes one connection, tells what came of it, and answers its status.
-fn listen<W: Write>(
-    rt: &HostRuntime,
-    one: &Listen<'_>,
-    lines: &mut Lines<'_, W>,
-) -> Result<u8, Fault> {
+fn listen(rt: &HostRuntime, one: &Listen<'_>) -> Result<u8, Fault> {
+    let lines = lines_of(rt, false);
     let taken = take_connection(rt, one, lines)?;
     lines.put_outcome(taken)?;
     Ok(taken.status())
 }
 
-// Writes a text at once.
-fn put<W: Write>(out: &mut W, text: &str) -> Result<(), Fault> {
-    out.write_all(text.as_bytes())
-        .map_err(|_| Fault::WriteFailed)?;
-    out.flush().map_err(|_| Fault::WriteFailed)
+// Tells what a probe came to.
+fn tell(dial: &Dial<'_>, found: &Found, verdict: Verdict) -> Result<(), Fault> {
+    let lines = dial.lines;
+    if lines.quiet {
+        lines.write_made(object_of(lines.alloc, dial, found, verdict))
+    } else {
+        lines.put_verdict(verdict)
+    }
 }
 
-// Tells what a probe came to.
-fn tell<W: Write>(
-    dial: &Dial<'_>,
-    found: &Found,
-    verdict: Verdict,
-    lines: &mut Lines<'_, W>,
-) -> Result<(), Fault> {
-    if !lines.quiet {
-        return Ok(lines.put_verdict(verdict)?);
-    }
-    let text = object_of(lines.alloc, dial, found, verdict)?;
-    put(lines.out, &text)
+/// What all nodes are dialled with.
+#[derive(Clone, Copy)]
+struct Round<'a> {
+    rt: &'a HostRuntime,
+    lines: Lines,
+    wanted: &'a Wanted<'a>,
+    cookie: Option<&'a Cookie>,
 }
 
 // Dials one node, and answers what is left of it.
-fn dial_one<'n, W: Write>(
-    rt: &HostRuntime,
-    wanted: &Wanted<'_>,
-    node: &'n NodeName,
-    cookie: Option<&Cookie>,
-    lines: &mut Lines<'_, W>,
-) -> Result<Half<'n>, Fault> {
-    let own = own_name(lines.alloc, wanted, node)?;
+fn dial_one<'n>(round: &Round<'_>, node: &'n NodeName) -> Result<Half<'n>, Fault> {
+    let own = own_name(round.lines.alloc, round.wanted, node)?;
     let dial = Dial {
+        rt: round.rt,
+        lines: round.lines,
         own: &own,
         node,
-        cookie,
-        wanted,
+        cookie: round.cookie,
+        choices: round.wanted.choices,
     };
-    probe_one(rt, &dial, node, lines)
+    probe_one(&dial, node)
 }
 
 // Probes a node, tells what it comes to, and answers what is left of it.
-fn probe_one<'n, W: Write>(
-    rt: &HostRuntime,
-    dial: &Dial<'_>,
-    node: &'n NodeName,
-    lines: &mut Lines<'_, W>,
-) -> Result<Half<'n>, Fault> {
-    if dial.wanted.nodes.len() > 1 {
-        lines.put_node(node)?;
-    }
+fn probe_one<'n>(dial: &Dial<'_>, node: &'n NodeName) -> Result<Half<'n>, Fault> {
     let mut found = Found::nothing();
-    match probed(rt, dial, lines, &mut found) {
+    match probed(dial, &mut found) {
         Ok(verdict) => Ok(half_of(node, &found, verdict)),
         Err(fault) => Err(fault),
     }
 }
 
 // Probes a node, and tells what it comes to. What was found stands in `found`.
-fn probed<W: Write>(
-    rt: &HostRuntime,
-    dial: &Dial<'_>,
-    lines: &mut Lines<'_, W>,
-    found: &mut Found,
-) -> Result<Verdict, Fault> {
-    let verdict = probe(rt, dial, lines, found)?;
-    tell(dial, found, verdict, lines)?;
+fn probed(dial: &Dial<'_>, found: &mut Found) -> Result<Verdict, Fault> {
+    let verdict = probe(dial, found)?;
+    tell(dial, found, verdict)?;
     Ok(verdict)
 }
 
@@ -284,15 +268,10 @@ fn half_of<'n>(node: &'n NodeName, found: &Found, verdict: Verdict) -> Half<'n> 
 }
 
 // Tells what can be told of two nodes, and answers the status of it.
-fn pair_one<W: Write>(
-    first: &Half<'_>,
-    second: &Half<'_>,
-    lines: &mut Lines<'_, W>,
-) -> Result<u8, Fault> {
+fn pair_one(lines: Lines, first: &Half<'_>, second: &Half<'_>) -> Result<u8, Fault> {
     let pairing = pairing_of(first, second);
     if lines.quiet {
-        let text = pair_object(lines.alloc, first.node, second.node, pairing)?;
-        put(lines.out, &text)?;
+        lines.write_made(pair_object(lines.alloc, first.node, second.node, pairing))?;
     } else {
         lines.put_pair(first.node, second.node, pairing)?;
     }
@@ -307,25 +286,21 @@ fn first_of(first: u8, second: u8) -> u8
 }
 
 // Tells of one node and each of others, and answers the first status that is not 0.
-fn pair_with<W: Write>(
-    first: &Half<'_>,
-    others: &[Half<'_>],
-    lines: &mut Lines<'_, W>,
-) -> Result<u8, Fault> {
+fn pair_with(lines: Lines, first: &Half<'_>, others: &[Half<'_>]) -> Result<u8, Fault> {
     let mut status = 0;
     for second in others {
-        status = first_of(status, pair_one(first, second, lines)?);
+        status = first_of(status, pair_one(lines, first, second)?);
     }
     Ok(status)
 }
 
 // Tells of each two nodes, and answers the first status that is not 0.
-fn pair_all<W: Write>(halves: &[Half<'_>], lines: &mut Lines<'_, W>) -> Result<u8, Fault> {
+fn pair_all(lines: Lines, halves: &[Half<'_>]) -> Result<u8, Fault> {
     let mut status = 0;
     let mut rest = halves;
     for first in halves {
         rest = behind_the_first(rest);
-        status = first_of(status, pair_with(first, rest, lines)?);
+        status = first_of(status, pair_with(lines, first, rest)?);
     }
     Ok(status)
 }
@@ -337,44 +312,51 @@ fn behind_the_first<'h, 'n>(halves: &'h [Half<'n>]) -> &'h [Half<'n>] {
     }
 }
 
+// Dials one node of several, keeps what is left of it, and answers its status.
+fn dial_next<'n>(
+    round: &Round<'_>,
+    node: &'n NodeName,
+    halves: &mut Vec<Half<'n>>,
+) -> Result<u8, Fault> {
+    if round.wanted.nodes.len() > 1 {
+        round.lines.put_node(node)?;
+    }
+    let half = dial_one(round, node)?;
+    halves.push(half)?;
+    Ok(half.verdict.status())
+}
+
 // Dials all nodes, one behind the other, and answers the first status that is not 0, and what is left of them.
-fn dial_each<'n, W: Write>(
-    rt: &HostRuntime,
-    wanted: &'n Wanted<'_>,
-    cookie: Option<&Cookie>,
-    lines: &mut Lines<'_, W>,
+fn dial_each<'n>(
+    round: &Round<'_>,
+    nodes: &'n [NodeName],
     halves: &mut Vec<Half<'n>>,
 ) -> Result<u8, Fault> {
     let mut status = 0;
-    for node in &wanted.nodes {
-        let half = dial_one(rt, wanted, node, cookie, lines)?;
-        status = first_of(status, half.verdict.status());
-        halves.push(half)?;
+    for node in nodes {
+        status = first_of(status, dial_next(round, node, halves)?);
     }
     Ok(status)
 }
 
 // The same, and then tells of each two of them.
-fn dial_and_pair<'n, W: Write>(
-    rt: &HostRuntime,
-    wanted: &'n Wanted<'_>,
-    cookie: Option<&Cookie>,
-    lines: &mut Lines<'_, W>,
+fn dial_and_pair<'n>(
+    round: &Round<'_>,
+    nodes: &'n [NodeName],
     halves: &mut Vec<Half<'n>>,
 ) -> Result<u8, Fault> {
-    let status = dial_each(rt, wanted, cookie, lines, halves)?;
-    Ok(first_of(status, pair_all(halves, lines)?))
+    let status = dial_each(round, nodes, halves)?;
+    Ok(first_of(status, pair_all(round.lines, halves)?))
 }
 
 // Dials all nodes, and tells of each two of them.
-fn dial_all<W: Write>(rt: &HostRuntime, wanted: &Wanted<'_>, out: &mut W) -> Result<u8, Fault> {
-    let alloc = rt.alloc();
-    let mut lines = Lines {
-        alloc,
-        out,
-        quiet: wanted.json,
+fn dial_all(rt: &HostRuntime, wanted: &Wanted<'_>, cookie: Option<&Cookie>) -> Result<u8, Fault> {
+    let round = Round {
+        rt,
+        lines: lines_of(rt, wanted.choices.json),
+        wanted,
+        cookie,
     };
-    let cookie = cookie_of(rt, alloc, wanted.cookie)?;
-    let mut halves = Vec::new(alloc);
-    dial_and_pair(rt, wanted, cookie.as_ref(), &mut lines, &mut halves)
+    let mut halves = Vec::new(rt.alloc());
+    dial_and_pair(&round, &wanted.nodes, &mut halves)
 }

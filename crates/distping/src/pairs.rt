@@ -10,7 +10,7 @@ use dist_names::{Flags, NodeName};
 use dist_probe::{Verdict, style_of};
 
 /// What a probe left of one node.
-#[derive(Drop)]
+#[derive(Clone, Copy)]
 pub struct Half<'a> {
     /// Its name.
     pub node: &'a NodeName,

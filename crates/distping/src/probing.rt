@@ -3,7 +3,7 @@
 ghost use Rattle.std.specs.Prelude.{◌≡◌};
 ghost use Rattle.distping.specs.Places.{lookup_verdict, mapper_verdict, port_verdict};
 
-use crate::command::Wanted;
+use crate::command::Choices;
 use crate::dialling::{Place, connected, resolved};
 use crate::fault::Fault;
 use crate::lines::Lines;
@@ -16,7 +16,6 @@ use dist_secret::{Cookie, Cookies};
 use dist_setup::{Setup, Version};
 use dist_streams::SocketStream;
 use std::alloc::Global;
-use std::io::{self, Write};
 use std::net::SocketAddr;
 use std::random::RandomSource;
 
@@ -26,13 +25,24 @@ const TURNS_OF_A_KNOCK: usize = 100;
 // A port mapper writes each line of its names by itself, so as many more reads may be needed as it knows nodes.
 const TURNS_OF_NAMES: usize = 1280;
 
+/// What the port mapper knows of a node.
+#[derive(Clone, Copy)]
+pub struct Registration {
+    /// Its port.
+    pub port: u16,
+    /// The highest version that it speaks.
+    pub highest: u16,
+    /// The lowest one.
+    pub lowest: u16,
+}
+
 /// What was found of a node.
 #[derive(Drop)]
 pub struct Found {
     /// The address of its host.
     pub address: Option<SocketAddr>,
     /// What the port mapper knows of it.
-    pub registration: Option<PortInfo>,
+    pub registration: Option<Registration>,
     /// The port that was dialled.
     pub port: Option<u16>,
     /// The status that it said.
@@ -55,6 +65,7 @@ impl Found {
 }
 
 /// Why the port mapper gave no registration.
+#[derive(Clone, Copy)]
 enum Unknown {
     /// It was not reached.
     Place(Place),
@@ -63,7 +74,7 @@ enum Unknown {
 }
 
 /// What ends a probe.
-#[derive(Drop)]
+#[derive(Clone, Copy)]
 enum Stop {
     /// A verdict before the talk.
     Verdict(Verdict),
@@ -83,23 +94,21 @@ impl From<Fault> for Stop {
     }
 }
 
-impl From<io::Error> for Stop {
-    fn from(error: io::Error) -> Stop {
-        Stop::Fault(Fault::from(error))
-    }
-}
-
 /// A node that is to be dialled.
-#[derive(Drop)]
+#[derive(Clone, Copy)]
 pub struct Dial<'a> {
+    /// What is asked for addresses, sockets and random bytes.
+    pub rt: &'a HostRuntime,
+    /// Where the steps are told.
+    pub lines: Lines,
     /// The name that the probe gives itself.
     pub own: &'a NodeName,
     /// The node's name.
     pub node: &'a NodeName,
     /// The cookie that is tried.
     pub cookie: Option<&'a Cookie>,
-    /// What the command line asks for.
-    pub wanted: &'a Wanted<'a>,
+    /// What the command line chooses.
+    pub choices: Choices<'a>,
 }
 
 /// A random number of 32 bits.
@@ -140,34 +149,33 @@ pub fn setup_of(
 }
 
 // The host's address.
-fn address_of<W: Write>(
-    rt: &HostRuntime,
-    dial: &Dial<'_>,
-    lines: &mut Lines<'_, W>,
-) -> Result<SocketAddr, Stop> {
-    let host = dial.wanted.host(dial.node);
-    let address = resolved(rt, host).ok_or(Verdict::NoHost)?;
-    lines.put_address(host, &address)?;
+fn address_of(dial: &Dial<'_>) -> Result<SocketAddr, Stop> {
+    let host = dial.choices.host(dial.node);
+    let address = resolved(dial.rt, host).ok_or(Verdict::NoHost)?;
+    dial.lines.put_address(host, &address)?;
     Ok(address)
 }
 
 // A connection to the port mapper.
-fn mapper_at(
-    rt: &HostRuntime,
-    dial: &Dial<'_>,
-    address: &SocketAddr,
-) -> Result<SocketStream, Place> {
-    connected(rt, address, dial.wanted.mapper_port, dial.wanted.seconds)
+fn mapper_at(dial: &Dial<'_>, address: &SocketAddr) -> Result<SocketStream, Place> {
+    let choices = &dial.choices;
+    connected(dial.rt, address, choices.mapper_port, choices.seconds)
+}
+
+// The end of a probe by this verdict, unless telling it went wrong.
+fn ended(told: Result<(), Fault>, verdict: Verdict) -> Stop {
+    match told {
+        Ok(()) => Stop::Verdict(verdict),
+        Err(fault) => Stop::Fault(fault),
+    }
 }
 
 // Tells that the port mapper was not reached.
-fn no_mapper<W: Write>(
-    dial: &Dial<'_>,
-    place: Place,
-    lines: &mut Lines<'_, W>,
-) -> Result<Stop, Stop> {
-    lines.put_unreached("epmd     ", dial.wanted.mapper_port, place)?;
-    Ok(Stop::Verdict(mapper_verdict(place)))
+fn no_mapper(dial: &Dial<'_>, place: Place) -> Stop {
+    let told = dial
+        .lines
+        .put_unreached("epmd     ", dial.choices.mapper_port, place);
+    ended(told, mapper_verdict(place))
 }
 
 // That the port mapper's port was not reached, as a verdict.
@@ -202,210 +210,197 @@ fn lookup_verdict(error: LookupError) -> Verdict
 }
 
 // The lines of all names that the port mapper knows.
-fn names_at(
-    rt: &HostRuntime,
-    alloc: Global,
-    dial: &Dial<'_>,
-    address: &SocketAddr,
-) -> Option<ByteString> {
-    let mut stream = mapper_at(rt, dial, address).ok()?;
-    let limit = dial.wanted.turns().saturating_add(TURNS_OF_NAMES);
-    let (_port, text) = ask_names(alloc, &mut stream, limit).ok()?;
-    Some(text)
+fn names_at(dial: &Dial<'_>, address: &SocketAddr) -> Option<ByteString> {
+    let mut stream = mapper_at(dial, address).ok()?;
+    let limit = dial.choices.turns().saturating_add(TURNS_OF_NAMES);
+    match ask_names(dial.lines.alloc, &mut stream, limit) {
+        Ok((_port, text)) => Some(text),
+        Err(_) => None,
+    }
+}
+
+// Tells the names that are registered there, where the port mapper gives them.
+fn put_names(dial: &Dial<'_>, address: &SocketAddr) -> Result<(), Fault> {
+    match names_at(dial, address) {
+        Some(names) => dial.lines.put_names(names.as_slice()),
+        None => Ok(()),
+    }
 }
 
 // Tells why there is no registration, with the names that are registered there.
-fn unregistered<W: Write>(
-    rt: &HostRuntime,
+fn put_unregistered(
     dial: &Dial<'_>,
     address: &SocketAddr,
     error: LookupError,
-    lines: &mut Lines<'_, W>,
-) -> Result<Verdict, Stop> {
-    let verdict = lookup_verdict(error);
-    lines.put_no_answer(dial.wanted.mapper_port, error)?;
-    if let Verdict::NotRegistered = verdict
-        && let Some(names) = names_at(rt, lines.alloc, dial, address)
-    {
-        lines.put_names(names.as_slice())?;
+) -> Result<(), Fault> {
+    dial.lines.put_no_answer(dial.choices.mapper_port, error)?;
+    match error {
+        LookupError::NotThere => put_names(dial, address),
+        _ => Ok(()),
     }
-    Ok(verdict)
 }
 
 // Asks the port mapper for the node.
-fn looked_up(
-    rt: &HostRuntime,
-    alloc: Global,
-    dial: &Dial<'_>,
-    address: &SocketAddr,
-) -> Result<PortInfo, Unknown> {
-    match mapper_at(rt, dial, address) {
-        Ok(mut stream) => {
-            match lookup(alloc, &mut stream, dial.node.short(), dial.wanted.turns()) {
-                Ok(info) => Ok(info),
-                Err(error) => Err(Unknown::Lookup(error)),
-            }
-        }
+fn looked_up(dial: &Dial<'_>, address: &SocketAddr) -> Result<PortInfo, Unknown> {
+    match mapper_at(dial, address) {
+        Ok(mut stream) => asked_for(dial, &mut stream),
         Err(place) => Err(Unknown::Place(place)),
     }
 }
 
+// The same over this connection.
+fn asked_for(dial: &Dial<'_>, stream: &mut SocketStream) -> Result<PortInfo, Unknown> {
+    let (short, limit) = (dial.node.short(), dial.choices.turns());
+    match lookup(dial.lines.alloc, stream, short, limit) {
+        Ok(info) => Ok(info),
+        Err(error) => Err(Unknown::Lookup(error)),
+    }
+}
+
+// Tells what the port mapper knows of the node.
+fn told_registration(dial: &Dial<'_>, info: &PortInfo) -> Result<Registration, Stop> {
+    dial.lines.put_registration(dial.choices.mapper_port, info)?;
+    Ok(Registration {
+        port: info.port,
+        highest: info.highest,
+        lowest: info.lowest,
+    })
+}
+
 // What the port mapper knows of the node.
-fn registration_of<W: Write>(
-    rt: &HostRuntime,
-    dial: &Dial<'_>,
-    address: &SocketAddr,
-    lines: &mut Lines<'_, W>,
-) -> Result<PortInfo, Stop> {
-    match looked_up(rt, lines.alloc, dial, address) {
-        Ok(info) => {
-            lines.put_registration(dial.wanted.mapper_port, &info)?;
-            Ok(info)
-        }
-        Err(Unknown::Place(place)) => Err(no_mapper(dial, place, lines)?),
+fn registration_of(dial: &Dial<'_>, address: &SocketAddr) -> Result<Registration, Stop> {
+    match looked_up(dial, address) {
+        Ok(info) => told_registration(dial, &info),
+        Err(Unknown::Place(place)) => Err(no_mapper(dial, place)),
         Err(Unknown::Lookup(error)) => {
-            Err(Stop::Verdict(unregistered(rt, dial, address, error, lines)?))
+            let told = put_unregistered(dial, address, error);
+            Err(ended(told, lookup_verdict(error)))
         }
     }
 }
 
 // The node's port: the one that is given, else that of its registration.
-fn port_of<W: Write>(
-    rt: &HostRuntime,
-    dial: &Dial<'_>,
-    address: &SocketAddr,
-    lines: &mut Lines<'_, W>,
-    found: &mut Found,
-) -> Result<u16, Stop> {
-    if let Some(port) = dial.wanted.port {
+fn port_of(dial: &Dial<'_>, address: &SocketAddr, found: &mut Found) -> Result<u16, Stop> {
+    if let Some(port) = dial.choices.port {
         return Ok(port);
     }
-    let info = registration_of(rt, dial, address, lines)?;
-    let port = info.port;
-    found.registration = Some(info);
-    Ok(port)
+    let registration = registration_of(dial, address)?;
+    found.registration = Some(registration);
+    Ok(registration.port)
 }
 
 // Tells that the node was not reached.
-fn no_node<W: Write>(port: u16, place: Place, lines: &mut Lines<'_, W>) -> Result<Stop, Stop> {
-    lines.put_unreached("connect  ", port, place)?;
-    Ok(Stop::Verdict(port_verdict(place)))
-}
-
-// A connection to the node.
-fn node_at<W: Write>(
-    rt: &HostRuntime,
-    dial: &Dial<'_>,
-    address: &SocketAddr,
-    port: u16,
-    lines: &mut Lines<'_, W>,
-) -> Result<SocketStream, Stop> {
-    match connected(rt, address, port, dial.wanted.seconds) {
-        Ok(stream) => {
-            lines.put_connected(address, port)?;
-            Ok(stream)
-        }
-        Err(place) => Err(no_node(port, place, lines)?),
-    }
+fn no_node(dial: &Dial<'_>, port: u16, place: Place) -> Stop {
+    let told = dial.lines.put_unreached("connect  ", port, place);
+    ended(told, port_verdict(place))
 }
 
 // Whether TLS is spoken there, which a second connection finds out: some servers close without a word upon a name.
-fn is_tls(rt: &HostRuntime, dial: &Dial<'_>, address: &SocketAddr, port: u16) -> bool {
-    match connected(rt, address, port, dial.wanted.seconds) {
+fn is_tls(dial: &Dial<'_>, address: &SocketAddr, port: u16) -> bool {
+    match connected(dial.rt, address, port, dial.choices.seconds) {
         Ok(mut stream) => speaks_tls(&mut stream, TURNS_OF_A_KNOCK),
         Err(_) => false,
     }
 }
 
-// Tells what the node said.
-fn put_report<W: Write>(
-    dial: &Dial<'_>,
-    report: &Report,
-    lines: &mut Lines<'_, W>,
-) -> io::Result<()> {
-    if let Some(status) = report.status {
-        lines.put_status(dial.own, dial.wanted.flags, status)?;
+// Tells the status that the node said, where it said one.
+fn put_said_status(dial: &Dial<'_>, status: Option<Status>) -> Result<(), Fault> {
+    match status {
+        Some(status) => dial.lines.put_status(dial.own, dial.choices.flags, status),
+        None => Ok(()),
     }
-    if let Some(peer) = &report.peer {
-        lines.put_peer(peer)?;
+}
+
+// Tells what the node said of itself, where it did.
+fn put_said_peer(lines: Lines, peer: &Option<Peer>) -> Result<(), Fault> {
+    match peer {
+        Some(peer) => lines.put_peer(peer),
+        None => Ok(()),
     }
-    lines.put_cookie(report.verdict())
+}
+
+// Tells what the node said, and answers the verdict upon it.
+fn told_report(dial: &Dial<'_>, report: &Report) -> Result<Verdict, Stop> {
+    put_said_status(dial, report.status)?;
+    put_said_peer(dial.lines, &report.peer)?;
+    let verdict = report.verdict();
+    dial.lines.put_cookie(verdict)?;
+    Ok(verdict)
+}
+
+// The setup of the probe, and its own challenge.
+fn drawn_setup(dial: &Dial<'_>) -> Result<(Setup, u32), Fault> {
+    let (fresh, creation) = (drawn(dial.rt)?, drawn(dial.rt)?);
+    let flags = dial.choices.flags;
+    let setup = setup_of(dial.lines.alloc, dial.own, flags, dial.cookie, creation)?;
+    Ok((setup, fresh))
 }
 
 // The talk with the node.
-fn talk(
-    rt: &HostRuntime,
-    alloc: Global,
-    dial: &Dial<'_>,
-    stream: &mut SocketStream,
-) -> Result<Report, Fault> {
-    let fresh = drawn(rt)?;
-    let setup = setup_of(alloc, dial.own, dial.wanted.flags, dial.cookie, drawn(rt)?)?;
-    let (replies, limit) = (dial.cookie.is_some(), dial.wanted.turns());
-    Ok(ask_node(alloc, stream, &setup, dial.node, fresh, replies, limit))
+fn talk(dial: &Dial<'_>, stream: &mut SocketStream) -> Result<Report, Stop> {
+    let (setup, fresh) = drawn_setup(dial)?;
+    let (replies, limit) = (dial.cookie.is_some(), dial.choices.turns());
+    let report = ask_node(
+        dial.lines.alloc,
+        stream,
+        &setup,
+        dial.node,
+        fresh,
+        replies,
+        limit,
+    );
+    Ok(report)
 }
 
 // Connects to the node, and talks with it.
-fn talked<W: Write>(
-    rt: &HostRuntime,
-    dial: &Dial<'_>,
-    address: &SocketAddr,
-    port: u16,
-    lines: &mut Lines<'_, W>,
-) -> Result<Report, Stop> {
-    let mut stream = node_at(rt, dial, address, port, lines)?;
-    match talk(rt, lines.alloc, dial, &mut stream) {
-        Ok(report) => Ok(report),
-        Err(fault) => Err(Stop::Fault(fault)),
+fn talked(dial: &Dial<'_>, address: &SocketAddr, port: u16) -> Result<Report, Stop> {
+    match connected(dial.rt, address, port, dial.choices.seconds) {
+        Ok(mut stream) => match dial.lines.put_connected(address, port) {
+            Ok(()) => talk(dial, &mut stream),
+            Err(fault) => Err(Stop::Fault(fault)),
+        },
+        Err(place) => Err(no_node(dial, port, place)),
     }
 }
 
 // Asks the node at this place, and tells what it said.
-fn asked<W: Write>(
-    rt: &HostRuntime,
+fn asked(
     dial: &Dial<'_>,
     address: &SocketAddr,
     port: u16,
-    lines: &mut Lines<'_, W>,
     found: &mut Found,
 ) -> Result<Verdict, Stop> {
-    let report = talked(rt, dial, address, port, lines)?;
-    let (verdict, put) = (report.verdict(), put_report(dial, &report, lines));
+    let report = talked(dial, address, port)?;
+    let told = told_report(dial, &report);
     found.status = report.status;
     found.peer = report.peer;
-    put?;
-    Ok(verdict)
+    told
+}
+
+// What a verdict upon the talk means: TLS may close without a word upon a name.
+fn behind_talk(dial: &Dial<'_>, address: &SocketAddr, port: u16, verdict: Verdict) -> Verdict {
+    match verdict {
+        Verdict::Gone(Awaited::Status) if is_tls(dial, address, port) => {
+            Verdict::Foreign(Service::Tls)
+        }
+        other => other,
+    }
 }
 
 // Dials the node, and tells each step.
-fn steps<W: Write>(
-    rt: &HostRuntime,
-    dial: &Dial<'_>,
-    lines: &mut Lines<'_, W>,
-    found: &mut Found,
-) -> Result<Verdict, Stop> {
-    lines.put_styles(dial.own, dial.node)?;
-    let address = address_of(rt, dial, lines)?;
+fn steps(dial: &Dial<'_>, found: &mut Found) -> Result<Verdict, Stop> {
+    dial.lines.put_styles(dial.own, dial.node)?;
+    let address = address_of(dial)?;
     found.address = Some(address);
-    let port = port_of(rt, dial, &address, lines, found)?;
+    let port = port_of(dial, &address, found)?;
     found.port = Some(port);
-    let verdict = asked(rt, dial, &address, port, lines, found)?;
-    if let Verdict::Gone(Awaited::Status) = verdict
-        && is_tls(rt, dial, &address, port)
-    {
-        return Ok(Verdict::Foreign(Service::Tls));
-    }
-    Ok(verdict)
+    let verdict = asked(dial, &address, port, found)?;
+    Ok(behind_talk(dial, &address, port, verdict))
 }
 
 /// Dials the node, tells each step, and answers what it comes to. What was found stands in `found`.
-pub fn probe<W: Write>(
-    rt: &HostRuntime,
-    dial: &Dial<'_>,
-    lines: &mut Lines<'_, W>,
-    found: &mut Found,
-) -> Result<Verdict, Fault> {
-    match steps(rt, dial, lines, found) {
+pub fn probe(dial: &Dial<'_>, found: &mut Found) -> Result<Verdict, Fault> {
+    match steps(dial, found) {
         Ok(verdict) | Err(Stop::Verdict(verdict)) => Ok(verdict),
         Err(Stop::Fault(fault)) => Err(fault),
     }
