@@ -1,7 +1,7 @@
 //! A run, from its plan to its closed nodes.
 
 ghost use Rattle.std.specs.Prelude.{◌++◌, IfOk, IsPermutation};
-ghost use Rattle.std.specs.List.Sorted.{IsNonDecreasingBy};
+ghost use Rattle.dist_run.specs.Runs.{AreInOrder};
 
 use crate::crew::Rest;
 use crate::site::{Dial, Site};
@@ -30,6 +30,8 @@ pub struct Ran {
     pub faults: Vec<OrderFault>,
     /// The nodes, in the order of the plan.
     pub closed: Vec<Closed>,
+    // A caller of `thread::scope` knows of the answer what its type says.
+    ghost order: { AreInOrder faults.items },
 }
 
 // The nodes that were started, with their seats shared out.
@@ -146,7 +148,7 @@ fn closed_all(alloc: Global, hosts: Vec<Host>, mut rests: Rests) -> Result<Vec<C
 // The faults of both workers, in the order of their numbers.
 fn faults_of(first: Vec<OrderFault>, second: Vec<OrderFault>) -> Result<Vec<OrderFault>, RunError>
     ensures all { IfOk result (λ faults. IsPermutation (first.items ++ second.items) faults.items) }
-    ensures order { IfOk result (λ faults. IsNonDecreasingBy (λ (fault : OrderFault). fault.number) faults.items) }
+    ensures order { IfOk result (λ faults. AreInOrder faults.items) }
 {
     let mut faults = first;
     let mut second = second;
@@ -159,7 +161,7 @@ fn faults_of(first: Vec<OrderFault>, second: Vec<OrderFault>) -> Result<Vec<Orde
 
 // What is left of the nodes, closed.
 fn ran_of(alloc: Global, hosts: Vec<Host>, ended: Ended) -> Result<Ran, RunError>
-    ensures order { IfOk result (λ ran. IsNonDecreasingBy (λ (fault : OrderFault). fault.number) ran.faults.items) }
+    ensures order { IfOk result (λ ran. AreInOrder ran.faults.items) }
     ensures all { IfOk result (λ ran. IsPermutation (ended.first.faults.items ++ ended.second.faults.items) ran.faults.items) }
 {
     let Ended {
@@ -250,6 +252,7 @@ where
         + RandomSource
         + Sync,
     G: Gate + Sync,
+    ensures order { IfOk result (λ ran. AreInOrder ran.faults.items) }
 {
     let Ok(generator) = make_rng::<StdRng, R>(rt) else {
         return Err(RunError::NoRandomBytes);
