@@ -15,6 +15,7 @@ use Rattle.dist_audit.specs.Audit.{AreOfOneWorld, EachLinkComesHome, EachTakesIt
 use Rattle.dist_audit.specs.Refusals.{refusal_name, refusal_number}
 use Rattle.dist_hosts.specs.Words.{order_refusal_name}
 use Rattle.dist_hosts.specs.declared.order_fault.OrderFault.{OrderFault}
+use Rattle.dist_run.specs.Runs.{AreInOrder}
 use Rattle.dist_play.specs.Lines.{node_text}
 use Rattle.dist_play.specs.Worlds.{nodes_text, AreAgreements}
 
@@ -81,6 +82,6 @@ IsAudited (suc (suc status)) closed text = ⊥
 abbrev pub IsOfRun : ℕ → List OrderFault → List Closed → List ℕ → Type 0
 IsOfRun status faults closed text = (said : List ℕ) × IsAudited status closed said × (text ≡ orders_text faults ++ said)
 
--- WHAT `run` PRINTS, by the exit status: the text of a run, of some orders and some closed nodes
+-- WHAT `run` PRINTS, by the exit status: the text of a run, of some orders in the order of the file and some closed nodes
 abbrev pub PrintsRun : ℕ → Option (List ℕ) → Option (List ℕ) → Type 0
-PrintsRun status old new = (faults : List OrderFault) × (closed : List Closed) × Puts (IsOfRun status faults closed) old new
+PrintsRun status old new = (faults : List OrderFault) × (closed : List Closed) × AreInOrder faults × Puts (IsOfRun status faults closed) old new
