@@ -11,7 +11,7 @@ pub enum Fault {
     #[error("{0}")]
     BadWords(Refusal),
     /// A word is no UTF-8. Whoever started it is to blame.
-    #[error("a word of the command line is no UTF-8")]
+    #[error("a word of the command line or the environment is no UTF-8")]
     NoText,
     /// An address is no IP address. Whoever started it is to blame.
     #[error("-address and ERL_EPMD_ADDRESS want IP addresses with commas between them")]

@@ -16,7 +16,7 @@ use crate::settings::{Settings, Task};
 use crate::sockets::{listeners, port_of};
 use dist_serving::{Limits, Server, serve};
 use std::alloc::{AllocError, Global};
-use std::env;
+use std::env::{self, VarError};
 use std::io::{self, ErrorKind, Write};
 use std::net::Net;
 use std::process::ExitCode;
@@ -72,6 +72,17 @@ fn words_of(rt: &HostRuntime, alloc: Global) -> Result<Vec<String>, Fault> {
     }
 }
 
+// What the environment says by this name. A text that is no UTF-8 asks for nothing, and is not passed over: the program would
+// listen where nobody asked it to.
+fn variable(rt: &HostRuntime, name: &str) -> Result<Option<String>, Fault> {
+    match env::var(rt, name) {
+        Ok(text) => Ok(Some(text)),
+        Err(VarError::NotPresent) => Ok(None),
+        Err(VarError::NotUnicode) => Err(Fault::NoText),
+        Err(VarError::OutOfMemory) => Err(Fault::NoMemory),
+    }
+}
+
 fn texts(alloc: Global, words: &[String]) -> Result<Vec<&str>, AllocError> {
     words.iter().map(|word| word.as_str()).collect(alloc)
 }
@@ -85,8 +96,8 @@ fn perform<R: Net + Wait + Clock, W: Write>(
     let alloc = rt.alloc();
     let words = words_of(rt, alloc)?;
     let words = texts(alloc, &words)?;
-    let port = env::var(rt, "ERL_EPMD_PORT").ok();
-    let address = env::var(rt, "ERL_EPMD_ADDRESS").ok();
+    let port = variable(rt, "ERL_EPMD_PORT")?;
+    let address = variable(rt, "ERL_EPMD_ADDRESS")?;
     let port = port.as_ref().map(|word| word.as_str());
     let address = address.as_ref().map(|word| word.as_str());
     let settings = match settings_of(&words, port, address) {

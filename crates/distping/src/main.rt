@@ -28,7 +28,7 @@ use listening::{Listen, take_connection};
 use pairs::{Half, pairing_of};
 use probing::{Dial, Found, drawn, probe, setup_of};
 use std::alloc::Global;
-use std::env;
+use std::env::{self, VarError};
 use std::fs::File;
 use std::io::ErrorKind;
 use std::process::ExitCode;
@@ -79,9 +79,21 @@ fn words_of(rt: &HostRuntime, alloc: Global) -> Result<Vec<String>, Fault> {
     }
 }
 
+// What the environment says by this name. A text that is no UTF-8 says nothing.
+fn variable(rt: &HostRuntime, name: &str) -> Result<Option<String>, Fault> {
+    match env::var(rt, name) {
+        Ok(text) => Ok(Some(text)),
+        Err(VarError::OutOfMemory) => Err(Fault::NoMemory),
+        Err(_) => Ok(None),
+    }
+}
+
 // The port mapper's port that the environment names, as `erl` reads it.
-fn named_mapper_port(rt: &HostRuntime) -> Option<u16> {
-    number_16(env::var(rt, "ERL_EPMD_PORT").ok()?.as_bytes())
+fn named_mapper_port(rt: &HostRuntime) -> Result<Option<u16>, Fault> {
+    Ok(match variable(rt, "ERL_EPMD_PORT")? {
+        Some(port) => number_16(port.as_bytes()),
+        None => None,
+    })
 }
 
 fn perform(rt: &HostRuntime) -> Result<u8, Fault> {
@@ -93,7 +105,7 @@ fn perform(rt: &HostRuntime) -> Result<u8, Fault> {
 fn obey(rt: &HostRuntime, words: &[String]) -> Result<u8, Fault> {
     let alloc = rt.alloc();
     let texts: Vec<&str> = words.iter().map(|word| word.as_str()).collect(alloc)?;
-    match wanted_of(alloc, &texts, named_mapper_port(rt)) {
+    match wanted_of(alloc, &texts, named_mapper_port(rt)?) {
         Ok(wanted) => follow(rt, &wanted),
         Err(Instead::Help) => print(rt, HELP),
         Err(Instead::Version) => print(rt, VERSION),
@@ -142,9 +154,9 @@ fn cookie_of(
     match source {
         CookieSource::Nowhere => Ok(None),
         CookieSource::File(path) => Ok(Some(cookie_at(rt, alloc, path)?)),
-        CookieSource::Home => match env::var(rt, "HOME") {
-            Ok(home) => home_cookie(rt, alloc, &home),
-            Err(_) => Ok(None),
+        CookieSource::Home => match variable(rt, "HOME")? {
+            Some(home) => home_cookie(rt, alloc, &home),
+            None => Ok(None),
         },
     }
 }

@@ -21,12 +21,13 @@ use distribution::{
 use fault::Fault;
 use link::Link;
 use std::alloc::{AllocError, Global};
+use std::env::{self, VarError};
 use std::fs::File;
 use std::io::{self, ErrorKind, Write};
 use std::process::ExitCode;
 use std::sync::Arc;
 use std::sync::atomic::{AtomicBool, Ordering};
-use std::{env, thread};
+use std::thread;
 use telling::tell_up;
 
 /// Where a port mapper listens, unless the environment or the command line says otherwise. Source: ERTS User's Guide, epmd.
@@ -81,7 +82,7 @@ fn watch<R: Input + Drop>(rt: R, ended: &AtomicBool) {
 // Does what the command line asks for.
 fn perform(rt: &HostRuntime, ended: &AtomicBool) -> Result<(), Fault> {
     let words = words_of(rt)?;
-    let asked = asked_of(rt.alloc(), &words, usual_mapper_port(rt))?;
+    let asked = asked_of(rt.alloc(), &words, usual_mapper_port(rt)?)?;
     follow(rt, asked, ended)
 }
 
@@ -102,12 +103,21 @@ fn words_of(rt: &HostRuntime) -> Result<Vec<String>, Fault> {
     }
 }
 
-// The port mapper's port where the command line names none, as `erl` reads it.
-fn usual_mapper_port(rt: &HostRuntime) -> u16 {
-    match env::var(rt, "ERL_EPMD_PORT") {
-        Ok(port) => number_16(port.as_bytes()).unwrap_or(MAPPER_PORT),
-        Err(_) => MAPPER_PORT,
+// What the environment says by this name. A text that is no UTF-8 says nothing.
+fn variable(rt: &HostRuntime, name: &str) -> Result<Option<String>, Fault> {
+    match env::var(rt, name) {
+        Ok(text) => Ok(Some(text)),
+        Err(VarError::OutOfMemory) => Err(Fault::NoMemory),
+        Err(_) => Ok(None),
     }
+}
+
+// The port mapper's port where the command line names none, as `erl` reads it.
+fn usual_mapper_port(rt: &HostRuntime) -> Result<u16, Fault> {
+    Ok(match variable(rt, "ERL_EPMD_PORT")? {
+        Some(port) => number_16(port.as_bytes()).unwrap_or(MAPPER_PORT),
+        None => MAPPER_PORT,
+    })
 }
 
 // The name that these bytes are.
@@ -144,7 +154,7 @@ fn cookie_at(rt: &HostRuntime, path: &str) -> Result<Cookie, Fault> {
 
 // The cookie of the home folder.
 fn home_cookie(rt: &HostRuntime) -> Result<Cookie, Fault> {
-    let Ok(home) = env::var(rt, "HOME") else {
+    let Some(home) = variable(rt, "HOME")? else {
         return Err(Fault::OpenFailed);
     };
     let path = format!(in rt.alloc(); "{home}/.erlang.cookie")?;
