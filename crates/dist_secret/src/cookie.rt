@@ -1,4 +1,7 @@
-ghost use Rattle.std.specs.Prelude.{◌≡◌, ◌≤◌, ℕ, List, length, take, IsTrue, IfOk};
+ghost use Rattle.std.proofs.Common.{rules};
+ghost use Rattle.std.specs.Prelude.{◌≡◌, ◌==◌, ◌≤◌, ◌↔◌, ℕ, List, length, take, IsTrue, IfOk};
+ghost use Rattle.std.specs.Cmp.Lexicographic.{pointwise};
+ghost use Rattle.std.specs.Cmp.Rules.{comparing};
 ghost use Rattle.std.specs.List.{list_all, position, position_or_len};
 ghost use Rattle.dist_secret.specs.Cookie.{is_cookie_byte, is_other, may_follow, cookie_of, IsCookie, IsCookieOf};
 ghost use Rattle.dist_secret.specs.Answer.{Answers};
@@ -122,4 +125,27 @@ impl Cookie {
             secret: Vec::from_slice(alloc, &self.secret)?,
         })
     }
+
+    /// Whether the two have the same bytes. The time that it takes tells how much of their fronts is alike: it is for one who
+    /// holds both.
+    pub fn is_same(&self, other: &Cookie) -> bool
+        ensures computed { result ≡ pointwise ◌==◌ self.now other.now }
+        ensures each { IsTrue result ↔ (self.now ≡ other.now) }
+    {
+        self.bytes() == other.bytes()
+    }
+}
+
+impl PartialEq for Cookie {
+    ghost eq = { pointwise ◌==◌ };
+
+    ghost laws = { Prim.search (comparing, rules) };
+
+    fn eq(&self, other: &Cookie) -> bool {
+        self.is_same(other)
+    }
+}
+
+impl Eq for Cookie {
+    ghost laws = { Prim.search (comparing, rules) };
 }

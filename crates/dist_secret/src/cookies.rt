@@ -1,6 +1,6 @@
 //! Cookies by peer.
 
-ghost use Rattle.std.specs.Prelude.{◌≡◌, [], OnOk, IfOk, length};
+ghost use Rattle.std.specs.Prelude.{◌≡◌, ◌↔◌, [], OnOk, IfOk, IsTrue, length};
 ghost use Rattle.dist_secret.specs.Cookies.{cookie_for, is_full_for, OthersKeep, Sets};
 
 use crate::cookie::Cookie;
@@ -47,6 +47,13 @@ fn copied(
         }
     }
     Ok(copy)
+}
+
+// Whether the two maps have the same names, each with the same cookie.
+fn are_same(ours: &BTreeMap<NodeName, Cookie>, theirs: &BTreeMap<NodeName, Cookie>) -> bool
+    ensures { IsTrue result ↔ (ours.now.entries ≡ theirs.now.entries) }
+{
+    ours == theirs
 }
 
 impl Cookies {
@@ -108,5 +115,12 @@ impl Cookies {
             usual: self.usual.try_clone(alloc)?,
             own: copied(alloc, &self.own)?,
         })
+    }
+
+    /// Whether both have the same cookies: the same by each name that has its own, and the same for all others.
+    pub fn is_same(&self, other: &Cookies) -> bool
+        ensures { IsTrue result ↔ (self.now ≡ other.now) }
+    {
+        self.usual.is_same(&other.usual) && are_same(&self.own, &other.own)
     }
 }

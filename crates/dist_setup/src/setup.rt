@@ -1,5 +1,5 @@
 //! The fixed part of a node.
-ghost use Rattle.std.specs.Prelude.{◌≡◌, length, slice_get, IfOk};
+ghost use Rattle.std.specs.Prelude.{◌≡◌, ◌↔◌, length, slice_get, IsTrue, IfOk};
 ghost use Rattle.std.specs.Option.{option_map};
 ghost use Rattle.dist_names.specs.Order.{same_name, is_listed};
 
@@ -110,6 +110,13 @@ impl NameList {
     {
         Ok(NameList::from_vec(copied_names(alloc, self.names())?))
     }
+
+    /// Whether the two are one list: the same names, in one order.
+    pub fn is_same(&self, other: &NameList) -> bool
+        ensures { IsTrue result ↔ (self.now ≡ other.now) }
+    {
+        are_same(&self.names, &other.names)
+    }
 }
 
 fn copied_names(alloc: Global, names: &[NodeName]) -> Result<Vec<NodeName>, AllocError>
@@ -120,6 +127,12 @@ fn copied_names(alloc: Global, names: &[NodeName]) -> Result<Vec<NodeName>, Allo
         copy.push(names[i].try_clone(alloc)?)?;
     }
     Ok(copy)
+}
+
+fn are_same(ours: &[NodeName], theirs: &[NodeName]) -> bool
+    ensures { IsTrue result ↔ (ours.now ≡ theirs.now) }
+{
+    ours == theirs
 }
 
 fn copied_allow(alloc: Global, allow: &Option<NameList>) -> Result<Option<NameList>, AllocError>
