@@ -3,7 +3,7 @@ use crossbeam_queue::protocol::{Join, Lesson, Outcome, Protocol, Split};
 use std::collections::LinkedList;
 
 /// The number of an order: which dial of the file it is, from 0 in the order of the file.
-#[derive(Clone, Copy, Debug, PartialEq, Eq)]
+#[derive(Clone, Copy, PartialEq, Eq)]
 pub struct DialOrder(pub u32);
 
 // Which lists a pass knows, and those lists: what was put, and what each worker took, with its places. No value of it is made.

@@ -3,6 +3,8 @@ ghost use Rattle.dist_core.specs.declared.event.Event.{Event};
 ghost use Rattle.dist_core.specs.declared.reply.Reply.{Reply};
 ghost use Rattle.dist_core.specs.Losses.{is_loss, IsGone};
 ghost use Rattle.dist_core.specs.Answers.{IsLoss};
+ghost use Rattle.dist_core.specs.Clauses.{end_of};
+ghost use Rattle.dist_core.specs.declared.step_error.StepError.{StepError};
 ghost use Rattle.dist_books.specs.declared.line.Receipt.{Receipt};
 ghost use Rattle.dist_drive.specs.Desks.{last_reply};
 ghost use Rattle.dist_locked.specs.Desks.{entry_of, stands_so, causes};
@@ -89,6 +91,30 @@ impl<'a, R: Wait> SeatDesk<'a, R> {
         } = self;
         (seat, steps)
     }
+
+    // Hands an event on, with the number that was drawn for it.
+    fn make_step(&mut self, event: &Event, fresh: u32) -> Result<(), StepError>
+        ensures ok { OnOk result ((reply : Reply) × (self.new.list ≡ self.old.list ++ (event.now, fresh, reply) ∷ [])) }
+        ensures err { OnErr result (self.new ≡ self.old) }
+        ensures refused { IfErr result (causes self.old event.now fresh) }
+        ensures loss { IsLoss event.now → IfErr result IsGone }
+        ensures other { end_of event.now ≢ Some self.old.end_ → result ≡ Err StepError.NoSuchEnd }
+        ensures same { (self.new.number ≡ self.old.number) × (self.new.start ≡ self.old.start) × (self.new.end_ ≡ self.old.end_) }
+    {
+        if event.end_named() != Some(self.end_) {
+            return Err(StepError::NoSuchEnd);
+        }
+        if let Some(why) = self.lost {
+            return Err(StepError::Gone(why));
+        }
+        let Ok(()) = make_room(&mut self.steps, event.is_lost()) else {
+            return Err(self.node.lacks(self.rt, event, fresh));
+        };
+        let receipt = self.node.step(self.rt, &mut self.seat, event, fresh)?;
+        self.lost = event.lost_why();
+        self.steps.push_reserved(step_in(receipt));
+        Ok(())
+    }
 }
 
 impl<'a, R: Wait> Desk for SeatDesk<'a, R> {
@@ -105,19 +131,7 @@ impl<'a, R: Wait> Desk for SeatDesk<'a, R> {
     ghost refuses = { causes };
 
     fn step(&mut self, event: Event, fresh: u32) -> Result<(), StepError> {
-        if event.end_named() != Some(self.end_) {
-            return Err(StepError::NoSuchEnd);
-        }
-        if let Some(why) = self.lost {
-            return Err(StepError::Gone(why));
-        }
-        let Ok(()) = make_room(&mut self.steps, event.is_lost()) else {
-            return Err(self.node.lacks(self.rt, &event, fresh));
-        };
-        let receipt = self.node.step(self.rt, &mut self.seat, &event, fresh)?;
-        self.lost = event.lost_why();
-        self.steps.push_reserved(step_in(receipt));
-        Ok(())
+        self.make_step(&event, fresh)
     }
 
     fn last(&self) -> Option<&Reply> {
