@@ -4,7 +4,7 @@ ghost use Rattle.dist_agreement.specs.World.{empty};
 ghost use Rattle.dist_agreement.specs.Run.{run};
 ghost use Rattle.dist_audit.specs.Lines.{lines_of};
 ghost use Rattle.dist_audit.specs.Happenings.{setups_of, begins, happenings};
-ghost use Rattle.dist_audit.specs.Faults.{fault_of, nodes_unpaired, Unpairs, IsFault};
+ghost use Rattle.dist_audit.specs.Faults.{falls, twice, fault_of, nodes_unpaired, Unpairs, IsFault};
 ghost use Rattle.dist_audit.specs.Audit.{AllApply, AreOfOneWorld, EachLinkComesHome, EachTakesItsBody, IsRefused, Refutes, Tells, TellsFirst, UnlessShort, world_of};
 
 use crate::audit_error::AuditError;
@@ -38,10 +38,10 @@ fn opening_world(alloc: Global, closed: &[Closed]) -> Result<World, AuditError>
     }
 }
 
-// The opening world and all lines, where the histories have no fault by themselves.
-fn checked(alloc: Global, closed: &[Closed]) -> Result<(World, Lines), AuditError>
-    ensures ok { IfOk result (λ r. (r.0 ≡ empty (setups_of closed.now)) × (r.1 ≡ lines_of closed.now)) }
-    ensures faultless { OnOk result (fault_of closed.now ≡ None) }
+// No ticket falls in a history, and none stands in two.
+fn check_tickets(alloc: Global, closed: &[Closed]) -> Result<(), AuditError>
+    ensures rise { OnOk result (falls closed.now ≡ false) }
+    ensures once { OnOk result (twice closed.now ≡ false) }
     ensures err { IfErr result (λ e. IsFault e closed.now) }
 {
     if falls(closed) {
@@ -50,9 +50,7 @@ fn checked(alloc: Global, closed: &[Closed]) -> Result<(World, Lines), AuditErro
     if twice(alloc, closed)? {
         return Err(AuditError::TicketTwice);
     }
-    let world = opening_world(alloc, closed)?;
-    let lines = paired_lines(alloc, closed)?;
-    Ok((world, lines))
+    Ok(())
 }
 
 // All nodes begin.
@@ -88,6 +86,22 @@ fn play(
     Ok(())
 }
 
+// The lines are put in the order of their tickets, where their links are in pairs, and are played.
+fn play_in_order(alloc: Global, world: &mut World, closed: &[Closed]) -> Result<(), AuditError>
+    requires opening { world.old ≡ empty (setups_of closed.now) }
+    requires tickets { (falls closed.now ≡ false) × (twice closed.now ≡ false) }
+    requires nodes { nodes_unpaired closed.now ≡ false }
+    ensures world { OnOk result (world.new ≡ world_of closed.now) }
+    ensures one_world { OnOk result (AreOfOneWorld closed.now) }
+    ensures faultless { OnOk result (fault_of closed.now ≡ None) }
+    ensures err { IfErr result (λ e. Tells e closed.now) }
+    ensures first { IfErr result (λ e. TellsFirst e closed.now) }
+{
+    let lines = paired_lines(alloc, closed)?;
+    play(alloc, world, &lines, closed)?;
+    Ok(())
+}
+
 /// The world of these histories, where they are those of one: node `i` of the world has the entries and the records of
 /// closed node `i`. Our own choice: the standard knows no such check.
 ///
@@ -110,7 +124,8 @@ pub fn audit(alloc: Global, closed: &[Closed]) -> Result<World, AuditError>
     ensures first { IfErr result (λ e. TellsFirst e closed.now) }
 {
     frame_in_front();
-    let (mut world, lines) = checked(alloc, closed)?;
-    play(alloc, &mut world, &lines, closed)?;
+    check_tickets(alloc, closed)?;
+    let mut world = opening_world(alloc, closed)?;
+    play_in_order(alloc, &mut world, closed)?;
     Ok(world)
 }

@@ -3,7 +3,7 @@ ghost use Rattle.std.specs.Prelude.{◌≡◌, ℕ, ◌||◌, IfOk, OnOk};
 ghost use Rattle.std.specs.List.{list_any};
 ghost use Rattle.std.specs.Ordering.{nat_cmp};
 ghost use Rattle.std.specs.BTreeSet.{contains};
-ghost use Rattle.dist_audit.specs.Faults.{starts_above, rises, rises_in, falls, has_ticket, twice};
+ghost use Rattle.dist_audit.specs.Faults.{starts_above, rises, falls, has_ticket, twice};
 
 use dist_books::{Closed, Line};
 use std::alloc::{AllocError, Global};
@@ -29,24 +29,28 @@ fn rises(history: &[Line]) -> bool
     true
 }
 
-fn rises_in(closed: &Closed) -> bool
-    ensures { result ≡ rises_in closed.now }
-{
-    rises(&closed.history)
-}
-
 /// In some history tickets do not rise.
 pub fn falls(closed: &[Closed]) -> bool
     ensures { result ≡ falls closed.now }
 {
-    closed.iter().any(|one| !rises_in(one))
+    for one in closed {
+        if !rises(&one.history) {
+            return true;
+        }
+    }
+    false
 }
 
 // A ticket of this history is among those.
 fn has_one_of(tickets: &BTreeSet<u64>, history: &[Line]) -> bool
     ensures { result ≡ list_any (λ l. contains nat_cmp tickets.now l.ticket) history.now }
 {
-    history.iter().any(|line| tickets.contains(&line.ticket))
+    for line in history {
+        if tickets.contains(&line.ticket) {
+            return true;
+        }
+    }
+    false
 }
 
 fn add_all(tickets: &mut BTreeSet<u64>, history: &[Line]) -> Result<(), AllocError>

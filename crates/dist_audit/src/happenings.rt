@@ -1,7 +1,6 @@
 //! The happenings of histories.
 ghost use Rattle.std.specs.Prelude.{◌≡◌, IfOk, OnOk};
-ghost use Rattle.dist_audit.specs.Happenings.{setups_of, begins, reach, reach_first, before, own};
-ghost use Rattle.dist_audit.specs.Links.{dialler_of};
+ghost use Rattle.dist_audit.specs.Happenings.{setups_of, begins, reach_first, before, own};
 
 use crate::links::target_of;
 use crate::mentions::Mentioned;
@@ -34,23 +33,16 @@ pub fn begins(alloc: Global, setups: &[Setup]) -> Result<Vec<Happening>, AllocEr
     Ok(list)
 }
 
-// The dialling end reaches the node to which the link comes.
-fn reach(lines: &Lines, count: usize, link: u64) -> Option<Happening>
-    ensures { result ≡ reach lines.now count link (dialler_of link lines.now) }
-{
-    let (node, end_) = lines.dialler_of(link)?;
-    let target = target_of(count, node, lines.acceptor_of(link));
-    Some(Happening::Reach { node, end_, target })
-}
-
-// The same at the first mention of a link.
+// At the first mention of a link the dialling end reaches the node to which the link comes.
 fn reach_first(lines: &Lines, count: usize, links: &Mentioned, link: u64) -> Option<Happening>
     ensures { result ≡ reach_first lines.now count links.now link }
 {
     if links.is_among(link) {
         return None;
     }
-    reach(lines, count, link)
+    let (node, end_) = lines.dialler_of(link)?;
+    let target = target_of(count, node, lines.acceptor_of(link));
+    Some(Happening::Reach { node, end_, target })
 }
 
 /// What happens before a line of this node, where these links were mentioned before.

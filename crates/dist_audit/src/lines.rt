@@ -1,6 +1,6 @@
 //! The lines of all histories, in the order of their tickets.
 ghost use Rattle.std.specs.Prelude.{◌≡◌, [], OnOk, IfOk};
-ghost use Rattle.dist_audit.specs.Lines.{told, told_by, ticket_of, put, put_all, lines_of};
+ghost use Rattle.dist_audit.specs.Lines.{told, told_by, put, put_all, lines_of};
 
 use dist_books::{Closed, Line};
 use std::alloc::{AllocError, Global};
@@ -41,12 +41,6 @@ impl<'a> Told<'a> {
     {
         self.line
     }
-
-    fn ticket(&self) -> u64
-        ensures { result ≡ ticket_of self.now }
-    {
-        self.line.ticket
-    }
 }
 
 // Lines in the order of their tickets. Each stands under its ticket and under the number of those that were there before
@@ -81,7 +75,7 @@ impl<'a> Ordered<'a> {
     fn put(&mut self, told: Told<'a>) -> Result<(), AllocError>
         ensures { OnOk result (self.new ≡ put told.entry self.old) }
     {
-        let key = (told.ticket(), self.by_ticket.len());
+        let key = (told.line().ticket, self.by_ticket.len());
         self.by_ticket.insert(key, told)?;
         Ok(())
     }

@@ -3,7 +3,7 @@ ghost use Rattle.std.specs.Prelude.{◌≡◌, ℕ, if◌then◌else◌, [], Som
 ghost use Rattle.std.specs.List.{list_any};
 ghost use Rattle.std.specs.Ordering.{nat_cmp};
 ghost use Rattle.std.specs.BTreeMap.{get};
-ghost use Rattle.dist_audit.specs.Links.{link_in, dialled, dialled_in, comes, comes_in, or_else, first_other, target_of};
+ghost use Rattle.dist_audit.specs.Links.{link_in, dialled, dialled_in, comes, comes_in, or_else, target_of};
 ghost use Rattle.dist_audit.specs.Faults.{links_repeat, comes_unopened, Unpairs};
 ghost use Rattle.dist_audit.specs.Kept.{Knows, is_again, is_unknown};
 
@@ -25,19 +25,14 @@ pub fn link_in(event: &Event) -> Option<u64>
     }
 }
 
-fn first_other(count: usize, node: usize) -> usize
-    ensures { result ≡ first_other count node }
-{
-    if node == 0 && 1 < count { 1 } else { 0 }
-}
-
 /// Where a link leads to: the node to which it came, or one that is not known to have seen it.
 pub fn target_of(count: usize, node: usize, acceptor: Option<usize>) -> usize
     ensures { result ≡ target_of count node acceptor }
 {
     match acceptor {
         Some(target) => target,
-        None => first_other(count, node),
+        None if node == 0 && 1 < count => 1,
+        None => 0,
     }
 }
 
@@ -98,7 +93,12 @@ impl LinkTable {
     fn has_unknown(&self, lines: &[Told]) -> bool
         ensures { result ≡ list_any (λ t. is_unknown self.now.diallers (let l = t.line in l.event)) lines.now }
     {
-        lines.iter().any(|told| self.is_unknown(&told.line().event))
+        for told in lines {
+            if self.is_unknown(&told.line().event) {
+                return true;
+            }
+        }
+        false
     }
 
     /// A link came that no node was told of when it had dialled.

@@ -1,0 +1,10 @@
+use Rattle.std.proofs.Common.{◌≡◌, drop}
+use Rattle.std.specs.List.{list_any}
+use Rattle.std.specs.Ordering.{nat_cmp}
+use Rattle.std.specs.BTreeSet.{contains}
+use Rattle.dist_books.specs.declared.line.Line.{Line}
+use Rattle.dist_audit.proofs.checks.has_one_of.Given as goal
+
+-- what is left decides
+abbrev pub invariant-loop-line : goal.invariant-loop-line
+invariant-loop-line l = list_any (λ (x : Line). contains nat_cmp l.tickets x.ticket) (drop l.line-index l.history) ≡ list_any (λ (x : Line). contains nat_cmp l.tickets x.ticket) l.history
