@@ -1,11 +1,12 @@
 ghost use Rattle.std.specs.Prelude.{◌≡◌, ◌≢◌, ◌<◌, ◌≤◌, ◌∷◌, [], ◌++◌, vec_len, false, Ok, Err, IfOk, IfErr, OnOk, OnErr};
 ghost use Rattle.dist_core.specs.Losses.{is_loss, IsGone};
-ghost use Rattle.dist_core.specs.Answers.{IsLoss};
+ghost use Rattle.dist_core.specs.Answers.{IsLoss, Refuses};
+ghost use Rattle.dist_core.specs.Step.{step};
 ghost use Rattle.dist_books.specs.History.{AreFresh, IsAnswered, IsLegal, IsRefused};
 ghost use Rattle.dist_locked.specs.Desks.{IsStill};
 
 use dist_books::{Book, Receipt, Seat, fresh_seats, step_on};
-use dist_core::{Event, Setup, StepError, Still};
+use dist_core::{Event, Node, Setup, StepError, Still};
 use dist_peers::EndId;
 use std::alloc::{AllocError, Global};
 use std::sync::atomic::{AtomicU64, Ordering};
@@ -24,11 +25,6 @@ impl Tickets {
         Tickets {
             next: AtomicU64::new(0),
         }
-    }
-
-    // The next number.
-    fn draw(&self) -> u64 {
-        self.next.fetch_add(1, Ordering::SeqCst)
     }
 }
 
@@ -91,7 +87,7 @@ impl LockedNode {
         ensures refused { IfErr result (IsRefused event.now fresh) }
     {
         let mut book = self.book.lock(rt);
-        let ticket = self.tickets.draw();
+        let ticket = self.tickets.next.fetch_add(1, Ordering::SeqCst);
         step_on(self.alloc, &mut book, seat, ticket, event, fresh)
     }
 
@@ -100,10 +96,7 @@ impl LockedNode {
         ensures { IsRefused event.now fresh result }
     {
         let book = self.book.lock(rt);
-        match book.node().answer(self.alloc, event, fresh) {
-            Ok(_) => StepError::NoMemory,
-            Err(error) => error,
-        }
+        refusal(self.alloc, book.node(), event, fresh)
     }
 
     /// How an end stands at this moment, as some node with a legal history tells it.
@@ -127,5 +120,15 @@ impl LockedNode {
         // that shows what the book keeps
         let _lines = book.history().len();
         book
+    }
+}
+
+// Why a node refuses a step for which there is no room.
+fn refusal(alloc: Global, node: &Node, event: &Event, fresh: u32) -> StepError
+    ensures { Refuses result (step node.now event.now fresh) }
+{
+    match node.answer(alloc, event, fresh) {
+        Ok(_) => StepError::NoMemory,
+        Err(error) => error,
     }
 }
