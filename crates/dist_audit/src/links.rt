@@ -3,7 +3,7 @@ ghost use Rattle.std.specs.Prelude.{◌≡◌, ℕ, if◌then◌else◌, [], Som
 ghost use Rattle.std.specs.List.{list_any};
 ghost use Rattle.std.specs.Ordering.{nat_cmp};
 ghost use Rattle.std.specs.BTreeMap.{get};
-ghost use Rattle.dist_audit.specs.Links.{link_in, dialled, dialled_in, comes, comes_in, or_else, target_of};
+ghost use Rattle.dist_audit.specs.Links.{link_in, dialled_in, comes_in, or_else, target_of};
 ghost use Rattle.dist_audit.specs.Faults.{links_repeat, comes_unopened, Unpairs};
 ghost use Rattle.dist_audit.specs.Kept.{Knows, is_again, is_unknown};
 
@@ -53,31 +53,23 @@ impl LinkTable {
         }
     }
 
-    // Learns what an event of this node tells, and says whether its link was known from another of its kind.
-    fn learn_event(&mut self, node: usize, event: &Event) -> Result<bool, AllocError>
-        ensures diallers { OnOk result ((k : ℕ) → get nat_cmp self.new.diallers k ≡ or_else node (dialled k event.now) (get nat_cmp self.old.diallers k)) }
-        ensures acceptors { OnOk result ((k : ℕ) → get nat_cmp self.new.acceptors k ≡ (if comes k event.now then Some node else get nat_cmp self.old.acceptors k)) }
-        ensures again { IfOk result (λ b. b ≡ is_again self.old.diallers self.old.acceptors event.now) }
-    {
-        match event {
-            Event::Opened { end_, link } => {
-                let known = self.diallers.insert(*link, (node, *end_))?;
-                Ok(known.is_some())
-            }
-            Event::Incoming { link } => {
-                let known = self.acceptors.insert(*link, node)?;
-                Ok(known.is_some())
-            }
-            _ => Ok(false),
-        }
-    }
-
+    // Learns what a line tells, and says whether its link was known from another of its kind.
     fn learn(&mut self, told: &Told) -> Result<bool, AllocError>
         ensures diallers { OnOk result ((k : ℕ) → get nat_cmp self.new.diallers k ≡ or_else told.now.node (dialled_in k told.now) (get nat_cmp self.old.diallers k)) }
         ensures acceptors { OnOk result ((k : ℕ) → get nat_cmp self.new.acceptors k ≡ (if comes_in k told.now then Some told.now.node else get nat_cmp self.old.acceptors k)) }
         ensures again { IfOk result (λ b. b ≡ is_again self.old.diallers self.old.acceptors (let l = told.now.line in l.event)) }
     {
-        self.learn_event(told.node(), &told.line().event)
+        match &told.line().event {
+            Event::Opened { end_, link } => {
+                let known = self.diallers.insert(*link, (told.node(), *end_))?;
+                Ok(known.is_some())
+            }
+            Event::Incoming { link } => {
+                let known = self.acceptors.insert(*link, told.node())?;
+                Ok(known.is_some())
+            }
+            _ => Ok(false),
+        }
     }
 
     // A link came that has no dialler.

@@ -4,7 +4,7 @@ ghost use Rattle.dist_agreement.specs.Run.{run};
 ghost use Rattle.dist_world.specs.Asking.{node_of};
 ghost use Rattle.dist_audit.specs.Happenings.{mentioned, own_of, of_lines};
 ghost use Rattle.dist_audit.specs.Links.{mention, link_in};
-ghost use Rattle.dist_audit.specs.Audit.{AllApply, Says, IsNext, Gives, Replies, IsFollowed, AreFollowed, after, Refutes, RefusesLine, StopsAt, UnlessShort};
+ghost use Rattle.dist_audit.specs.Audit.{AllApply, Says, IsNext, Replies, IsFollowed, AreFollowed, after, Refutes, RefusesLine, StopsAt, UnlessShort};
 
 use crate::audit_error::AuditError;
 use crate::happenings::{before, own};
@@ -12,11 +12,12 @@ use crate::lines::Told;
 use crate::mentions::Mentioned;
 use crate::pairing::Lines;
 use dist_books::Line;
-use dist_core::{Event, Node, Reply, StepError};
+use dist_core::{Event, StepError};
 use dist_frames::{FrameError, write_short};
 use dist_peers::EndId;
 use dist_world::{Happening, World};
 use std::alloc::{AllocError, Global};
+use std::slice;
 
 /// Lets these happenings happen, and says whether all applied.
 pub fn happen(
@@ -44,7 +45,7 @@ fn happen_before(
 {
     match happening {
         None => Ok(true),
-        Some(one) => happen(world, alloc, &[one]),
+        Some(one) => happen(world, alloc, slice::from_ref(&one)),
     }
 }
 
@@ -75,24 +76,17 @@ fn is_next(alloc: Global, world: &World, node: usize, event: &Event) -> Result<b
     }
 }
 
-// The node gives that very reply.
-fn gives(alloc: Global, node: &Node, line: &Line) -> Result<bool, AllocError>
-    ensures { IfOk result (λ b. IsTrue b ↔ Gives node.now line.now) }
-{
-    match node.answer(alloc, &line.event, line.fresh) {
-        Ok(reply) => Ok(reply.is_same(&line.reply)),
-        Err(StepError::NoMemory) => Err(AllocError),
-        Err(_) => Ok(false),
-    }
-}
-
 // The running node gives the line's very reply.
 fn replies(alloc: Global, world: &World, node: usize, line: &Line) -> Result<bool, AllocError>
     ensures { IfOk result (λ b. IsTrue b ↔ Replies (node_of world.now node) line.now) }
 {
-    match world.node(node) {
-        Some(node) => gives(alloc, node, line),
-        None => Ok(false),
+    let Some(node) = world.node(node) else {
+        return Ok(false);
+    };
+    match node.answer(alloc, &line.event, line.fresh) {
+        Ok(reply) => Ok(reply.is_same(&line.reply)),
+        Err(StepError::NoMemory) => Err(AllocError),
+        Err(_) => Ok(false),
     }
 }
 
@@ -110,7 +104,7 @@ fn happen_itself(
 {
     links.mention(&line.event)?;
     let happening = own(alloc, links, node, &line.event, line.fresh)?;
-    happen(world, alloc, &[happening])
+    happen(world, alloc, slice::from_ref(&happening))
 }
 
 // One line is followed.
