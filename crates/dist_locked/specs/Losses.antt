@@ -4,22 +4,17 @@ use Rattle.dist_peers.specs.declared.entry.EndId.{EndId}
 use Rattle.dist_ends.specs.declared.why.Why.{Why}
 use Rattle.dist_ends.specs.declared.phase.Still.{Still}
 use Rattle.dist_ends.specs.declared.phase.Still.TheVariants as still
-use Rattle.dist_core.specs.declared.event.Event.{Event}
 use Rattle.dist_core.specs.declared.event.Event.TheVariants as event
 use Rattle.dist_core.specs.declared.step_error.StepError.{StepError}
 use Rattle.dist_books.specs.declared.line.Receipt.{Receipt}
 use Rattle.dist_books.specs.History.{IsRefused}
 use Rattle.dist_locked.specs.Desks.{IsStill}
 
--- An event is told: it is one receipt more, or some node with a legal history refuses it.
-abbrev pub IsTold : Event → List Receipt → List Receipt → Type 0
-IsTold v before after =
-    ((r : Receipt) × (after ≡ before ++ r ∷ []) × (r.line.event ≡ v))
-    ⊎ ((after ≡ before) × ((e : StepError) × IsRefused v 0 e))
-
 -- A loss with this cause is one receipt more, or some node with a legal history refuses it.
 abbrev pub IsLost : EndId → Why → List Receipt → List Receipt → Type 0
-IsLost end_ w before after = IsTold (event.Lost end_ w) before after
+IsLost end_ w before after =
+    ((r : Receipt) × (after ≡ before ++ r ∷ []) × (r.line.event ≡ event.Lost end_ w))
+    ⊎ ((after ≡ before) × ((e : StepError) × IsRefused (event.Lost end_ w) 0 e))
 
 -- An end is over exactly where it was not up: then it is lost with this cause, else nothing is done.
 abbrev pub IsGivenUp : EndId → Why → List Receipt → List Receipt → Bool → Type 0

@@ -1,12 +1,11 @@
 ghost use Rattle.std.specs.Prelude.{◌≡◌, ◌≢◌, ◌<◌, ◌≤◌, ◌∷◌, [], ◌++◌, vec_len, false, Ok, Err, IfOk, IfErr, OnOk, OnErr};
 ghost use Rattle.dist_core.specs.Losses.{is_loss, IsGone};
-ghost use Rattle.dist_core.specs.Answers.{IsLoss, Refuses};
-ghost use Rattle.dist_core.specs.Step.{step};
+ghost use Rattle.dist_core.specs.Answers.{IsLoss};
 ghost use Rattle.dist_books.specs.History.{AreFresh, IsAnswered, IsLegal, IsRefused};
 ghost use Rattle.dist_locked.specs.Desks.{IsStill};
 
 use dist_books::{Book, Receipt, Seat, fresh_seats, step_on};
-use dist_core::{Event, Node, Setup, StepError, Still};
+use dist_core::{Event, Setup, StepError, Still};
 use dist_peers::EndId;
 use std::alloc::{AllocError, Global};
 use std::sync::atomic::{AtomicU64, Ordering};
@@ -96,7 +95,10 @@ impl LockedNode {
         ensures { IsRefused event.now fresh result }
     {
         let book = self.book.lock(rt);
-        refusal(self.alloc, book.node(), event, fresh)
+        match book.node().answer(self.alloc, event, fresh) {
+            Ok(_) => StepError::NoMemory,
+            Err(error) => error,
+        }
     }
 
     /// How an end stands at this moment, as some node with a legal history tells it.
@@ -120,15 +122,5 @@ impl LockedNode {
         // that shows what the book keeps
         let _lines = book.history().len();
         book
-    }
-}
-
-// Why a node refuses a step for which there is no room.
-fn refusal(alloc: Global, node: &Node, event: &Event, fresh: u32) -> StepError
-    ensures { Refuses result (step node.now event.now fresh) }
-{
-    match node.answer(alloc, event, fresh) {
-        Ok(_) => StepError::NoMemory,
-        Err(error) => error,
     }
 }

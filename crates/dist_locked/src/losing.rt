@@ -1,7 +1,7 @@
 //! Ends that are lost.
 
 ghost use Rattle.std.specs.Prelude.{◌≡◌, ◌≢◌, true, IfOk, IfErr};
-ghost use Rattle.dist_locked.specs.Losses.{IsTold, IsLost, IsGivenUp};
+ghost use Rattle.dist_locked.specs.Losses.{IsLost, IsGivenUp};
 
 use crate::driven::Driven;
 use crate::locked_node::LockedNode;
@@ -17,15 +17,7 @@ pub fn lose<R: Wait>(rt: &R, node: &LockedNode, seat: &mut Seat, end_: EndId, wh
     ensures lost { IsLost end_ why seat.old.list seat.new.list }
     ensures seat { seat.new.number ≡ seat.old.number }
 {
-    tell(rt, node, seat, &Event::Lost { end_, why });
-}
-
-// Tells a node an event, with no number, whatever comes of it.
-fn tell<R: Wait>(rt: &R, node: &LockedNode, seat: &mut Seat, event: &Event)
-    ensures told { IsTold event.now seat.old.list seat.new.list }
-    ensures seat { seat.new.number ≡ seat.old.number }
-{
-    let _ = node.step(rt, seat, event, 0);
+    let _ = node.step(rt, seat, &Event::Lost { end_, why }, 0);
 }
 
 // Once the turns of an end have run out: one that is not up is given up. Whether the end is over now.
