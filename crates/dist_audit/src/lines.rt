@@ -1,6 +1,6 @@
 //! The lines of all histories, in the order of their tickets.
 ghost use Rattle.std.specs.Prelude.{◌≡◌, [], OnOk, IfOk};
-ghost use Rattle.dist_audit.specs.Lines.{told, told_by, put, put_all, lines_of};
+ghost use Rattle.dist_audit.specs.Lines.{told_by, put, put_all, lines_of};
 
 use dist_books::{Closed, Line};
 use std::alloc::{AllocError, Global};
@@ -23,12 +23,6 @@ impl<'a> Model for Told<'a> {
 }
 
 impl<'a> Told<'a> {
-    pub fn new(node: usize, line: &'a Line) -> Told<'a>
-        ensures { result ≡ told node line.now }
-    {
-        Told { node, line }
-    }
-
     /// The place of its node among all.
     pub fn node(&self) -> usize
         ensures { result ≡ self.now.node }
@@ -84,7 +78,7 @@ impl<'a> Ordered<'a> {
         ensures { OnOk result (self.new ≡ put_all self.old (told_by node history.now)) }
     {
         for line in history {
-            self.put(Told::new(node, line))?;
+            self.put(Told { node, line })?;
         }
         Ok(())
     }

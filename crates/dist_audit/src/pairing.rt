@@ -32,19 +32,6 @@ impl<'a> Model for Lines<'a> {
 }
 
 impl<'a> Lines<'a> {
-    // These lines, where their links are in pairs.
-    fn new(alloc: Global, told: Vec<Told<'a>>) -> Result<Lines<'a>, AuditError>
-        ensures ok { IfOk result (λ lines. lines ≡ told.entry.items) }
-        ensures paired { OnOk result (links_unpaired told.entry.items ≡ false) }
-        ensures err { IfErr result (λ e. Unpairs e (links_unpaired told.entry.items)) }
-    {
-        let links = link_table(alloc, &told)?;
-        if links.comes_unopened(&told) {
-            return Err(AuditError::Unpaired);
-        }
-        Ok(Lines { told, links })
-    }
-
     pub fn told(&self) -> &[Told<'a>]
         ensures { result.now ≡ self.now }
     {
@@ -73,5 +60,9 @@ pub fn paired_lines(alloc: Global, closed: &[Closed]) -> Result<Lines, AuditErro
     ensures err { IfErr result (λ e. Unpairs e (links_unpaired (lines_of closed.now))) }
 {
     let told = lines_of(alloc, closed)?;
-    Lines::new(alloc, told)
+    let links = link_table(alloc, &told)?;
+    if links.comes_unopened(&told) {
+        return Err(AuditError::Unpaired);
+    }
+    Ok(Lines { told, links })
 }
