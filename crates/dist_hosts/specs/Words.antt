@@ -17,6 +17,7 @@ run_error_name (run.NotRegistered e) = error_name e
 run_error_name run.ThreadFailed = codes "ThreadFailed"
 run_error_name (run.NotClosed closing.MissingSeat) = codes "MissingSeat"
 run_error_name (run.NotClosed closing.ReceiptAbsent) = codes "ReceiptAbsent"
+run_error_name run.OtherSetup = codes "OtherSetup"
 run_error_name run.NoMemory = codes "NoMemory"
 
 -- the word of why an order made no step

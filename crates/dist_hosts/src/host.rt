@@ -2,6 +2,7 @@
 
 ghost use Rattle.std.specs.Prelude.{◌≡◌, [], IfOk};
 ghost use Rattle.dist_names.specs.NodeName.{short_of};
+ghost use Rattle.dist_hosts.specs.Setups as setups;
 
 use crate::run_error::RunError;
 use crate::seats::{SEATS, SharedOut, shared_out};
@@ -86,18 +87,23 @@ fn asked<R: Net<Listener = TcpListener, Stream = TcpStream>>(
     }
 }
 
-fn setup_of(plan: NodePlan, creation: Creation) -> Setup
-    ensures { result ≡ record { name = plan.name; cookies = plan.cookies; version = plan.version; flags = plan.flags; required = plan.required; creation = creation; allow = plan.allow } }
+// What a node is set up with, with the creation that it got.
+fn setup_of(alloc: Global, plan: &NodePlan, creation: Creation) -> Result<Setup, AllocError>
+    ensures { IfOk result (λ setup. setup ≡ setups.setup_of plan.now creation) }
 {
-    Setup {
-        name: plan.name,
-        cookies: plan.cookies,
+    let allow = match &plan.allow {
+        None => None,
+        Some(names) => Some(names.try_clone(alloc)?),
+    };
+    Ok(Setup {
+        name: plan.name.try_clone(alloc)?,
+        cookies: plan.cookies.try_clone(alloc)?,
         version: plan.version,
         flags: plan.flags,
         required: plan.required,
         creation,
-        allow: plan.allow,
-    }
+        allow,
+    })
 }
 
 // Registers a node that listens at a port. Its setup has the creation that it got.
@@ -105,13 +111,13 @@ fn registered<R: Net<Listener = TcpListener, Stream = TcpStream>>(
     rt: &R,
     alloc: Global,
     mapper_port: u16,
-    plan: NodePlan,
+    plan: &NodePlan,
     port: u16,
     turns: usize,
 ) -> Result<(SocketStream, Setup), RunError> {
-    let request = registration(alloc, &plan, port)?;
+    let request = registration(alloc, plan, port)?;
     let (stream, creation) = asked(rt, alloc, mapper_port, &request, turns)?;
-    Ok((stream, setup_of(plan, creation)))
+    Ok((stream, setup_of(alloc, plan, creation)?))
 }
 
 // The node of a setup under its lock, with its seats.
@@ -130,7 +136,7 @@ fn locked(
 pub fn started<R: Net<Listener = TcpListener, Stream = TcpStream>>(
     rt: &R,
     alloc: Global,
-    plan: NodePlan,
+    plan: &NodePlan,
     mapper_port: u16,
     turns: usize,
     tickets: &Arc<Tickets, Global>,

@@ -10,6 +10,7 @@ mod mapping;
 mod order_fault;
 mod run_error;
 mod seats;
+mod setups;
 mod sockets;
 
 pub use challenges::Challenges;
@@ -18,4 +19,5 @@ pub use mapping::serve_all;
 pub use order_fault::{OrderFault, OrderRefusal};
 pub use run_error::RunError;
 pub use seats::{Pool, SharedOut};
+pub use setups::are_of_plans;
 pub use sockets::{Connection, accepted, connected, link_of, listening, say_goodbye};

@@ -25,6 +25,8 @@ pub enum RunError {
     ThreadFailed,
     /// The receipts of a node's steps are not those of its history. It never comes where the threads kept to their seats.
     NotClosed(CloseError),
+    /// A node that was closed is not set up as its plan says. It never comes: what a lock keeps is what it was given.
+    OtherSetup,
     /// No memory was left.
     NoMemory,
 }
@@ -42,6 +44,7 @@ impl RunError {
             RunError::ThreadFailed => "ThreadFailed",
             RunError::NotClosed(CloseError::MissingSeat) => "MissingSeat",
             RunError::NotClosed(CloseError::ReceiptAbsent) => "ReceiptAbsent",
+            RunError::OtherSetup => "OtherSetup",
             RunError::NoMemory => "NoMemory",
         }
     }

@@ -1,13 +1,15 @@
 //! A run, from its plan to its closed nodes.
 
 ghost use Rattle.std.specs.Prelude.{◌++◌, IfOk, IsPermutation};
+ghost use Rattle.dist_hosts.specs.Setups.{AreOfPlans};
 ghost use Rattle.dist_run.specs.Runs.{AreInOrder};
 
 use crate::crew::Rest;
 use crate::site::{Dial, Site};
 use crate::threads::{Ended, Pools, run_threads};
 use dist_hosts::{
-    Challenges, Host, OrderFault, Pool, RunError, SharedOut, listening, serve_all, started,
+    Challenges, Host, OrderFault, Pool, RunError, SharedOut, are_of_plans, listening, serve_all,
+    started,
 };
 use dist_locked::{Book, Closed, Gate, Seat, Tickets, close};
 use dist_plan::{DialPlan, NodePlan, Plan};
@@ -52,7 +54,7 @@ impl Started {
 fn start_all<R: Net<Listener = TcpListener, Stream = TcpStream>>(
     rt: &R,
     alloc: Global,
-    plans: Vec<NodePlan>,
+    plans: &[NodePlan],
     mapper_port: u16,
     turns: usize,
 ) -> Result<Started, RunError> {
@@ -77,15 +79,12 @@ fn place_of(nodes: &[NodePlan], dial: &DialPlan) -> usize {
 }
 
 // The dials, with the places of their nodes.
-fn dials_of(
-    alloc: Global,
-    nodes: &[NodePlan],
-    plans: Vec<DialPlan>,
-) -> Result<Vec<Dial>, RunError> {
+fn dials_of(alloc: Global, nodes: &[NodePlan], plans: &[DialPlan]) -> Result<Vec<Dial>, RunError> {
     let mut dials = Vec::new(alloc);
     for plan in plans {
-        let from = place_of(nodes, &plan);
-        dials.push(Dial { from, to: plan.to })?;
+        let from = place_of(nodes, plan);
+        let to = plan.to.try_clone(alloc)?;
+        dials.push(Dial { from, to })?;
     }
     Ok(dials)
 }
@@ -185,7 +184,7 @@ fn ran_of(alloc: Global, hosts: Vec<Host>, ended: Ended) -> Result<Ran, RunError
 fn run_hosts<R, G>(
     rt: &R,
     alloc: Global,
-    plan: Plan,
+    plan: &Plan,
     mapper_port: u16,
     gate: &G,
     challenges: Challenges,
@@ -195,8 +194,8 @@ where
     G: Gate + Sync,
 {
     let turns = plan.turns as usize;
-    let nodes = plan.node.into_vec();
-    let dials = dials_of(alloc, nodes.as_slice(), plan.dial.into_vec())?;
+    let nodes = plan.node.as_slice();
+    let dials = dials_of(alloc, nodes, plan.dial.as_slice())?;
     let Started { hosts, pools } = start_all(rt, alloc, nodes, mapper_port, turns)?;
     let site = Site {
         rt,
@@ -218,7 +217,7 @@ fn run_beside<R, G>(
     alloc: Global,
     listener: TcpListener,
     port: u16,
-    plan: Plan,
+    plan: &Plan,
     gate: &G,
     challenges: Challenges,
 ) -> Result<Ran, RunError>
@@ -239,11 +238,8 @@ where
     })
 }
 
-/// Runs a plan to its end: until each node's accepting thread was quiet for as many turns as the plan says, and all
-/// connections have ended or made as many. Faults of the start, in order: NoRandomBytes, ListenFailed of the port mapper,
-/// ThreadFailed, then of each node in the order of the plan those of its start, then ThreadFailed. NoMemory may come
-/// anywhere.
-pub fn run_plan<R, G>(rt: &R, alloc: Global, plan: Plan, gate: &G) -> Result<Ran, RunError>
+// Runs a plan to its end, whatever nodes are then closed.
+fn run_all<R, G>(rt: &R, alloc: Global, plan: &Plan, gate: &G) -> Result<Ran, RunError>
 where
     R: Net<Listener = TcpListener, Stream = TcpStream>
         + Threads
@@ -252,7 +248,7 @@ where
         + RandomSource
         + Sync,
     G: Gate + Sync,
-    ensures order { IfOk result (λ ran. AreInOrder ran.faults.items) }
+    ensures { IfOk result (λ ran. AreInOrder ran.faults.items) }
 {
     let Ok(generator) = make_rng::<StdRng, R>(rt) else {
         return Err(RunError::NoRandomBytes);
@@ -262,4 +258,27 @@ where
         return Err(RunError::ListenFailed);
     };
     run_beside(rt, alloc, listener, port, plan, gate, challenges)
+}
+
+/// Runs a plan to its end: until each node's accepting thread was quiet for as many turns as the plan says, and all
+/// connections have ended or made as many. Faults of the start, in order: NoRandomBytes, ListenFailed of the port mapper,
+/// ThreadFailed, then of each node in the order of the plan those of its start, then ThreadFailed. NoMemory may come
+/// anywhere. What is closed is compared with the plan: OtherSetup never comes where the locks keep what they were given.
+pub fn run_plan<R, G>(rt: &R, alloc: Global, plan: &Plan, gate: &G) -> Result<Ran, RunError>
+where
+    R: Net<Listener = TcpListener, Stream = TcpStream>
+        + Threads
+        + Wait
+        + Clock
+        + RandomSource
+        + Sync,
+    G: Gate + Sync,
+    ensures order { IfOk result (λ ran. AreInOrder ran.faults.items) }
+    ensures nodes { IfOk result (λ ran. AreOfPlans plan.now.node ran.closed.items) }
+{
+    let ran = run_all(rt, alloc, plan, gate)?;
+    if !are_of_plans(plan.node.as_slice(), ran.closed.as_slice()) {
+        return Err(RunError::OtherSetup);
+    }
+    Ok(ran)
 }

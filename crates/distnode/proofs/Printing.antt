@@ -1,6 +1,6 @@
 -- What is printed in parts.
-use Rattle.std.proofs.Common.{◌≡◌, ◌∙◌, ℕ, zero, suc, ◌+◌, ◌<◌, List, [], ◌∷◌, ◌++◌, codes, Option, length, take, get_or, refl, sym, ap, subst, arith, append-nil, append_assoc}
-use Rattle.std.specs.Io.KnownBytes.{Appends}
+use Rattle.std.proofs.Common.{◌≡◌, ◌∙◌, ℕ, zero, suc, ◌+◌, ◌<◌, List, [], ◌∷◌, ◌++◌, codes, Option, Some, length, take, get_or, refl, sym, ap, subst, arith, append-nil, append_assoc}
+use Rattle.std.specs.Io.KnownBytes.{Appends, Consumes, IsAtEnd}
 use Rattle.std.proofs.KnownBytes.{Appends-nil, Appends-trans}
 use Rattle.dist_agreement.specs.World.{World}
 use Rattle.dist_books.specs.declared.closing.Closed.{Closed}
@@ -9,10 +9,14 @@ use Rattle.dist_audit.specs.Audit.{AreOfOneWorld, EachLinkComesHome, EachTakesIt
 use Rattle.distnode.specs.declared.fault.Fault.{Fault}
 use Rattle.distnode.specs.declared.fault.Fault.TheVariants as fault
 use Rattle.distnode.specs.Fault.{status_of}
+use Rattle.dist_plan.specs.declared.plan.Plan.{Plan}
+use Rattle.dist_plan.specs.Plans.{plan_of}
+use Rattle.dist_hosts.specs.Setups.{AreOfPlans}
 use Rattle.dist_hosts.specs.declared.order_fault.OrderFault.{OrderFault}
+use Rattle.dist_run.specs.Runs.{AreInOrder}
 use Rattle.dist_play.specs.Worlds.{nodes_text, PutsAgreements}
 use Rattle.dist_play.proofs.Printing.{in_three}
-use Rattle.distnode.specs.Printed.{order_line, orders_text, closed_node, closed_text, refusal_text, Puts, IsHeld, IsAudited, IsOfRun}
+use Rattle.distnode.specs.Printed.{order_line, orders_text, closed_node, closed_text, refusal_text, Puts, IsHeld, IsAudited, IsOfRun, PrintsRun, PrintsRunOf}
 
 -- nothing more
 pub nothing : (a : Option (List ℕ)) → Appends a a []
@@ -59,6 +63,14 @@ says_refused cs e a b tells first p = (refusal_text e cs, (e, tells, first, refl
 -- the orders, and then what is said
 pub of_run : (status : ℕ) (fs gs : List OrderFault) (cs ds : List Closed) (a b c : Option (List ℕ)) → gs ≡ fs → ds ≡ cs → Appends a b (orders_text gs) → Puts (IsAudited status ds) b c → Puts (IsOfRun status fs cs) a c
 of_run status fs gs cs ds a b c e d p q = (orders_text fs ++ q.0, (q.0, subst (λ x. IsAudited status x q.0) d q.1, refl), Appends-trans a b c (orders_text fs) q.0 (subst (λ x. Appends a b (orders_text x)) e p) q.2)
+
+-- the text of a nodes file, run
+pub of_text : (file : List ℕ) (plan : Plan) (faults : List OrderFault) (closed : List Closed) (status : ℕ) (a b : Option (List ℕ)) → plan_of file ≡ Some plan → AreOfPlans plan.node closed → AreInOrder faults → Puts (IsOfRun status faults closed) a b → PrintsRun file status a b
+of_text file plan faults closed status a b says nodes order put = (plan, faults, closed, says, nodes, order, put)
+
+-- a nodes file that was read to its end, run
+pub of_file : (before after : Option (List ℕ)) (file text : List ℕ) (a b : Option (List ℕ)) → text ≡ file → Consumes before after file → IsAtEnd after → PrintsRun text 0 a b → PrintsRunOf before after a b
+of_file before after file text a b same taken end prints = (file, taken, end, subst (λ t. PrintsRun t 0 a b) same prints)
 
 -- no fault ends with status 0
 pub never_zero : (f : Fault) → status_of f ≡ 0 → ⊥

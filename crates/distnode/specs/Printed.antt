@@ -1,7 +1,7 @@
 -- WHAT THE COMMANDS PRINT.
 use Rattle.std.specs.Prelude.{◌≡◌, ℕ, zero, suc, List, [], ◌∷◌, ◌++◌, length, codes, decimal, Option, Some, Ok}
 use Rattle.std.specs.List.{concat}
-use Rattle.std.specs.Io.KnownBytes.{Appends}
+use Rattle.std.specs.Io.KnownBytes.{Appends, Consumes, IsAtEnd}
 use Rattle.hex.specs.Hex.{encode_lower}
 use Rattle.dist_secret.specs.Digest.{digest_of}
 use Rattle.dist_secret.specs.Hearing.{Hears}
@@ -13,6 +13,9 @@ use Rattle.dist_books.specs.declared.closing.Closed.{Closed}
 use Rattle.dist_audit.specs.declared.audit_error.AuditError.{AuditError}
 use Rattle.dist_audit.specs.Audit.{AreOfOneWorld, EachLinkComesHome, EachTakesItsBody, Tells, TellsFirst, world_of}
 use Rattle.dist_audit.specs.Refusals.{refusal_name, refusal_number}
+use Rattle.dist_plan.specs.declared.plan.Plan.{Plan}
+use Rattle.dist_plan.specs.Plans.{plan_of}
+use Rattle.dist_hosts.specs.Setups.{AreOfPlans}
 use Rattle.dist_hosts.specs.Words.{order_refusal_name}
 use Rattle.dist_hosts.specs.declared.order_fault.OrderFault.{OrderFault}
 use Rattle.dist_run.specs.Runs.{AreInOrder}
@@ -82,6 +85,11 @@ IsAudited (suc (suc status)) closed text = ⊥
 abbrev pub IsOfRun : ℕ → List OrderFault → List Closed → List ℕ → Type 0
 IsOfRun status faults closed text = (said : List ℕ) × IsAudited status closed said × (text ≡ orders_text faults ++ said)
 
--- WHAT `run` PRINTS, by the exit status: the text of a run, of some orders in the order of the file and some closed nodes
-abbrev pub PrintsRun : ℕ → Option (List ℕ) → Option (List ℕ) → Type 0
-PrintsRun status old new = (faults : List OrderFault) × (closed : List Closed) × AreInOrder faults × Puts (IsOfRun status faults closed) old new
+-- WHAT `run` PRINTS, by the exit status: the text of a run of the nodes file: some orders, in its order, that made no dial, and
+-- closed nodes that are its nodes, as many, in its order, each set up as it says
+abbrev pub PrintsRun : List ℕ → ℕ → Option (List ℕ) → Option (List ℕ) → Type 0
+PrintsRun file status old new = (plan : Plan) × (faults : List OrderFault) × (closed : List Closed) × (plan_of file ≡ Some plan) × AreOfPlans plan.node closed × AreInOrder faults × Puts (IsOfRun status faults closed) old new
+
+-- with status 0, that of a nodes file that was read to its end
+abbrev pub PrintsRunOf : Option (List ℕ) → Option (List ℕ) → Option (List ℕ) → Option (List ℕ) → Type 0
+PrintsRunOf before after old new = (file : List ℕ) × Consumes before after file × IsAtEnd after × PrintsRun file 0 old new

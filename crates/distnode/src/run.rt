@@ -1,8 +1,9 @@
 //! The command `run`: the nodes of a nodes file at work, on this host.
 
-ghost use Rattle.std.specs.Prelude.{◌≡◌, ◌≤◌, IfOk, OnOk};
+ghost use Rattle.std.specs.Prelude.{◌≡◌, ◌≤◌, Some, IfOk, OnOk};
 ghost use Rattle.std.specs.Io.KnownBytes.{Appends};
-ghost use Rattle.distnode.specs.Printed.{order_line, orders_text, closed_text, refused_line, refusal_text, Puts, IsHeld, IsAudited, IsOfRun, PrintsRun};
+ghost use Rattle.distnode.specs.Printed.{order_line, orders_text, closed_text, refused_line, refusal_text, Puts, IsHeld, IsAudited, IsOfRun, PrintsRun, PrintsRunOf};
+ghost use Rattle.dist_plan.specs.Plans as plans;
 
 use crate::fault::Fault;
 use crate::output::write_text;
@@ -22,7 +23,9 @@ use std::thread::Threads;
 use std::time::Clock;
 use std::{io, str};
 
-fn plan_in(alloc: Global, text: &str) -> Result<Plan, Fault> {
+fn plan_in(alloc: Global, text: &str) -> Result<Plan, Fault>
+    ensures { IfOk result (λ plan. plans.plan_of text.now ≡ Some plan) }
+{
     match plan_of(alloc, text) {
         Ok(plan) => Ok(plan),
         Err(PlanError::Bad) => Err(Fault::BadNodesFile),
@@ -148,6 +151,7 @@ fn put_ran<W: Write>(alloc: Global, ran: &Ran, out: &mut W) -> Result<u8, Fault>
 }
 
 // Runs the nodes of a text, audits what they leave, and prints it. Answers the exit status.
+#[tactic(auto, using(crate::proofs::Printing::of_text))]
 fn perform<R, G, W: Write>(
     rt: &R,
     alloc: Global,
@@ -164,10 +168,10 @@ where
         + Sync,
     G: Gate + Sync,
     ensures status { IfOk result (λ status. status ≤ 1) }
-    ensures printed { IfOk result (λ status. PrintsRun status (W.contents out.old) (W.contents out.new)) }
+    ensures printed { IfOk result (λ status. PrintsRun text.now status (W.contents out.old) (W.contents out.new)) }
 {
     let plan = plan_in(alloc, text)?;
-    let ran = run_plan(rt, alloc, plan, gate).map_err(Fault::RunEnded)?;
+    let ran = run_plan(rt, alloc, &plan, gate).map_err(Fault::RunEnded)?;
     put_ran(alloc, &ran, out)
 }
 
@@ -195,8 +199,9 @@ where
     G: Gate + Sync,
     ensures status { result ≤ 2 }
 
-    // Status 0 comes only where the audit holds, and what was printed is the text of the world that it found.
-    ensures printed { result ≡ 0 → PrintsRun 0 (W.contents out.old) (W.contents out.new) }
+    // Status 0 comes only where the audit holds of the nodes of the text, each closed as it was set up there, and what was
+    // printed is the text of the world that it found.
+    ensures printed { result ≡ 0 → PrintsRun text.now 0 (W.contents out.old) (W.contents out.new) }
 {
     match perform(rt, alloc, text, gate, out) {
         Ok(status) => status,
@@ -205,7 +210,7 @@ where
 }
 
 /// Runs the nodes of a nodes file that is read here. One above 1,048,576 bytes, or that isn't UTF-8, is a bad one.
-#[tactic(auto, using(crate::proofs::Printing::never_zero))]
+#[tactic(auto, using(crate::proofs::Printing::never_zero, crate::proofs::Printing::of_file))]
 pub fn run_file<R, F: Read, W: Write, E: Write>(
     rt: &R,
     alloc: Global,
@@ -221,7 +226,7 @@ where
         + RandomSource
         + Sync,
     ensures status { result ≤ 2 }
-    ensures printed { result ≡ 0 → PrintsRun 0 (W.contents out.old) (W.contents out.new) }
+    ensures printed { result ≡ 0 → PrintsRunOf (F.remaining file.old) (F.remaining file.new) (W.contents out.old) (W.contents out.new) }
 {
     let bytes = match read_text(alloc, file) {
         Ok(bytes) => bytes,

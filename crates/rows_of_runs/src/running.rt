@@ -55,7 +55,7 @@ where
         return Err(RunError::NoMemory);
     };
     let system = System::new(rt, wrong);
-    match run_plan(&system, alloc, plan, &system) {
+    match run_plan(&system, alloc, &plan, &system) {
         Ok(ran) => told(alloc, &ran).ok_or(RunError::NoMemory),
         Err(error) => Err(error),
     }
