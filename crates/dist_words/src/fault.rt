@@ -5,35 +5,53 @@ ghost use Rattle.dist_words.specs.Fault.{status_of};
 ghost use Rattle.dist_words.specs.declared.fault.ScriptFault.TheVariants.{NoMemory};
 
 use std::alloc::AllocError;
-use std::io;
+use std::error::Error;
 use std::io::Write;
-use thiserror::Error;
+use std::{fmt, io};
 
 /// What ends the playing of a script. Its `Display` is what stands after `distnode: ` on standard error.
-#[derive(Clone, Copy, Debug, PartialEq, Eq, Error)]
+#[derive(Clone, Copy, Debug, PartialEq, Eq)]
 pub enum ScriptFault {
     /// The script has more than 1,048,576 bytes.
-    #[error("script too long")]
     TooLong,
     /// The line of this number, counted from 1 over all lines, is no line of a script.
-    #[error("bad line {0}")]
     BadLine(usize),
     /// The script has no line that sets a node up.
-    #[error("no node")]
     NoNode,
     /// Two lines of the script set up nodes of one name.
-    #[error("same name")]
     SameName,
     /// The input could not be read.
-    #[error("ReadFailed")]
     ReadFailed,
     /// The output could not be written.
-    #[error("WriteFailed")]
     WriteFailed,
     /// No memory was left.
-    #[error("NoMemory")]
     NoMemory,
 }
+
+// The words that tell a fault. Behind those of a bad line its number stands.
+fn told(fault: ScriptFault) -> &'static str {
+    match fault {
+        ScriptFault::TooLong => "script too long",
+        ScriptFault::BadLine(_) => "bad line",
+        ScriptFault::NoNode => "no node",
+        ScriptFault::SameName => "same name",
+        ScriptFault::ReadFailed => "ReadFailed",
+        ScriptFault::WriteFailed => "WriteFailed",
+        ScriptFault::NoMemory => "NoMemory",
+    }
+}
+
+impl fmt::Display for ScriptFault {
+    fn fmt<W: fmt::Write>(&self, f: &mut fmt::Formatter<W>) -> fmt::Result {
+        f.write_str(told(*self))?;
+        if let ScriptFault::BadLine(number) = self {
+            write!(f, " {number}")?;
+        }
+        Ok(())
+    }
+}
+
+impl Error for ScriptFault {}
 
 impl ScriptFault {
     /// The exit status: 2 where the script is at fault, else 1.
