@@ -38,8 +38,7 @@ fn print<W: Write>(alloc: Global, script: Script, out: &mut W) -> Result<(), Scr
     };
     let played = play(alloc, script, &mut out);
     let flushed = written(out.flush());
-    played?;
-    flushed
+    played.and(flushed)
 }
 
 fn perform<R: Read, W: Write>(
