@@ -13,7 +13,7 @@ use clap::error::ErrorKind;
 use std::alloc::{AllocError, Global};
 
 /// What the program is asked to do.
-#[derive(Clone, Copy, Debug)]
+#[derive(Clone, Copy)]
 pub enum Order<'a> {
     /// Enact the script on standard input.
     Enact,
@@ -26,7 +26,7 @@ pub enum Order<'a> {
 }
 
 /// Why the words ask for nothing.
-#[derive(Clone, Copy, Debug)]
+#[derive(Clone, Copy)]
 pub enum OrderError {
     /// They are no command of this program. Asking for help or the version is none.
     Bad,
@@ -58,9 +58,8 @@ pub fn order_of<'a>(alloc: Global, words: &'a [&'a str]) -> Result<Order<'a>, Or
     ensures ok { IfOk result (Asks (map (λ word. word.now) words.now)) }
     ensures bad { result ≡ Err OrderError.Bad → (order : Order) → Asks (map (λ word. word.now) words.now) order → ⊥ }
 {
-    let matches = match program(alloc)?.try_get_matches_from(words) {
-        Ok(matches) => matches,
-        Err(error) => return Err(refusal(&error)),
-    };
-    order_in(&matches).ok_or(OrderError::Bad)
+    match program(alloc)?.try_get_matches_from(words) {
+        Ok(matches) => order_in(&matches).ok_or(OrderError::Bad),
+        Err(error) => Err(refusal(&error)),
+    }
 }

@@ -1,7 +1,7 @@
 //! The program, as the parser of command lines is told of it.
 
-ghost use Rattle.std.specs.Prelude.{◌≡◌, IfOk, codes};
-ghost use Rattle.clap.specs.Words.{app_of, new_app, with_subcommand};
+ghost use Rattle.std.specs.Prelude.{◌≡◌, IfOk, codes, true};
+ghost use Rattle.clap.specs.Words.{App, app_of, new_app, with_subcommand};
 ghost use Rattle.dist_commands.specs.CommandLine.{bare_app, cookie_app, names_app, program_app, run_app};
 
 use clap::{Arg, ArgAction, Command};
@@ -13,10 +13,11 @@ fn cookie_command<'a>(alloc: Global) -> Result<Command<'a>, AllocError>
     let file = Arg::new(alloc, "file")
         .required(true)
         .action(ArgAction::Set);
+    let command = Command::new(alloc, "cookie").arg(file)?;
     let challenge = Arg::new(alloc, "challenge")
         .long("challenge")
         .action(ArgAction::Set);
-    Command::new(alloc, "cookie").arg(file)?.arg(challenge)
+    command.arg(challenge)
 }
 
 fn names_command<'a>(alloc: Global) -> Result<Command<'a>, AllocError>
@@ -45,19 +46,31 @@ fn bare<'a>(alloc: Global) -> Command<'a>
         .subcommand_required(true)
 }
 
-// The program with its commands that need no network.
-fn begun<'a>(alloc: Global) -> Result<Command<'a>, AllocError>
-    ensures { IfOk result (λ c. app_of c ≡ with_subcommand (with_subcommand bare_app (new_app (codes "enact")).top) cookie_app.top) }
+// The program with one more command, where there was memory to tell of it.
+fn with_command<'a>(
+    program: Command<'a>,
+    command: Result<Command<'a>, AllocError>,
+) -> Result<Command<'a>, AllocError>
+    ensures { (app : App) → app.top.is_plain ≡ true → IfOk command.entry (λ c. app_of c ≡ app) → IfOk result (λ c. app_of c ≡ with_subcommand (app_of program.entry) app.top) }
 {
-    let enact = bare(alloc).subcommand(Command::new(alloc, "enact"))?;
-    enact.subcommand(cookie_command(alloc)?)
+    match command {
+        Ok(command) => program.subcommand(command),
+        Err(error) => Err(error),
+    }
+}
+
+// The program with the command that takes no arguments.
+fn begun<'a>(alloc: Global) -> Result<Command<'a>, AllocError>
+    ensures { IfOk result (λ c. app_of c ≡ with_subcommand bare_app (new_app (codes "enact")).top) }
+{
+    bare(alloc).subcommand(Command::new(alloc, "enact"))
 }
 
 /// The program with its commands, of which one is wanted.
 pub fn program<'a>(alloc: Global) -> Result<Command<'a>, AllocError>
     ensures { IfOk result (λ c. app_of c ≡ program_app) }
 {
-    let cookie = begun(alloc)?;
-    let names = cookie.subcommand(names_command(alloc)?)?;
-    names.subcommand(run_command(alloc)?)
+    let cookie = with_command(begun(alloc)?, cookie_command(alloc))?;
+    let names = with_command(cookie, names_command(alloc))?;
+    with_command(names, run_command(alloc))
 }

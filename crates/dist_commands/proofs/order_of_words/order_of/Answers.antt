@@ -25,16 +25,16 @@ returns-in-Err-clause-bad c = λ e order asks.
       | inr among ↦ absurd among
     ]
 
-pub returns-clause-ok : goal.returns-clause-ok
-returns-clause-ok c =
+pub returns-in-Ok-clause-ok : goal.returns-in-Ok-clause-ok
+returns-in-Ok-clause-ok c =
     let app_is = c.in_ok-program.ensures in
     let texts = map (λ word. word.now) c.args.words.now in
     let same : subcommand_rows_of c.in-Ok.matches ≡ subcommand_of program_app texts = subst (λ a. subcommand_rows_of c.in-Ok.matches ≡ subcommand_of a texts) app_is (c.in-Ok.ensures.matches (ap is_simple app_is ∙ is_read)).1 in
     let taken : fault_of program_app texts ≡ [] = subst (λ a. fault_of a texts ≡ []) app_is (c.in-Ok.ensures.kinds (ap is_simple_and_free app_is ∙ is_read_freely)) in
     subst (λ r. IfOk r (Asks texts)) (sym c.ok_or.ensures.value) (order_given texts (subcommand_rows_of c.in-Ok.matches) c.order_in.result c.order_in.ensures taken same)
 
-pub returns-clause-bad : goal.returns-clause-bad
-returns-clause-bad c = λ e.
+pub returns-in-Ok-clause-bad : goal.returns-in-Ok-clause-bad
+returns-in-Ok-clause-bad c = λ e.
     let app_is = c.in_ok-program.ensures in
     let texts = map (λ word. word.now) c.args.words.now in
     let same : subcommand_rows_of c.in-Ok.matches ≡ subcommand_of program_app texts = subst (λ a. subcommand_rows_of c.in-Ok.matches ≡ subcommand_of a texts) app_is (c.in-Ok.ensures.matches (ap is_simple app_is ∙ is_read)).1 in
