@@ -315,7 +315,7 @@ fn instead_of(kind: ErrorKind) -> Instead {
 /// What these words ask for. `mapper_port` is the number of ERL_EPMD_PORT.
 pub fn wanted_of<'a>(
     alloc: Global,
-    words: &'a [&'a str],
+    words: &'a [String],
     mapper_port: Option<u16>,
 ) -> Result<Wanted<'a>, Instead> {
     let usual_port = mapper_port.unwrap_or(MAPPER_PORT);

@@ -1,6 +1,6 @@
 //! What was found, as one object of JSON. Each text in it is written by serde_json.
 
-use crate::lines::{Piece, push_flags, push_piece, text_of};
+use crate::lines::{Piece, push_flags, push_piece, release_texts, text_of};
 use crate::pairs::Pairing;
 use crate::probing::{Dial, Found, Registration};
 use dist_flag_names::{Dflag, Release, missing, release_of};
@@ -14,27 +14,18 @@ use std::alloc::{AllocError, Global};
 enum Member<'a> {
     // A text.
     Text(&'a str),
-    // A number, `true`, `false` or `null`.
+    // What stands there as it is: a number, `true`, `false`, `null`, or the inside of a text that has no character which
+    // JSON writes in another way.
     Plain(Piece<'a>),
-    // What has no character that a text of JSON writes in another way.
-    Quoted(Piece<'a>),
-    // Flags by name, as a list.
+    // Flags by name, the inside of a list.
     Names(Flags),
 }
 
 // What is not known.
 const NULL: Member<'static> = Member::Plain(Piece::Text("null"));
 
-fn release_name(release: Release) -> &'static str {
-    match release {
-        Release::Before23 => "before 23",
-        Release::Otp23 => "23",
-        Release::Otp24 => "24",
-        Release::Otp25 => "25",
-        Release::Otp28 => "28",
-        Release::Otp29 => "29",
-    }
-}
+// What stands behind the end of an object.
+const NOTHING: Member<'static> = Member::Plain(Piece::Text(""));
 
 // Puts a text behind another.
 fn push_text(alloc: Global, line: &mut String, text: &str) -> Result<(), AllocError> {
@@ -42,44 +33,24 @@ fn push_text(alloc: Global, line: &mut String, text: &str) -> Result<(), AllocEr
     line.push_str(&quoted)
 }
 
-// Puts the flags behind a text by name, as a list.
-fn push_names(line: &mut String, flags: Flags) -> Result<(), AllocError> {
-    line.push('[')?;
-    push_flags(line, flags, "\"", ",\"", "\"")?;
-    line.push(']')
-}
-
-// Puts a piece behind a text, in quotes.
-fn push_quoted(line: &mut String, piece: Piece<'_>) -> Result<(), AllocError> {
-    line.push('"')?;
-    push_piece(line, piece)?;
-    line.push('"')
-}
-
 // Puts the value of a member behind a text.
 fn push_value(alloc: Global, line: &mut String, value: Member<'_>) -> Result<(), AllocError> {
     match value {
         Member::Text(text) => push_text(alloc, line, text),
         Member::Plain(piece) => push_piece(line, piece),
-        Member::Quoted(piece) => push_quoted(line, piece),
-        Member::Names(flags) => push_names(line, flags),
+        Member::Names(flags) => push_flags(line, flags, "\"", ",\"", "\""),
     }
 }
 
-// Puts members behind a text, this mark before the first.
+// Puts members behind a text, each behind the text of JSON before it.
 fn push_members(
     alloc: Global,
     line: &mut String,
-    first: char,
     members: &[(&str, Member<'_>)],
 ) -> Result<(), AllocError> {
-    let mut mark = first;
-    for (key, value) in members {
-        line.push(mark)?;
-        push_quoted(line, Piece::Text(key))?;
-        line.push(':')?;
+    for (before, value) in members {
+        line.push_str(before)?;
         push_value(alloc, line, *value)?;
-        mark = ',';
     }
     Ok(())
 }
@@ -106,11 +77,11 @@ fn port_member(port: Option<u16>) -> Member<'static> {
     }
 }
 
-// The address of the host, where it has one.
-fn address_member(found: &Found) -> Member<'static> {
+// The address of the host, where it has one, between what stands before and behind it.
+fn address_of(found: &Found) -> (&'static str, Piece<'static>, &'static str) {
     match found.address {
-        Some(address) => Member::Quoted(Piece::Host(address.ip())),
-        None => NULL,
+        Some(address) => (",\"address\":\"", Piece::Host(address.ip()), "\""),
+        None => (",\"address\":", Piece::Text("null"), ""),
     }
 }
 
@@ -122,31 +93,23 @@ fn status_member(found: &Found) -> Member<'static> {
     }
 }
 
-// Puts what the port mapper knows of the node behind a text.
+// Puts what the port mapper knows of the node behind a text, where it knows it.
 fn push_registration(
     alloc: Global,
     line: &mut String,
-    registration: Registration,
+    registration: Option<Registration>,
 ) -> Result<(), AllocError> {
-    let members = [
-        ("port", number(registration.port)),
-        ("highest", number(registration.highest)),
-        ("lowest", number(registration.lowest)),
-    ];
-    push_members(alloc, line, '{', &members)?;
-    line.push('}')
-}
-
-// Puts the registration behind a text, where there is one.
-fn push_found_registration(
-    alloc: Global,
-    line: &mut String,
-    found: &Found,
-) -> Result<(), AllocError> {
-    line.push_str(",\"epmd\":")?;
-    match found.registration {
-        Some(registration) => push_registration(alloc, line, registration),
-        None => line.push_str("null"),
+    match registration {
+        Some(registration) => {
+            let members = [
+                (",\"epmd\":{\"port\":", number(registration.port)),
+                (",\"highest\":", number(registration.highest)),
+                (",\"lowest\":", number(registration.lowest)),
+                ("}", NOTHING),
+            ];
+            push_members(alloc, line, &members)
+        }
+        None => line.push_str(",\"epmd\":null"),
     }
 }
 
@@ -157,21 +120,23 @@ fn push_names_of(
     dial: &Dial<'_>,
     found: &Found,
 ) -> Result<(), AllocError> {
+    let (before, address, behind) = address_of(found);
     let members = [
-        ("node", Member::Text(text_of(dial.node.bytes()))),
-        ("name", Member::Text(text_of(dial.own.bytes()))),
-        ("address", address_member(found)),
+        ("{\"node\":", Member::Text(text_of(dial.node.bytes()))),
+        (",\"name\":", Member::Text(text_of(dial.own.bytes()))),
+        (before, Member::Plain(address)),
+        (behind, NOTHING),
     ];
-    push_members(alloc, line, '{', &members)
+    push_members(alloc, line, &members)
 }
 
 // Puts the node's port and the status that it said behind a text.
 fn push_answer(alloc: Global, line: &mut String, found: &Found) -> Result<(), AllocError> {
     let members = [
-        ("port", port_member(found.port)),
-        ("status", status_member(found)),
+        (",\"port\":", port_member(found.port)),
+        (",\"status\":", status_member(found)),
     ];
-    push_members(alloc, line, ',', &members)
+    push_members(alloc, line, &members)
 }
 
 // Whether the node is hidden.
@@ -187,24 +152,30 @@ fn hidden_member(flags: Flags) -> Member<'static> {
 // Puts what a node says of itself behind a text.
 fn push_peer(alloc: Global, line: &mut String, peer: &Peer) -> Result<(), AllocError> {
     let flags = peer.flags;
+    let (_, release) = release_texts(release_of(flags));
     let members = [
-        ("name", Member::Text(text_of(peer.name.as_slice()))),
-        ("creation", Member::Plain(Piece::Number(peer.creation.0))),
-        ("flags", Member::Quoted(Piece::Digits(flags))),
-        ("flag_names", Member::Names(flags)),
-        ("release", Member::Text(release_name(release_of(flags)))),
-        ("hidden", hidden_member(flags)),
+        (
+            ",\"peer\":{\"name\":",
+            Member::Text(text_of(peer.name.as_slice())),
+        ),
+        (
+            ",\"creation\":",
+            Member::Plain(Piece::Number(peer.creation.0)),
+        ),
+        (",\"flags\":\"", Member::Plain(Piece::Digits(flags))),
+        ("\",\"flag_names\":[", Member::Names(flags)),
+        ("],\"release\":", Member::Text(release)),
+        (",\"hidden\":", hidden_member(flags)),
+        ("}", NOTHING),
     ];
-    push_members(alloc, line, '{', &members)?;
-    line.push('}')
+    push_members(alloc, line, &members)
 }
 
 // Puts what the node said of itself behind a text, where it did.
 fn push_found_peer(alloc: Global, line: &mut String, found: &Found) -> Result<(), AllocError> {
-    line.push_str(",\"peer\":")?;
     match &found.peer {
         Some(peer) => push_peer(alloc, line, peer),
-        None => line.push_str("null"),
+        None => line.push_str(",\"peer\":null"),
     }
 }
 
@@ -216,33 +187,34 @@ fn push_verdict(
     verdict: Verdict,
 ) -> Result<(), AllocError> {
     let members = [
-        ("lacking", Member::Names(lacking)),
-        ("verdict", Member::Text(verdict.name())),
-        ("cause", Member::Text(verdict.cause())),
-        ("remedy", Member::Text(verdict.remedy())),
-        ("exit", number(u16::from(verdict.status()))),
+        (",\"lacking\":[", Member::Names(lacking)),
+        ("],\"verdict\":", Member::Text(verdict.name())),
+        (",\"cause\":", Member::Text(verdict.cause())),
+        (",\"remedy\":", Member::Text(verdict.remedy())),
+        (",\"exit\":", number(u16::from(verdict.status()))),
+        ("}\n", NOTHING),
     ];
-    push_members(alloc, line, ',', &members)?;
-    line.push_str("}\n")
+    push_members(alloc, line, &members)
 }
 
 // Puts what can be told of two nodes behind a text.
-fn push_pair(
+fn push_pair<'x>(
     alloc: Global,
     line: &mut String,
-    first: &NodeName,
-    second: &NodeName,
+    first: &'x NodeName,
+    second: &'x NodeName,
     pairing: Pairing,
 ) -> Result<(), AllocError> {
+    let (name, cause) = pairing.texts();
     let members = [
-        ("first", Member::Text(text_of(first.bytes()))),
-        ("second", Member::Text(text_of(second.bytes()))),
-        ("pair", Member::Text(pairing.name())),
-        ("cause", Member::Text(pairing.cause())),
-        ("exit", number(u16::from(pairing.status()))),
+        ("{\"first\":", Member::Text(text_of(first.bytes()))),
+        (",\"second\":", Member::Text(text_of(second.bytes()))),
+        (",\"pair\":", Member::Text(name)),
+        (",\"cause\":", Member::Text(cause)),
+        (",\"exit\":", number(u16::from(pairing.status()))),
+        ("}\n", NOTHING),
     ];
-    push_members(alloc, line, '{', &members)?;
-    line.push_str("}\n")
+    push_members(alloc, line, &members)
 }
 
 // Puts what was found of a node, and what it comes to, behind a text.
@@ -254,7 +226,7 @@ fn push_object(
     verdict: Verdict,
 ) -> Result<(), AllocError> {
     push_names_of(alloc, line, dial, found)?;
-    push_found_registration(alloc, line, found)?;
+    push_registration(alloc, line, found.registration)?;
     push_answer(alloc, line, found)?;
     push_found_peer(alloc, line, found)?;
     push_verdict(alloc, line, lacking_of(verdict, &found.peer), verdict)

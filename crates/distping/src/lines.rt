@@ -102,23 +102,26 @@ fn joined(alloc: Global, pieces: &[Piece<'_>]) -> Result<String, AllocError> {
     Ok(line)
 }
 
-fn release_text(release: Release) -> &'static str {
+/// What a release is called in a line, and in an object of JSON.
+pub fn release_texts(release: Release) -> (&'static str, &'static str) {
     match release {
-        Release::Before23 => "before OTP 23",
-        Release::Otp23 => "OTP 23",
-        Release::Otp24 => "OTP 24",
-        Release::Otp25 => "OTP 25 to 27",
-        Release::Otp28 => "OTP 28",
-        Release::Otp29 => "OTP 29 or newer",
+        Release::Before23 => ("before OTP 23", "before 23"),
+        Release::Otp23 => ("OTP 23", "23"),
+        Release::Otp24 => ("OTP 24", "24"),
+        Release::Otp25 => ("OTP 25 to 27", "25"),
+        Release::Otp28 => ("OTP 28", "28"),
+        Release::Otp29 => ("OTP 29 or newer", "29"),
     }
 }
 
 // What stands before the release that the flags tell, and the release.
 fn told_texts(flags: Flags) -> (&'static str, &'static str) {
-    match told_by(flags) {
-        Told::Just(release) => (": ", release_text(release)),
-        Told::UpTo(release) => (": up to those of ", release_text(release)),
-    }
+    let (before, release) = match told_by(flags) {
+        Told::Just(release) => (": ", release),
+        Told::UpTo(release) => (": up to those of ", release),
+    };
+    let (text, _) = release_texts(release);
+    (before, text)
 }
 
 // Whether a peer is hidden, behind its name and before its creation.
@@ -401,9 +404,7 @@ impl Lines {
         self.put(&[
             Piece::Text(mark_at(taken.status())),
             Piece::Text("  "),
-            Piece::Text(taken.name()),
-            Piece::Text(": "),
-            Piece::Text(taken.cause()),
+            Piece::Text(taken.text()),
             Piece::Text("\n"),
         ])
     }
@@ -415,6 +416,7 @@ impl Lines {
         second: &'x NodeName,
         pairing: Pairing,
     ) -> Result<(), Fault> {
+        let (name, cause) = pairing.texts();
         self.put(&[
             Piece::Text(pairing_mark(pairing)),
             Piece::Text("  pair      "),
@@ -422,9 +424,9 @@ impl Lines {
             Piece::Text(" and "),
             Piece::Text(text_of(second.bytes())),
             Piece::Text(": "),
-            Piece::Text(pairing.name()),
+            Piece::Text(name),
             Piece::Text(": "),
-            Piece::Text(pairing.cause()),
+            Piece::Text(cause),
             Piece::Text("\n"),
         ])
     }

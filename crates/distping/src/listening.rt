@@ -42,35 +42,21 @@ pub enum Taken {
 }
 
 impl Taken {
-    /// Its word.
-    pub fn name(self) -> &'static str {
+    /// Its word, and what it means, in a sentence without a full stop.
+    pub fn text(self) -> &'static str {
         match self {
-            Taken::Up => "Up",
-            Taken::Answered => "Answered",
-            Taken::WrongCookie => "WrongCookie",
-            Taken::NoName => "NoName",
-            Taken::Left => "Left",
-            Taken::Silent => "Silent",
-            Taken::Unexpected => "Unexpected",
-            Taken::Foreign(_) => "Foreign",
-            Taken::NoMemory => "NoMemory",
-        }
-    }
-
-    /// What it means, in a sentence without a full stop.
-    pub fn cause(self) -> &'static str {
-        match self {
-            Taken::Up => "the node reaches us, and has our cookie",
-            Taken::Answered => "the node reaches us and took our name; no cookie was compared",
-            Taken::WrongCookie => "the node reaches us, and has another cookie",
-            Taken::NoName => "the connection ended before a name was said",
+            Taken::Up => "Up: the node reaches us, and has our cookie",
+            Taken::Answered =>
+                "Answered: the node reaches us and took our name; no cookie was compared",
+            Taken::WrongCookie => "WrongCookie: the node reaches us, and has another cookie",
+            Taken::NoName => "NoName: the connection ended before a name was said",
             Taken::Left =>
-                "the node closed the connection upon our challenge: it dialled another name than --name",
-            Taken::Silent => "nothing whole came in time",
+                "Left: the node closed the connection upon our challenge: it dialled another name than --name",
+            Taken::Silent => "Silent: nothing whole came in time",
             Taken::Unexpected =>
-                "what came is none that a node of OTP 23 or newer says at this place",
-            Taken::Foreign(_) => "what dials is no node",
-            Taken::NoMemory => "memory ran out here",
+                "Unexpected: what came is none that a node of OTP 23 or newer says at this place",
+            Taken::Foreign(_) => "Foreign: what dials is no node",
+            Taken::NoMemory => "NoMemory: memory ran out here",
         }
     }
 

@@ -73,7 +73,7 @@ fn main(rt: HostRuntime) -> ExitCode {
 // The words behind the program's name. One that is no UTF-8 is no word of a command.
 fn words_of(rt: &HostRuntime, alloc: Global) -> Result<Vec<String>, Fault> {
     match env::args(rt) {
-        Ok(words) => words.skip(1).collect(alloc).map_err(|_| Fault::NoMemory),
+        Ok(words) => Ok(words.skip(1).collect(alloc)?),
         Err(error) if error.kind() == ErrorKind::OutOfMemory => Err(Fault::NoMemory),
         Err(_) => Err(Fault::BadCommandLine),
     }
@@ -103,9 +103,8 @@ fn perform(rt: &HostRuntime) -> Result<u8, Fault> {
 
 // Does what these words ask for.
 fn obey(rt: &HostRuntime, words: &[String]) -> Result<u8, Fault> {
-    let alloc = rt.alloc();
-    let texts: Vec<&str> = words.iter().map(|word| word.as_str()).collect(alloc)?;
-    match wanted_of(alloc, &texts, named_mapper_port(rt)?) {
+    let mapper_port = named_mapper_port(rt)?;
+    match wanted_of(rt.alloc(), words, mapper_port) {
         Ok(wanted) => follow(rt, &wanted),
         Err(Instead::Help) => print(rt, HELP),
         Err(Instead::Version) => print(rt, VERSION),
@@ -196,9 +195,9 @@ fn take_one(
     port: u16,
     cookie: Option<&Cookie>,
 ) -> Result<u8, Fault> {
-    let (creation, fresh) = (drawn(rt)?, drawn(rt)?);
     let choices = &wanted.choices;
-    let setup = setup_of(rt.alloc(), name, choices.flags, cookie, creation)?;
+    let fresh = drawn(rt)?;
+    let setup = setup_of(rt, name, choices.flags, cookie)?;
     let one = Listen {
         setup: &setup,
         port,

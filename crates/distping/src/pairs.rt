@@ -89,31 +89,31 @@ pub fn pairing_of(first: &Half<'_>, second: &Half<'_>) -> Pairing
 }
 
 impl Pairing {
-    /// Its word.
-    pub fn name(self) -> &'static str {
+    /// Its word, and what it means, in a sentence without a full stop.
+    pub fn texts(self) -> (&'static str, &'static str) {
         match self {
-            Pairing::SameName => "SameName",
-            Pairing::LongAndShort => "LongAndShort",
-            Pairing::NotReached => "NotReached",
-            Pairing::LacksFlags(..) => "LacksFlags",
-            Pairing::OtherCookies => "OtherCookies",
-            Pairing::Unsure => "Unsure",
-            Pairing::Agree => "Agree",
-        }
-    }
-
-    /// What it means, in a sentence without a full stop.
-    pub fn cause(self) -> &'static str {
-        match self {
-            Pairing::SameName => "two nodes of one name never connect",
-            Pairing::LongAndShort => "a node of -name and one of -sname never connect",
-            Pairing::NotReached => "not both answered, so nothing is known of the pair",
-            Pairing::LacksFlags(..) => "one lacks flags that the other's release asks for",
-            Pairing::OtherCookies =>
+            Pairing::SameName => ("SameName", "two nodes of one name never connect"),
+            Pairing::LongAndShort => (
+                "LongAndShort",
+                "a node of -name and one of -sname never connect",
+            ),
+            Pairing::NotReached => (
+                "NotReached",
+                "not both answered, so nothing is known of the pair",
+            ),
+            Pairing::LacksFlags(..) => (
+                "LacksFlags",
+                "one lacks flags that the other's release asks for",
+            ),
+            Pairing::OtherCookies => (
+                "OtherCookies",
                 "they have different cookies: one takes ours, the other does not",
-            Pairing::Unsure =>
+            ),
+            Pairing::Unsure => (
+                "Unsure",
                 "names and flags agree; not both took our cookie, so theirs are not compared",
-            Pairing::Agree => "names, flags and cookie agree",
+            ),
+            Pairing::Agree => ("Agree", "names, flags and cookie agree"),
         }
     }
 

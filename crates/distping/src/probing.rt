@@ -124,18 +124,21 @@ pub fn drawn(rt: &HostRuntime) -> Result<u32, Fault> {
 fn cookie_of(alloc: Global, cookie: Option<&Cookie>) -> Result<Cookie, Fault> {
     match cookie {
         Some(cookie) => Ok(cookie.try_clone(alloc)?),
-        None => Cookie::from_bytes(alloc, b"none").map_err(|_| Fault::NoMemory),
+        None => match Cookie::from_bytes(alloc, b"none") {
+            Ok(cookie) => Ok(cookie),
+            Err(_) => Err(Fault::NoMemory),
+        },
     }
 }
 
-/// The setup of a node of this name that is only there to ask.
+/// The setup of a node of this name that is only there to ask, of a creation by chance.
 pub fn setup_of(
-    alloc: Global,
+    rt: &HostRuntime,
     own: &NodeName,
     flags: Flags,
     cookie: Option<&Cookie>,
-    creation: u32,
 ) -> Result<Setup, Fault> {
+    let (alloc, creation) = (rt.alloc(), drawn(rt)?);
     let cookies = Cookies::new(alloc, cookie_of(alloc, cookie)?);
     Ok(Setup {
         name: own.try_clone(alloc)?,
@@ -328,17 +331,10 @@ fn told_report(dial: &Dial<'_>, report: &Report) -> Result<Verdict, Stop> {
     Ok(verdict)
 }
 
-// The setup of the probe, and its own challenge.
-fn drawn_setup(dial: &Dial<'_>) -> Result<(Setup, u32), Fault> {
-    let (fresh, creation) = (drawn(dial.rt)?, drawn(dial.rt)?);
-    let flags = dial.choices.flags;
-    let setup = setup_of(dial.lines.alloc, dial.own, flags, dial.cookie, creation)?;
-    Ok((setup, fresh))
-}
-
 // The talk with the node.
 fn talk(dial: &Dial<'_>, stream: &mut SocketStream) -> Result<Report, Stop> {
-    let (setup, fresh) = drawn_setup(dial)?;
+    let fresh = drawn(dial.rt)?;
+    let setup = setup_of(dial.rt, dial.own, dial.choices.flags, dial.cookie)?;
     let (replies, limit) = (dial.cookie.is_some(), dial.choices.turns());
     let report = ask_node(
         dial.lines.alloc,
