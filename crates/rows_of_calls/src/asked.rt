@@ -1,26 +1,37 @@
 //! Questions of a client.
 
-use crate::digits::{bytes_in, digits_of, node_of, node_told, word};
+use crate::digits::{bytes_in, node_of, put_bytes, put_node, put_number, put_word, word};
 use crate::streams::{limit_of, stream_of};
 use dist_mapper::{FaultStream, LookupError, ask_names, lookup, register};
 use std::alloc::Global;
 
-/// Looks up `a`, registers it, or asks for all names: the answer, the bytes that were written, those that were not read, and
-/// the number of reads and writes.
-pub fn asked(alloc: Global, case: &str, pieces: &str) -> Option<String> {
+/// Looks up `a`, registers it, or asks for all names: tells the answer, the bytes that were written, those that were not read,
+/// and the number of reads and writes.
+pub fn put_asked(alloc: Global, told: &mut String, case: &str, pieces: &str) -> Option<()> {
     let mut stream = stream_of(alloc, case, pieces)?;
-    let answer = answer_to(alloc, case, &mut stream)?;
-    let said = digits_of(alloc, stream.written())?;
-    let left = digits_of(alloc, stream.unread())?;
-    let calls = stream.calls();
-    format!(in alloc; "{answer} said {said} left {left} calls {calls}").ok()
+    put_answer(alloc, told, case, &mut stream)?;
+    put_traffic(alloc, told, &stream)
 }
 
-fn answer_to(alloc: Global, case: &str, stream: &mut FaultStream) -> Option<String> {
+fn put_traffic(alloc: Global, told: &mut String, stream: &FaultStream) -> Option<()> {
+    put_word(told, "said")?;
+    put_bytes(alloc, told, stream.written())?;
+    put_word(told, "left")?;
+    put_bytes(alloc, told, stream.unread())?;
+    put_word(told, "calls")?;
+    put_number(told, stream.calls())
+}
+
+fn put_answer(
+    alloc: Global,
+    told: &mut String,
+    case: &str,
+    stream: &mut FaultStream,
+) -> Option<()> {
     match word(case, 0) {
-        "lookup" => looked_up(alloc, case, stream),
-        "register" => registered(alloc, case, stream),
-        _ => listed(alloc, case, stream),
+        "lookup" => look_up(alloc, told, case, stream),
+        "register" => register_node(alloc, told, case, stream),
+        _ => list(alloc, told, case, stream),
     }
 }
 
@@ -33,35 +44,46 @@ fn name_in(case: &str) -> &str {
     }
 }
 
-fn looked_up(alloc: Global, case: &str, stream: &mut FaultStream) -> Option<String> {
+fn look_up(alloc: Global, told: &mut String, case: &str, stream: &mut FaultStream) -> Option<()> {
     let name = bytes_in(alloc, name_in(case))?;
     match lookup(alloc, stream, &name, limit_of(case)) {
-        Ok(node) => node_told(alloc, &node),
-        Err(error) => refused(alloc, error),
+        Ok(node) => put_node(alloc, told, &node),
+        Err(error) => put_refusal(told, error),
     }
 }
 
-fn registered(alloc: Global, case: &str, stream: &mut FaultStream) -> Option<String> {
+fn register_node(
+    alloc: Global,
+    told: &mut String,
+    case: &str,
+    stream: &mut FaultStream,
+) -> Option<()> {
     let node = node_of(alloc, name_in(case), "-")?;
     match register(alloc, stream, &node, limit_of(case)) {
-        Ok(creation) => format!(in alloc; "creation {}", creation.0).ok(),
-        Err(error) => refused(alloc, error),
+        Ok(creation) => put_creation(told, creation.0),
+        Err(error) => put_refusal(told, error),
     }
 }
 
-fn listed(alloc: Global, case: &str, stream: &mut FaultStream) -> Option<String> {
+fn put_creation(told: &mut String, creation: u32) -> Option<()> {
+    put_word(told, "creation")?;
+    put_number(told, creation as u64)
+}
+
+fn list(alloc: Global, told: &mut String, case: &str, stream: &mut FaultStream) -> Option<()> {
     match ask_names(alloc, stream, limit_of(case)) {
         Ok((port, text)) => {
-            let text = digits_of(alloc, text.as_slice())?;
-            format!(in alloc; "{port} {text}").ok()
+            put_number(told, port as u64)?;
+            put_bytes(alloc, told, text.as_slice())
         }
-        Err(error) => refused(alloc, error),
+        Err(error) => put_refusal(told, error),
     }
 }
 
-fn refused(alloc: Global, error: LookupError) -> Option<String> {
+fn put_refusal(told: &mut String, error: LookupError) -> Option<()> {
+    put_word(told, error.name())?;
     if let LookupError::Refused(code) = error {
-        return format!(in alloc; "Refused {code}").ok();
+        return put_number(told, code as u64);
     }
-    String::from_str(alloc, error.name()).ok()
+    Some(())
 }

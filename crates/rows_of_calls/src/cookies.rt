@@ -2,33 +2,33 @@
 //! `file BYTES CALL CALL ..` reads the text by these calls of its reader, or by the pieces that are played where the row has
 //! no calls.
 
-use crate::digits::{bytes_in, digits_of, word};
+use crate::digits::{bytes_in, put_bytes, put_number, put_word, word};
 use crate::readers::Scripted;
-use crate::refusals::refused;
+use crate::refusals::put_refused;
 use dist_secret::{Cookie, CookieError, digest, read_cookie};
 use std::alloc::Global;
 
-/// The cookie or the refusal, for a file with the number of reads; or the digest.
-pub fn cookie_told(alloc: Global, case: &str, pieces: &str) -> Option<String> {
+/// Tells the cookie or the refusal, for a file with the number of reads; or the digest.
+pub fn put_cookie(alloc: Global, told: &mut String, case: &str, pieces: &str) -> Option<()> {
     let text = bytes_in(alloc, word(case, 1))?;
     match word(case, 0) {
-        "text" => found_told(alloc, Cookie::from_bytes(alloc, &text)),
-        "digest" => digest_told(alloc, &text, word(case, 2)),
-        _ => file_told(alloc, &text, calls_of(case, pieces)),
+        "text" => put_found(alloc, told, Cookie::from_bytes(alloc, &text)),
+        "digest" => put_digest(alloc, told, &text, word(case, 2)),
+        _ => put_file(alloc, told, &text, calls_of(case, pieces)),
     }
 }
 
-fn found_told(alloc: Global, found: Result<Cookie, CookieError>) -> Option<String> {
+fn put_found(alloc: Global, told: &mut String, found: Result<Cookie, CookieError>) -> Option<()> {
     match found {
-        Ok(cookie) => digits_of(alloc, cookie.bytes()),
-        Err(why) => refused(alloc, &why),
+        Ok(cookie) => put_bytes(alloc, told, cookie.bytes()),
+        Err(why) => put_refused(told, &why),
     }
 }
 
-fn digest_told(alloc: Global, text: &[u8], challenge: &str) -> Option<String> {
+fn put_digest(alloc: Global, told: &mut String, text: &[u8], challenge: &str) -> Option<()> {
     let challenge = challenge.parse::<u32>().ok()?;
     let cookie = Cookie::from_bytes(alloc, text).ok()?;
-    digits_of(alloc, &digest(&cookie, challenge))
+    put_bytes(alloc, told, &digest(&cookie, challenge))
 }
 
 // The calls behind the bytes of a row.
@@ -40,8 +40,9 @@ fn calls_of<'c>(case: &'c str, pieces: &str) -> &'c str {
     }
 }
 
-fn file_told(alloc: Global, text: &[u8], calls: &str) -> Option<String> {
+fn put_file(alloc: Global, told: &mut String, text: &[u8], calls: &str) -> Option<()> {
     let mut reader = Scripted::new(text, calls);
-    let found = found_told(alloc, read_cookie(alloc, &mut reader))?;
-    format!(in alloc; "{found} reads {}", reader.reads()).ok()
+    put_found(alloc, told, read_cookie(alloc, &mut reader))?;
+    put_word(told, "reads")?;
+    put_number(told, reader.reads() as u64)
 }

@@ -1,8 +1,10 @@
-//! The words of a row, bytes in hexadecimal digits, and what a node tells of itself.
+//! The words of a row, bytes in hexadecimal digits, and what a node tells of itself. What is told is words with a blank behind
+//! each.
 
 use dist_epmd::NodeInfo;
 use dist_names::ByteString;
 use std::alloc::Global;
+use std::fmt::Write;
 
 /// The word at this place of a row; with too few words it is empty.
 pub fn word(row: &str, place: usize) -> &str {
@@ -18,27 +20,46 @@ pub fn bytes_in(alloc: Global, digits: &str) -> Option<Vec<u8>> {
 
 fn put_parts(alloc: Global, bytes: &mut Vec<u8>, digits: &str) -> Option<()> {
     for part in digits.split('+') {
-        let (digits, times) = part.split_once('*').unwrap_or((part, "1"));
-        put_part(alloc, bytes, digits, times)?;
+        put_part(alloc, bytes, part)?;
     }
     Some(())
 }
 
-fn put_part(alloc: Global, bytes: &mut Vec<u8>, digits: &str, times: &str) -> Option<()> {
-    let digits = if digits == "-" { "" } else { digits };
+fn put_part(alloc: Global, bytes: &mut Vec<u8>, part: &str) -> Option<()> {
+    if part == "-" {
+        return Some(());
+    }
+    let (digits, times) = part.split_once('*').unwrap_or((part, "1"));
+    let times = times.parse::<usize>().ok()?;
     let part = hex::decode(alloc, digits).ok()?;
-    for _ in 0..times.parse::<usize>().ok()? {
-        bytes.extend_from_slice(&part).ok()?;
+    put_often(bytes, &part, times)
+}
+
+fn put_often(bytes: &mut Vec<u8>, part: &[u8], times: usize) -> Option<()> {
+    for _ in 0..times {
+        bytes.extend_from_slice(part).ok()?;
     }
     Some(())
 }
 
-/// The digits that write the bytes.
-pub fn digits_of(alloc: Global, bytes: &[u8]) -> Option<String> {
+/// Tells a word.
+pub fn put_word(told: &mut String, word: &str) -> Option<()> {
+    told.push_str(word).ok()?;
+    told.push_str(" ").ok()
+}
+
+/// Tells a number.
+pub fn put_number(told: &mut String, number: u64) -> Option<()> {
+    write!(told, "{number} ").ok()
+}
+
+/// Tells bytes by the digits that write them.
+pub fn put_bytes(alloc: Global, told: &mut String, bytes: &[u8]) -> Option<()> {
     if bytes.is_empty() {
-        return String::from_str(alloc, "-").ok();
+        return put_word(told, "-");
     }
-    hex::encode(alloc, bytes).ok()
+    let digits = hex::encode(alloc, bytes).ok()?;
+    put_word(told, &digits)
 }
 
 /// The node at port 9001 whose name and extra bytes these digits write.
@@ -54,11 +75,18 @@ pub fn node_of(alloc: Global, name: &str, extra: &str) -> Option<NodeInfo> {
     })
 }
 
-/// What a node tells of itself: its five numbers, its name and its extra bytes.
-pub fn node_told(alloc: Global, node: &NodeInfo) -> Option<String> {
-    let name = digits_of(alloc, node.name.as_slice())?;
-    let extra = digits_of(alloc, node.extra.as_slice())?;
-    let (highest, lowest) = (node.highest, node.lowest);
-    let (port, node_type, protocol) = (node.port, node.node_type, node.protocol);
-    format!(in alloc; "{port} {node_type} {protocol} {highest} {lowest} {name} {extra}").ok()
+/// Tells what a node tells of itself: its five numbers, its name and its extra bytes.
+pub fn put_node(alloc: Global, told: &mut String, node: &NodeInfo) -> Option<()> {
+    let versions = [
+        node.protocol as u64,
+        node.highest as u64,
+        node.lowest as u64,
+    ];
+    put_number(told, node.port as u64)?;
+    put_number(told, node.node_type as u64)?;
+    for version in versions {
+        put_number(told, version)?;
+    }
+    put_bytes(alloc, told, node.name.as_slice())?;
+    put_bytes(alloc, told, node.extra.as_slice())
 }

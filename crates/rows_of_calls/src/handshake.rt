@@ -1,17 +1,18 @@
 //! Handshake messages: `read SIDE BODY` reads a body that this side sends, the dialler (`D`) or the acceptor (`A`), and
 //! `write SIDE BODY OTHER` writes the message that was read as this other side would.
 
-use crate::digits::{bytes_in, digits_of, word};
-use crate::refusals::refused;
+use crate::digits::{bytes_in, put_bytes, word};
+use crate::refusals::put_refused;
 use dist_messages::{Message, Side, decode, encode};
 use std::alloc::Global;
+use std::fmt::Write;
 
-/// The message in words, or the body that is written; or the refusal.
-pub fn message_told(alloc: Global, case: &str) -> Option<String> {
+/// Tells the message in words, or the body that is written; or the refusal.
+pub fn put_message(alloc: Global, told: &mut String, case: &str) -> Option<()> {
     let body = bytes_in(alloc, word(case, 2))?;
     match decode(alloc, side_of(word(case, 1)), &body) {
-        Ok(message) => again_told(alloc, &message, word(case, 3)),
-        Err(why) => refused(alloc, &why),
+        Ok(message) => put_again(alloc, told, &message, word(case, 3)),
+        Err(why) => put_refused(told, &why),
     }
 }
 
@@ -23,24 +24,24 @@ fn side_of(word: &str) -> Side {
     }
 }
 
-fn again_told(alloc: Global, message: &Message, side: &str) -> Option<String> {
+fn put_again(alloc: Global, told: &mut String, message: &Message, side: &str) -> Option<()> {
     if side.is_empty() {
-        return in_words(alloc, message);
+        return put_words(alloc, told, message);
     }
     match encode(alloc, side_of(side), message) {
-        Ok(body) => digits_of(alloc, &body),
-        Err(why) => refused(alloc, &why),
+        Ok(body) => put_bytes(alloc, told, &body),
+        Err(why) => put_refused(told, &why),
     }
 }
 
 // The kind of a message, its flags, its challenge and its creation, each 0 where it has none, and its name or its digest.
-fn in_words(alloc: Global, message: &Message) -> Option<String> {
+fn put_words(alloc: Global, told: &mut String, message: &Message) -> Option<()> {
     if let Message::Status(status) = message {
-        return format!(in alloc; "status {status:?}").ok();
+        return write!(told, "status {status:?}").ok();
     }
     let (kind, flags, challenge, creation) = numbers_of(message);
-    let back = back_told(alloc, back_of(message))?;
-    format!(in alloc; "{kind} {flags:x} {challenge} {creation} {back}").ok()
+    write!(told, "{kind} {flags:x} {challenge} {creation} ").ok()?;
+    put_back(alloc, told, back_of(message))
 }
 
 fn numbers_of(message: &Message) -> (&'static str, u64, u32, u32) {
@@ -80,9 +81,9 @@ fn back_of(message: &Message) -> &[u8] {
     }
 }
 
-fn back_told(alloc: Global, bytes: &[u8]) -> Option<String> {
+fn put_back(alloc: Global, told: &mut String, bytes: &[u8]) -> Option<()> {
     if bytes.len() > 100 {
-        return format!(in alloc; "of {} bytes", bytes.len()).ok();
+        return write!(told, "of {} bytes", bytes.len()).ok();
     }
-    digits_of(alloc, bytes)
+    put_bytes(alloc, told, bytes)
 }

@@ -1,6 +1,6 @@
 //! Plays rows of bytes: what comes of names, cookies and their digests, frames, packets and handshake messages, and over
-//! streams in memory what a registry, a client or the codec of the port mapper makes of them. The rows are files in the folder
-//! that the program runs in.
+//! streams in memory what a registry, a client or the codec of the port mapper makes of them, and what a probe makes of the bytes of
+//! a node and says to it. The rows are files in the folder that the program runs in.
 //!
 //! What the rows expect is typed from the ERTS User's Guide (EPMD Protocol, Distribution Protocol), from captured handshakes,
 //! from other programs (digests) and from the rules of `docs/PROTOCOL.md`. Each file is played with its bytes in one piece
@@ -20,13 +20,14 @@ mod refusals;
 mod rows;
 mod served;
 mod streams;
+mod talks;
 
 use rows::Subject;
 use std::process::ExitCode;
 use std::{fs, io};
 
 /// The files of rows, and what they are about.
-const FILES: [(&str, Subject); 14] = [
+const FILES: [(&str, Subject); 16] = [
     ("node_names", Subject::Names),
     ("cookies", Subject::Cookies),
     ("digests", Subject::Cookies),
@@ -41,12 +42,14 @@ const FILES: [(&str, Subject); 14] = [
     ("changed_messages", Subject::PortMapper),
     ("messages", Subject::PortMapper),
     ("full_registry", Subject::PortMapper),
+    ("talks", Subject::Talks),
+    ("other_talks", Subject::Talks),
 ];
 
 /// Prints how many rows each file has, or the first row that goes otherwise.
 fn main(rt: HostRuntime) -> ExitCode {
-    for (name, subject) in FILES {
-        if !matches!(is_file_so(&rt, name, subject), Ok(true)) {
+    for (name, subject) in FILES.iter() {
+        if !matches!(is_file_so(&rt, name, *subject), Ok(true)) {
             return ExitCode::FAILURE;
         }
     }
@@ -55,12 +58,12 @@ fn main(rt: HostRuntime) -> ExitCode {
 
 fn is_file_so(rt: &HostRuntime, name: &str, subject: Subject) -> io::Result<bool> {
     let text = fs::read_to_string(rt, name)?;
-    for pieces in ["whole", "bytes"] {
-        if let Err(row) = rows::play(rt.alloc(), subject, &text, pieces) {
-            println!(rt; "{name}, {pieces}: {row}")?;
-            return Ok(false);
+    match rows::first_wrong(rt.alloc(), subject, &text) {
+        Some((pieces, row)) => println!(rt; "{name}, {pieces}: {row}")?,
+        None => {
+            println!(rt; "{name}: {} rows", rows::count(&text))?;
+            return Ok(true);
         }
     }
-    println!(rt; "{name}: {} rows", rows::count(&text))?;
-    Ok(true)
+    Ok(false)
 }

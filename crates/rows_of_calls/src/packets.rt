@@ -1,54 +1,56 @@
 //! Streams of packets behind a handshake: `MOST STREAM`, the longest packet that is taken and the bytes.
 
-use crate::digits::{bytes_in, digits_of, word};
+use crate::digits::{bytes_in, put_bytes, put_number, put_word, word};
 use dist_packets::{PacketError, Packets};
 use std::alloc::Global;
 
 // More packets than any stream has.
 const MOST_PACKETS: usize = 1000;
 
-/// The packets of a stream, `-` for a tick, and what comes then: `.` for nothing yet, or the length of a packet that is too
+/// Tells the packets of a stream, `-` for a tick, and what comes then: `.` for nothing yet, or the length of a packet that is too
 /// long. In one piece the stream came with the last bytes of the handshake.
-pub fn packets_told(alloc: Global, case: &str, pieces: &str) -> Option<String> {
+pub fn put_packets(alloc: Global, told: &mut String, case: &str, pieces: &str) -> Option<()> {
     let most = word(case, 0).parse::<usize>().ok()?;
     let stream = bytes_in(alloc, word(case, 1))?;
-    let (begun, rest) = if pieces == "whole" {
-        (stream, Vec::new(alloc))
+    if pieces == "whole" {
+        put_behind(alloc, told, Packets::behind_handshake(alloc, most, stream))
     } else {
-        (Vec::new(alloc), stream)
-    };
-    let mut packets = Packets::behind_handshake(alloc, most, begun);
-    let mut told = String::new(alloc);
-    move_out(alloc, &mut packets, &mut told)?;
-    for piece in rest.chunks(1) {
-        packets.feed(piece).ok()?;
-        move_out(alloc, &mut packets, &mut told)?;
+        put_fed(alloc, told, most, &stream)
     }
-    push_end(alloc, &packets, &mut told)?;
-    Some(told)
+}
+
+fn put_behind(alloc: Global, told: &mut String, packets: Packets) -> Option<()> {
+    let mut packets = packets;
+    move_out(alloc, told, &mut packets)?;
+    put_end(told, &packets)
+}
+
+// Feeds a stream byte by byte.
+fn put_fed(alloc: Global, told: &mut String, most: usize, stream: &[u8]) -> Option<()> {
+    let mut packets = Packets::behind_handshake(alloc, most, Vec::new(alloc));
+    for piece in stream.chunks(1) {
+        packets.feed(piece).ok()?;
+        move_out(alloc, told, &mut packets)?;
+    }
+    put_behind(alloc, told, packets)
 }
 
 // Moves out the packets that have come, and tells them.
-fn move_out(alloc: Global, packets: &mut Packets, told: &mut String) -> Option<()> {
+fn move_out(alloc: Global, told: &mut String, packets: &mut Packets) -> Option<()> {
     for _ in 0..MOST_PACKETS {
         let Ok(Some(packet)) = packets.next_packet() else {
             return Some(());
         };
-        let digits = digits_of(alloc, &packet)?;
-        told.push_str(&digits).ok()?;
-        told.push_str(" ").ok()?;
+        put_bytes(alloc, told, &packet)?;
     }
     None
 }
 
 // Tells what comes behind the packets.
-fn push_end(alloc: Global, packets: &Packets, told: &mut String) -> Option<()> {
+fn put_end(told: &mut String, packets: &Packets) -> Option<()> {
     match packets.front() {
-        Ok(_) => told.push_str(".").ok(),
-        Err(PacketError::TooLong(len)) => {
-            let len = format!(in alloc; "{len}").ok()?;
-            told.push_str(&len).ok()
-        }
+        Ok(_) => put_word(told, "."),
+        Err(PacketError::TooLong(len)) => put_number(told, len as u64),
         Err(PacketError::NoMemory) => None,
     }
 }

@@ -1,56 +1,53 @@
 //! Messages that are read and written.
 
-use crate::digits::{bytes_in, node_of, word};
+use crate::digits::{bytes_in, node_of, put_number, put_word, word};
 use dist_epmd::{
     Answer, Asked, EpmdError, NodeInfo, Request, decode_answer, decode_request, encode_answer,
     encode_request,
 };
 use std::alloc::Global;
 
-/// Reads the bytes of a row, `read MESSAGE BYTES`, and writes the message again: whether the bytes are the same, or why they
-/// are refused. The message is a `request`, or the answer to a registration, `alive`, to a lookup, `port`, or to a question
+/// Reads the bytes of a row, `read MESSAGE BYTES`, and writes the message again: tells whether the bytes are the same, or why
+/// they are refused. The message is a `request`, or the answer to a registration, `alive`, to a lookup, `port`, or to a question
 /// for all `names`.
-pub fn read_told(alloc: Global, case: &str) -> Option<String> {
+pub fn put_read(alloc: Global, told: &mut String, case: &str) -> Option<()> {
     let bytes = bytes_in(alloc, word(case, 2))?;
-    let told = match again(alloc, word(case, 1), &bytes) {
-        Ok(written) => {
-            if written.as_slice() == bytes.as_slice() {
-                "same"
-            } else {
-                "other"
-            }
-        }
-        Err(error) => error.name(),
+    let written = match word(case, 1) {
+        "request" => request_again(alloc, &bytes),
+        "alive" => answer_again(alloc, Asked::Alive, &bytes),
+        "port" => answer_again(alloc, Asked::Port, &bytes),
+        _ => answer_again(alloc, Asked::Names, &bytes),
     };
-    String::from_str(alloc, told).ok()
+    put_word(told, comparison(&written, &bytes))
 }
 
-// The bytes that are written of the message that was read.
-fn again(alloc: Global, message: &str, bytes: &[u8]) -> Result<Vec<u8>, EpmdError> {
-    if message == "request" {
-        let request = decode_request(alloc, bytes)?;
-        return encode_request(alloc, &request);
+fn comparison(written: &Result<Vec<u8>, EpmdError>, bytes: &[u8]) -> &'static str {
+    match written {
+        Ok(written) if written.as_slice() == bytes => "same",
+        Ok(_) => "other",
+        Err(error) => error.name(),
     }
-    let answer = decode_answer(alloc, question(message), bytes)?;
+}
+
+// The bytes that are written of the request that was read.
+fn request_again(alloc: Global, bytes: &[u8]) -> Result<Vec<u8>, EpmdError> {
+    let request = decode_request(alloc, bytes)?;
+    encode_request(alloc, &request)
+}
+
+fn answer_again(alloc: Global, asked: Asked, bytes: &[u8]) -> Result<Vec<u8>, EpmdError> {
+    let answer = decode_answer(alloc, asked, bytes)?;
     encode_answer(alloc, &answer)
 }
 
-fn question(message: &str) -> Asked {
-    match message {
-        "alive" => Asked::Alive,
-        "port" => Asked::Port,
-        _ => Asked::Names,
-    }
-}
-
-/// Writes the message of a row, `long MESSAGE NAME EXTRA`: how many bytes it has, or why it is refused. The message is a
+/// Writes the message of a row, `long MESSAGE NAME EXTRA`: tells how many bytes it has, or why it is refused. The message is a
 /// `registration`, a `lookup` of the name alone, the answer to one, `node`, or such an answer with a result of `success` and
 /// no node.
-pub fn length_told(alloc: Global, case: &str) -> Option<String> {
+pub fn put_length(alloc: Global, told: &mut String, case: &str) -> Option<()> {
     let node = node_of(alloc, word(case, 2), word(case, 3))?;
     match written(alloc, word(case, 1), node) {
-        Ok(bytes) => format!(in alloc; "{}", bytes.len()).ok(),
-        Err(error) => String::from_str(alloc, error.name()).ok(),
+        Ok(bytes) => put_number(told, bytes.len() as u64),
+        Err(error) => put_word(told, error.name()),
     }
 }
 

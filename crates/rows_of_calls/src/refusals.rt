@@ -5,36 +5,22 @@ use dist_messages::MessageError;
 use dist_names::NameError;
 use dist_peers::{EndId, Entry, PeersError};
 use dist_secret::{CookieError, CookiesError};
-use std::alloc::Global;
-use std::fmt::{Debug, Display};
+use std::fmt::{Debug, Display, Write};
 
-/// The name of a refusal, and its sentence.
-pub fn refused<E: Debug + Display>(alloc: Global, why: &E) -> Option<String> {
-    format!(in alloc; "{why:?} {why}").ok()
+/// Tells the name of a refusal, and its sentence.
+pub fn put_refused<E: Debug + Display>(told: &mut String, why: &E) -> Option<()> {
+    write!(told, "{why:?} {why} ").ok()
 }
 
-fn put<E: Debug + Display>(alloc: Global, text: &mut String, why: &E) -> Option<()> {
-    let told = refused(alloc, why)?;
-    text.push_str(&told).ok()?;
-    text.push_str("; ").ok()
-}
-
-// Those that no row of bytes can bring about.
-fn put_all(alloc: Global, text: &mut String) -> Option<()> {
-    put(alloc, text, &NameError::NoMemory)?;
-    put(alloc, text, &FrameError::NoMemory)?;
-    put(alloc, text, &MessageError::NoMemory)?;
-    put(alloc, text, &CookieError::NoMemory)?;
-    put(alloc, text, &CookiesError::Full)?;
-    put(alloc, text, &CookiesError::NoMemory)?;
-    put(alloc, text, &PeersError::Busy(Entry::In(EndId(0))))?;
-    put(alloc, text, &PeersError::Full)?;
-    put(alloc, text, &PeersError::NoMemory)
-}
-
-/// The names and the sentences of the refusals that no row brings about.
-pub fn sentences_told(alloc: Global) -> Option<String> {
-    let mut text = String::new(alloc);
-    put_all(alloc, &mut text)?;
-    Some(text)
+/// Tells the names and the sentences of the refusals that no row of bytes can bring about.
+pub fn put_sentences(told: &mut String) -> Option<()> {
+    put_refused(told, &NameError::NoMemory)?;
+    put_refused(told, &FrameError::NoMemory)?;
+    put_refused(told, &MessageError::NoMemory)?;
+    put_refused(told, &CookieError::NoMemory)?;
+    put_refused(told, &CookiesError::Full)?;
+    put_refused(told, &CookiesError::NoMemory)?;
+    put_refused(told, &PeersError::Busy(Entry::In(EndId(0))))?;
+    put_refused(told, &PeersError::Full)?;
+    put_refused(told, &PeersError::NoMemory)
 }

@@ -1,31 +1,25 @@
 //! Requests of clients, served.
 
-use crate::digits::{digits_of, word};
+use crate::digits::{put_bytes, put_number, put_word, word};
 use crate::streams::{limit_of, stream_of};
 use dist_epmd::Registry;
 use dist_mapper::{FaultStream, LookupError, Served, serve_registry};
 use std::alloc::Global;
 
-/// Serves the request of a row on the connection of its number: how, the bytes that were written, the lines of the nodes that
-/// are registered then, and the number of reads and writes.
-pub fn served(alloc: Global, registry: &mut Registry, case: &str, pieces: &str) -> Option<String> {
-    let mut stream = stream_of(alloc, case, pieces)?;
-    let how = served_over(alloc, registry, case, &mut stream)?;
-    let written = digits_of(alloc, stream.written())?;
-    let names = names_of(alloc, registry)?;
-    let calls = stream.calls();
-    format!(in alloc; "{how} {written} names {names} calls {calls}").ok()
-}
-
-fn served_over(
+/// Serves the request of a row on the connection of its number: tells how, the bytes that were written, the lines of the nodes
+/// that are registered then, and the number of reads and writes.
+pub fn put_served(
     alloc: Global,
+    told: &mut String,
     registry: &mut Registry,
     case: &str,
-    stream: &mut FaultStream,
-) -> Option<&'static str> {
+    pieces: &str,
+) -> Option<()> {
     let conn = word(case, 0).parse::<u64>().ok()?;
-    let served = serve_registry(alloc, stream, registry, conn, limit_of(case));
-    Some(how(served))
+    let mut stream = stream_of(alloc, case, pieces)?;
+    let served = serve_registry(alloc, &mut stream, registry, conn, limit_of(case));
+    put_word(told, how(served))?;
+    put_traffic(alloc, told, registry, &stream)
 }
 
 fn how(served: Result<Served, LookupError>) -> &'static str {
@@ -36,7 +30,20 @@ fn how(served: Result<Served, LookupError>) -> &'static str {
     }
 }
 
-fn names_of(alloc: Global, registry: &Registry) -> Option<String> {
+fn put_traffic(
+    alloc: Global,
+    told: &mut String,
+    registry: &Registry,
+    stream: &FaultStream,
+) -> Option<()> {
+    put_bytes(alloc, told, stream.written())?;
+    put_word(told, "names")?;
+    put_names(alloc, told, registry)?;
+    put_word(told, "calls")?;
+    put_number(told, stream.calls())
+}
+
+fn put_names(alloc: Global, told: &mut String, registry: &Registry) -> Option<()> {
     let lines = registry.lines(alloc).ok()?;
-    digits_of(alloc, lines.as_slice())
+    put_bytes(alloc, told, lines.as_slice())
 }

@@ -18,26 +18,32 @@ pub fn stream_of(alloc: Global, case: &str, pieces: &str) -> Option<FaultStream>
     let pieces = if said.is_empty() { pieces } else { said };
     let mut stream = FaultStream::new(alloc, bytes_in(alloc, word(case, 1))?);
     set_pieces(&mut stream, pieces)?;
-    set_fault(&mut stream, case);
+    let number = word(case, 5).parse::<u64>().unwrap_or(0);
+    set_fault(&mut stream, word(case, 4), number);
     Some(stream)
 }
 
-fn set_pieces(stream: &mut FaultStream, pieces: &str) -> Option<()> {
-    let all = usize::MAX;
-    let (heard, taken) = match pieces {
-        "whole" => (all, all),
-        "bytes" => (1, 1),
-        "deaf" => (0, all),
-        "mute" => (all, 0),
-        size => (all, size.parse::<usize>().ok()?),
-    };
+/// Lets the bytes of a stream come in these pieces.
+pub fn set_pieces(stream: &mut FaultStream, pieces: &str) -> Option<()> {
+    let (heard, taken) = sizes_of(pieces);
     stream.read_sizes.push(heard).ok()?;
     stream.write_sizes.push(taken).ok()
 }
 
-fn set_fault(stream: &mut FaultStream, case: &str) {
-    let number = word(case, 5).parse::<u64>().unwrap_or(0);
-    match word(case, 4) {
+// The most bytes of a read and of a write.
+fn sizes_of(pieces: &str) -> (usize, usize) {
+    let all = usize::MAX;
+    match pieces {
+        "whole" => (all, all),
+        "bytes" => (1, 1),
+        "deaf" => (0, all),
+        size => (all, size.parse::<usize>().unwrap_or(0)),
+    }
+}
+
+/// Lets the read or the write of this number fail, or none.
+pub fn set_fault(stream: &mut FaultStream, fault: &str, number: u64) {
+    match fault {
         "read" => stream.fail_read = number,
         "write" => stream.fail_write = number,
         _ => {}
