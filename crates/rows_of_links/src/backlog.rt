@@ -22,31 +22,30 @@ fn first_failure(rt: &HostRuntime, address: &SocketAddr) -> Option<ErrorKind> {
     None
 }
 
+// A listener and its address.
+fn listener(rt: &HostRuntime) -> Option<(TcpListener, SocketAddr)> {
+    let listener = TcpListener::bind(rt, (Ipv4Addr::LOCALHOST, 0)).ok()?;
+    let address = listener.local_addr().ok()?;
+    Some((listener, address))
+}
+
 #[test]
 fn a_full_listener_is_given_up_in_time(rt: HostRuntime) {
-    let Ok(listener) = TcpListener::bind(&rt, (Ipv4Addr::LOCALHOST, 0)) else {
+    let Some((_listener, address)) = listener(&rt) else {
         panic!(rt; "no listener");
-    };
-    let Ok(address) = listener.local_addr() else {
-        panic!(rt; "no address");
     };
     let failure = first_failure(&rt, &address);
     assert!(rt; failure == Some(ErrorKind::TimedOut), "{failure:?}");
 }
 
+// Whether a connection is made to a listener whose stream would have turns of no time.
+fn is_made(rt: &HostRuntime) -> Option<bool> {
+    let (_listener, address) = listener(rt)?;
+    let (limit, turn) = (Duration::from_secs(1), Duration::from_secs(0));
+    Some(connect(rt, &address, limit, turn).is_ok())
+}
+
 #[test]
 fn a_turn_of_no_time_is_refused(rt: HostRuntime) {
-    let Ok(listener) = TcpListener::bind(&rt, (Ipv4Addr::LOCALHOST, 0)) else {
-        panic!(rt; "no listener");
-    };
-    let Ok(address) = listener.local_addr() else {
-        panic!(rt; "no address");
-    };
-    let made = connect(
-        &rt,
-        &address,
-        Duration::from_secs(1),
-        Duration::from_secs(0),
-    );
-    assert!(rt; made.is_err(), "a stream without turns");
+    assert!(rt; is_made(&rt) == Some(false), "a stream without turns");
 }

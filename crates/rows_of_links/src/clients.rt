@@ -22,20 +22,24 @@ fn leaves_alone(clients: &mut Clients<u8>, alloc: Global, question: &[u8]) -> bo
     standing(clients) == before
 }
 
+// Lets a client register `a`. Whether it stays, and is registered, or leaves, and is not. `None`: memory was refused before.
+fn registers_or_leaves(clients: &mut Clients<u8>, alloc: Global) -> Option<bool> {
+    let node = clients.open(alloc, 0, true, 9).ok()?;
+    let is_registered = matches!(clients.hear(alloc, node, REGISTRATION), Ok(Turn::Stay(_)));
+    Some(standing(clients) == (usize::from(is_registered), is_registered))
+}
+
+// The same, and whether each client after it leaves alone.
+fn each_leaves_alone(clients: &mut Clients<u8>, alloc: Global) -> Option<bool> {
+    let mut is_so = registers_or_leaves(clients, alloc)?;
+    for question in [REGISTRATION, LOOKUP, NAMES] {
+        is_so = leaves_alone(clients, alloc, question) && is_so;
+    }
+    Some(is_so)
+}
+
 #[test]
 fn memory_refuses_one_client_alone(rt: HostRuntime) {
-    let alloc = rt.alloc();
-    let mut clients: Clients<u8> = Clients::new(alloc, 4369, 7);
-    let Ok(node) = clients.open(alloc, 0, true, 9) else {
-        return;
-    };
-    let turn = clients.hear(alloc, node, REGISTRATION);
-    let is_registered = matches!(turn, Ok(Turn::Stay(_)));
-    assert_eq!(rt;
-        standing(&clients),
-        (usize::from(is_registered), is_registered)
-    );
-    for question in [REGISTRATION, LOOKUP, NAMES] {
-        assert!(rt; leaves_alone(&mut clients, alloc, question));
-    }
+    let mut clients: Clients<u8> = Clients::new(rt.alloc(), 4369, 7);
+    assert!(rt; each_leaves_alone(&mut clients, rt.alloc()) != Some(false));
 }

@@ -40,11 +40,14 @@ fn hear(packets: &mut Packets, limited: &mut Limited<'_, FaultStream>) -> Option
 fn hour(alloc: Global, said: &[u8], size: usize, pace: u64) -> Option<(usize, usize)> {
     let mut stream = FaultStream::new(alloc, Vec::from_slice(alloc, said).ok()?);
     stream.read_sizes.push(size).ok()?;
-    let mut limited = Limited {
-        stream: &mut stream,
-        left: 2000,
-    };
     let mut packets = Packets::new(alloc, MOST);
+    let came = came(&mut stream, &mut packets, pace)?;
+    Some((stream.written().len() / 4, came))
+}
+
+// How many packets came in the hour.
+fn came(stream: &mut FaultStream, packets: &mut Packets, pace: u64) -> Option<usize> {
+    let mut limited = Limited { stream, left: 2000 };
     let mut ticker = Ticker::new(QUARTER, 0);
     let mut came = 0usize;
     for step in 1..STEPS + 1 {
@@ -52,10 +55,10 @@ fn hour(alloc: Global, said: &[u8], size: usize, pace: u64) -> Option<(usize, us
         say(&mut ticker, &mut limited, now)?;
         if step.checked_rem(pace) == Some(0) {
             ticker.heard(now);
-            came = came.saturating_add(usize::from(hear(&mut packets, &mut limited)?));
+            came = came.saturating_add(usize::from(hear(packets, &mut limited)?));
         }
     }
-    Some((stream.written().len() / 4, came))
+    Some(came)
 }
 
 // A tick every 15 seconds, and nothing else.

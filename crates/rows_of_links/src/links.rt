@@ -9,6 +9,7 @@ use distribution::{
 use std::alloc::Global;
 use std::test::*;
 use std::thread;
+use std::thread::Threads;
 
 /// A challenge that is always the same.
 #[derive(Drop)]
@@ -41,42 +42,66 @@ fn node_of(alloc: Global, name: &str, cookie: &str, creation: u32) -> Option<Nod
     Some(Node::new(alloc, setup))
 }
 
+// The end of each node.
+const END: EndId = EndId(0);
+
+// Node b, to which a connection came.
+fn accepted(alloc: Global, cookie: &str) -> Option<MemoryDesk> {
+    let mut node = node_of(alloc, "b@127.0.0.1", cookie, 7)?;
+    said_at(alloc, &mut node, &Event::Incoming { link: 0 })?;
+    MemoryDesk::new(alloc, node, END).ok()
+}
+
 // Node b takes the connection, and drives it to its end.
 fn take(alloc: Global, stream: SocketStream, cookie: &str) -> Option<Outcome> {
     let mut stream = stream;
-    let mut node = node_of(alloc, "b@127.0.0.1", cookie, 7)?;
-    let end_ = node.step(alloc, &Event::Incoming { link: 0 }, 0).ok()?.end_;
-    let mut desk = MemoryDesk::new(alloc, node, end_).ok()?;
+    let mut desk = accepted(alloc, cookie)?;
     let mut challenge = Challenge { number: 41 };
-    Some(drive(
-        alloc,
-        &mut stream,
-        &mut desk,
-        &mut challenge,
-        end_,
-        b"",
-        TURNS,
-    ))
+    let stream = &mut stream;
+    Some(drive(alloc, stream, &mut desk, &mut challenge, END, b"", TURNS))
+}
+
+// What a node's end is to say where the node is told this.
+fn said_at(alloc: Global, node: &mut Node, event: &Event) -> Option<ByteString> {
+    match node.step(alloc, event, 0) {
+        Ok(reply) => Some(reply.say),
+        Err(_) => None,
+    }
+}
+
+fn dial(alloc: Global) -> Option<Event> {
+    let peer = NodeName::new(alloc, b"b@127.0.0.1").ok()?;
+    let opening = Opening::New;
+    Some(Event::Dial { peer, opening })
+}
+
+// Lets a node dial node b. What its end says first.
+fn first_said(alloc: Global, node: &mut Node) -> Option<ByteString> {
+    said_at(alloc, node, &dial(alloc)?)?;
+    let opened = Event::Opened { end_: END, link: 0 };
+    said_at(alloc, node, &opened)
 }
 
 // Node a that dials node b: a desk with its end, and what the end says first.
-fn dialled(alloc: Global, cookie: &str) -> Option<(MemoryDesk, EndId, ByteString)> {
+fn dialled(alloc: Global, cookie: &str) -> Option<(MemoryDesk, ByteString)> {
     let mut node = node_of(alloc, "a@127.0.0.1", cookie, 6)?;
-    let dial = Event::Dial {
-        peer: NodeName::new(alloc, b"b@127.0.0.1").ok()?,
-        opening: Opening::New,
-    };
-    let end_ = node.step(alloc, &dial, 0).ok()?.end_;
-    let opened = node.step(alloc, &Event::Opened { end_, link: 0 }, 0).ok()?;
-    Some((MemoryDesk::new(alloc, node, end_).ok()?, end_, opened.say))
+    let first = first_said(alloc, &mut node)?;
+    match MemoryDesk::new(alloc, node, END) {
+        Ok(desk) => Some((desk, first)),
+        Err(_) => None,
+    }
 }
 
 // Node a joins node b over the connection. The creation that it was told.
 fn join(alloc: Global, stream: &mut SocketStream, cookie: &str) -> Option<Creation> {
-    let (mut desk, end_, first) = dialled(alloc, cookie)?;
+    let (mut desk, first) = dialled(alloc, cookie)?;
     let mut challenge = Challenge { number: 42 };
     let first = first.as_slice();
-    match handshake(alloc, stream, &mut desk, &mut challenge, end_, first, TURNS) {
+    creation_in(handshake(alloc, stream, &mut desk, &mut challenge, END, first, TURNS))
+}
+
+fn creation_in(reached: Reached) -> Option<Creation> {
+    match reached {
         Reached::Up { record, rest: _ } => record.creation,
         Reached::Ended(_) => None,
     }
@@ -86,13 +111,14 @@ fn join(alloc: Global, stream: &mut SocketStream, cookie: &str) -> Option<Creati
 fn join_and_leave(alloc: Global, stream: SocketStream, cookie: &str) -> Option<Creation> {
     let mut stream = stream;
     let creation = join(alloc, &mut stream, cookie)?;
-    let mut limited = Limited {
-        stream: &mut stream,
-        left: 1,
-    };
-    limited.write_all(&tick()).ok()?;
-    stream.shut().ok()?;
+    leave(&mut stream)?;
     Some(creation)
+}
+
+fn leave(stream: &mut SocketStream) -> Option<()> {
+    let mut limited = Limited { stream, left: 1 };
+    limited.write_all(&tick()).ok()?;
+    stream.shut().ok()
 }
 
 // The cookies of the two nodes, the creation of b where a came up with it, and how b's end was closed.
@@ -101,21 +127,29 @@ const CASES: [(&str, &str, Option<Creation>, Why); 2] = [
     ("secret", "other", None, Why::WrongDigest),
 ];
 
+// How the end of node b ended, and the creation that node a was told, which have these cookies and this connection.
+fn joined<R: Threads>(
+    rt: &R,
+    alloc: Global,
+    ends: (SocketStream, SocketStream),
+    ours: &str,
+    theirs: &str,
+) -> (Option<Outcome>, Option<Creation>) {
+    let (dialled, accepted) = ends;
+    thread::join(
+        rt,
+        move || take(alloc, accepted, theirs),
+        move || join_and_leave(alloc, dialled, ours),
+    )
+}
+
 #[test]
 fn a_node_is_joined_and_left(rt: HostRuntime) {
     for (ours, theirs, creation, why) in CASES {
-        let Some((dialled, accepted)) = both_ends(&rt) else {
+        let Some(ends) = both_ends(&rt) else {
             panic!(rt; "no connection");
         };
-        let alloc = rt.alloc();
-        let (taken, joined) = thread::join(
-            &rt,
-            move || take(alloc, accepted, theirs),
-            move || join_and_leave(alloc, dialled, ours),
-        );
-        assert!(rt;
-            taken == Some(Outcome::Closed(why)) && joined == creation,
-            "{taken:?}"
-        );
+        let told = joined(&rt, rt.alloc(), ends, ours, theirs);
+        assert!(rt; told == (Some(Outcome::Closed(why)), creation), "{told:?}");
     }
 }

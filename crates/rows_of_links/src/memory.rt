@@ -38,14 +38,19 @@ fn is_served(
     let was_kept = registry.port_please(b"a").is_some();
     let served = serve_registry(alloc, &mut stream, registry, conn, 100);
     let is_kept = registry.port_please(b"a").is_some();
-    Some(match served {
-        Ok(Served::Registered) => wanted == Served::Registered && is_kept && !was_kept,
-        Ok(Served::Answered) => wanted == Served::Answered && is_kept == was_kept,
-        Err(LookupError::NoMemory | LookupError::WriteFailed) => {
-            stream.written().is_empty() && is_kept == was_kept
-        }
-        Err(_) => false,
+    let is_so = match served {
+        Ok(how) => how == wanted,
+        Err(error) => is_want_of_memory(error) && stream.written().is_empty(),
+    };
+    Some(if served == Ok(Served::Registered) {
+        is_so && is_kept && !was_kept
+    } else {
+        is_so && is_kept == was_kept
     })
+}
+
+fn is_want_of_memory(error: LookupError) -> bool {
+    matches!(error, LookupError::NoMemory | LookupError::WriteFailed)
 }
 
 // A registration of `a`, a lookup of it, and the question for all names: the connection, its frame, what becomes of it.
@@ -80,15 +85,23 @@ fn node_a(alloc: Global) -> Option<NodeInfo> {
 fn is_had(alloc: Global, answer: &[u8]) -> Option<bool> {
     let node = node_a(alloc)?;
     let mut stream = over(alloc, answer)?;
-    let fault = match answer.first() {
-        Some(0x77) => lookup(alloc, &mut stream, b"a", 100).err(),
-        Some(0x76) => register(alloc, &mut stream, &node, 100).err(),
-        _ => ask_names(alloc, &mut stream, 100).err(),
-    };
-    Some(matches!(
-        fault,
-        None | Some(LookupError::NoMemory | LookupError::WriteFailed)
-    ))
+    Some(match fault(alloc, &mut stream, answer, &node) {
+        Some(error) => is_want_of_memory(error),
+        None => true,
+    })
+}
+
+fn fault(
+    alloc: Global,
+    stream: &mut FaultStream,
+    answer: &[u8],
+    node: &NodeInfo,
+) -> Option<LookupError> {
+    match answer.first() {
+        Some(0x77) => lookup(alloc, stream, b"a", 100).err(),
+        Some(0x76) => register(alloc, stream, node, 100).err(),
+        _ => ask_names(alloc, stream, 100).err(),
+    }
 }
 
 // Whether each call, of the server's side and of a client's, succeeded or lacked memory.

@@ -16,10 +16,16 @@ const CUT: &[u8] = b"\x00\x0e\x78\x23\x29";
 // A client that has said this, and the server's end of the connection.
 fn connection(rt: &HostRuntime, said: &[u8]) -> Option<(SocketStream, SocketStream)> {
     let listener = TcpListener::bind(rt, "127.0.0.1:0").ok()?;
-    let mut client = TcpStream::connect(rt, listener.local_addr().ok()?).ok()?;
-    client.write_all(said).ok()?;
+    let client = client_of(rt, &listener, said)?;
     let (server, _) = listener.accept().ok()?;
     Some((SocketStream::new(client), SocketStream::new(server)))
+}
+
+fn client_of(rt: &HostRuntime, listener: &TcpListener, said: &[u8]) -> Option<TcpStream> {
+    let address = listener.local_addr().ok()?;
+    let mut client = TcpStream::connect(rt, address).ok()?;
+    client.write_all(said).ok()?;
+    Some(client)
 }
 
 // What comes after quiet turns.
