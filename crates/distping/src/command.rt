@@ -266,21 +266,15 @@ fn read_in<'a>(
     })
 }
 
-// What does not go together, of a listener.
-fn listener_fault(nodes: usize, is_named: bool) -> Option<Fault> {
-    if nodes == 0 && is_named {
-        None
-    } else {
-        Some(Fault::ListenAlone)
-    }
-}
-
 // What does not go together.
 fn fault_in(choices: Choices<'_>, nodes: usize, is_named: bool) -> Option<Fault> {
     if choices.listen.is_some() {
-        return listener_fault(nodes, is_named);
-    }
-    if nodes == 0 {
+        if nodes == 0 && is_named {
+            None
+        } else {
+            Some(Fault::ListenAlone)
+        }
+    } else if nodes == 0 {
         Some(Fault::BadCommandLine)
     } else if nodes > 1 && (choices.port.is_some() || choices.address.is_some()) {
         Some(Fault::OneNodeAlone)

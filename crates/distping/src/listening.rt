@@ -201,7 +201,18 @@ fn talk(
     peer: &NodeName,
 ) -> Taken {
     let heard = challenged(alloc, limited, listen.setup, listen.fresh);
-    match &heard {
+    upon_challenge(alloc, limited, listen, peer, &heard)
+}
+
+// What comes of what is heard upon the challenge.
+fn upon_challenge(
+    alloc: Global,
+    limited: &mut Limited<'_, SocketStream>,
+    listen: &Listen<'_>,
+    peer: &NodeName,
+    heard: &Heard,
+) -> Taken {
+    match heard {
         Heard::Said(Message::Reply { challenge, digest }) => {
             replied(alloc, limited, listen, peer, *challenge, *digest)
         }
