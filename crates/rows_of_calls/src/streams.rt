@@ -25,20 +25,16 @@ pub fn stream_of(alloc: Global, case: &str, pieces: &str) -> Option<FaultStream>
 
 /// Lets the bytes of a stream come in these pieces.
 pub fn set_pieces(stream: &mut FaultStream, pieces: &str) -> Option<()> {
-    let (heard, taken) = sizes_of(pieces);
-    stream.read_sizes.push(heard).ok()?;
-    stream.write_sizes.push(taken).ok()
-}
-
-// The most bytes of a read and of a write.
-fn sizes_of(pieces: &str) -> (usize, usize) {
     let all = usize::MAX;
-    match pieces {
+    let (heard, taken) = match pieces {
         "whole" => (all, all),
         "bytes" => (1, 1),
         "deaf" => (0, all),
-        size => (all, size.parse::<usize>().unwrap_or(0)),
-    }
+        "mute" => (all, 0),
+        size => (all, size.parse::<usize>().ok()?),
+    };
+    stream.read_sizes.push(heard).ok()?;
+    stream.write_sizes.push(taken).ok()
 }
 
 /// Lets the read or the write of this number fail, or none.
