@@ -36,12 +36,21 @@ fn side_of(alloc: Global, tickets: Arc<Tickets, Global>, is_a: bool) -> Option<S
     Some(Side { node, seats })
 }
 
+fn put_side(
+    alloc: Global,
+    sides: &mut Vec<Side>,
+    tickets: &Arc<Tickets, Global>,
+    is_a: bool,
+) -> Option<()> {
+    let tickets = Arc::try_clone(tickets).ok()?;
+    sides.push(side_of(alloc, tickets, is_a)?).ok()
+}
+
 // Nodes a and b, which draw their tickets from one counter.
-fn opening(alloc: Global) -> Option<(Side, Side)> {
+fn put_both(alloc: Global, sides: &mut Vec<Side>) -> Option<()> {
     let tickets = Arc::new(alloc, Tickets::new()).ok()?;
-    let shared = Arc::try_clone(&tickets).ok()?;
-    let a = side_of(alloc, tickets, true)?;
-    Some((a, side_of(alloc, shared, false)?))
+    put_side(alloc, sides, &tickets, true)?;
+    put_side(alloc, sides, &tickets, false)
 }
 
 // What a node is told: a word, or a frame.
@@ -60,14 +69,10 @@ fn step(rt: &impl Wait, alloc: Global, side: &mut Side, told: &str) -> Option<()
     Some(())
 }
 
-fn play(rt: &impl Wait, alloc: Global, sides: &mut (Side, Side), text: &str) -> Option<()> {
+fn play(rt: &impl Wait, alloc: Global, sides: &mut [Side], text: &str) -> Option<()> {
     for line in text.lines() {
-        let side = if line.starts_with('a') {
-            &mut sides.0
-        } else {
-            &mut sides.1
-        };
-        step(rt, alloc, side, word(line, 1))?;
+        let place = usize::from(line.starts_with('b'));
+        step(rt, alloc, sides.get_mut(place)?, word(line, 1))?;
     }
     Some(())
 }
@@ -77,13 +82,25 @@ fn put_closed(all: &mut Vec<Closed>, side: Side) -> Option<()> {
     all.push(closed).ok()
 }
 
+fn put_all_closed(all: &mut Vec<Closed>, sides: Vec<Side>) -> Option<()> {
+    for side in sides {
+        put_closed(all, side)?;
+    }
+    Some(())
+}
+
+// Adds the closed nodes a and b, after the steps of this text.
+fn put_played(rt: &impl Wait, alloc: Global, all: &mut Vec<Closed>, text: &str) -> Option<()> {
+    let mut sides = Vec::new(alloc);
+    put_both(alloc, &mut sides)?;
+    play(rt, alloc, &mut sides, text)?;
+    put_all_closed(all, sides)
+}
+
 // The closed nodes a and b, after the steps of this text. `None`: memory was refused, or the text is wrong.
 fn played(rt: &impl Wait, alloc: Global, text: &str) -> Option<Vec<Closed>> {
-    let mut sides = opening(alloc)?;
-    play(rt, alloc, &mut sides, text)?;
     let mut all = Vec::new(alloc);
-    put_closed(&mut all, sides.0)?;
-    put_closed(&mut all, sides.1)?;
+    put_played(rt, alloc, &mut all, text)?;
     Some(all)
 }
 

@@ -1,5 +1,6 @@
-//! Tests, from outside, of driven ends, of the queue of dial orders, and of nodes and registries under locks,
-//! and of what the audit answers to histories.
+//! Tests, from outside, of driven ends, of the queue of dial orders, and of nodes and registries under locks, of what the audit
+//! answers to histories, and of several nodes where memory is refused. What a script can say of a node or of several stands in
+//! the rows of `rows_of_scripts`; bytes and names, and what is read and written of them, in those of `rows_of_calls`.
 //!
 //! They stand in a crate of their own, so that no crate is proved a second time for its tests.
 #![tactic(auto)]
@@ -18,3 +19,5 @@ mod seats;
 mod setting;
 #[cfg(test)]
 mod threads;
+#[cfg(test)]
+mod world_memory;

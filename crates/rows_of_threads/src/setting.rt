@@ -66,28 +66,36 @@ pub fn frame(alloc: Global, text: &str) -> Option<Event> {
 /// `name` of node a and its `reply`, that the end has `ended` or is `replaced`, and else that a tick is due on end 0, or on
 /// `another`.
 pub fn event(alloc: Global, word: &str) -> Option<Event> {
-    let end_ = EndId(0);
+    match word {
+        "dial" => dial(alloc),
+        "name" => frame(alloc, NAME_OF_A),
+        "reply" => frame(alloc, REPLY),
+        _ => Some(short_event(word)),
+    }
+}
+
+fn dial(alloc: Global) -> Option<Event> {
+    let peer = name_of(alloc, "b@127.0.0.1")?;
     let opening = Opening::New;
-    Some(match word {
-        "dial" => Event::Dial {
-            peer: name_of(alloc, "b@127.0.0.1")?,
-            opening,
-        },
+    Some(Event::Dial { peer, opening })
+}
+
+// An event that takes no memory.
+fn short_event(word: &str) -> Event {
+    let end_ = EndId(0);
+    match word {
         "opened" => Event::Opened { end_, link: 1 },
         "incoming" => Event::Incoming { link: 1 },
-        "name" => frame(alloc, NAME_OF_A)?,
-        "reply" => frame(alloc, REPLY)?,
-        "ended" => Event::Lost {
-            end_,
-            why: Why::Ended,
-        },
-        "replaced" => Event::Lost {
-            end_,
-            why: Why::Replaced,
-        },
+        "ended" => lost(Why::Ended),
+        "replaced" => lost(Why::Replaced),
         "another" => Event::Tick { end_: EndId(1) },
         _ => Event::Tick { end_ },
-    })
+    }
+}
+
+fn lost(why: Why) -> Event {
+    let end_ = EndId(0);
+    Event::Lost { end_, why }
 }
 
 /// How an end stands, or why it is closed.

@@ -3,7 +3,7 @@
 //! A silent peer holds nobody up: no lock is held while a stream is read.
 
 use crate::drives::NAME_AND_REPLY;
-use crate::seats::{Closing, closing_with, seated};
+use crate::seats::{Closing, closing, seated};
 use crate::setting::{CHALLENGE, Same};
 use dist_core::{Event, Still};
 use dist_drive::{FaultStream, Heard, Stream, Took};
@@ -126,15 +126,32 @@ fn by_two<R: Threads + Wait + Clock + Sync>(
     let (node, mut seats) = seated(alloc)?;
     let (first, _) = come(rt, &node, seats.pop()?, links);
     let second = seats.pop()?;
-    let shared = &node;
+    let (ones, twos) = work_at_once(rt, alloc, &node, (first, second), works, &mut seats)?;
+    Some((ones, twos, closing(node, seats)))
+}
+
+// Two threads work, each with a seat, which they put back: what each counted.
+fn work_at_once<R: Threads + Wait + Clock + Sync>(
+    rt: &R,
+    alloc: Global,
+    node: &LockedNode,
+    free: (Seat, Seat),
+    works: (Work, Work),
+    seats: &mut Vec<Seat>,
+) -> Option<(u64, u64)> {
+    let (first, second) = free;
     let (one, two) = thread::join(
         rt,
-        move || worked(rt, alloc, shared, first, works.0),
-        move || worked(rt, alloc, shared, second, works.1),
+        move || worked(rt, alloc, node, first, works.0),
+        move || worked(rt, alloc, node, second, works.1),
     );
-    let ((first, ones), (second, twos)) = one.zip(two)?;
-    seats.push(first).ok()?;
-    Some((ones, twos, closing_with(node, seats, second)?))
+    Some((put_back(seats, one?)?, put_back(seats, two?)?))
+}
+
+fn put_back(seats: &mut Vec<Seat>, worked: (Seat, u64)) -> Option<u64> {
+    let (seat, count) = worked;
+    seats.push(seat).ok()?;
+    Some(count)
 }
 
 // Each line of the history has its receipt, and right after each step its end was pending.
