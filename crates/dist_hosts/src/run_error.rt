@@ -25,7 +25,7 @@ pub enum RunError {
     ThreadFailed,
     /// The receipts of a node's steps are not those of its history. It never comes where the threads kept to their seats.
     NotClosed(CloseError),
-    /// A node that was closed is not set up as its plan says. It never comes: what a lock keeps is what it was given.
+    /// A node that was closed is not set up as its plan says: a fault of this library, which no run that was seen has had.
     OtherSetup,
     /// No memory was left.
     NoMemory,

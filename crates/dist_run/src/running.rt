@@ -263,7 +263,7 @@ where
 /// Runs a plan to its end: until each node's accepting thread was quiet for as many turns as the plan says, and all
 /// connections have ended or made as many. Faults of the start, in order: NoRandomBytes, ListenFailed of the port mapper,
 /// ThreadFailed, then of each node in the order of the plan those of its start, then ThreadFailed. NoMemory may come
-/// anywhere. What is closed is compared with the plan: OtherSetup never comes where the locks keep what they were given.
+/// anywhere. What is closed is compared with the plan, and OtherSetup tells of a node that differs: no run that was seen has had it.
 pub fn run_plan<R, G>(rt: &R, alloc: Global, plan: &Plan, gate: &G) -> Result<Ran, RunError>
 where
     R: Net<Listener = TcpListener, Stream = TcpStream>
