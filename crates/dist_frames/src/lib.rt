@@ -21,4 +21,4 @@ pub use laws::{
     any_pieces, bodies_of_stream, fed_and_moved, frame_in_front, one_frame, packets_of_stream,
 };
 pub use partial::tick;
-pub use short::write_short;
+pub use short::{into_short, write_short};

@@ -1,3 +1,4 @@
 pub mod Places
 pub mod Orders
 pub mod Bytes
+pub mod Texts

@@ -1,4 +1,4 @@
-ghost use Rattle.std.specs.Prelude.{◌≡◌, ◌↔◌, IsTrue, IfOk, OnOk};
+ghost use Rattle.std.specs.Prelude.{◌≡◌, ◌↔◌, Some, None, IsTrue, IfOk, OnOk, option_copied, if◌then◌else◌};
 ghost use Rattle.std.specs.List.{list_all, position, position_or_len};
 ghost use Rattle.dist_names.specs.NodeName.{short_of, host_of, is_name_byte, is_separator, has_two_parts, named, IsNodeName};
 ghost use Rattle.dist_names.specs.Order.{same_name};
@@ -7,23 +7,24 @@ ghost use Rattle.dist_names.specs.Answer.{Answers};
 use crate::name_error::NameError;
 use std::alloc::{AllocError, Global};
 use std::marker::Model;
+use std::str;
 
 /// The name of a node, as `a@127.0.0.1`: 3 to 255 bytes, each from 0x21 to 0x7E, one `@` among them, and neither part
 /// empty. Contracts see it as its bytes, and whoever holds one need not test it again.
 #[derive(Debug, Drop)]
 pub struct NodeName {
-    text: Vec<u8>,
+    text: String,
 }
 
 impl Model for NodeName {
-    ghost use Rattle.std.specs.Prelude.{ℕ, List};
+    ghost use Rattle.std.specs.Prelude.{ℕ, List, string_bytes};
     ghost use Rattle.dist_names.specs.NodeName.{IsNodeName};
 
     ghost Value = { List ℕ };
 
-    ghost view = { λ n. n.text.items };
+    ghost view = { λ n. string_bytes n.text };
 
-    ghost invariant = { λ n. IsNodeName n.text.items };
+    ghost invariant = { λ n. IsNodeName (string_bytes n.text) };
 }
 
 const LEAST: usize = 3;
@@ -34,6 +35,20 @@ fn are_name_bytes(bytes: &[u8]) -> bool
     ensures { result ≡ list_all is_name_byte bytes.now }
 {
     bytes.iter().all(|byte| 0x21 <= *byte && *byte <= 0x7E)
+}
+
+// The bytes as text, where each may stand in a name.
+#[tactic(auto, using(crate::proofs::Texts::name_bytes_are_text))]
+fn name_text(bytes: &[u8]) -> Option<&str>
+    ensures { option_copied result ≡ (if list_all is_name_byte bytes.now then Some bytes.now else None) }
+{
+    if !are_name_bytes(bytes) {
+        return None;
+    }
+    match str::from_utf8(bytes) {
+        Ok(text) => Some(text),
+        Err(_) => unreachable!(),
+    }
 }
 
 fn separator(bytes: &[u8]) -> Option<usize>
@@ -90,14 +105,14 @@ impl NodeName {
         if bytes.len() > MOST {
             return Err(NameError::TooLong);
         }
-        if !are_name_bytes(bytes) {
+        let Some(text) = name_text(bytes) else {
             return Err(NameError::BadByte);
-        }
+        };
         if !is_two_parts(bytes) {
             return Err(NameError::BadAt);
         }
         Ok(NodeName {
-            text: Vec::from_slice(alloc, bytes)?,
+            text: String::from_str(alloc, text)?,
         })
     }
 
@@ -106,21 +121,27 @@ impl NodeName {
         ensures same { result.now ≡ self.now }
         ensures good { IsNodeName self.now }
     {
-        &self.text
+        self.text.as_bytes()
+    }
+
+    pub(crate) fn text(&self) -> &str
+        ensures { result.now ≡ self.now }
+    {
+        self.text.as_str()
     }
 
     /// The part before the `@`, by which the port mapper knows the node.
     pub fn short(&self) -> &[u8]
         ensures { result.now ≡ short_of self.now }
     {
-        short_part(&self.text)
+        short_part(self.bytes())
     }
 
     /// The part after the `@`, where the node runs.
     pub fn host(&self) -> &[u8]
         ensures { result.now ≡ host_of self.now }
     {
-        host_part(&self.text)
+        host_part(self.bytes())
     }
 
     /// An equal name.
@@ -128,7 +149,7 @@ impl NodeName {
         ensures { IfOk result (λ copy. copy ≡ self.now) }
     {
         Ok(NodeName {
-            text: Vec::from_slice(alloc, &self.text)?,
+            text: String::from_str(alloc, self.text.as_str())?,
         })
     }
 
@@ -137,7 +158,7 @@ impl NodeName {
         ensures computed { result ≡ same_name self.now bytes.now }
         ensures each { IsTrue result ↔ (self.now ≡ bytes.now) }
     {
-        self.text.as_slice().cmp(bytes).is_eq()
+        self.bytes().cmp(bytes).is_eq()
     }
 
     /// Whether the two names are one.
@@ -145,6 +166,6 @@ impl NodeName {
         ensures computed { result ≡ same_name self.now other.now }
         ensures each { IsTrue result ↔ (self.now ≡ other.now) }
     {
-        self.has_bytes(other.bytes())
+        self.text().cmp(other.text()).is_eq()
     }
 }

@@ -16,7 +16,7 @@ impl PartialEq for NodeName {
     ghost laws = { Prim.search (comparing, rules) };
 
     fn eq(&self, other: &NodeName) -> bool {
-        self.bytes() == other.bytes()
+        self.text() == other.text()
     }
 }
 
@@ -34,7 +34,7 @@ impl Ord for NodeName {
     ghost matches_eq = { Prim.search (comparing, rules) };
 
     fn cmp(&self, other: &NodeName) -> Ordering {
-        self.bytes().cmp(&other.bytes())
+        self.text().cmp(other.text())
     }
 }
 

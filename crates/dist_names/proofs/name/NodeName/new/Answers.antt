@@ -1,14 +1,14 @@
 use Rattle.std.proofs.Common.{rules}
 use Rattle.dist_names.proofs.name.NodeName.new.Goals as goal
 
-pub returns-then-not-are_name_bytes-clause-exact : goal.returns-then-not-are_name_bytes-clause-exact
-returns-then-not-are_name_bytes-clause-exact c = search rules
+pub returns-in_default-clause-exact : goal.returns-in_default-clause-exact
+returns-in_default-clause-exact c = search rules
 
 pub returns-then-not-is_two_parts-clause-exact : goal.returns-then-not-is_two_parts-clause-exact
 returns-then-not-is_two_parts-clause-exact c = search rules
 
-pub returns-in_err-from_slice-clause-exact : goal.returns-in_err-from_slice-clause-exact
-returns-in_err-from_slice-clause-exact c = search rules
+pub returns-in_err-from_str-clause-exact : goal.returns-in_err-from_str-clause-exact
+returns-in_err-from_str-clause-exact c = search rules
 
 pub invariant_of-result : goal.invariant_of-result
 invariant_of-result c = search rules
