@@ -1,9 +1,10 @@
 -- The lines of a script that say what happens in a world.
-use Rattle.std.specs.Prelude.{ℕ, List, [], ◌∷◌, drop, codes, Option, Some}
+use Rattle.std.specs.Prelude.{ℕ, List, [], ◌∷◌, drop, codes, Option, Some, None}
 use Rattle.dist_agreement.specs.declared.happening.Happening.{Happening}
 use Rattle.dist_agreement.specs.declared.happening.Happening.TheVariants as happening
 use Rattle.dist_script.specs.declared.happenings.Kind.{Kind}
 use Rattle.dist_script.specs.declared.happenings.Kind.TheVariants as kind
+use Rattle.dist_peers.specs.declared.entry.EndId.{EndId}
 use Rattle.dist_script.specs.Fields.{◌>>=◌, behind, first_in, count_in, creation_in, if_done, meaning_in, end_in, name_in, opening_in, why_in}
 
 -- the first word of each kind of line
@@ -30,6 +31,34 @@ dial_in words =
     first_in opening_in (drop 1 (drop 1 words)) >>= (λ opening.
     first_in name_in (drop 1 words) >>= (λ peer.
     Some (happening.Dial node peer opening))))
+
+-- the creation of this node
+abbrev pub begin_behind : ℕ → List (List ℕ) → Option Happening
+begin_behind node words = first_in creation_in words >>= (λ creation. Some (happening.Begin node creation))
+
+-- the peer of this node, and the form in which that is spoken to
+abbrev pub dial_behind : ℕ → List (List ℕ) → Option Happening
+dial_behind node words =
+    first_in opening_in (drop 1 words) >>= (λ opening.
+    first_in name_in words >>= (λ peer.
+    Some (happening.Dial node peer opening)))
+
+-- what happens at this end of this node, by the words behind them; nothing for the kinds that happen at no end
+abbrev pub behind_end : Kind → ℕ → EndId → List (List ℕ) → Option Happening
+behind_end kind.Begin node end_ words = None
+behind_end kind.Halt node end_ words = None
+behind_end kind.Dial node end_ words = None
+behind_end kind.Reach node end_ words = first_in count_in words >>= (λ target. Some (happening.Reach node end_ target))
+behind_end kind.Opened node end_ words = Some (happening.Opened node end_)
+behind_end kind.Accept node end_ words = None
+behind_end kind.Deliver node end_ words = first_in count_in words >>= (λ bytes. Some (happening.Deliver node end_ bytes))
+behind_end kind.Take node end_ words = first_in count_in words >>= (λ fresh. Some (happening.Take node end_ fresh))
+behind_end kind.Lose node end_ words = first_in why_in words >>= (λ why. Some (happening.Lose node end_ why))
+behind_end kind.Tick node end_ words = Some (happening.Tick node end_)
+
+-- what happens at an end of this node
+abbrev pub at_end_behind : Kind → ℕ → List (List ℕ) → Option Happening
+at_end_behind kind node words = first_in end_in words >>= (λ end_. behind_end kind node end_ (drop 1 words))
 
 -- what the words behind the first say
 abbrev pub told_in : Kind → List (List ℕ) → Option Happening

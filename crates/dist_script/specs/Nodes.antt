@@ -107,6 +107,13 @@ terms_in words =
 abbrev pub behind_terms : List (List ℕ) → List (List ℕ)
 behind_terms words = behind_required (behind_version (behind 2 words))
 
+-- what the words behind the cookies say, and the name, with what stands before them
+abbrev pub behind_cookies : List ℕ → Terms → CookieTable → List (List ℕ) → Option Setup
+behind_cookies name terms cookies words =
+    allowed_in words >>= (λ allow.
+    name_in name >>= (λ named.
+    Some (record { name = named; cookies = cookies; version = terms.version; flags = terms.flags; required = terms.required; creation = terms.creation; allow = allow })))
+
 -- THE LINE OF A NODE, behind its first word: a name, the usual cookie, how the node is met, the cookies of peers, the names that are allowed
 abbrev pub node_in : List (List ℕ) → Option Setup
 node_in words =
@@ -115,6 +122,4 @@ node_in words =
     terms_in (behind 2 words) >>= (λ terms.
     cookie_in cookie >>= (λ usual.
     cookies_in (usual_alone usual) (behind_terms (behind 2 words)) >>= (λ cookies.
-    allowed_in cookies.rest >>= (λ allow.
-    name_in name >>= (λ named.
-    Some (record { name = named; cookies = cookies.table; version = terms.version; flags = terms.flags; required = terms.required; creation = terms.creation; allow = allow }))))))))
+    behind_cookies name terms cookies.table cookies.rest)))))

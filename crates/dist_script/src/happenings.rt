@@ -1,8 +1,8 @@
 //! The lines of a script that say what happens in a world.
 
-ghost use Rattle.std.specs.Prelude.{◌≡◌, OnOk};
-ghost use Rattle.dist_script.specs.Fields.{Reads, behind};
-ghost use Rattle.dist_script.specs.Happenings.{words_behind, dial_in, told_in, line_in};
+ghost use Rattle.std.specs.Prelude.{◌≡◌, drop, pred, OnOk};
+ghost use Rattle.dist_script.specs.Fields.{Reads, ReadsPlainly, behind, first_in, meaning_in};
+ghost use Rattle.dist_script.specs.Happenings.{happening_kinds, words_behind, begin_behind, dial_behind, at_end_behind, told_in, line_in};
 
 use crate::fields::{
     count_word, end_word, line_end, meaning_of, name_of, number_word, opening_word, why_word,
@@ -41,12 +41,20 @@ const KINDS: [(&str, Kind); 10] = [
     ("tick", Kind::Tick),
 ];
 
-// A node, its peer, and the form in which that is spoken to.
-fn dial(alloc: Global, words: &mut Words<'_>) -> Result<Happening, LineFault>
-    ensures reads { Reads result (dial_in words.old) }
-    ensures rest { OnOk result (words.new ≡ behind 3 words.old) }
+// The creation with which a node begins.
+fn begin(node: usize, words: &mut Words<'_>) -> Result<Happening, LineFault>
+    ensures reads { Reads result (begin_behind node words.old) }
+    ensures rest { OnOk result (words.new ≡ behind 1 words.old) }
 {
-    let node = count_word(words)?;
+    let creation = Creation(number_word(words)?);
+    Ok(Happening::Begin { node, creation })
+}
+
+// The peer of a node, and the form in which that is spoken to.
+fn dial(alloc: Global, node: usize, words: &mut Words<'_>) -> Result<Happening, LineFault>
+    ensures reads { Reads result (dial_behind node words.old) }
+    ensures rest { OnOk result (words.new ≡ behind 2 words.old) }
+{
     let peer = words.word()?;
     let opening = opening_word(words)?;
     let peer = name_of(alloc, peer)?;
@@ -57,52 +65,60 @@ fn dial(alloc: Global, words: &mut Words<'_>) -> Result<Happening, LineFault>
     })
 }
 
-// What happens, in the words behind the first.
+// What happens at an end of a node, in the words behind the node. The other kinds happen at no end.
+fn at_end(kind: Kind, node: usize, words: &mut Words<'_>) -> Result<Happening, LineFault>
+    ensures reads { Reads result (at_end_behind kind node words.old) }
+    ensures rest { OnOk result (words.new ≡ behind (pred (words_behind kind)) words.old) }
+{
+    let end_ = end_word(words)?;
+    Ok(match kind {
+        Kind::Opened => Happening::Opened { node, end_ },
+        Kind::Tick => Happening::Tick { node, end_ },
+        Kind::Reach => Happening::Reach {
+            node,
+            end_,
+            target: count_word(words)?,
+        },
+        Kind::Deliver => Happening::Deliver {
+            node,
+            end_,
+            bytes: count_word(words)?,
+        },
+        Kind::Take => Happening::Take {
+            node,
+            end_,
+            fresh: number_word(words)?,
+        },
+        Kind::Lose => Happening::Lose {
+            node,
+            end_,
+            why: why_word(words)?,
+        },
+        Kind::Begin | Kind::Halt | Kind::Dial | Kind::Accept => return Err(LineFault::Bad),
+    })
+}
+
+// What happens, in the words behind the first. The first of them is the node, or the connection that is accepted.
 fn told(alloc: Global, kind: Kind, words: &mut Words<'_>) -> Result<Happening, LineFault>
     ensures reads { Reads result (told_in kind words.old) }
     ensures rest { OnOk result (words.new ≡ behind (words_behind kind) words.old) }
 {
-    Ok(match kind {
-        Kind::Dial => return dial(alloc, words),
-        Kind::Begin => Happening::Begin {
-            node: count_word(words)?,
-            creation: Creation(number_word(words)?),
-        },
-        Kind::Halt => Happening::Halt {
-            node: count_word(words)?,
-        },
-        Kind::Reach => Happening::Reach {
-            node: count_word(words)?,
-            end_: end_word(words)?,
-            target: count_word(words)?,
-        },
-        Kind::Opened => Happening::Opened {
-            node: count_word(words)?,
-            end_: end_word(words)?,
-        },
-        Kind::Accept => Happening::Accept {
-            conn: count_word(words)?,
-        },
-        Kind::Deliver => Happening::Deliver {
-            node: count_word(words)?,
-            end_: end_word(words)?,
-            bytes: count_word(words)?,
-        },
-        Kind::Take => Happening::Take {
-            node: count_word(words)?,
-            end_: end_word(words)?,
-            fresh: number_word(words)?,
-        },
-        Kind::Lose => Happening::Lose {
-            node: count_word(words)?,
-            end_: end_word(words)?,
-            why: why_word(words)?,
-        },
-        Kind::Tick => Happening::Tick {
-            node: count_word(words)?,
-            end_: end_word(words)?,
-        },
-    })
+    let node = count_word(words)?;
+    match kind {
+        Kind::Begin => begin(node, words),
+        Kind::Halt => Ok(Happening::Halt { node }),
+        Kind::Dial => dial(alloc, node, words),
+        Kind::Accept => Ok(Happening::Accept { conn: node }),
+        _ => at_end(kind, node, words),
+    }
+}
+
+// The kind of line that the next word begins.
+fn kind_word(words: &mut Words<'_>) -> Result<Kind, LineFault>
+    ensures reads { ReadsPlainly result (first_in (meaning_in happening_kinds) words.old) }
+    ensures rest { words.new ≡ drop 1 words.old }
+{
+    meaning_of(&KINDS, words.word()?).ok_or(LineFault::Bad)
 }
 
 /// What a line says that happens.
@@ -110,9 +126,7 @@ fn told(alloc: Global, kind: Kind, words: &mut Words<'_>) -> Result<Happening, L
 pub fn happening_of(alloc: Global, words: &mut Words<'_>) -> Result<Happening, LineFault>
     ensures { Reads result (line_in words.old) }
 {
-    let Some(kind) = meaning_of(&KINDS, words.word()?) else {
-        return Err(LineFault::Bad);
-    };
+    let kind = kind_word(words)?;
     let told = told(alloc, kind, words)?;
     line_end(words)?;
     Ok(told)

@@ -1,8 +1,8 @@
 //! The lines of a script that tell its one node something.
 
-ghost use Rattle.std.specs.Prelude.{◌≡◌, OnOk};
-ghost use Rattle.dist_script.specs.Fields.{Reads, behind};
-ghost use Rattle.dist_script.specs.Events.{words_behind, dial_in, came_in, told_in, line_in};
+ghost use Rattle.std.specs.Prelude.{◌≡◌, drop, OnOk};
+ghost use Rattle.dist_script.specs.Fields.{Reads, ReadsPlainly, behind, first_in, meaning_in};
+ghost use Rattle.dist_script.specs.Events.{event_kinds, words_behind, dial_in, came_in, told_in, line_in};
 
 use crate::fields::{
     bytes_from, end_word, line_end, link_word, meaning_of, name_of, number_word, opening_word,
@@ -83,14 +83,20 @@ fn told(alloc: Global, kind: Kind, words: &mut Words<'_>) -> Result<Line, LineFa
     }))
 }
 
+// The kind of line that the next word begins.
+fn kind_word(words: &mut Words<'_>) -> Result<Kind, LineFault>
+    ensures reads { ReadsPlainly result (first_in (meaning_in event_kinds) words.old) }
+    ensures rest { words.new ≡ drop 1 words.old }
+{
+    meaning_of(&KINDS, words.word()?).ok_or(LineFault::Bad)
+}
+
 /// What a line tells the node.
 #[tactic(auto, using(crate::proofs::Reading::not_done))]
 pub fn line_of(alloc: Global, words: &mut Words<'_>) -> Result<Line, LineFault>
     ensures { Reads result (line_in words.old) }
 {
-    let Some(kind) = meaning_of(&KINDS, words.word()?) else {
-        return Err(LineFault::Bad);
-    };
+    let kind = kind_word(words)?;
     let told = told(alloc, kind, words)?;
     line_end(words)?;
     Ok(told)

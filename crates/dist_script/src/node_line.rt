@@ -4,7 +4,7 @@ ghost use Rattle.std.specs.Prelude.{◌≡◌, drop, Some, None, OnOk, MatchResu
 ghost use Rattle.std.specs.List.{list_all};
 ghost use Rattle.dist_words.specs.declared.words.LineFault.TheVariants.{Bad};
 ghost use Rattle.dist_script.specs.Fields.{Reads, ReadsPlainly, behind, first_in, creation_in, flags_in};
-ghost use Rattle.dist_script.specs.Nodes.{version_in, behind_version, required_in, behind_required, is_visible, cookie_in, cookie_added, further_in, cookies_in, names_in, allowed_in, terms_in, behind_terms, node_in};
+ghost use Rattle.dist_script.specs.Nodes.{version_in, behind_version, required_in, behind_required, is_visible, cookie_in, cookie_added, further_in, cookies_in, names_in, allowed_in, terms_in, behind_terms, behind_cookies, node_in};
 
 use crate::fields::{line_end, name_of, name_word, number_word};
 use dist_core::{NameList, Setup, Version};
@@ -165,15 +165,16 @@ fn terms_of(words: &mut Words<'_>) -> Result<Terms, LineFault>
     })
 }
 
-/// What a node is set up with, from the words behind `node`.
-pub fn setup_of(alloc: Global, words: &mut Words<'_>) -> Result<Setup, LineFault>
-    ensures { Reads result (node_in words.old) }
+// The rest of what a node is set up with, from the words behind the cookies.
+fn setup_behind(
+    alloc: Global,
+    name: &[u8],
+    terms: Terms,
+    cookies: Cookies,
+    words: &mut Words<'_>,
+) -> Result<Setup, LineFault>
+    ensures { Reads result (behind_cookies name.now terms cookies words.old) }
 {
-    let name = words.word()?;
-    let cookie = words.word()?;
-    let terms = terms_of(words)?;
-    let mut cookies = Cookies::new(alloc, cookie_of(alloc, cookie)?);
-    add_cookies(alloc, &mut cookies, words)?;
     let allow = allowed(alloc, words)?;
     let name = name_of(alloc, name)?;
     Ok(Setup {
@@ -185,4 +186,16 @@ pub fn setup_of(alloc: Global, words: &mut Words<'_>) -> Result<Setup, LineFault
         creation: terms.creation,
         allow,
     })
+}
+
+/// What a node is set up with, from the words behind `node`.
+pub fn setup_of(alloc: Global, words: &mut Words<'_>) -> Result<Setup, LineFault>
+    ensures { Reads result (node_in words.old) }
+{
+    let name = words.word()?;
+    let cookie = words.word()?;
+    let terms = terms_of(words)?;
+    let mut cookies = Cookies::new(alloc, cookie_of(alloc, cookie)?);
+    add_cookies(alloc, &mut cookies, words)?;
+    setup_behind(alloc, name, terms, cookies, words)
 }

@@ -10,7 +10,7 @@ use std::io::Write;
 use std::{fmt, io};
 
 /// What ends the playing of a script. Its `Display` is what stands after `distnode: ` on standard error.
-#[derive(Clone, Copy, Debug, PartialEq, Eq)]
+#[derive(Clone, Copy, Debug)]
 pub enum ScriptFault {
     /// The script has more than 1,048,576 bytes.
     TooLong,
@@ -44,10 +44,10 @@ fn told(fault: ScriptFault) -> &'static str {
 impl fmt::Display for ScriptFault {
     fn fmt<W: fmt::Write>(&self, f: &mut fmt::Formatter<W>) -> fmt::Result {
         f.write_str(told(*self))?;
-        if let ScriptFault::BadLine(number) = self {
-            write!(f, " {number}")?;
+        match self {
+            ScriptFault::BadLine(number) => write!(f, " {number}"),
+            _ => Ok(()),
         }
-        Ok(())
     }
 }
 
@@ -86,5 +86,8 @@ impl From<AllocError> for ScriptFault {
 
 /// A write that failed, as a fault.
 pub fn written(outcome: io::Result<()>) -> Result<(), ScriptFault> {
-    outcome.map_err(|_| ScriptFault::WriteFailed)
+    match outcome {
+        Ok(()) => Ok(()),
+        Err(_) => Err(ScriptFault::WriteFailed),
+    }
 }

@@ -10,6 +10,9 @@ use std::io::Read;
 /// The most bytes of a script, our own choice.
 const MOST_BYTES: usize = 1048576;
 
+/// The most reads of a script: each but the last finds a byte at least.
+const MOST_READS: usize = MOST_BYTES + 1;
+
 const PIECE: usize = 16384;
 
 // One read of the next piece, whose bytes are put behind the text. Answers how many there were.
@@ -20,11 +23,10 @@ fn read_piece<R: Read>(input: &mut R, text: &mut Vec<u8>) -> Result<usize, Scrip
 {
     let mut room = [0u8; PIECE];
     match input.read(&mut room) {
-        Ok(count) => {
-            text.extend_from_slice(&room[..count])
-                .map_err(|_| ScriptFault::NoMemory)?;
-            Ok(count)
-        }
+        Ok(count) => match text.extend_from_slice(&room[..count]) {
+            Ok(()) => Ok(count),
+            Err(_) => Err(ScriptFault::NoMemory),
+        },
         Err(_) => Err(ScriptFault::ReadFailed),
     }
 }
@@ -37,7 +39,7 @@ pub fn read_text<R: Read>(alloc: Global, input: &mut R) -> Result<Vec<u8>, Scrip
     ensures end { OnOk result (IsAtEnd (R.remaining input.new)) }
 {
     let mut text = Vec::new(alloc);
-    'pieces: for _ in 0..=MOST_BYTES {
+    'pieces: for _ in 0..MOST_READS {
         if read_piece(input, &mut text)? == 0 {
             return Ok(text);
         }

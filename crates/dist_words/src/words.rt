@@ -1,10 +1,10 @@
 //! The words of a line.
 
-ghost use Rattle.std.specs.Prelude.{◌≡◌, ◌≤◌, ◌↔◌, ℕ, List, [], ◌∷◌, length, option_copied, IsTrue, MatchOption, MatchResult, MatchBool};
+ghost use Rattle.std.specs.Prelude.{◌≡◌, ◌↔◌, ℕ, List, [], ◌∷◌, option_copied, IsTrue, MatchOption, MatchResult, MatchBool};
 ghost use Rattle.dist_words.specs.declared.words.LineFault.TheVariants.{NoMemory};
-ghost use Rattle.dist_words.specs.Words.{words_of, words_in, is_space};
-ghost use Rattle.std.specs.List.{position_or_len};
+ghost use Rattle.dist_words.specs.Words.{words_of, words_in};
 
+use memchr::memchr;
 use std::alloc::{AllocError, AllocFailed};
 use std::marker::Model;
 
@@ -33,24 +33,13 @@ impl<T: Drop> From<AllocFailed<T>> for LineFault {
     }
 }
 
-// How many bytes stand before the first space.
-fn word_len(line: &[u8]) -> usize
-    ensures place { result ≡ position_or_len is_space line.now }
-    ensures within { result ≤ length line.now }
-{
-    line.iter().take_while(|byte| **byte != b' ').count()
-}
-
 // The first word of a line, and what stands behind the space that ends it.
-#[tactic(auto, using(crate::proofs::Split::at_space_taken, crate::proofs::Split::at_end))]
 fn split(line: &[u8]) -> (&[u8], Option<&[u8]>)
     ensures { words_of line.now ≡ result.0.now ∷ words_in (option_copied result.1) }
 {
-    let len = word_len(line);
-    if len < line.len() {
-        (&line[..len], Some(&line[len + 1..]))
-    } else {
-        (line, None)
+    match memchr(b' ', line) {
+        Some(place) => (&line[..place], Some(&line[place + 1..])),
+        None => (line, None),
     }
 }
 
