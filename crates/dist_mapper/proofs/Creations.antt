@@ -1,5 +1,5 @@
 -- What a registration makes of an answer that was read, or of its refusal.
-use Rattle.std.proofs.Common.{◌≡◌, ℕ, Bool, true, false, cond, eqb, Result, Ok, Err, refl, sym, ap, subst}
+use Rattle.std.proofs.Common.{ℕ, Bool, true, false, cond, eqb, Result, Ok, Err, refl, sym, ap, subst}
 use Rattle.dist_names.specs.declared.creation.Creation.{Creation}
 use Rattle.dist_epmd.specs.declared.epmd_error.EpmdError.{EpmdError}
 use Rattle.dist_epmd.specs.declared.epmd_error.EpmdError.TheVariants as epmd
