@@ -194,13 +194,13 @@ fn prepared(
     ensures open_end { (x : EndId) (w : Why) (e : End) → event.now ≡ Event.Lost x w → slice_get node.now.ends x.0 ≡ Some e → is_open e ≡ true → ends_in_loss seat.old.list ≡ false → IsOk result }
 {
     let reply = node.answer(alloc, event, fresh)?;
-    let Ok(lines) = copies(alloc, ticket, seat.number(), event, fresh, reply) else {
-        return Err(StepError::NoMemory);
-    };
     if seat.make_room(event.is_lost()).is_err() {
         return Err(StepError::NoMemory);
     }
-    Ok(lines)
+    match copies(alloc, ticket, seat.number(), event, fresh, reply) {
+        Ok(lines) => Ok(lines),
+        Err(_) => Err(StepError::NoMemory),
+    }
 }
 
 // The line of a step, three times.

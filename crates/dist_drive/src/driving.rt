@@ -85,8 +85,10 @@ fn make_step<D: Desk, W: Draws>(
     ensures base { (D.base desk.new ≡ D.base desk.old) × (D.serves desk.new ≡ D.serves desk.old) }
 {
     let fresh = draws.draw();
-    desk.step(Event::Frame { end_, body }, fresh)
-        .map_err(ending_of_refusal)
+    match desk.step(Event::Frame { end_, body }, fresh) {
+        Ok(()) => Ok(()),
+        Err(error) => Err(ending_of_refusal(error)),
+    }
 }
 
 // Writes what a reply says. Whether it brought its end up.

@@ -2,6 +2,7 @@
 
 ghost use Rattle.std.specs.Prelude.{◌≡◌, IfOk, IfErr};
 ghost use Rattle.dist_epmd.specs.declared.message.Answer.{Answer};
+ghost use Rattle.dist_epmd.specs.declared.message.Asked.{Asked};
 ghost use Rattle.dist_epmd.specs.declared.message.Request.{Request};
 ghost use Rattle.dist_epmd.specs.Layout.{SpellsRequest, SpellsAnswer, RequestFits, AnswerFits};
 ghost use Rattle.dist_epmd.specs.Answering.{Answers, LacksName, LacksText};
@@ -9,7 +10,7 @@ ghost use Rattle.dist_epmd.specs.Refusing.{RefusesRequest, RefusesAnswer};
 ghost use Rattle.dist_epmd.specs.Reading.{whole_info, alive_x, alive, looked_up, read_request, read_answer};
 
 use crate::epmd_error::EpmdError;
-use crate::fields::{sized_at, u8_at, u16_at, u32_at};
+use crate::fields::{fields_at, u8_at, u16_at, u32_at};
 use crate::message::{Answer, Asked, NodeInfo, Request};
 use dist_names::ByteString;
 use std::alloc::Global;
@@ -18,24 +19,20 @@ use std::alloc::Global;
 fn whole_info(alloc: Global, bytes: &[u8]) -> Result<NodeInfo, EpmdError>
     ensures { Answers (λ i. i) result (whole_info bytes.now) }
 {
-    let (port, rest) = u16_at(bytes).ok_or(EpmdError::Short)?;
-    let (node_type, rest) = u8_at(rest).ok_or(EpmdError::Short)?;
-    let (protocol, rest) = u8_at(rest).ok_or(EpmdError::Short)?;
-    let (highest, rest) = u16_at(rest).ok_or(EpmdError::Short)?;
-    let (lowest, rest) = u16_at(rest).ok_or(EpmdError::Short)?;
-    let (name, rest) = sized_at(rest).ok_or(EpmdError::Short)?;
-    let (extra, rest) = sized_at(rest).ok_or(EpmdError::Short)?;
+    let Some((fields, rest)) = fields_at(bytes) else {
+        return Err(EpmdError::Short);
+    };
     if !rest.is_empty() {
         return Err(EpmdError::Trailing);
     }
-    let name = ByteString::from_slice(alloc, name)?;
-    let extra = ByteString::from_slice(alloc, extra)?;
+    let name = ByteString::from_slice(alloc, fields.name)?;
+    let extra = ByteString::from_slice(alloc, fields.extra)?;
     Ok(NodeInfo {
-        port,
-        node_type,
-        protocol,
-        highest,
-        lowest,
+        port: fields.port,
+        node_type: fields.node_type,
+        protocol: fields.protocol,
+        highest: fields.highest,
+        lowest: fields.lowest,
         name,
         extra,
     })
@@ -67,8 +64,12 @@ fn alive_x(bytes: &[u8]) -> Result<Answer, EpmdError>
     ensures exact { Answers (λ a. a) result (alive_x bytes.now) }
     ensures lacks { LacksText result (alive_x bytes.now) }
 {
-    let (result_code, rest) = u8_at(bytes).ok_or(EpmdError::Short)?;
-    let (creation, rest) = u32_at(rest).ok_or(EpmdError::Short)?;
+    let Some((result_code, rest)) = u8_at(bytes) else {
+        return Err(EpmdError::Short);
+    };
+    let Some((creation, rest)) = u32_at(rest) else {
+        return Err(EpmdError::Short);
+    };
     if !rest.is_empty() {
         return Err(EpmdError::Trailing);
     }
@@ -83,8 +84,12 @@ fn alive(bytes: &[u8]) -> Result<Answer, EpmdError>
     ensures exact { Answers (λ a. a) result (alive bytes.now) }
     ensures lacks { LacksText result (alive bytes.now) }
 {
-    let (result_code, rest) = u8_at(bytes).ok_or(EpmdError::Short)?;
-    let (creation, rest) = u16_at(rest).ok_or(EpmdError::Short)?;
+    let Some((result_code, rest)) = u8_at(bytes) else {
+        return Err(EpmdError::Short);
+    };
+    let Some((creation, rest)) = u16_at(rest) else {
+        return Err(EpmdError::Short);
+    };
     if !rest.is_empty() {
         return Err(EpmdError::Trailing);
     }
@@ -111,24 +116,59 @@ fn looked_up(alloc: Global, bytes: &[u8]) -> Result<Answer, EpmdError>
     Ok(Answer::Port(Err(*code)))
 }
 
+// The answer to a registration.
+#[tactic(auto, unfolding(crate::specs::Reading::read_answer))]
+fn registered(bytes: &[u8]) -> Result<Answer, EpmdError>
+    ensures exact { Answers (λ a. a) result (read_answer Asked.Alive bytes.now) }
+    ensures lacks { LacksText result (read_answer Asked.Alive bytes.now) }
+{
+    let [tag, rest @ ..] = bytes else {
+        return Err(EpmdError::Short);
+    };
+    match *tag {
+        0x76 => alive_x(rest),
+        0x79 => alive(rest),
+        _ => Err(EpmdError::Malformed),
+    }
+}
+
+// The answer to a lookup.
+#[tactic(auto, unfolding(crate::specs::Reading::read_answer))]
+fn found(alloc: Global, bytes: &[u8]) -> Result<Answer, EpmdError>
+    ensures exact { Answers (λ a. a) result (read_answer Asked.Port bytes.now) }
+    ensures lacks { LacksText result (read_answer Asked.Port bytes.now) }
+{
+    let [tag, rest @ ..] = bytes else {
+        return Err(EpmdError::Short);
+    };
+    if *tag != 0x77 {
+        return Err(EpmdError::Malformed);
+    }
+    looked_up(alloc, rest)
+}
+
+// The answer to a question for all names.
+#[tactic(auto, unfolding(crate::specs::Reading::read_answer))]
+fn named(alloc: Global, bytes: &[u8]) -> Result<Answer, EpmdError>
+    ensures exact { Answers (λ a. a) result (read_answer Asked.Names bytes.now) }
+    ensures lacks { LacksText result (read_answer Asked.Names bytes.now) }
+{
+    let Some((port, text)) = u32_at(bytes) else {
+        return Err(EpmdError::Short);
+    };
+    let text = ByteString::from_slice(alloc, text)?;
+    Ok(Answer::Names { port, text })
+}
+
 #[tactic(auto, unfolding(crate::specs::Reading::read_answer))]
 fn read_answer(alloc: Global, asked: Asked, bytes: &[u8]) -> Result<Answer, EpmdError>
     ensures exact { Answers (λ a. a) result (read_answer asked bytes.now) }
     ensures lacks { LacksText result (read_answer asked bytes.now) }
 {
-    if asked == Asked::Names {
-        let (port, text) = u32_at(bytes).ok_or(EpmdError::Short)?;
-        let text = ByteString::from_slice(alloc, text)?;
-        return Ok(Answer::Names { port, text });
-    }
-    let [tag, rest @ ..] = bytes else {
-        return Err(EpmdError::Short);
-    };
-    match (asked, *tag) {
-        (Asked::Alive, 0x76) => alive_x(rest),
-        (Asked::Alive, 0x79) => alive(rest),
-        (Asked::Port, 0x77) => looked_up(alloc, rest),
-        _ => Err(EpmdError::Malformed),
+    match asked {
+        Asked::Alive => registered(bytes),
+        Asked::Port => found(alloc, bytes),
+        Asked::Names => named(alloc, bytes),
     }
 }
 

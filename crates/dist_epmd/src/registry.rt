@@ -6,7 +6,7 @@ ghost use Rattle.dist_epmd.specs.Book.{Book, opening, is_accepted, after_request
 use crate::message::{AliveReq, Answer, PortInfo};
 use crate::row::Row;
 use crate::rows::{
-    drop_conn, has_conn, has_fewer, has_name, is_short_name, push_lines, put, row_named,
+    drop_conn, has_conn, has_fewer, has_name, is_short_name, push_lines, register, row_named,
 };
 use dist_names::ByteString;
 use std::alloc::{AllocError, Global};
@@ -131,15 +131,8 @@ impl Registry {
         if !self.accepts(conn, request) {
             return Ok(refused(request));
         }
-        let info = request.try_clone(alloc)?;
         let creation = self.next as u32;
-        let name = Vec::from_slice(alloc, info.name.as_slice())?;
-        let row = Row {
-            conn,
-            info,
-            creation,
-        };
-        put(&mut self.rows, name, row)?;
+        register(&mut self.rows, alloc, conn, request, creation)?;
         self.next += 1;
         Ok(given(request, creation))
     }

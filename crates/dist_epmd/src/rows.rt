@@ -7,9 +7,10 @@ ghost use Rattle.dist_epmd.specs.Book.{is_short_byte, is_short_name, is_named, i
 ghost use Rattle.dist_epmd.specs.Named.{StandAtNames};
 
 use crate::encoding::push_both;
+use crate::message::NodeInfo;
 use crate::row::Row;
 use itoa::Buffer;
-use std::alloc::AllocError;
+use std::alloc::{AllocError, Global};
 use std::collections::BTreeMap;
 
 fn are_short_bytes(name: &[u8]) -> bool
@@ -55,7 +56,7 @@ pub fn has_conn(rows: &BTreeMap<Vec<u8>, Row>, conn: u64) -> bool
 }
 
 // Puts a row at its name.
-pub fn put(rows: &mut BTreeMap<Vec<u8>, Row>, name: Vec<u8>, row: Row) -> Result<(), AllocError>
+fn put(rows: &mut BTreeMap<Vec<u8>, Row>, name: Vec<u8>, row: Row) -> Result<(), AllocError>
     // A registry keeps its rows so.
     requires names { StandAtNames rows.old.entries }
 
@@ -70,6 +71,36 @@ pub fn put(rows: &mut BTreeMap<Vec<u8>, Row>, name: Vec<u8>, row: Row) -> Result
 {
     rows.insert(name, row)?;
     Ok(())
+}
+
+// Puts a copy of a registration at its name, with the creation that it got.
+pub fn register(
+    rows: &mut BTreeMap<Vec<u8>, Row>,
+    alloc: Global,
+    conn: u64,
+    request: &NodeInfo,
+    creation: u32,
+) -> Result<(), AllocError>
+    // A registry keeps its rows so.
+    requires names { StandAtNames rows.old.entries }
+
+    // The caller asks `has_name` first.
+    requires fresh { list_any (is_named request.now.name) (values rows.old) ≡ false }
+    ensures ok { OnOk result (values rows.new ≡ with_row (record { conn = conn; info = request.now; creation = creation }) (values rows.old)) }
+    ensures err { OnErr result (values rows.new ≡ values rows.old) }
+    ensures names { StandAtNames rows.new.entries }
+{
+    let name = Vec::from_slice(alloc, request.name.as_slice())?;
+    let info = request.try_clone(alloc)?;
+    put(
+        rows,
+        name,
+        Row {
+            conn,
+            info,
+            creation,
+        },
+    )
 }
 
 // Drops the row of this connection.

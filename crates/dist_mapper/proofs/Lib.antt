@@ -3,3 +3,4 @@ pub mod Registering
 pub mod Arrivals
 pub mod Serves
 pub mod Keeping
+pub mod Creations

@@ -5,13 +5,13 @@ ghost use Rattle.dist_epmd.specs.Layout.{request_text, written_request};
 ghost use Rattle.dist_epmd.specs.Reading.{read_answer};
 ghost use Rattle.dist_epmd.specs.declared.message.Asked.{Asked};
 ghost use Rattle.dist_epmd.specs.declared.message.Request.{Request};
-ghost use Rattle.dist_mapper.specs.Asking.{Registers, RegistersFor, Settles, creation_meant, creation_unless, rest_len};
+ghost use Rattle.dist_mapper.specs.Asking.{Registers, RegistersFor, Settles, creation_in, creation_meant, creation_unless, rest_len};
 ghost use Rattle.dist_mapper.specs.Steps.{HearsAnswer, IsFrameOf};
 
 use crate::ask::frame_of;
 use crate::lookup_error::LookupError;
 use crate::refusals::whole_refusal;
-use dist_epmd::{AliveReq, Answer, Asked, Request, decode_answer};
+use dist_epmd::{AliveReq, Answer, Asked, EpmdError, Request, decode_answer};
 use dist_names::{ByteString, Creation};
 use dist_streams::{Limited, Stream, TurnError};
 use std::alloc::Global;
@@ -62,21 +62,27 @@ fn read_answer<S: Stream>(limited: &mut Limited<'_, S>, room: &mut [u8]) -> Resu
 fn creation_of(alloc: Global, bytes: &[u8]) -> Result<Creation, LookupError>
     ensures { Settles result (creation_meant bytes.now) (read_answer Asked.Alive bytes.now) }
 {
-    match decode_answer(alloc, Asked::Alive, bytes) {
+    creation_in(&decode_answer(alloc, Asked::Alive, bytes))
+}
+
+fn creation_in(answer: &Result<Answer, EpmdError>) -> Result<Creation, LookupError>
+    ensures { result ≡ creation_in answer.now }
+{
+    match answer {
         Ok(
             Answer::AliveX {
                 result_code,
                 creation,
             },
-        ) => creation_unless(result_code, creation),
+        ) => creation_unless(*result_code, *creation),
         Ok(
             Answer::Alive {
                 result_code,
                 creation,
             },
-        ) => creation_unless(result_code, creation as u32),
+        ) => creation_unless(*result_code, *creation as u32),
         Ok(_) => Err(LookupError::Malformed),
-        Err(error) => Err(whole_refusal(error)),
+        Err(error) => Err(whole_refusal(*error)),
     }
 }
 

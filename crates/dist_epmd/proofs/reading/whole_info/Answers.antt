@@ -2,9 +2,9 @@ use Rattle.std.proofs.Common.{rules}
 use Rattle.dist_epmd.specs.Reading.{whole_info}
 use Rattle.dist_epmd.proofs.reading.whole_info.Goals as goal
 
-pub returns-in_err-name-2 : goal.returns-in_err-name-2
+pub returns-in_err-name : goal.returns-in_err-name
 unfolding whole_info
-returns-in_err-name-2 c = search rules
+returns-in_err-name c = search rules
 
 pub returns-in_err-extra : goal.returns-in_err-extra
 unfolding whole_info

@@ -10,8 +10,8 @@ invariant_of-self-2 c =
     let book : Book = record { port = c.self.inside.port; next = c.self.inside.next; rows = values c.self.inside.rows } in
     let ok : is_accepted c.args.conn c.args.request.now book ≡ true = search rules in
     let row : Row = record { conn = c.args.conn; info = c.args.request.now; creation = c.self.inside.next } in
-    let rows : values c.put.new.rows ≡ with_row row (values c.self.inside.rows) = search rules in
-    (subst (λ (r : List Row). IsLegal (record { port = c.self.inside.port; next = c.self.inside.next + 1; rows = r })) (sym rows) (registered_legal c.args.conn c.args.request.now book c.self.invariant.0 ok), c.put.ensures.names)
+    let rows : values c.register.new.rows ≡ with_row row (values c.self.inside.rows) = search rules in
+    (subst (λ (r : List Row). IsLegal (record { port = c.self.inside.port; next = c.self.inside.next + 1; rows = r })) (sym rows) (registered_legal c.args.conn c.args.request.now book c.self.invariant.0 ok), c.register.ensures.names)
 
 pub returns-then-not-accepts-clause-answer : goal.returns-then-not-accepts-clause-answer
 returns-then-not-accepts-clause-answer c = search rules
