@@ -1,5 +1,5 @@
 -- What a reply writes into the rows, row by row.
-use Rattle.std.proofs.Common.{◌≡◌, ℕ, ◌+◌, ◌==◌, Bool, true, false, ◌&&◌, if◌then◌else◌, List, Option, Some, None, slice_get, refl, ap, sym, ◌∙◌, arith}
+use Rattle.std.proofs.Common.{◌≡◌, ℕ, ◌+◌, ◌==◌, Bool, true, false, ◌&&◌, if◌then◌else◌, List, Option, Some, None, slice_get, [], ◌∷◌, length, take, refl, ap, sym, ◌∙◌, arith}
 use Rattle.std.specs.Option.{option_map}
 use Rattle.dist_names.specs.Order.{Name}
 use Rattle.dist_peers.specs.declared.entry.EndId.{EndId}
@@ -7,7 +7,7 @@ use Rattle.dist_core.specs.declared.reply.Reply.{Reply}
 use Rattle.dist_core.specs.declared.reply.Note.{Note}
 use Rattle.dist_core.specs.declared.reply.Note.TheVariants as note
 use Rattle.dist_ends.specs.declared.why.Why.{Why}
-use Rattle.dist_agreement.specs.Lists.{at_place, at_each}
+use Rattle.dist_agreement.specs.Lists.{at_place, at_each, add_some}
 use Rattle.dist_agreement.specs.Rows.{EndRow, once, takes_name, says_reply, peer_by, rises, dooms, is_end, shuts_end, written, mark}
 use Rattle.dist_agreement.specs.Happenings.{shut_row}
 use Rattle.dist_lives.specs.Hearing.{own_row, doomed_row, shut_by, doomed_by, doomed_of}
@@ -70,3 +70,13 @@ module _ (t : ℕ) (r : Reply) where
       ∙ (ap (option_map (changed_if (r.end_.0 == j) (own_row t r.note (rises r.up)))) (get_doomed (doomed_of r.note) (shut_by t r.closed rows) j ∙ ((λ i. option_map (changed_if (is_doomed r.note j i) (doomed_row t)) (get_shut r.closed rows j i))))
       ∙ (in_option (r.end_.0 == j) (dooms r.note j) (shuts_end r.closed j) (slice_get rows j)
       ∙ sym (get_each (mark t r) rows 0 j ∙ ap (λ n. option_map (mark t r n) (slice_get rows j)) first))))
+
+-- what was given out is taken back
+pub taken_back : {A : Type 0} (xs : List A) (o : Option A) → take (length xs) (add_some xs o) ≡ xs
+taken_back xs None = all_of xs
+  where
+    all_of : {A : Type 0} (ys : List A) → take (length ys) ys ≡ ys
+    all_of [] = refl
+    all_of (y ∷ ys) = ap (λ zs. y ∷ zs) (all_of ys)
+taken_back [] (Some x) = refl
+taken_back (y ∷ xs) (Some x) = ap (λ zs. y ∷ zs) (taken_back xs (Some x))

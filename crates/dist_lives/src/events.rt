@@ -31,7 +31,7 @@ fn wire(life: &Life, event: &Event) -> Option<(Side, usize)>
 fn is_short(refusal: StepError) -> bool
     ensures { result ≡ is_short refusal }
 {
-    refusal == StepError::NoMemory
+    matches!(refusal, StepError::NoMemory)
 }
 
 /// An incarnation is told an event. `None` where it does not run or refuses the event, which changes nothing.

@@ -2,7 +2,7 @@
 ghost use Rattle.std.specs.Prelude.{◌≡◌, ℕ, List, length, IfOk, IfErr, OnOk, OnErr, Ok, true};
 ghost use Rattle.dist_core.specs.Answers.{Refuses};
 ghost use Rattle.dist_core.specs.Step.{step};
-ghost use Rattle.dist_agreement.specs.Lists.{at_each, at_place};
+ghost use Rattle.dist_agreement.specs.Lists.{add_some, at_each, at_place};
 ghost use Rattle.dist_agreement.specs.Rows.{mark, given_by};
 ghost use Rattle.dist_agreement.specs.World.{Conn};
 ghost use Rattle.dist_lives.specs.Hearing.{heard_of, said_at, Says, HasHeard, HasSpoken, is_quiet_on, own_row, shut_by, doomed_by, doomed_of};
@@ -25,7 +25,7 @@ pub struct Heard {
 }
 
 // The row of the end that an event gives out.
-pub fn given(alloc: Global, clock: u64, event: &Event) -> Result<Option<EndRow>, AllocError>
+fn given(alloc: Global, clock: u64, event: &Event) -> Result<Option<EndRow>, AllocError>
     ensures { IfOk result (λ row. row ≡ given_by clock event.now) }
 {
     match event {
@@ -43,6 +43,17 @@ pub fn given(alloc: Global, clock: u64, event: &Event) -> Result<Option<EndRow>,
         ))),
         _ => Ok(None),
     }
+}
+
+// The row of the end that an event gives out stands behind all others. An `Err` changes nothing.
+fn give(rows: &mut Vec<EndRow>, alloc: Global, clock: u64, event: &Event) -> Result<(), AllocError>
+    ensures ok { OnOk result (rows.new.items ≡ add_some rows.old.items (given_by clock event.now)) }
+    ensures err { OnErr result (rows.new.items ≡ rows.old.items) }
+{
+    if let Some(row) = given(alloc, clock, event)? {
+        rows.push(row)?;
+    }
+    Ok(())
 }
 
 // What an event's reply says, where the node takes the event.
@@ -201,6 +212,25 @@ fn speak_behind(
     })
 }
 
+// A node makes a step, and what it says is on its way. A refusal changes nothing.
+fn make_step(
+    node: &mut Node,
+    conns: &mut Connections,
+    wire: Option<(Side, usize)>,
+    alloc: Global,
+    event: &Event,
+    fresh: u32,
+) -> Result<Reply, StepError>
+    ensures ok { IfOk result (λ q. HasSpoken q (step node.old event.now fresh) node.new wire conns.old conns.new) }
+    ensures err { IfErr result (λ e. Refuses e (step node.old event.now fresh) × (node.new ≡ node.old) × (conns.new ≡ conns.old)) }
+{
+    if is_quiet_on(conns, wire) {
+        speak_first(node, conns, wire, alloc, event, fresh)
+    } else {
+        speak_behind(node, conns, wire, alloc, event, fresh)
+    }
+}
+
 // ---- rows
 
 fn shut(rows: &mut Vec<EndRow>, closed: Option<(EndId, Why)>, clock: u64)
@@ -266,6 +296,7 @@ fn write(rows: &mut Vec<EndRow>, clock: u64, reply: Reply) -> Heard
 }
 
 // An incarnation is told an event. A refusal changes nothing.
+#[tactic(auto, using(crate::proofs::Writing::taken_back))]
 pub fn hear(
     node: &mut Node,
     rows: &mut Vec<EndRow>,
@@ -279,19 +310,15 @@ pub fn hear(
     ensures ok { IfOk result (λ h. HasHeard h (step node.old event.now fresh) clock event.now node.new rows.old.items rows.new.items wire conns.old conns.new) }
     ensures err { IfErr result (λ e. Refuses e (step node.old event.now fresh) × (node.new ≡ node.old) × (rows.new.items ≡ rows.old.items) × (conns.new ≡ conns.old)) }
 {
-    let Ok(row) = given(alloc, clock, event) else {
-        return Err(refusal(node, alloc, event, fresh));
-    };
-    if rows.reserve(1).is_err() {
+    let before = rows.len();
+    if give(rows, alloc, clock, event).is_err() {
         return Err(refusal(node, alloc, event, fresh));
     }
-    let reply = if is_quiet_on(conns, wire) {
-        speak_first(node, conns, wire, alloc, event, fresh)?
-    } else {
-        speak_behind(node, conns, wire, alloc, event, fresh)?
-    };
-    if let Some(row) = row {
-        rows.push(row).unwrap();
+    match make_step(node, conns, wire, alloc, event, fresh) {
+        Ok(reply) => Ok(write(rows, clock, reply)),
+        Err(refusal) => {
+            rows.truncate(before);
+            Err(refusal)
+        }
     }
-    Ok(write(rows, clock, reply))
 }

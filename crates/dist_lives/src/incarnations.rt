@@ -143,10 +143,9 @@ impl Lives {
         ensures ok { OnOk result (self.new ≡ self.old ++ new_life node clock setup.now creation ∷ []) }
         ensures err { OnErr result (self.new ≡ self.old) }
     {
-        let life = Life::new(alloc, node, clock, setup, creation)?;
         widen(&mut self.index, node)?;
         let place = self.lives.len();
-        self.lives.push(life)?;
+        push_new(&mut self.lives, alloc, node, clock, setup, creation)?;
         put(&mut self.index, node, Some(place));
         Ok(())
     }
@@ -188,6 +187,23 @@ impl Lives {
 }
 
 // ---- incarnations
+
+// A new incarnation of a node stands behind all others. An `Err` changes nothing.
+fn push_new(
+    lives: &mut Vec<Life>,
+    alloc: Global,
+    node: usize,
+    clock: u64,
+    setup: &Setup,
+    creation: Creation,
+) -> Result<(), AllocError>
+    ensures ok { OnOk result (lives.new.items ≡ lives.old.items ++ new_life node clock setup.now creation ∷ []) }
+    ensures err { OnErr result (lives.new.items ≡ lives.old.items) }
+{
+    let life = Life::new(alloc, node, clock, setup, creation)?;
+    lives.push(life)?;
+    Ok(())
+}
 
 fn end_at(lives: &mut Vec<Life>, place: usize, clock: u64)
     ensures { lives.new.items ≡ at_place place (ended clock) lives.old.items }

@@ -9,7 +9,7 @@ use dist_core::UpRecord;
 use dist_names::{Creation, Flags};
 
 /// What two running nodes have in common that each count the other as up.
-#[derive(Clone, Copy, Debug, PartialEq, Eq)]
+#[derive(Clone, Copy, PartialEq, Eq)]
 pub struct Agreement {
     /// The connection of the first one's end.
     pub conn: usize,

@@ -1,14 +1,16 @@
 //! The ten happenings.
-ghost use Rattle.std.specs.Prelude.{◌≡◌, Ok, slice_get};
+ghost use Rattle.std.specs.Prelude.{◌≡◌, Ok, slice_get, IfOk, OnErr, MatchOption};
 ghost use Rattle.std.specs.Option.{option_map};
 ghost use Rattle.dist_agreement.specs.World.{running};
 ghost use Rattle.dist_agreement.specs.Happenings.{told, told_of, unclosed, begun, halted, reached, opened, accepted, deliver, take_next, applied, applied_at};
+ghost use Rattle.dist_lives.specs.Telling.{HasTold, Declines};
 ghost use Rattle.dist_world.specs.Doing.{Did, Happened};
 
 use crate::scene::{Scene, setup_at};
 use dist_agreement::Happening;
 use dist_core::{Event, Opening, Why};
 use dist_laws::a_reply_is_of_its_end;
+use dist_lives::{Connections, Heard, Lives};
 use dist_names::{ByteString, Creation, NodeName};
 use dist_peers::EndId;
 use std::alloc::{AllocError, Global};
@@ -32,21 +34,42 @@ fn closed_at(who: usize, closed: Option<(EndId, Why)>) -> Option<(usize, (EndId,
     }
 }
 
+// An incarnation is told an event, which is let go then.
+fn tell_once(
+    lives: &mut Lives,
+    conns: &mut Connections,
+    place: usize,
+    alloc: Global,
+    clock: u64,
+    event: Event,
+    fresh: u32,
+) -> Result<Option<(usize, Heard)>, AllocError>
+    ensures ok { IfOk result (λ told. MatchOption told (Declines lives.old place event fresh × (lives.new ≡ lives.old) × (conns.new ≡ conns.old)) (λ x. HasTold x.0 x.1 place clock event fresh lives.old lives.new conns.old conns.new)) }
+    ensures err { OnErr result ((lives.new ≡ lives.old) × (conns.new ≡ conns.old)) }
+{
+    lives.tell(conns, place, alloc, clock, &event, fresh)
+}
+
 impl Scene {
     // An incarnation is told an event.
     fn tell(
         &mut self,
         alloc: Global,
         place: usize,
-        event: &Event,
+        event: Event,
         fresh: u32,
     ) -> Result<bool, AllocError>
-        ensures { Did result (told (unclosed self.old) place event.now fresh) self.old self.new }
+        ensures { Did result (told (unclosed self.old) place event fresh) self.old self.new }
     {
-        match self
-            .lives
-            .tell(&mut self.conns, place, alloc, self.clock, event, fresh)?
-        {
+        match tell_once(
+            &mut self.lives,
+            &mut self.conns,
+            place,
+            alloc,
+            self.clock,
+            event,
+            fresh,
+        )? {
             None => Ok(false),
             Some((who, heard)) => {
                 self.last_closed = closed_at(who, heard.closed);
@@ -60,10 +83,10 @@ impl Scene {
         &mut self,
         alloc: Global,
         node: usize,
-        event: &Event,
+        event: Event,
         fresh: u32,
     ) -> Result<bool, AllocError>
-        ensures { Did result (told_of (unclosed self.old) (running self.old node) event.now fresh) self.old self.new }
+        ensures { Did result (told_of (unclosed self.old) (running self.old node) event fresh) self.old self.new }
     {
         match self.running(node) {
             Some(place) => self.tell(alloc, place, event, fresh),
@@ -142,7 +165,7 @@ impl Scene {
                     end_: id,
                     link: conn as u64,
                 };
-                self.tell(alloc, place, &event, 0)
+                self.tell(alloc, place, event, 0)
             }
             None => Ok(false),
         }
@@ -157,10 +180,15 @@ impl Scene {
             return Ok(false);
         };
         let event = Event::Incoming { link: conn as u64 };
-        match self
-            .lives
-            .tell(&mut self.conns, target, alloc, self.clock, &event, 0)?
-        {
+        match tell_once(
+            &mut self.lives,
+            &mut self.conns,
+            target,
+            alloc,
+            self.clock,
+            event,
+            0,
+        )? {
             None => Ok(false),
             Some((who, heard)) => {
                 self.conns.accept(conn, heard.end_);
@@ -212,10 +240,15 @@ impl Scene {
         };
         let body = ByteString::from_slice(alloc, front)?;
         let event = Event::Frame { end_: id, body };
-        match self
-            .lives
-            .tell(&mut self.conns, place, alloc, self.clock, &event, fresh)?
-        {
+        match tell_once(
+            &mut self.lives,
+            &mut self.conns,
+            place,
+            alloc,
+            self.clock,
+            event,
+            fresh,
+        )? {
             None => Ok(false),
             Some((who, heard)) => {
                 self.conns.take(conn, side);
@@ -239,7 +272,7 @@ impl Scene {
             peer: peer.try_clone(alloc)?,
             opening,
         };
-        self.tell_node(alloc, node, &event, 0)
+        self.tell_node(alloc, node, event, 0)
     }
 
     // One happening, but for the clock.
@@ -255,7 +288,7 @@ impl Scene {
                 opening,
             } => self.dial(alloc, *node, peer, *opening),
             Happening::Tick { node, end_ } => {
-                self.tell_node(alloc, *node, &Event::Tick { end_: *end_ }, 0)
+                self.tell_node(alloc, *node, Event::Tick { end_: *end_ }, 0)
             }
             Happening::Reach { node, end_, target } => self.reach(alloc, *node, *end_, *target),
             Happening::Opened { node, end_ } => self.open(alloc, *node, *end_),
@@ -267,7 +300,7 @@ impl Scene {
                     end_: *end_,
                     why: *why,
                 };
-                self.tell_node(alloc, *node, &event, 0)
+                self.tell_node(alloc, *node, event, 0)
             }
         }
     }
