@@ -7,34 +7,19 @@ use super::book::Book;
 use super::line::Line;
 use super::seat::Seat;
 use dist_core::Node;
-use std::error::Error;
-use std::fmt;
+use thiserror::Error;
 
 /// Why a book is not closed. The first that holds is told.
-#[derive(Clone, Copy, Debug, Drop, PartialEq, Eq)]
+#[derive(Error, Clone, Copy, Debug, Drop, PartialEq, Eq)]
 pub enum CloseError {
     /// The seats are not those of all numbers, each once.
+    #[error("a seat is missing, or there twice")]
     MissingSeat,
     /// A seat's receipts are not the history's lines of its number at their places, or a line has another seat's number. A
     /// seat of another node, too.
+    #[error("a receipt is absent")]
     ReceiptAbsent,
 }
-
-// The sentence that tells it.
-fn sentence(error: CloseError) -> &'static str {
-    match error {
-        CloseError::MissingSeat => "a seat is missing, or there twice",
-        CloseError::ReceiptAbsent => "a receipt is absent",
-    }
-}
-
-impl fmt::Display for CloseError {
-    fn fmt<W: fmt::Write>(&self, f: &mut fmt::Formatter<W>) -> fmt::Result {
-        f.write_str(sentence(*self))
-    }
-}
-
-impl Error for CloseError {}
 
 /// A node with its whole history.
 #[derive(Drop)]

@@ -5,20 +5,23 @@ ghost use Rattle.dist_epmd.specs.declared.epmd_error.EpmdError.TheVariants.{NoMe
 ghost use Rattle.dist_epmd.specs.Answering.{error_name};
 
 use std::alloc::{AllocError, AllocFailed};
-use std::error::Error;
-use std::fmt;
+use thiserror::Error;
 
 /// Why bytes are no message, or a message has no bytes: the first that holds in this order.
-#[derive(Clone, Copy, Debug, PartialEq, Eq)]
+#[derive(Clone, Copy, Debug, PartialEq, Eq, Error)]
 pub enum EpmdError {
     /// Reading: the first byte is none of those that may stand there, so the sender is to blame. Writing: a request of more
     /// than 65,535 bytes, an answer with a name or extra of more, or `Port(Err(0))`, so the caller is.
+    #[error("no such message, or one that is too long")]
     Malformed,
     /// The bytes end inside a field, or there are none. The sender is to blame, or not all of them came yet.
+    #[error("the message ends inside a field")]
     Short,
     /// Bytes stand after the last field. The sender is to blame.
+    #[error("bytes stand after the last field")]
     Trailing,
     /// No memory was left for a message that has none of the other faults.
+    #[error("out of memory")]
     NoMemory,
 }
 
@@ -35,24 +38,6 @@ impl EpmdError {
         }
     }
 }
-
-// The sentence that tells it.
-fn sentence(error: EpmdError) -> &'static str {
-    match error {
-        EpmdError::Malformed => "no such message, or one that is too long",
-        EpmdError::Short => "the message ends inside a field",
-        EpmdError::Trailing => "bytes stand after the last field",
-        EpmdError::NoMemory => "out of memory",
-    }
-}
-
-impl fmt::Display for EpmdError {
-    fn fmt<W: fmt::Write>(&self, f: &mut fmt::Formatter<W>) -> fmt::Result {
-        f.write_str(sentence(*self))
-    }
-}
-
-impl Error for EpmdError {}
 
 impl From<AllocError> for EpmdError {
     ghost from_gives = { λ _ error. error ≡ NoMemory };

@@ -7,30 +7,37 @@ ghost use Rattle.dist_mapper.specs.declared.lookup_error.LookupError.TheVariants
 use crate::refusals::lookup_error;
 use dist_streams::TurnError;
 use std::alloc::AllocError;
-use std::error::Error;
-use std::fmt;
+use thiserror::Error;
 
 /// Why a call over a stream gave no answer: the first reason in this order.
 ///
 /// What was written and read before it stands, so the stream may be inside a message: it is of no use for another call,
 /// unless nothing was written and nothing read. The marks of the stream say which fault it had.
-#[derive(Clone, Copy, Debug, PartialEq, Eq)]
+#[derive(Clone, Copy, Debug, PartialEq, Eq, Error)]
 pub enum LookupError {
     /// The port mapper knows no node of this name.
+    #[error("no node of this name is registered")]
     NotThere,
     /// The peer's bytes spell no message, the own request doesn't fit a frame, or the mapper's answer has no bytes.
+    #[error("no message, or one that is too long")]
     Malformed,
     /// The carrier's fault.
+    #[error("a read failed")]
     ReadFailed,
     /// The carrier's fault. A write that took no bytes is one.
+    #[error("a write failed")]
     WriteFailed,
     /// The peer closed the stream too early.
+    #[error("the stream ended inside a message")]
     Ended,
     /// The caller may try again.
+    #[error("out of memory")]
     NoMemory,
     /// As many reads and writes were made as were allowed.
+    #[error("all turns are used up")]
     Limit,
     /// The port mapper refused the registration, with this result.
+    #[error("the registration was refused")]
     Refused(u8),
 }
 
@@ -51,28 +58,6 @@ impl LookupError {
         }
     }
 }
-
-// The sentence that tells it.
-fn sentence(error: LookupError) -> &'static str {
-    match error {
-        LookupError::NotThere => "no node of this name is registered",
-        LookupError::Malformed => "no message, or one that is too long",
-        LookupError::ReadFailed => "a read failed",
-        LookupError::WriteFailed => "a write failed",
-        LookupError::Ended => "the stream ended inside a message",
-        LookupError::NoMemory => "out of memory",
-        LookupError::Limit => "all turns are used up",
-        LookupError::Refused(_) => "the registration was refused",
-    }
-}
-
-impl fmt::Display for LookupError {
-    fn fmt<W: fmt::Write>(&self, f: &mut fmt::Formatter<W>) -> fmt::Result {
-        f.write_str(sentence(*self))
-    }
-}
-
-impl Error for LookupError {}
 
 impl From<AllocError> for LookupError {
     ghost from_gives = { λ _ error. error ≡ NoMemory };

@@ -2,15 +2,16 @@
 ghost use Rattle.std.specs.Prelude.{◌≡◌};
 ghost use Rattle.dist_world.specs.Words.{refusal_name};
 
-use std::error::Error;
-use std::fmt;
+use thiserror::Error;
 
 /// Why a list of setups makes no world: the first that holds is told, in this order.
-#[derive(Clone, Copy, Debug)]
+#[derive(Clone, Copy, Debug, PartialEq, Eq, Error)]
 pub enum WorldError {
     /// Two of the setups have one name. The caller's fault.
+    #[error("two nodes have one name")]
     SameName,
     /// Nothing else stood against it, and no memory was left.
+    #[error("out of memory")]
     NoMemory,
 }
 
@@ -25,19 +26,3 @@ impl WorldError {
         }
     }
 }
-
-// The sentence that tells it.
-fn sentence(error: WorldError) -> &'static str {
-    match error {
-        WorldError::SameName => "two nodes have one name",
-        WorldError::NoMemory => "out of memory",
-    }
-}
-
-impl fmt::Display for WorldError {
-    fn fmt<W: fmt::Write>(&self, f: &mut fmt::Formatter<W>) -> fmt::Result {
-        f.write_str(sentence(*self))
-    }
-}
-
-impl Error for WorldError {}
