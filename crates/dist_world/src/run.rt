@@ -7,23 +7,15 @@ ghost use Rattle.dist_agreement.specs.Run.{run, count_applied};
 use crate::scene::Scene;
 use dist_agreement::Happening;
 use std::alloc::Global;
-use std::error::Error;
-use std::fmt;
+use thiserror::Error;
 
 /// A run was cut off by want of memory: the world stands after the first `done` happenings of the list.
-#[derive(Clone, Copy, Debug)]
+#[derive(Clone, Copy, Debug, PartialEq, Eq, Error)]
+#[error("out of memory")]
 pub struct Stopped {
     /// How many happenings of the list were let happen, whether they applied or not: fewer than it has.
     pub done: usize,
 }
-
-impl fmt::Display for Stopped {
-    fn fmt<W: fmt::Write>(&self, f: &mut fmt::Formatter<W>) -> fmt::Result {
-        f.write_str("out of memory")
-    }
-}
-
-impl Error for Stopped {}
 
 fn one_if(applies: bool) -> usize
     ensures { result ≡ one_if applies }

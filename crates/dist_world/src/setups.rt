@@ -11,16 +11,17 @@ use dist_names::{NodeName, order_of_names};
 use std::alloc::{AllocError, Global};
 use std::collections::BTreeMap;
 
+fn is_of(setup: &Setup, name: &NodeName) -> bool
+    ensures { result ≡ same_name setup.now.name name.now }
+{
+    setup.name.is_same(name)
+}
+
 // One of the setups has this name.
 fn is_named(setups: &[Setup], name: &NodeName) -> bool
     ensures { result ≡ is_named setups.now name.now }
 {
-    for setup in setups {
-        if setup.name.is_same(name) {
-            return true;
-        }
-    }
-    false
+    setups.iter().any(|setup| is_of(setup, name))
 }
 
 // What the types of its parts say of a setup.
