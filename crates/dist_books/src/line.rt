@@ -6,7 +6,7 @@ use dist_core::{Event, Reply};
 use std::alloc::{AllocError, Global};
 
 /// One step in the history of a node.
-#[derive(Debug, Drop)]
+#[derive(Drop)]
 pub struct Line {
     /// Its number among the steps of all nodes that share their tickets.
     pub ticket: u64,
@@ -21,7 +21,7 @@ pub struct Line {
 }
 
 /// What a seat keeps of a step of its own.
-#[derive(Debug, Drop)]
+#[derive(Drop)]
 pub struct Receipt {
     /// Which line of the history it is, counted from 0.
     pub at_: usize,

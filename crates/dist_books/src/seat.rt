@@ -9,7 +9,7 @@ use std::marker::Model;
 /// One caller's place at a node, with the receipts of its steps in order. A node's seats are made by `fresh_seats`, and
 /// `close` wants all of them back. There is room for one receipt more, except where the last one is of a loss: so that a loss
 /// takes no memory.
-#[derive(Debug, Drop)]
+#[derive(Drop)]
 pub struct Seat {
     number: u32,
     receipts: Vec<Receipt>,
