@@ -11,7 +11,7 @@ use dist_peers::EndId;
 /// A `node` is a node's place in the list of setups, a `conn` a connection's number (from 0, in the order in which they were
 /// made), an `end_` the number of an end of the node's running incarnation. A number that names nothing makes a happening
 /// not apply, and one that does not apply changes nothing. After 2^62 that applied, none applies any more.
-#[derive(Debug, Drop)]
+#[derive(Drop)]
 pub enum Happening {
     /// The node, which does not run, begins anew with this creation, and no ends. The setup's own creation is not used, and
     /// one may be used again. A world has at most 1,048,576 begins.

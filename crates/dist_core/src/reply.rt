@@ -5,7 +5,7 @@ use dist_names::{ByteString, NodeName};
 use dist_peers::EndId;
 
 /// What else a step did.
-#[derive(Debug, Drop, PartialEq, Eq)]
+#[derive(Drop, PartialEq, Eq)]
 pub enum Note {
     /// Nothing that is noted.
     Nothing,
@@ -21,7 +21,7 @@ pub enum Note {
 }
 
 /// What a step answers.
-#[derive(Debug, Drop)]
+#[derive(Drop)]
 pub struct Reply {
     /// The event's end, or the one that was given out.
     pub end_: EndId,

@@ -1,13 +1,13 @@
 //! Short frames: a body of at most 65,535 bytes behind its length in 2 bytes, the greater byte first. The length does
 //! not count itself.
 
-ghost use Rattle.std.specs.Prelude.{◌≡◌, ◌↔◌, ◌<◌, ◌≤◌, ◌^◌, length, option_copied, IfOk, OnOk, IsErrOf};
+ghost use Rattle.std.specs.Prelude.{◌≡◌, ◌↔◌, ◌≤◌, ◌^◌, length, option_copied, IfOk, IsErrOf};
 ghost use Rattle.std.specs.Int.{w16};
 ghost use Rattle.dist_frames.specs.Stream.{framed, first_body};
 ghost use Rattle.dist_frames.specs.Kept.{frame_len};
 
 use crate::frame_error::FrameError;
-use std::alloc::{AllocError, Global};
+use std::alloc::Global;
 
 /// The longest body, by its field of 2 bytes.
 const MOST: usize = 65535;
@@ -35,21 +35,10 @@ pub fn awaited_body(pending: &[u8], awaited: usize) -> Option<&[u8]>
     Some(&pending[2..awaited])
 }
 
-// Puts the length of a body before it.
-fn put_length(body: &mut Vec<u8>) -> Result<(), AllocError>
-    // Longer bodies are refused before.
-    requires { length body.old.items < 2 ^ 16 }
-    ensures { OnOk result (body.new.items ≡ framed w16 body.old.items) }
-{
-    let [high, low] = (body.len() as u16).to_be_bytes();
-    body.insert(0, low)?;
-    body.insert(0, high)?;
-    Ok(())
-}
-
 /// The frame of a body, made where the body lies: it takes no memory where that has room for two bytes more.
 ///
 /// Refused as `TooLong` above 65,535 bytes, then `NoMemory`.
+#[tactic(auto, using(crate::proofs::Turning::turned))]
 pub fn into_short(mut body: Vec<u8>) -> Result<Vec<u8>, FrameError>
     ensures ok { IfOk result (λ frame. frame.items ≡ framed w16 body.items) }
     ensures too_long { IsErrOf result FrameError.TooLong ↔ (2 ^ 16 ≤ length body.items) }
@@ -57,7 +46,9 @@ pub fn into_short(mut body: Vec<u8>) -> Result<Vec<u8>, FrameError>
     if body.len() > MOST {
         return Err(FrameError::TooLong);
     }
-    put_length(&mut body)?;
+    let header = (body.len() as u16).to_be_bytes();
+    body.extend_from_slice(&header)?;
+    body.rotate_right(2);
     Ok(body)
 }
 
@@ -71,8 +62,7 @@ pub fn write_short(alloc: Global, body: &[u8]) -> Result<Vec<u8>, FrameError>
     if body.len() > MOST {
         return Err(FrameError::TooLong);
     }
-    let mut frame = Vec::with_capacity(alloc, body.len() + 2)?;
-    frame.extend_from_slice(&(body.len() as u16).to_be_bytes())?;
-    frame.extend_from_slice(body)?;
-    Ok(frame)
+    let mut copy = Vec::with_capacity(alloc, body.len() + 2)?;
+    copy.extend_from_slice(body)?;
+    into_short(copy)
 }

@@ -4,3 +4,4 @@ pub mod Bodies
 pub mod Messages
 pub mod Refusals
 pub mod Writings
+pub mod Putting

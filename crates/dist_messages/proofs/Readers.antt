@@ -2,13 +2,13 @@
 use Rattle.std.proofs.Common.{◌≡◌, ℕ, ◌-◌, ◌<◌, ◌≤◌, false, cond, ltb, eqb, List, [], ◌∷◌, ◌++◌, length, take, drop, replicate, Option, Some, None, Result, Ok, Err, refl, sym, ap, ◌∙◌, append_assoc, arith, inl, inr, ◌⊎◌}
 use Rattle.std.specs.Int.{w16, w32, w64, from_be_bytes}
 use Rattle.std.proofs.lemmas.Bool.{cases_lt, le-ltb, lt-ltb, ne_eqb}
-use Rattle.std.proofs.lemmas.List.{take_at, drop_at, take-append-drop, length-append, length-take-le, length-replicate, get_or-replicate, get_or_append_left, get_or-append_right, get_or_past}
+use Rattle.std.proofs.lemmas.List.{take_at, drop_at, take-append-drop, length-append, length-take-le, length-replicate, get_or-replicate, get_or_past}
 use Rattle.dist_messages.specs.declared.message.Message.{Message}
 use Rattle.dist_messages.specs.declared.message.Message.TheVariants as message
 use Rattle.dist_messages.specs.declared.message_error.MessageError.{MessageError}
 use Rattle.dist_messages.specs.declared.message_error.MessageError.TheVariants.{Short, Long}
 use Rattle.dist_names.specs.Bytes.{IsBytes}
-use Rattle.dist_names.proofs.Bytes.{IsBytes-append, IsBytes-front}
+use Rattle.dist_names.proofs.Bytes.{IsBytes-append}
 use Rattle.dist_messages.specs.Reading.{◌>>=◌, number_at, bytes_at, ended, old_name, new_name, old_challenge, new_challenge, complement, reply, ack}
 
 -- ---- bytes

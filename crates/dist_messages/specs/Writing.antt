@@ -1,11 +1,14 @@
 -- Which body is written for a message, and why there is none, in the words of the layouts.
-use Rattle.std.specs.Prelude.{◌≡◌, ℕ, ◌+◌, ◌<◌, ◌≤◌, List, [], length, take, drop}
+use Rattle.std.specs.Prelude.{◌≡◌, ℕ, ◌+◌, ◌<◌, ◌≤◌, List, [], length, take, drop, Result, Ok, Err}
 use Rattle.std.specs.Int.{w16, to_be_bytes}
 use Rattle.dist_messages.specs.declared.message.Side.{Side}
 use Rattle.dist_messages.specs.declared.message.Status.{Status}
 use Rattle.dist_messages.specs.declared.message.Message.{Message}
 use Rattle.dist_messages.specs.declared.message.Message.TheVariants as message
-use Rattle.dist_messages.specs.Canonical.{written_version}
+use Rattle.dist_names.specs.Answer.{RefusedBut}
+use Rattle.dist_messages.specs.declared.message_error.MessageError.{MessageError}
+use Rattle.dist_messages.specs.Answer.{is_want}
+use Rattle.dist_messages.specs.Canonical.{canonical, written_version}
 use Rattle.dist_messages.specs.Spelling.{Spells}
 
 -- the name that a message has, and no bytes where it has none
@@ -15,6 +18,11 @@ name_in (message.NewName flags creation name) = name
 name_in (message.OldChallenge flags challenge name) = name
 name_in (message.NewChallenge flags challenge creation name) = name
 name_in _ = []
+
+-- What a check before writing answered: the message is written as its spelling and has a short name, or it is refused so.
+abbrev pub Checked : Message → Result (Unit {0}) MessageError → Result (List ℕ) MessageError → Type 0
+Checked m (Ok _) answer = (answer ≡ Ok (canonical m)) × (length (name_in m) ≤ 255)
+Checked m (Err error) answer = RefusedBut (is_want error) error answer
 
 -- the same message with a name of no bytes
 abbrev pub nameless : Message → Message

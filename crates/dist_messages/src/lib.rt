@@ -3,12 +3,14 @@
 //! It reads and writes bodies alone: no length before them, no name's form, no state of a connection, no input or output.
 #![tactic(auto)]
 
+mod checking;
 mod fields;
 mod form;
 mod laws;
 mod message;
 mod message_error;
 mod opening;
+mod pieces;
 mod reading;
 mod reading_named;
 mod status;

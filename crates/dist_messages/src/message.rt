@@ -35,7 +35,7 @@ pub enum Status {
 ///
 /// The first byte is the tag. In the tables each field has its number of bytes; `..` goes on to the end of the body. Numbers
 /// are big-endian. A name is any bytes here, at most 255 where it is written; whether it is a node's name is asked later.
-#[derive(Debug, Drop, PartialEq, Eq)]
+#[derive(Drop)]
 pub enum Message {
     /// The dialling side's name in the form of protocol version 5 (`send_name`).
     ///

@@ -20,8 +20,8 @@ fn read_complement(bytes: &[u8]) -> Result<Message, MessageError>
     ensures exact { Answers (λ m. m) result (complement bytes.now) }
     ensures memory { ¬ (IsErrOf result MessageError.NoMemory) }
 {
-    let (high, rest) = u32_at(bytes).ok_or(MessageError::Short)?;
-    let (creation, behind) = u32_at(rest).ok_or(MessageError::Short)?;
+    let (high, rest) = u32_at(bytes)?;
+    let (creation, behind) = u32_at(rest)?;
     if !behind.is_empty() {
         return Err(MessageError::Long);
     }
@@ -36,8 +36,8 @@ fn read_reply(bytes: &[u8]) -> Result<Message, MessageError>
     ensures exact { Answers (λ m. m) result (reply bytes.now) }
     ensures memory { ¬ (IsErrOf result MessageError.NoMemory) }
 {
-    let (challenge, rest) = u32_at(bytes).ok_or(MessageError::Short)?;
-    let (digest, behind) = digest_at(rest).ok_or(MessageError::Short)?;
+    let (challenge, rest) = u32_at(bytes)?;
+    let (digest, behind) = digest_at(rest)?;
     if !behind.is_empty() {
         return Err(MessageError::Long);
     }
@@ -49,7 +49,7 @@ fn read_ack(bytes: &[u8]) -> Result<Message, MessageError>
     ensures exact { Answers (λ m. m) result (ack bytes.now) }
     ensures memory { ¬ (IsErrOf result MessageError.NoMemory) }
 {
-    let (digest, behind) = digest_at(bytes).ok_or(MessageError::Short)?;
+    let (digest, behind) = digest_at(bytes)?;
     if !behind.is_empty() {
         return Err(MessageError::Long);
     }

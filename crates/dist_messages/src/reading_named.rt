@@ -14,8 +14,8 @@ use std::alloc::Global;
 pub fn read_old_name(alloc: Global, bytes: &[u8]) -> Result<Message, MessageError>
     ensures { Answers (λ m. m) result (old_name bytes.now) }
 {
-    let (_version, rest) = u16_at(bytes).ok_or(MessageError::Short)?;
-    let (flags, name) = u32_at(rest).ok_or(MessageError::Short)?;
+    let (_version, rest) = u16_at(bytes)?;
+    let (flags, name) = u32_at(rest)?;
     let name = ByteString::from_slice(alloc, name)?;
     Ok(Message::OldName { flags, name })
 }
@@ -24,10 +24,10 @@ pub fn read_old_name(alloc: Global, bytes: &[u8]) -> Result<Message, MessageErro
 pub fn read_new_name(alloc: Global, bytes: &[u8]) -> Result<Message, MessageError>
     ensures { Answers (λ m. m) result (new_name bytes.now) }
 {
-    let (flags, rest) = u64_at(bytes).ok_or(MessageError::Short)?;
-    let (creation, rest) = u32_at(rest).ok_or(MessageError::Short)?;
-    let (len, rest) = u16_at(rest).ok_or(MessageError::Short)?;
-    let (name, _ignored) = bytes_of_len(len as usize, rest).ok_or(MessageError::Short)?;
+    let (flags, rest) = u64_at(bytes)?;
+    let (creation, rest) = u32_at(rest)?;
+    let (len, rest) = u16_at(rest)?;
+    let (name, _ignored) = bytes_of_len(len as usize, rest)?;
     let name = ByteString::from_slice(alloc, name)?;
     Ok(Message::NewName {
         flags: Flags(flags),
@@ -40,9 +40,9 @@ pub fn read_new_name(alloc: Global, bytes: &[u8]) -> Result<Message, MessageErro
 pub fn read_old_challenge(alloc: Global, bytes: &[u8]) -> Result<Message, MessageError>
     ensures { Answers (λ m. m) result (old_challenge bytes.now) }
 {
-    let (_version, rest) = u16_at(bytes).ok_or(MessageError::Short)?;
-    let (flags, rest) = u32_at(rest).ok_or(MessageError::Short)?;
-    let (challenge, name) = u32_at(rest).ok_or(MessageError::Short)?;
+    let (_version, rest) = u16_at(bytes)?;
+    let (flags, rest) = u32_at(rest)?;
+    let (challenge, name) = u32_at(rest)?;
     let name = ByteString::from_slice(alloc, name)?;
     Ok(Message::OldChallenge {
         flags,
@@ -55,11 +55,11 @@ pub fn read_old_challenge(alloc: Global, bytes: &[u8]) -> Result<Message, Messag
 pub fn read_new_challenge(alloc: Global, bytes: &[u8]) -> Result<Message, MessageError>
     ensures { Answers (λ m. m) result (new_challenge bytes.now) }
 {
-    let (flags, rest) = u64_at(bytes).ok_or(MessageError::Short)?;
-    let (challenge, rest) = u32_at(rest).ok_or(MessageError::Short)?;
-    let (creation, rest) = u32_at(rest).ok_or(MessageError::Short)?;
-    let (length, rest) = u16_at(rest).ok_or(MessageError::Short)?;
-    let (name, _ignored) = bytes_of_len(length as usize, rest).ok_or(MessageError::Short)?;
+    let (flags, rest) = u64_at(bytes)?;
+    let (challenge, rest) = u32_at(rest)?;
+    let (creation, rest) = u32_at(rest)?;
+    let (length, rest) = u16_at(rest)?;
+    let (name, _ignored) = bytes_of_len(length as usize, rest)?;
     let name = ByteString::from_slice(alloc, name)?;
     Ok(Message::NewChallenge {
         flags: Flags(flags),

@@ -1,103 +1,112 @@
 //! Writing a message: the one body that each has.
 
-ghost use Rattle.std.specs.Prelude.{◌≡◌, ◌∷◌, IfOk};
-ghost use Rattle.dist_messages.specs.declared.message.Side.TheVariants.{Dialler, Acceptor};
+ghost use Rattle.std.specs.Prelude.{◌≡◌, ◌∷◌, ◌≤◌, ◌++◌, length, IfOk, OnOk};
 ghost use Rattle.dist_messages.specs.declared.message.Message.TheVariants as message;
 ghost use Rattle.dist_messages.specs.Answer.{Answers};
 ghost use Rattle.dist_messages.specs.Canonical.{canonical, written};
+ghost use Rattle.dist_messages.specs.Writing.{name_in};
 
-use crate::message::{Message, Side, Status};
+use crate::checking::check;
+use crate::message::{Message, Side};
 use crate::message_error::MessageError;
-use crate::writing_named::{new_challenge, new_name, old_challenge, old_name};
+use crate::pieces::put_32;
+use crate::writing_named::{put_new_challenge, put_new_name, put_old_challenge, put_old_name};
 use dist_names::Creation;
 use std::alloc::{AllocError, Global};
 
-fn complement(alloc: Global, high: u32, creation: Creation) -> Result<Vec<u8>, AllocError>
-    ensures { IfOk result (λ v. v.items ≡ canonical (message.Complement high creation)) }
+/// The most bytes that a body has beside its name: a reply has so many.
+const MOST_BESIDE_NAME: usize = 21;
+
+/// The bytes of the length that a frame puts before the body, for which there is to be room.
+const LENGTH_OF_FRAME: usize = 2;
+
+fn put_complement(body: &mut Vec<u8>, high: u32, creation: Creation) -> Result<(), AllocError>
+    ensures { OnOk result (body.new.items ≡ body.old.items ++ canonical (message.Complement high creation)) }
 {
-    let mut body = Vec::with_capacity(alloc, 9)?;
     body.push(b'c')?;
-    body.extend_from_slice(&high.to_be_bytes())?;
-    body.extend_from_slice(&creation.0.to_be_bytes())?;
-    Ok(body)
+    put_32(body, high)?;
+    put_32(body, creation.0)
 }
 
-fn reply(alloc: Global, challenge: u32, digest: &[u8]) -> Result<Vec<u8>, AllocError>
-    ensures { IfOk result (λ v. v.items ≡ canonical (message.Reply challenge digest.now)) }
+fn put_reply(body: &mut Vec<u8>, challenge: u32, digest: &[u8]) -> Result<(), AllocError>
+    ensures { OnOk result (body.new.items ≡ body.old.items ++ canonical (message.Reply challenge digest.now)) }
 {
-    let mut body = Vec::with_capacity(alloc, 21)?;
     body.push(b'r')?;
-    body.extend_from_slice(&challenge.to_be_bytes())?;
-    body.extend_from_slice(digest)?;
-    Ok(body)
+    put_32(body, challenge)?;
+    body.extend_from_slice(digest)
 }
 
-fn tagged(alloc: Global, tag: u8, text: &[u8]) -> Result<Vec<u8>, AllocError>
-    ensures { IfOk result (λ v. v.items ≡ tag ∷ text.now) }
+fn put_tagged(body: &mut Vec<u8>, tag: u8, text: &[u8]) -> Result<(), AllocError>
+    ensures { OnOk result (body.new.items ≡ body.old.items ++ tag ∷ text.now) }
 {
-    let mut body = Vec::with_capacity(alloc, text.len().saturating_add(1))?;
     body.push(tag)?;
-    body.extend_from_slice(text)?;
-    Ok(body)
+    body.extend_from_slice(text)
 }
 
-fn status_body(alloc: Global, side: Side, status: Status) -> Result<Vec<u8>, MessageError>
-    ensures { Answers (λ v. v.items) result (written side (message.Status status)) }
-{
-    if !status.is_said_by(side) {
-        return Err(MessageError::UnknownStatus);
-    }
-    Ok(tagged(alloc, b's', status.text())?)
-}
-
-fn diallers_body(alloc: Global, message: &Message) -> Result<Vec<u8>, MessageError>
-    ensures { Answers (λ v. v.items) result (written Dialler message.now) }
+fn put_message(body: &mut Vec<u8>, message: &Message) -> Result<(), AllocError>
+    // A message is checked before it is written.
+    requires { length (name_in message.now) ≤ 255 }
+    ensures { OnOk result (body.new.items ≡ body.old.items ++ canonical message.now) }
 {
     match message {
-        Message::OldName { flags, name } => old_name(alloc, *flags, name.as_slice()),
+        Message::OldName { flags, name } => put_old_name(body, *flags, name.as_slice()),
         Message::NewName {
             flags,
             creation,
             name,
-        } => new_name(alloc, *flags, *creation, name.as_slice()),
-        Message::Status(status) => status_body(alloc, Side::Dialler, *status),
-        Message::Complement { high, creation } => Ok(complement(alloc, *high, *creation)?),
-        Message::Reply { challenge, digest } => Ok(reply(alloc, *challenge, digest)?),
-        _ => Err(MessageError::UnknownTag),
-    }
-}
-
-fn acceptors_body(alloc: Global, message: &Message) -> Result<Vec<u8>, MessageError>
-    ensures { Answers (λ v. v.items) result (written Acceptor message.now) }
-{
-    match message {
-        Message::Status(status) => status_body(alloc, Side::Acceptor, *status),
+        } => put_new_name(body, *flags, *creation, name.as_slice()),
+        Message::Status(status) => put_tagged(body, b's', status.text()),
         Message::OldChallenge {
             flags,
             challenge,
             name,
-        } => old_challenge(alloc, *flags, *challenge, name.as_slice()),
+        } => put_old_challenge(body, *flags, *challenge, name.as_slice()),
         Message::NewChallenge {
             flags,
             challenge,
             creation,
             name,
-        } => new_challenge(alloc, *flags, *challenge, *creation, name.as_slice()),
-        Message::Ack { digest } => Ok(tagged(alloc, b'a', digest)?),
-        _ => Err(MessageError::UnknownTag),
+        } => put_new_challenge(body, *flags, *challenge, *creation, name.as_slice()),
+        Message::Complement { high, creation } => put_complement(body, *high, *creation),
+        Message::Reply { challenge, digest } => put_reply(body, *challenge, digest),
+        Message::Ack { digest } => put_tagged(body, b'a', digest),
     }
+}
+
+// The name that a message has, and no bytes where it has none.
+fn name_in(message: &Message) -> &[u8]
+    ensures { result.now ≡ name_in message.now }
+{
+    match message {
+        Message::OldName { name, .. } => name.as_slice(),
+        Message::NewName { name, .. } => name.as_slice(),
+        Message::OldChallenge { name, .. } => name.as_slice(),
+        Message::NewChallenge { name, .. } => name.as_slice(),
+        _ => &[],
+    }
+}
+
+// The body of a message, in memory that is asked for once, with room for the length of a frame.
+fn body_of(alloc: Global, message: &Message) -> Result<Vec<u8>, AllocError>
+    // A message is checked before it is written.
+    requires { length (name_in message.now) ≤ 255 }
+    ensures { IfOk result (λ v. v.items ≡ canonical message.now) }
+{
+    let room = MOST_BESIDE_NAME + name_in(message).len() + LENGTH_OF_FRAME;
+    let mut body = Vec::with_capacity(alloc, room)?;
+    put_message(&mut body, message)?;
+    Ok(body)
 }
 
 /// The one body that is written for a message of this side: version 5 in the old forms, no bytes after a name.
 ///
 /// Refusals, in this order: `UnknownTag` (a message of the other side), `BadName` (a name of more than 255 bytes),
 /// `UnknownStatus` (a status of the other side), `NoMemory`. What is written, and when each of the first three comes, stands in
-/// the words of the layouts in [`causes_of_writing`](crate::causes_of_writing).
+/// the words of the layouts in [`causes_of_writing`](crate::causes_of_writing). The body has room for the length that its frame
+/// puts before it.
 pub fn encode(alloc: Global, side: Side, message: &Message) -> Result<Vec<u8>, MessageError>
     ensures exact { Answers (λ v. v.items) result (written side message.now) }
 {
-    match side {
-        Side::Dialler => diallers_body(alloc, message),
-        Side::Acceptor => acceptors_body(alloc, message),
-    }
+    check(side, message)?;
+    Ok(body_of(alloc, message)?)
 }

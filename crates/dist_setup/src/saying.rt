@@ -4,7 +4,7 @@ ghost use Rattle.dist_setup.specs.Saying.{frame_of, CanBeSaid, status_text, name
 
 use crate::checks::{announced_by, opens_new, own_digest};
 use crate::setup::Setup;
-use dist_frames::{FrameError, write_short};
+use dist_frames::{FrameError, into_short};
 use dist_messages::{Form, Message, MessageError, Side, Status, encode};
 use dist_names::{ByteString, NodeName};
 use std::alloc::{AllocError, Global};
@@ -20,7 +20,7 @@ fn frame(alloc: Global, side: Side, message: &Message) -> Result<ByteString, All
         Err(MessageError::NoMemory) => return Err(AllocError),
         Err(_) => unreachable!(),
     };
-    match write_short(alloc, &body) {
+    match into_short(body) {
         Ok(frame) => Ok(ByteString::from_vec(frame)),
         Err(FrameError::NoMemory) => Err(AllocError),
         Err(FrameError::TooLong) => unreachable!(),

@@ -1,0 +1,25 @@
+-- A body is the pieces that were put one behind the other, and a name is checked for each message that has it.
+use Rattle.std.proofs.Common.{◌≡◌, ℕ, List, ◌++◌, Result, Ok, Err, cond, sym, ap, subst, ◌∙◌, append_assoc}
+use Rattle.std.specs.Prelude.{OnOk, is_ok}
+use Rattle.dist_messages.specs.declared.message.Message.{Message}
+use Rattle.dist_messages.specs.declared.message_error.MessageError.{MessageError}
+use Rattle.dist_messages.specs.Canonical.{bounded}
+use Rattle.dist_messages.specs.Writing.{Checked, name_in}
+
+-- a piece behind those that are there
+pub more : (old front piece body next : List ℕ) → body ≡ old ++ front → next ≡ body ++ piece → next ≡ old ++ (front ++ piece)
+more old front piece body next e f = f ∙ ap (λ (x : List ℕ). x ++ piece) e ∙ append_assoc old front piece
+
+-- the last piece, which may find no memory
+pub last : {X E : Type 0} (r : Result X E) (old front piece body next : List ℕ) → body ≡ old ++ front → OnOk r (next ≡ body ++ piece) → OnOk r (next ≡ old ++ (front ++ piece))
+last (Ok x) old front piece body next e f = more old front piece body next e f
+last (Err x) old front piece body next e f = tt
+
+-- the same of the bytes of a slice
+pub last_slice : {X E : Type 0} (r : Result X E) (old front piece body next : List ℕ) → body ≡ old ++ front → next ≡ cond (is_ok r) (body ++ piece) body → OnOk r (next ≡ old ++ (front ++ piece))
+last_slice (Ok x) old front piece body next e f = more old front piece body next e f
+last_slice (Err x) old front piece body next e f = tt
+
+-- what the check of a name says of the message that has it
+pub named : (m : Message) (bytes : List ℕ) (r : Result (Unit {0}) MessageError) → bytes ≡ name_in m → ((n : Message) → name_in n ≡ bytes → Checked n r (bounded bytes n)) → Checked m r (bounded (name_in m) m)
+named m bytes r e h = subst (λ (b : List ℕ). Checked m r (bounded b m)) e (h m (sym e))

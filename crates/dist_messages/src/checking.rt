@@ -1,0 +1,66 @@
+//! Whether a side writes a message: it has one of that kind, with a name of at most 255 bytes.
+
+ghost use Rattle.std.specs.Prelude.{◌≡◌};
+ghost use Rattle.dist_messages.specs.declared.message.Side.TheVariants.{Dialler, Acceptor};
+ghost use Rattle.dist_messages.specs.declared.message.Message.{Message};
+ghost use Rattle.dist_messages.specs.declared.message.Message.TheVariants as message;
+ghost use Rattle.dist_messages.specs.Canonical.{written, bounded};
+ghost use Rattle.dist_messages.specs.Writing.{Checked, name_in};
+
+use crate::message::{Message, Side, Status};
+use crate::message_error::MessageError;
+
+const LONGEST_NAME: usize = 255;
+
+fn check_name(name: &[u8]) -> Result<(), MessageError>
+    ensures { (m : Message) → name_in m ≡ name.now → Checked m result (bounded name.now m) }
+{
+    if name.len() > LONGEST_NAME {
+        return Err(MessageError::BadName);
+    }
+    Ok(())
+}
+
+fn check_status(side: Side, status: Status) -> Result<(), MessageError>
+    ensures { Checked (message.Status status) result (written side (message.Status status)) }
+{
+    if !status.is_said_by(side) {
+        return Err(MessageError::UnknownStatus);
+    }
+    Ok(())
+}
+
+fn check_diallers(message: &Message) -> Result<(), MessageError>
+    ensures { Checked message.now result (written Dialler message.now) }
+{
+    match message {
+        Message::OldName { name, .. } => check_name(name.as_slice()),
+        Message::NewName { name, .. } => check_name(name.as_slice()),
+        Message::Status(status) => check_status(Side::Dialler, *status),
+        Message::Complement { .. } => Ok(()),
+        Message::Reply { .. } => Ok(()),
+        _ => Err(MessageError::UnknownTag),
+    }
+}
+
+fn check_acceptors(message: &Message) -> Result<(), MessageError>
+    ensures { Checked message.now result (written Acceptor message.now) }
+{
+    match message {
+        Message::Status(status) => check_status(Side::Acceptor, *status),
+        Message::OldChallenge { name, .. } => check_name(name.as_slice()),
+        Message::NewChallenge { name, .. } => check_name(name.as_slice()),
+        Message::Ack { .. } => Ok(()),
+        _ => Err(MessageError::UnknownTag),
+    }
+}
+
+/// The first reason for which this side does not write the message, if there is one.
+pub fn check(side: Side, message: &Message) -> Result<(), MessageError>
+    ensures { Checked message.now result (written side message.now) }
+{
+    match side {
+        Side::Dialler => check_diallers(message),
+        Side::Acceptor => check_acceptors(message),
+    }
+}
