@@ -1,12 +1,8 @@
 -- What is found of two nodes that count each other as up.
 use Rattle.std.proofs.Common.{◌≡◌, ◌≢◌, ℕ, Option, Some, None, slice_get, refl, ap, sym, ◌∙◌}
-use Rattle.std.specs.Option.{option_map}
-use Rattle.dist_names.specs.Order.{Name}
-use Rattle.dist_peers.specs.declared.entry.EndId.{EndId}
 use Rattle.dist_ends.specs.declared.known.UpRecord.{UpRecord}
 use Rattle.dist_ends.specs.declared.known.End.TheVariants as ends
 use Rattle.dist_setup.specs.declared.setup.Setup.{Setup}
-use Rattle.dist_ends.specs.Ends.{FindsUp}
 use Rattle.dist_agreement.specs.Rows.{EndRow}
 use Rattle.dist_agreement.specs.World.{World, Life, running}
 use Rattle.dist_agreement.specs.Happenings.{conn_of}

@@ -1,9 +1,8 @@
 -- What the calls that make one happening answer.
-use Rattle.std.specs.Prelude.{◌≡◌, ℕ, Bool, true, false, not, ◌&&◌, Option, Some, None, is_some, Result, Ok, Err}
+use Rattle.std.specs.Prelude.{◌≡◌, Bool, true, false, Option, Some, None, is_some, Result, Ok, Err}
 use Rattle.std.specs.declared.alloc.AllocError.{AllocError}
-use Rattle.dist_agreement.specs.World.{World, Life, row_of_life, end_of_life}
-use Rattle.dist_ends.specs.Ends.{is_dialing}
-use Rattle.dist_agreement.specs.Happenings.{conn_of, ticked_on}
+use Rattle.dist_agreement.specs.World.{World}
+use Rattle.dist_agreement.specs.Happenings.{ticked_on}
 
 -- THE HAPPENING was made, did not apply, or wants memory, and then nothing changed
 abbrev pub Did : Result Bool AllocError → Option World → World → World → Type 0

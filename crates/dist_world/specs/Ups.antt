@@ -1,13 +1,7 @@
 -- Which nodes count each other as up.
-use Rattle.std.specs.Prelude.{◌≡◌, ◌≢◌, ℕ, List, Option, Some, None, slice_get}
-use Rattle.std.specs.Option.{option_map}
-use Rattle.dist_names.specs.Order.{Name}
-use Rattle.dist_peers.specs.declared.entry.EndId.{EndId}
+use Rattle.std.specs.Prelude.{◌≡◌, ◌≢◌, ℕ, Option, Some, None}
 use Rattle.dist_ends.specs.declared.known.UpRecord.{UpRecord}
-use Rattle.dist_ends.specs.Ends.{IsUpWith}
-use Rattle.dist_agreement.specs.Rows.{EndRow}
-use Rattle.dist_agreement.specs.World.{World, Life}
-use Rattle.dist_agreement.specs.Happenings.{conn_of}
+use Rattle.dist_agreement.specs.World.{World}
 use Rattle.dist_names.specs.Flags.{common}
 use Rattle.dist_setup.specs.declared.setup.Setup.{Setup}
 use Rattle.dist_setup.specs.Rules.{announced_in}
