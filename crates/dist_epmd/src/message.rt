@@ -148,7 +148,7 @@ pub enum Answer {
 }
 
 /// Which request an answer is awaited for. The answer's first byte does not tell: an answer to `Names` has none.
-#[derive(Clone, Copy)]
+#[derive(Clone, Copy, PartialEq, Eq)]
 pub enum Asked {
     /// A registration.
     Alive,

@@ -11,7 +11,7 @@ use std::str;
 
 /// The name of a node, as `a@127.0.0.1`: 3 to 255 bytes, each from 0x21 to 0x7E, one `@` among them, and neither part
 /// empty. Contracts see it as its bytes, and whoever holds one need not test it again.
-#[derive(Drop)]
+#[derive(Debug, Drop)]
 pub struct NodeName {
     text: String,
 }

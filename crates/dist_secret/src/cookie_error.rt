@@ -5,24 +5,28 @@ ghost use Rattle.dist_secret.specs.declared.cookie_error.CookieError.TheVariants
 ghost use Rattle.dist_secret.specs.Answer.{error_name};
 
 use std::alloc::AllocError;
-use std::error::Error;
-use std::fmt;
+use thiserror::Error;
 
 /// Why there is no cookie. Nothing is kept of the bytes.
 ///
 /// Where several of these hold, the first of this order is told (our own choice): a read that failed, a text that is too
 /// long, no byte of a cookie, a cookie that is too long, a byte that may not follow, want of memory.
-#[derive(Clone, Copy, Debug, PartialEq, Eq)]
+#[derive(Clone, Copy, Debug, PartialEq, Eq, Error)]
 pub enum CookieError {
     /// The text has no byte, or its first is not from 0x20 to 0x7E. The text is to blame.
+    #[error("no byte of a cookie stands at the front")]
     Empty,
     /// Behind the cookie stands a byte other than a line feed, a carriage return or a space. The text is to blame.
+    #[error("a byte that may not follow stands behind the cookie")]
     BadByte,
     /// The text has more than 4,096 bytes, or its cookie more than 255. The text is to blame.
+    #[error("the text or the cookie is too long")]
     TooLong,
     /// The reader failed, in whatever way, an interrupted read among them. What it had given is dropped, and it is not read again.
+    #[error("a read failed")]
     ReadFailed,
     /// The text has a cookie, and no memory was left to keep it.
+    #[error("out of memory")]
     NoMemory,
 }
 
@@ -40,25 +44,6 @@ impl CookieError {
         }
     }
 }
-
-// The sentence that tells it.
-fn sentence(error: CookieError) -> &'static str {
-    match error {
-        CookieError::Empty => "no byte of a cookie stands at the front",
-        CookieError::BadByte => "a byte that may not follow stands behind the cookie",
-        CookieError::TooLong => "the text or the cookie is too long",
-        CookieError::ReadFailed => "a read failed",
-        CookieError::NoMemory => "out of memory",
-    }
-}
-
-impl fmt::Display for CookieError {
-    fn fmt<W: fmt::Write>(&self, f: &mut fmt::Formatter<W>) -> fmt::Result {
-        f.write_str(sentence(*self))
-    }
-}
-
-impl Error for CookieError {}
 
 impl From<AllocError> for CookieError {
     ghost from_gives = { λ _ error. error ≡ NoMemory };
