@@ -11,7 +11,7 @@ use dist_peers::EndId;
 
 /// What a node is told. A `link` is a number by which whoever carries a connection knows it; the node keeps none. Our own
 /// choice: an Erlang node has a process for each connection, and messages between them, in place of events.
-#[derive(Drop, PartialEq, Eq)]
+#[derive(Debug, Drop, PartialEq, Eq)]
 pub enum Event {
     /// The node is to connect to this peer. A new end is given out.
     Dial { peer: NodeName, opening: Opening },

@@ -5,7 +5,7 @@ use dist_names::{ByteString, NodeName};
 use dist_peers::EndId;
 
 /// What else a step did.
-#[derive(Drop, PartialEq, Eq)]
+#[derive(Debug, Drop, PartialEq, Eq)]
 pub enum Note {
     /// Nothing that is noted.
     Nothing,
@@ -21,7 +21,7 @@ pub enum Note {
 }
 
 /// What a step answers.
-#[derive(Drop)]
+#[derive(Debug, Drop)]
 pub struct Reply {
     /// The event's end, or the one that was given out.
     pub end_: EndId,

@@ -25,7 +25,7 @@ pub struct Attempt {
 }
 
 /// What is known of an end that came up.
-#[derive(Drop, PartialEq, Eq)]
+#[derive(Debug, Drop, PartialEq, Eq)]
 pub struct UpRecord {
     /// The other node's name.
     pub peer: NodeName,

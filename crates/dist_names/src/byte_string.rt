@@ -9,7 +9,7 @@ use std::marker::Model;
 /// A row of bytes as it came or as it is sent: a name that nobody has checked, a text, the body of a frame.
 ///
 /// Contracts see it as the list of its bytes, so that values that hold one are compared by what they say.
-#[derive(Drop)]
+#[derive(Debug, Drop)]
 pub struct ByteString {
     bytes: Vec<u8>,
 }
