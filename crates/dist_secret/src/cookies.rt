@@ -1,8 +1,6 @@
 //! Cookies by peer.
 
 ghost use Rattle.std.specs.Prelude.{◌≡◌, ◌↔◌, [], OnOk, IfOk, IsTrue, length};
-ghost use Rattle.std.specs.BTreeMap.{insert_entry};
-ghost use Rattle.dist_names.specs.Order.{name_cmp};
 ghost use Rattle.dist_secret.specs.Cookies.{cookie_for, is_full_for, OthersKeep, Sets};
 
 use crate::cookie::Cookie;
@@ -32,23 +30,6 @@ impl Model for Cookies {
     ghost view = { λ c. record { usual = c.usual; own = c.own.entries } };
 }
 
-// Adds a copy of this name and its cookie.
-fn add_copy(
-    alloc: Global,
-    copy: &mut BTreeMap<NodeName, Cookie>,
-    name: &NodeName,
-    cookie: &Cookie,
-) -> Result<(), AllocError>
-    ensures { OnOk result (copy.new.entries ≡ insert_entry name_cmp copy.old.entries name.now cookie.now) }
-{
-    let name = name.try_clone(alloc)?;
-    let cookie = cookie.try_clone(alloc)?;
-    match copy.insert(name, cookie) {
-        Ok(_) => Ok(()),
-        Err(_) => Err(AllocError),
-    }
-}
-
 // The same cookies by name.
 fn copied(
     alloc: Global,
@@ -59,7 +40,11 @@ fn copied(
     let mut copy = BTreeMap::new(alloc);
     for row in cookies.iter() {
         let (name, cookie) = row;
-        add_copy(alloc, &mut copy, name, cookie)?;
+        let name = name.try_clone(alloc)?;
+        let cookie = cookie.try_clone(alloc)?;
+        if copy.insert(name, cookie).is_err() {
+            return Err(AllocError);
+        }
     }
     Ok(copy)
 }
