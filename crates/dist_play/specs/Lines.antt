@@ -105,18 +105,6 @@ closed_line node id why = codes "closed " ++ decimal node ++ codes " " ++ decima
 abbrev pub applied_line : ℕ → ℕ → List ℕ
 applied_line k m = codes "applied " ++ decimal k ++ codes " of " ++ decimal m ++ codes "\n"
 
--- a part of the next line: agree NAME NAME conn
-abbrev pub agree_names : Name → Name → List ℕ
-agree_names a b = concat (codes "agree " ∷ a ∷ codes " " ∷ b ∷ codes " conn " ∷ [])
-
--- a part of the next line: C common COMMON creations
-abbrev pub agree_link : Agreement → List ℕ
-agree_link g = concat (decimal g.conn ∷ codes " common " ∷ flags_text g.common ∷ codes " creations " ∷ [])
-
--- a part of the next line: X Y
-abbrev pub agree_creations : Agreement → List ℕ
-agree_creations g = concat (creation_text g.creation_a ∷ codes " " ∷ creation_text g.creation_b ∷ codes "\n" ∷ [])
-
 -- agree NAME NAME conn C common COMMON creations X Y
 abbrev pub agree_line : Name → Name → Agreement → List ℕ
 agree_line a b g = concat (codes "agree " ∷ a ∷ codes " " ∷ b ∷ codes " conn " ∷ decimal g.conn ∷ codes " common " ∷ flags_text g.common ∷ codes " creations " ∷ creation_text g.creation_a ∷ codes " " ∷ creation_text g.creation_b ∷ codes "\n" ∷ [])

@@ -10,7 +10,7 @@ ghost use Rattle.dist_names.specs.Order.{Name, name_cmp, same_name};
 ghost use Rattle.dist_ends.specs.Ends.{table_of};
 ghost use Rattle.dist_world.specs.declared.agreement.Agreement.{Agreement as Found};
 ghost use Rattle.dist_play.specs.Worlds.{IsTold, told_line, pair_line, PutsAgreements};
-ghost use Rattle.dist_play.specs.Later.{ArePlaces, behind, later_at, is_this, AreLater, HasAllFrom, IsRowFrom};
+ghost use Rattle.dist_play.specs.Later.{ArePlaces, later_at, is_this, AreLater, HasAllFrom, IsRowFrom};
 
 use crate::print;
 use dist_core::{Node, Setup};
@@ -52,13 +52,6 @@ fn places(alloc: Global, setups: &[Setup]) -> Result<BTreeMap<NodeName, usize>, 
     Ok(places)
 }
 
-// The other place, where it is behind this one.
-fn behind(place: usize, other: usize) -> Option<usize>
-    ensures { result ≡ behind place (Some other) }
-{
-    if place < other { Some(other) } else { None }
-}
-
 // The place of the peer in this row of the node's table, where it is behind this one.
 fn later_in_row(
     node: &Node,
@@ -69,7 +62,8 @@ fn later_in_row(
     ensures { result ≡ later_at places.now place node.now row }
 {
     let (peer, _) = node.entry_at(row)?;
-    behind(place, *places.get(peer)?)
+    let other = *places.get(peer)?;
+    if place < other { Some(other) } else { None }
 }
 
 fn add(later: &mut BTreeSet<usize>, other: Option<usize>) -> Result<(), AllocError>
@@ -170,27 +164,7 @@ fn print_agreements_of<W: Write>(
     ensures { OnOk result ((text : List ℕ) × IsRowFrom world.now place (suc place) text × Appends (W.contents out.old) (W.contents out.new) text) }
 {
     let later = later_ones(alloc, world, place, places)?;
-    match print_later(world, place, later, out) {
-        Ok(()) => Ok(()),
-        Err(_) => Err(ScriptFault::WriteFailed),
-    }
-}
-
-// What each node and each one behind it have in common.
-fn print_all<W: Write>(
-    alloc: Global,
-    world: &World,
-    places: &BTreeMap<NodeName, usize>,
-    out: &mut W,
-) -> Result<(), ScriptFault>
-    requires { ArePlaces places.now world.now.setups (length world.now.setups) }
-    ensures { OnOk result (PutsAgreements world.now (W.contents out.old) (W.contents out.new)) }
-{
-    let setups = world.setups();
-    for place in 0..setups.len() {
-        print_agreements_of(alloc, world, place, places, out)?;
-    }
-    Ok(())
+    print_later(world, place, later, out).map_err(|_| ScriptFault::WriteFailed)
 }
 
 /// What each two nodes have in common that are up with one another, the lesser place first, in order. Only who stands in a
@@ -202,6 +176,10 @@ pub fn print_agreements<W: Write>(
 ) -> Result<(), ScriptFault>
     ensures { OnOk result (PutsAgreements world.now (W.contents out.old) (W.contents out.new)) }
 {
-    let places = places(alloc, world.setups())?;
-    print_all(alloc, world, &places, out)
+    let setups = world.setups();
+    let places = places(alloc, setups)?;
+    for place in 0..setups.len() {
+        print_agreements_of(alloc, world, place, &places, out)?;
+    }
+    Ok(())
 }

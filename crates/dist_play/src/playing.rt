@@ -4,7 +4,6 @@ ghost use Rattle.std.specs.Prelude.{◌≤◌};
 
 use crate::scene::Scene;
 use crate::stage;
-use dist_core::Setup;
 use dist_script::{Line, Script, script_of};
 use dist_words::{ScriptFault, read_text, written};
 use std::alloc::Global;
@@ -23,19 +22,11 @@ fn tell_all<W: Write>(
     scene.print_table(out)
 }
 
-fn tell_node<W: Write>(
-    alloc: Global,
-    node: Setup,
-    lines: &[Line],
-    out: &mut W,
-) -> Result<(), ScriptFault> {
-    let mut scene = Scene::new(alloc, node);
-    tell_all(alloc, &mut scene, lines, out)
-}
-
 fn play<W: Write>(alloc: Global, script: Script, out: &mut W) -> Result<(), ScriptFault> {
     match script {
-        Script::Events { node, lines } => tell_node(alloc, node, &lines, out),
+        Script::Events { node, lines } => {
+            tell_all(alloc, &mut Scene::new(alloc, node), &lines, out)
+        }
         Script::Happenings { nodes, lines } => stage::play(alloc, nodes, &lines, out),
     }
 }
@@ -50,18 +41,13 @@ fn print<W: Write>(alloc: Global, script: Script, out: &mut W) -> Result<(), Scr
     played.and(flushed)
 }
 
-// The script that the input is.
-fn read_script<R: Read>(alloc: Global, input: &mut R) -> Result<Script, ScriptFault> {
-    let text = read_text(alloc, input)?;
-    script_of(alloc, &text)
-}
-
 fn perform<R: Read, W: Write>(
     alloc: Global,
     input: &mut R,
     out: &mut W,
 ) -> Result<(), ScriptFault> {
-    let script = read_script(alloc, input)?;
+    let text = read_text(alloc, input)?;
+    let script = script_of(alloc, &text)?;
     print(alloc, script, out)
 }
 

@@ -7,7 +7,7 @@ ghost use Rattle.dist_peers.specs.Table.{up_id};
 ghost use Rattle.dist_ends.specs.Ends.{table_of};
 ghost use Rattle.dist_ends.specs.Words.{why_word};
 ghost use Rattle.dist_words.specs.Texts.{text_of};
-ghost use Rattle.dist_play.specs.Lines.{creation_text, said_text, closed_text, up_text, reply_line, entry_text, record_at, record_text, row_text, rows_text, found_text, table_text, node_text, closed_line, applied_line, skipped_line, agree_names, agree_link, agree_creations, agree_line};
+ghost use Rattle.dist_play.specs.Lines.{creation_text, said_text, closed_text, up_text, reply_line, entry_text, record_at, record_text, row_text, found_text, table_text, node_text, closed_line, applied_line, skipped_line, agree_line};
 
 use dist_core::{Node, Reply, StepError, UpRecord, Why};
 use dist_names::{Creation, NodeName};
@@ -225,25 +225,18 @@ fn row_at<W: Write>(out: &mut W, node: &Node, place: usize) -> io::Result<()>
     }
 }
 
-// The rows of the table, in name order.
-#[tactic(auto, using(crate::proofs::Printing::nothing))]
-fn rows<W: Write>(out: &mut W, node: &Node) -> io::Result<()>
-    ensures { OnOk result (Appends (W.contents out.old) (W.contents out.new) (rows_text node.now (map.entries (table_of node.now.ends)))) }
-{
-    for place in 0..node.entries() {
-        row_at(out, node, place)?;
-    }
-    Ok(())
-}
-
 /// The table of the node's peers in name order, or that it has none.
+#[tactic(auto, using(crate::proofs::Printing::nothing))]
 pub(crate) fn table<W: Write>(out: &mut W, node: &Node) -> io::Result<()>
     ensures { OnOk result (Appends (W.contents out.old) (W.contents out.new) (table_text node.now)) }
 {
     if node.entries() == 0 {
         return out.write_all(b"no peers\n");
     }
-    rows(out, node)
+    for place in 0..node.entries() {
+        row_at(out, node, place)?;
+    }
+    Ok(())
 }
 
 /// The end of a node that a happening closed, and why.
@@ -314,9 +307,14 @@ pub fn node<W: Write>(out: &mut W, name: &NodeName, incarnation: Option<&Node>) 
     }
 }
 
-// The names of two nodes, up to the word before their connection.
-fn agree_names<'n, W: Write>(out: &mut W, a: &'n NodeName, b: &'n NodeName) -> io::Result<()>
-    ensures { OnOk result (Appends (W.contents out.old) (W.contents out.new) (agree_names a.now b.now)) }
+/// What two nodes have in common that are up with one another.
+pub(crate) fn agreement<'n, W: Write>(
+    out: &mut W,
+    a: &'n NodeName,
+    b: &'n NodeName,
+    found: &Agreement,
+) -> io::Result<()>
+    ensures { OnOk result (Appends (W.contents out.old) (W.contents out.new) (agree_line a.now b.now found.now)) }
 {
     put(
         out,
@@ -326,50 +324,14 @@ fn agree_names<'n, W: Write>(out: &mut W, a: &'n NodeName, b: &'n NodeName) -> i
             Piece::Text(b" "),
             Piece::Text(b.bytes()),
             Piece::Text(b" conn "),
-        ],
-    )
-}
-
-// The connection of two nodes and its flags, up to the word before the creations.
-fn agree_link<W: Write>(out: &mut W, found: &Agreement) -> io::Result<()>
-    ensures { OnOk result (Appends (W.contents out.old) (W.contents out.new) (agree_link found.now)) }
-{
-    put(
-        out,
-        &[
             Piece::Number(found.conn as u64),
             Piece::Text(b" common "),
             Piece::Flags(found.common),
             Piece::Text(b" creations "),
-        ],
-    )
-}
-
-// The creations of two nodes, and the end of the line.
-fn agree_creations<W: Write>(out: &mut W, found: &Agreement) -> io::Result<()>
-    ensures { OnOk result (Appends (W.contents out.old) (W.contents out.new) (agree_creations found.now)) }
-{
-    put(
-        out,
-        &[
             creation(found.creation_a),
             Piece::Text(b" "),
             creation(found.creation_b),
             Piece::Text(b"\n"),
         ],
     )
-}
-
-/// What two nodes have in common that are up with one another.
-pub(crate) fn agreement<W: Write>(
-    out: &mut W,
-    a: &NodeName,
-    b: &NodeName,
-    found: &Agreement,
-) -> io::Result<()>
-    ensures { OnOk result (Appends (W.contents out.old) (W.contents out.new) (agree_line a.now b.now found.now)) }
-{
-    agree_names(out, a, b)?;
-    agree_link(out, found)?;
-    agree_creations(out, found)
 }

@@ -51,8 +51,7 @@ fn next_body(reader: &mut Frames) -> Result<Option<ByteString>, ScriptFault>
     ensures { IfOk result (λ body. MatchOption body (to_come reader.new ≡ []) (λ b. to_come reader.old ≡ b ∷ to_come reader.new)) }
 {
     match reader.next_short() {
-        Ok(Some(body)) => Ok(Some(ByteString::from_vec(body))),
-        Ok(None) => Ok(None),
+        Ok(body) => Ok(body.map(ByteString::from_vec)),
         Err(_) => Err(ScriptFault::NoMemory),
     }
 }
@@ -182,22 +181,10 @@ impl Scene {
         let mut any = false;
         while let Some(body) = next_body(reader)? {
             any = true;
-            let told = self.hear_frame(alloc, end_, body, fresh, out)?;
+            let event = Event::Frame { end_, body };
+            let told = self.step(alloc, &event, fresh, out)?;
             goes_on(alloc, reader, end_, told);
         }
         Ok(any)
-    }
-
-    // Tells the node a frame.
-    fn hear_frame<W: Write>(
-        &mut self,
-        alloc: Global,
-        end_: EndId,
-        body: ByteString,
-        fresh: u32,
-        out: &mut W,
-    ) -> Result<Option<Told>, ScriptFault> {
-        let event = Event::Frame { end_, body };
-        self.step(alloc, &event, fresh, out)
     }
 }

@@ -10,8 +10,8 @@ use dist_core::Setup;
 use dist_words::{ScriptFault, written};
 use dist_world::{Happening, World, WorldError};
 use std::alloc::Global;
+use std::io;
 use std::io::Write;
-use std::{io, slice};
 
 fn world_of(alloc: Global, nodes: Vec<Setup>) -> Result<World, ScriptFault> {
     match World::new(alloc, nodes) {
@@ -33,10 +33,10 @@ fn print_closed<W: Write>(world: &World, out: &mut W) -> Result<(), ScriptFault>
 fn happen<W: Write>(
     alloc: Global,
     world: &mut World,
-    happening: &Happening,
+    happening: &[Happening],
     out: &mut W,
 ) -> Result<usize, ScriptFault> {
-    let Ok(applied) = world.run(alloc, slice::from_ref(happening)) else {
+    let Ok(applied) = world.run(alloc, happening) else {
         return Err(ScriptFault::NoMemory);
     };
     if applied > 0 {
@@ -53,7 +53,7 @@ fn happen_all<W: Write>(
     out: &mut W,
 ) -> Result<usize, ScriptFault> {
     let mut applied = 0usize;
-    for happening in happenings {
+    for happening in happenings.chunks(1) {
         applied = applied.saturating_add(happen(alloc, world, happening, out)?);
     }
     Ok(applied)
@@ -75,10 +75,7 @@ fn nodes<W: Write>(world: &World, out: &mut W) -> io::Result<()>
 pub fn print_nodes<W: Write>(world: &World, out: &mut W) -> Result<(), ScriptFault>
     ensures { OnOk result (Appends (W.contents out.old) (W.contents out.new) (nodes_text world.now)) }
 {
-    match nodes(world, out) {
-        Ok(()) => Ok(()),
-        Err(_) => Err(ScriptFault::WriteFailed),
-    }
+    nodes(world, out).map_err(|_| ScriptFault::WriteFailed)
 }
 
 // How many happenings applied, and how the world stands.
@@ -94,17 +91,6 @@ fn print_end<W: Write>(
     print_agreements(alloc, world, out)
 }
 
-// Lets all this happen, and prints what comes of it.
-fn show<W: Write>(
-    alloc: Global,
-    world: &mut World,
-    happenings: &[Happening],
-    out: &mut W,
-) -> Result<(), ScriptFault> {
-    let applied = happen_all(alloc, world, happenings, out)?;
-    print_end(alloc, world, applied, happenings.len(), out)
-}
-
 /// Lets what a script says happen, and prints at once which end each happening closes; at the end how many applied, how
 /// each node stands, and what each two that are up with one another have in common.
 ///
@@ -117,5 +103,6 @@ pub fn play<W: Write>(
     out: &mut W,
 ) -> Result<(), ScriptFault> {
     let mut world = world_of(alloc, nodes)?;
-    show(alloc, &mut world, happenings, out)
+    let applied = happen_all(alloc, &mut world, happenings, out)?;
+    print_end(alloc, &world, applied, happenings.len(), out)
 }

@@ -1,6 +1,6 @@
 use Rattle.std.proofs.Common.{length, ap, arith}
 use Rattle.dist_play.proofs.Pairing.{pairs_go_on, pairs_end}
-use Rattle.dist_play.proofs.agreements.print_all.Goals as goal
+use Rattle.dist_play.proofs.agreements.print_agreements.Goals as goal
 
 pub loop-place-preserved : goal.loop-place-preserved
 loop-place-preserved g c =

@@ -3,7 +3,7 @@ use Rattle.std.specs.Io.KnownBytes.{Appends}
 use Rattle.std.specs.FinMap as map
 use Rattle.dist_ends.specs.Ends.{table_of}
 use Rattle.dist_play.specs.Lines.{rows_text}
-use Rattle.dist_play.proofs.print.rows.Given as goal
+use Rattle.dist_play.proofs.print.table.Given as goal
 
 -- the lines of the rows that were looked at stand there
 abbrev pub invariant-loop-place : goal.invariant-loop-place

@@ -1,5 +1,5 @@
 use Rattle.dist_play.proofs.Pairing.{PairsSoFar}
-use Rattle.dist_play.proofs.agreements.print_all.Given as goal
+use Rattle.dist_play.proofs.agreements.print_agreements.Given as goal
 
 -- the pairs of those before are told
 abbrev pub invariant-loop-place : goal.invariant-loop-place
