@@ -20,6 +20,10 @@ const MOST_BESIDE_NAME: usize = 21;
 /// The bytes of the length that a frame puts before the body, for which there is to be room.
 const LENGTH_OF_FRAME: usize = 2;
 
+/// The least room that a body is given, in which another finds place behind a short one: a greeting's challenge stands behind its
+/// status.
+const LEAST_ROOM: usize = 64;
+
 fn put_complement(body: &mut Vec<u8>, high: u32, creation: Creation) -> Result<(), AllocError>
     ensures { OnOk result (body.new.items ≡ body.old.items ++ canonical (message.Complement high creation)) }
 {
@@ -93,7 +97,7 @@ fn body_of(alloc: Global, message: &Message) -> Result<Vec<u8>, AllocError>
     ensures { IfOk result (λ v. v.items ≡ canonical message.now) }
 {
     let room = MOST_BESIDE_NAME + name_in(message).len() + LENGTH_OF_FRAME;
-    let mut body = Vec::with_capacity(alloc, room)?;
+    let mut body = Vec::with_capacity(alloc, room.max(LEAST_ROOM))?;
     put_message(&mut body, message)?;
     Ok(body)
 }
