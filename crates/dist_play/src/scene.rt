@@ -3,10 +3,10 @@
 ghost use Rattle.std.specs.Prelude.{◌≡◌, ◌≤◌, [], ◌∷◌, length, IfOk, MatchOption};
 ghost use Rattle.dist_frames.specs.Reader.{to_come};
 
-use crate::print;
 use crate::readers::Readers;
 use dist_core::{Event, Node, Reply, Setup, StepError, Still};
 use dist_frames::Frames;
+use dist_lines::print;
 use dist_names::ByteString;
 use dist_peers::EndId;
 use dist_script::Line;

@@ -1,16 +1,10 @@
 //! A world of nodes that a script tells what happens.
 
-ghost use Rattle.std.specs.Prelude.{OnOk};
-ghost use Rattle.std.specs.Io.KnownBytes.{Appends};
-ghost use Rattle.dist_play.specs.Worlds.{nodes_text};
-
-use crate::agreements::print_agreements;
-use crate::print;
 use dist_core::Setup;
+use dist_lines::{print, print_agreements, print_nodes};
 use dist_words::{ScriptFault, written};
 use dist_world::{Happening, World, WorldError};
 use std::alloc::Global;
-use std::io;
 use std::io::Write;
 
 fn world_of(alloc: Global, nodes: Vec<Setup>) -> Result<World, ScriptFault> {
@@ -57,25 +51,6 @@ fn happen_all<W: Write>(
         applied = applied.saturating_add(happen(alloc, world, happening, out)?);
     }
     Ok(applied)
-}
-
-#[tactic(auto, using(crate::proofs::Printing::nothing))]
-fn nodes<W: Write>(world: &World, out: &mut W) -> io::Result<()>
-    ensures { OnOk result (Appends (W.contents out.old) (W.contents out.new) (nodes_text world.now)) }
-{
-    let setups = world.setups();
-    for place in 0..setups.len() {
-        let incarnation = world.node(place);
-        print::node(out, &setups[place].name, incarnation)?;
-    }
-    Ok(())
-}
-
-/// How each node of a world stands, in the order of their places.
-pub fn print_nodes<W: Write>(world: &World, out: &mut W) -> Result<(), ScriptFault>
-    ensures { OnOk result (Appends (W.contents out.old) (W.contents out.new) (nodes_text world.now)) }
-{
-    nodes(world, out).map_err(|_| ScriptFault::WriteFailed)
 }
 
 // How many happenings applied, and how the world stands.

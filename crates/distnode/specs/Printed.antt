@@ -19,8 +19,8 @@ use Rattle.dist_hosts.specs.Setups.{AreOfPlans}
 use Rattle.dist_hosts.specs.Words.{order_refusal_name}
 use Rattle.dist_hosts.specs.declared.order_fault.OrderFault.{OrderFault}
 use Rattle.dist_run.specs.Runs.{AreInOrder}
-use Rattle.dist_play.specs.Lines.{node_text}
-use Rattle.dist_play.specs.Worlds.{nodes_text, AreAgreements}
+use Rattle.dist_lines.specs.Lines.{node_text}
+use Rattle.dist_lines.specs.Worlds.{nodes_text, AreAgreements}
 
 -- a text of which this is so is written behind what stood
 abbrev pub Puts : (List ℕ → Type 0) → Option (List ℕ) → Option (List ℕ) → Type 0

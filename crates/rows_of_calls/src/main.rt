@@ -1,6 +1,6 @@
 //! Plays rows of bytes: what comes of names, cookies and their digests, frames, packets and handshake messages, and over
 //! streams in memory what a registry, a client or the codec of the port mapper makes of them, and what a probe makes of the bytes of
-//! a node and says to it. The rows are files in the folder that the program runs in.
+//! a node and says to it; and rows of scripts, with what they print. The rows are files in the folder that the program runs in.
 //!
 //! What the rows expect is typed from the ERTS User's Guide (EPMD Protocol, Distribution Protocol), from captured handshakes,
 //! from other programs (digests) and from the rules of `docs/PROTOCOL.md`. Each file is played with its bytes in one piece
@@ -8,6 +8,7 @@
 #![tactic(auto)]
 
 mod asked;
+mod carriers;
 mod cookies;
 mod digits;
 mod frames;
@@ -18,6 +19,7 @@ mod readers;
 mod reading;
 mod refusals;
 mod rows;
+mod scripts;
 mod served;
 mod streams;
 mod talks;
@@ -53,7 +55,10 @@ fn main(rt: HostRuntime) -> ExitCode {
             return ExitCode::FAILURE;
         }
     }
-    ExitCode::SUCCESS
+    match scripts::play_files(&rt) {
+        Ok(()) => ExitCode::SUCCESS,
+        Err(_) => ExitCode::FAILURE,
+    }
 }
 
 fn is_file_so(rt: &HostRuntime, name: &str, subject: Subject) -> io::Result<bool> {

@@ -1,5 +1,5 @@
 //! A run that want of memory cuts off.
-use dist_play::{print_agreements, print_nodes};
+use dist_lines::{print_agreements, print_nodes};
 use dist_script::{Script, script_of};
 use dist_world::{Happening, Stopped, World};
 use std::alloc::Global;
