@@ -16,6 +16,9 @@ use Rattle.dist_ends.specs.Ends.{table_of, record_in}
 use Rattle.dist_ends.specs.Words.{why_word}
 use Rattle.dist_core.specs.Node.{NodeState}
 use Rattle.dist_core.specs.declared.reply.Reply.{Reply}
+use Rattle.dist_core.specs.declared.step_error.StepError.{StepError}
+use Rattle.dist_core.specs.declared.step_error.StepError.TheVariants as refusal
+use Rattle.dist_core.specs.Words.{refusal_name}
 use Rattle.dist_words.specs.Texts.{flags_text}
 use Rattle.dist_world.specs.declared.agreement.Agreement.{Agreement}
 
@@ -44,6 +47,27 @@ up_text (Some r) = concat (codes " up " ∷ r.peer ∷ codes " " ∷ flags_text 
 -- A REPLY: end END say HEX closed END WHY up PEER COMMON CREATION
 abbrev pub reply_line : Reply → List ℕ
 reply_line r = (codes "end " ++ decimal (let id = r.end_ in id.0) ++ codes " say " ++ said_text r.say) ++ closed_text r.closed ++ up_text r.up
+
+-- the entry of a peer that is not idle: Out END, In END, Up END, Challenged END END
+abbrev pub busy_text : Entry → List ℕ
+busy_text (entry.Out x) = codes " Out " ++ decimal x.0
+busy_text (entry.In x) = codes " In " ++ decimal x.0
+busy_text (entry.Up x) = codes " Up " ++ decimal x.0
+busy_text (entry.Challenged up x) = codes " Challenged " ++ decimal up.0 ++ codes " " ++ decimal x.0
+
+-- what stands behind the name of a refusal: the entry, or the cause for which the end is closed
+abbrev pub detail_text : StepError → List ℕ
+detail_text refusal.NoSuchEnd = []
+detail_text (refusal.Gone why) = codes " " ++ why_word why
+detail_text refusal.WrongPhase = []
+detail_text (refusal.Busy e) = busy_text e
+detail_text refusal.Spent = []
+detail_text refusal.Full = []
+detail_text refusal.NoMemory = []
+
+-- A REFUSAL: refused NAME, and what stands behind the name
+abbrev pub refused_line : StepError → List ℕ
+refused_line e = (codes "refused " ++ refusal_name e) ++ detail_text e ++ codes "\n"
 
 -- skipped K
 abbrev pub skipped_line : ℕ → List ℕ

@@ -6,8 +6,9 @@ ghost use Rattle.std.specs.Io.KnownBytes.{Appends};
 ghost use Rattle.dist_peers.specs.Table.{up_id};
 ghost use Rattle.dist_ends.specs.Ends.{table_of};
 ghost use Rattle.dist_ends.specs.Words.{why_word};
+ghost use Rattle.dist_core.specs.Words.{refusal_name};
 ghost use Rattle.dist_words.specs.Texts.{text_of};
-ghost use Rattle.dist_lines.specs.Lines.{creation_text, said_text, closed_text, up_text, reply_line, entry_text, record_at, record_text, row_text, found_text, table_text, node_text, closed_line, applied_line, skipped_line, agree_line};
+ghost use Rattle.dist_lines.specs.Lines.{creation_text, said_text, closed_text, up_text, reply_line, busy_text, detail_text, refused_line, entry_text, record_at, record_text, row_text, found_text, table_text, node_text, closed_line, applied_line, skipped_line, agree_line};
 
 use dist_core::{Node, Reply, StepError, UpRecord, Why};
 use dist_names::{Creation, NodeName};
@@ -132,7 +133,9 @@ fn ends_behind<W: Write>(
     )
 }
 
-fn busy<W: Write>(out: &mut W, entry: Entry) -> io::Result<()> {
+fn busy<W: Write>(out: &mut W, entry: Entry) -> io::Result<()>
+    ensures { OnOk result (Appends (W.contents out.old) (W.contents out.new) (busy_text entry)) }
+{
     match entry {
         Entry::Out(id) => end_behind(out, b" Out ", id),
         Entry::In(id) => end_behind(out, b" In ", id),
@@ -141,15 +144,35 @@ fn busy<W: Write>(out: &mut W, entry: Entry) -> io::Result<()> {
     }
 }
 
-/// Why a step was refused.
-pub fn refused<W: Write>(out: &mut W, error: StepError) -> io::Result<()> {
-    let name = Piece::Text(error.name().as_bytes());
-    put(out, &[Piece::Text(b"refused "), name])?;
+fn refusal(error: StepError) -> Piece<'static>
+    ensures { text_of result ≡ refusal_name error }
+{
+    Piece::Text(error.name().as_bytes())
+}
+
+// What stands behind the name of a refusal.
+#[tactic(auto, using(crate::proofs::Printing::nothing))]
+fn detail<W: Write>(out: &mut W, error: StepError) -> io::Result<()>
+    ensures { OnOk result (Appends (W.contents out.old) (W.contents out.new) (detail_text error)) }
+{
     match error {
-        StepError::Busy(entry) => busy(out, entry)?,
-        StepError::Gone(why) => put(out, &[Piece::Text(b" "), why_name(why)])?,
-        _ => {}
+        StepError::Busy(entry) => busy(out, entry),
+        StepError::Gone(why) => put(out, &[Piece::Text(b" "), why_name(why)]),
+        StepError::NoSuchEnd
+        | StepError::WrongPhase
+        | StepError::Spent
+        | StepError::Full
+        | StepError::NoMemory => Ok(()),
     }
+}
+
+/// Why a step was refused.
+#[tactic(auto, using(crate::proofs::Printing::in_three))]
+pub fn refused<W: Write>(out: &mut W, error: StepError) -> io::Result<()>
+    ensures { OnOk result (Appends (W.contents out.old) (W.contents out.new) (refused_line error)) }
+{
+    put(out, &[Piece::Text(b"refused "), refusal(error)])?;
+    detail(out, error)?;
     out.write_all(b"\n")
 }
 
