@@ -1,3 +1,4 @@
+/* SPDX-License-Identifier: Apache-2.0 */
 /* distnode.h: the handshake of Erlang's distribution protocol, for a caller that owns its sockets, its clock and its
  * random numbers. docs/C_LIBRARY.md has the order of calls, and examples/c/join.c a whole program.
  *
@@ -28,8 +29,9 @@
 #include <stdint.h>
 
 #define DN_VERSION_MAJOR 0
-#define DN_VERSION_MINOR 1
-#define DN_VERSION "0.1"
+#define DN_VERSION_MINOR 2
+#define DN_VERSION_PATCH 0
+#define DN_VERSION "0.2.0"
 
 #ifdef __cplusplus
 extern "C" {
@@ -57,8 +59,8 @@ typedef enum dn_code {
     DN_GONE = 11,           /* the end is closed */
     DN_WRONG_PHASE = 12,    /* the end is open, and takes no such event now */
     DN_BUSY = 13,           /* a dial to a peer that has an end */
-    DN_SPENT = 14,          /* the node has made its 1,048,576 steps; a loss is still taken */
-    DN_FULL = 15,           /* 1,024 peers have an entry, 4,096 ends are open, or 1,024 names have cookies of their own */
+    DN_SPENT = 14,          /* the node has made most_steps steps, or given out most_ends ends; a loss is still taken */
+    DN_FULL = 15,           /* most_entries peers have an entry, most_open_ends ends are open, or 1,024 names have cookies */
     DN_NAME_TOO_SHORT = 20, /* a name has fewer than 3 bytes */
     DN_NAME_TOO_LONG = 21,  /* a name has more than 255 bytes */
     DN_NAME_BAD_BYTE = 22,  /* a name has a byte that is not from 0x21 to 0x7E */
@@ -92,11 +94,15 @@ typedef enum dn_why {
 
 /* What a node is set up with, beside its name and its cookie. Fields that are 0 have their usual values. */
 typedef struct dn_setup {
-    uint64_t flags;    /* that it announces; those of the handshake's version are added and removed as they must be */
-    uint64_t required; /* that it asks of a peer, beside those of the version */
-    uint32_t creation; /* the number of this incarnation, as the port mapper answered it */
-    uint32_t version;  /* the highest version of the handshake that it knows: 5 or 6; 0 stands for 6 */
-    uint32_t limited;  /* not 0: only peers that dn_node_allow names may connect */
+    uint64_t flags;          /* that it announces; those of the handshake's version are added and removed as they must be */
+    uint64_t required;       /* that it asks of a peer, beside those of the version */
+    uint32_t creation;       /* the number of this incarnation, as the port mapper answered it */
+    uint32_t version;        /* the highest version of the handshake that it knows: 5 or 6; 0 stands for 6 */
+    uint32_t limited;        /* not 0: only peers that dn_node_allow names may connect */
+    uint32_t most_ends;      /* that it ever gives out, closed ones counted too; 0 stands for 4,294,967,295 */
+    uint64_t most_steps;     /* that it makes, losses not counted; 0 stands for 2^64 - 1 */
+    uint32_t most_entries;   /* peers with which it has or makes a connection at one time; 0 stands for 65,536 */
+    uint32_t most_open_ends; /* ends that are open at one time; 0 stands for 65,536 */
 } dn_setup;
 
 /* What a step did. */
@@ -157,7 +163,7 @@ uint32_t dn_node_dial(dn_node *node, const uint8_t *peer, size_t peer_len, uint3
 uint32_t dn_node_opened(dn_node *node, uint32_t id, dn_reply *reply);
 
 /* A connection was accepted: reply->id is the number of a new end.
- * Errors: DN_NOT_A_NODE, DN_SPENT, DN_FULL (4,096 ends are open), DN_NO_MEMORY. */
+ * Errors: DN_NOT_A_NODE, DN_SPENT, DN_FULL (most_open_ends ends are open), DN_NO_MEMORY. */
 uint32_t dn_node_incoming(dn_node *node, dn_reply *reply);
 
 /* Bytes came on an end: takes the frame at their front, and reply->taken says how many they are. The caller drops those, and
@@ -280,7 +286,7 @@ uint32_t dn_why_name(uint32_t why, uint8_t *room, size_t room_len, size_t *len);
 #define DN_ASSERT _Static_assert
 #endif
 #ifdef DN_ASSERT
-DN_ASSERT(sizeof(dn_node) == 16 && sizeof(dn_registry) == 16 && sizeof(dn_served) == 16 && sizeof(dn_setup) == 32 && sizeof(dn_reply) == 48, "structs have other sizes");
+DN_ASSERT(sizeof(dn_node) == 16 && sizeof(dn_registry) == 16 && sizeof(dn_served) == 16 && sizeof(dn_setup) == 48 && sizeof(dn_reply) == 48, "structs have other sizes");
 DN_ASSERT(sizeof(dn_peer) == 32 && sizeof(dn_info) == 8 && sizeof(size_t) == 8, "structs have other sizes");
 #undef DN_ASSERT
 #endif

@@ -1,7 +1,8 @@
 """Joins a real Erlang node by examples/c/join.c and by examples/python/join.py, in turn as the one that is dialled and the one
 that dials, both at one time, and sees that all four connections live through the ticks of so many seconds, at a net_ticktime of
 4, and that the end of the Erlang node is noticed. Loopback connections alone, and a port mapper of its own for each pair: the
-first has Erlang's, and the second examples/python/mapper.py, a registry of the library.
+first has Erlang's, and the second examples/python/mapper.py, a registry of the library. The cookie is no word of any command
+line: the node in C has it from the file that is named, the one in Python from the environment, Erlang's from the home folder.
 
 usage: with_erlang.py SECONDS JOIN-PROGRAM
 """
@@ -10,6 +11,7 @@ import os
 import socket
 import subprocess
 import sys
+import tempfile
 import time
 
 EXAMPLES = os.path.join(os.path.dirname(os.path.realpath(__file__)), "../../examples/python")
@@ -30,9 +32,9 @@ def free_port():
 class Pair:
     """A port mapper, an Erlang node x, a node c that it dials, and a node d that dials it."""
 
-    def __init__(self, seconds, mapper, accepting, dialling):
+    def __init__(self, home, seconds, mapper, accepting, dialling):
         self.port, self.running = free_port(), []
-        self.env = dict(os.environ, ERL_EPMD_PORT=str(self.port), ERL_EPMD_ADDRESS="127.0.0.1")
+        self.env = dict(os.environ, HOME=home, DISTNODE_COOKIE=COOKIE, ERL_EPMD_PORT=str(self.port), ERL_EPMD_ADDRESS="127.0.0.1")
         self.start(*mapper(str(self.port)))
         for _ in range(100):
             with socket.socket() as it:
@@ -42,7 +44,7 @@ class Pair:
         self.c = self.start(*accepting("c@127.0.0.1", seconds + 60, None))
         assert self.c.stdout.readline() == "ready\n"
         text = ERL.replace("SECONDS", str(seconds))
-        self.x = self.start("erl", "-noinput", "-name", "x@127.0.0.1", "-setcookie", COOKIE, "-kernel", "net_ticktime", "4",
+        self.x = self.start("erl", "-noinput", "-name", "x@127.0.0.1", "-kernel", "net_ticktime", "4",
                             "inet_dist_use_interface", "{127,0,0,1}", "-eval", text)
         assert self.c.stdout.readline().startswith("up x@127.0.0.1 ")
         self.d = self.start(*dialling("d@127.0.0.1", seconds + 60, "x@127.0.0.1"))
@@ -73,12 +75,17 @@ class Pair:
             it.wait()
 
 
-def main(seconds, program):
+def join(home, seconds, program):
+    cookie = os.path.join(home, ".erlang.cookie")
+    with open(cookie, "w", encoding="ascii") as it:
+        it.write(COOKIE)
+    os.chmod(cookie, 0o400)
+
     def by_c(name, most, peer):
-        return [program, name, COOKIE, "1", str(most), *([peer] if peer else [])]
+        return [program, "--cookie", cookie, name, "1", str(most), *([peer] if peer else [])]
 
     def by_python(name, most, peer):
-        return [sys.executable, "-u", PYTHON, name, COOKIE, "--tick", "1", "--seconds", str(most), *(["--dial", peer] if peer else [])]
+        return [sys.executable, "-u", PYTHON, name, "--tick", "1", "--seconds", str(most), *(["--dial", peer] if peer else [])]
 
     def epmd(_):
         return ["epmd"]
@@ -89,12 +96,17 @@ def main(seconds, program):
     pairs = []
     try:
         for kinds in ((epmd, by_c, by_python), (own, by_python, by_c)):
-            pairs.append(Pair(seconds, *kinds))
+            pairs.append(Pair(home, seconds, *kinds))
         for it in pairs:
             it.end()
     finally:
         for it in pairs:
             it.stop()
+
+
+def main(seconds, program):
+    with tempfile.TemporaryDirectory(prefix="with-erlang-") as home:
+        join(home, seconds, program)
     print(f"erlang: C and Python, dialled and dialling, stayed up through {seconds} seconds of ticks and saw the node end, by epmd and by a registry of the library")
 
 

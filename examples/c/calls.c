@@ -1,5 +1,5 @@
 /* What calls answer beside the handshake of accepted.c: a digest, the port mapper's messages, a node that is set up and dials,
- * words, a registry that forgets a connection. It exits with the number of the first check that fails, or 0. The digest is the
+ * nodes that come to their limits, words, a registry that forgets a connection. It exits with the number of the first check that fails, or 0. The digest is the
  * one that OTP's `dist_util:gen_digest` gives, by the replayed handshake of examples/; requests, answers and the name that is
  * said are as the ERTS User's Guide lays them out, EPMD Protocol and Distribution Handshake. */
 #include <distnode.h>
@@ -61,6 +61,30 @@ static int dials(void) {
     return 0;
 }
 
+/* One peer has an entry, two ends are open, and three ends or three steps are all: a loss frees room, and no number. */
+static int ends_at_its_limits(const dn_setup *setup) {
+    dn_node node = DN_NODE_INIT;
+    dn_reply reply = {0};
+    if (dn_node_new(&node, TEXT("a@127.0.0.1"), TEXT("secret"), setup)) return 61;
+    if (dn_node_dial(&node, TEXT("b@127.0.0.1"), 1, &reply) || reply.id != 0) return 62;
+    if (dn_node_dial(&node, TEXT("c@127.0.0.1"), 1, &reply) != DN_FULL) return 63;
+    if (dn_node_incoming(&node, &reply) || reply.id != 1) return 64;
+    if (dn_node_incoming(&node, &reply) != DN_FULL) return 65;
+    if (dn_node_lost(&node, 1, DN_WHY_ENDED, &reply)) return 66;
+    if (dn_node_incoming(&node, &reply) || reply.id != 2) return 67;
+    if (dn_node_lost(&node, 2, DN_WHY_ENDED, &reply)) return 68;
+    if (dn_node_incoming(&node, &reply) != DN_SPENT) return 69;
+    if (dn_node_free(&node)) return 70;
+    return 0;
+}
+
+static int ends_at_limits(void) {
+    const dn_setup of_steps = {.creation = 5, .most_steps = 3, .most_entries = 1, .most_open_ends = 2};
+    const dn_setup of_ends = {.creation = 5, .most_ends = 3, .most_entries = 1, .most_open_ends = 2};
+    int failed = ends_at_its_limits(&of_steps);
+    return failed ? failed : ends_at_its_limits(&of_ends);
+}
+
 static int words(void) {
     uint8_t word[16];
     size_t len = 0;
@@ -90,7 +114,7 @@ static int forgets(void) {
 }
 
 int main(void) {
-    int (*const all[])(void) = {digests, registers, asks, words, forgets, dials};
+    int (*const all[])(void) = {digests, registers, asks, words, forgets, dials, ends_at_limits};
     for (size_t i = 0; i < sizeof all / sizeof *all; i++) {
         int failed = all[i]();
         if (failed) return failed;

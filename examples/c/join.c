@@ -1,6 +1,9 @@
 /* A hidden node in C: it registers with the port mapper, accepts and dials, and keeps its connections by ticks.
  *
- * usage: join NAME COOKIE TICK SECONDS [PEER]
+ * usage: join [--cookie FILE] NAME TICK SECONDS [PEER]
+ *
+ * The cookie is that of FILE, else of DISTNODE_COOKIE in the environment, else of $HOME/.erlang.cookie: no word of the command
+ * line, which `ps` shows to everybody. A file that others than its owner can reach is refused, as `erl` refuses it.
  *
  * It prints a line when a peer comes up or goes down, sends a tick after each TICK seconds (a quarter of net_ticktime), and
  * ends after SECONDS. Hosts are IPv4 addresses; the port mapper is at ERL_EPMD_PORT, 4369 if unset. What Erlang's processes
@@ -15,10 +18,11 @@
 #include <string.h>
 #include <sys/random.h>
 #include <sys/socket.h>
+#include <sys/stat.h>
 #include <time.h>
 #include <unistd.h>
 
-enum { MOST_LINKS = 64, ROOM = 65540, SAY = 1024 };
+enum { MOST_LINKS = 64, ROOM = 65540, SAY = 1024, COOKIE = 4097 };
 
 /* A connection that carries one end of the node. */
 struct link {
@@ -206,6 +210,32 @@ static void dial(const char *peer, int epmd) {
     }
 }
 
+/* The text of a cookie's file. */
+static size_t read_cookie(const char *path, uint8_t *text) {
+    struct stat found;
+    FILE *file = fopen(path, "r");
+    if (!file || fstat(fileno(file), &found)) stop("the cookie's file cannot be opened", 0);
+    if (found.st_mode & (S_IRWXG | S_IRWXO)) stop("the cookie's file must be accessible by owner only", 0);
+    size_t n = fread(text, 1, COOKIE, file);
+    fclose(file);
+    return n;
+}
+
+/* The text of the cookie: that of the file that is named, else of the environment, else of the home folder's file. */
+static size_t cookie_of(const char *file, uint8_t *text) {
+    const char *said = getenv("DISTNODE_COOKIE"), *home = getenv("HOME");
+    char path[4096];
+    if (file) return read_cookie(file, text);
+    if (said) {
+        size_t n = strnlen(said, COOKIE);
+        memcpy(text, said, n);
+        return n;
+    }
+    if (!home) stop("no home folder", 0);
+    snprintf(path, sizeof path, "%s/.erlang.cookie", home);
+    return read_cookie(path, text);
+}
+
 static double now(void) {
     struct timespec t;
     clock_gettime(CLOCK_MONOTONIC, &t);
@@ -213,7 +243,11 @@ static double now(void) {
 }
 
 int main(int argc, char **argv) {
-    if (argc < 5) { fprintf(stderr, "usage: join NAME COOKIE TICK SECONDS [PEER]\n"); return 2; }
+    const char *file = NULL;
+    if (argc > 2 && !strcmp(argv[1], "--cookie")) file = argv[2], argc -= 2, argv += 2;
+    if (argc < 4) { fprintf(stderr, "usage: join [--cookie FILE] NAME TICK SECONDS [PEER]\n"); return 2; }
+    uint8_t cookie[COOKIE];
+    size_t cookie_len = cookie_of(file, cookie);
     int epmd = getenv("ERL_EPMD_PORT") ? atoi(getenv("ERL_EPMD_PORT")) : 4369;
     for (int i = 0; i < MOST_LINKS; i++) links[i].fd = -1;
     struct sockaddr_in at = {.sin_family = AF_INET, .sin_addr.s_addr = htonl(INADDR_LOOPBACK)};
@@ -223,12 +257,12 @@ int main(int argc, char **argv) {
         stop("cannot listen", 0);
     /* flags as an Erlang node of OTP 25 announces them, but for DFLAG_PUBLISHED */
     dn_setup setup = {.flags = 0x403070f94, .creation = registered(mapper, argv[1], ntohs(at.sin_port))};
-    uint32_t code = dn_node_new(&node, (const uint8_t *)argv[1], strlen(argv[1]), (const uint8_t *)argv[2], strlen(argv[2]), &setup);
+    uint32_t code = dn_node_new(&node, (const uint8_t *)argv[1], strlen(argv[1]), cookie, cookie_len, &setup);
     if (code) stop("no node", code);
     printf("ready\n"), fflush(stdout);
-    if (argc > 5) dial(argv[5], epmd);
+    if (argc > 4) dial(argv[4], epmd);
 
-    double every = atof(argv[3]), end = now() + atof(argv[4]), due = now() + every;
+    double every = atof(argv[2]), end = now() + atof(argv[3]), due = now() + every;
     for (double t; (t = now()) < end;) {
         struct pollfd polled[MOST_LINKS + 1];
         struct link *of[MOST_LINKS + 1];

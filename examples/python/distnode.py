@@ -54,7 +54,8 @@ class _Served(c.Structure):
 
 class _Setup(c.Structure):
     _fields_ = [("flags", c.c_uint64), ("required", c.c_uint64), ("creation", c.c_uint32), ("version", c.c_uint32),
-                ("limited", c.c_uint32)]
+                ("limited", c.c_uint32), ("most_ends", c.c_uint32), ("most_steps", c.c_uint64),
+                ("most_entries", c.c_uint32), ("most_open_ends", c.c_uint32)]
 
 
 class _Reply(c.Structure):

@@ -1,6 +1,9 @@
 """A hidden node in Python: it registers with the port mapper, accepts and dials, and keeps its connections by ticks.
 
-usage: join.py NAME COOKIE [--dial PEER] [--tick SECONDS] [--seconds N]
+usage: join.py NAME [--cookie FILE] [--dial PEER] [--tick SECONDS] [--seconds N]
+
+The cookie is that of FILE, else of DISTNODE_COOKIE in the environment, else of $HOME/.erlang.cookie: no word of the command line,
+which `ps` shows to everybody. A file that others than its owner can reach is refused, as `erl` refuses it.
 
 It prints a line when a peer comes up or goes down, and ends after so many seconds, or when it is interrupted. The port mapper
 (`epmd`) is the one at ERL_EPMD_PORT, 4369 if unset. What Erlang's processes say to it is counted and dropped.
@@ -12,6 +15,7 @@ import selectors
 import socket
 import struct
 import time
+from typing import Optional
 
 import distnode as dn
 
@@ -131,15 +135,28 @@ class Joined:
             self.lose(link, dn.Why.READ_FAILED)
 
 
+def cookie_of(path: Optional[str]) -> bytes:
+    """The text of the cookie: that of the file that is named, else of the environment, else of the home folder's file."""
+    if path is None and "DISTNODE_COOKIE" in os.environ:
+        return os.fsencode(os.environ["DISTNODE_COOKIE"])
+    try:
+        with open(path or os.path.expanduser("~/.erlang.cookie"), "rb") as file:
+            if os.fstat(file.fileno()).st_mode & 0o077:
+                raise SystemExit(f"cookie file {file.name} must be accessible by owner only")
+            return file.read(4097)
+    except OSError as error:
+        raise SystemExit(f"the cookie's file: {error}") from None
+
+
 def main() -> None:
     words = argparse.ArgumentParser(description=__doc__.splitlines()[0])
     words.add_argument("name")
-    words.add_argument("cookie")
+    words.add_argument("--cookie", metavar="FILE", help="the cookie's file (DISTNODE_COOKIE, else $HOME/.erlang.cookie)")
     words.add_argument("--dial", metavar="PEER")
     words.add_argument("--tick", type=float, default=15, help="a quarter of net_ticktime")
     words.add_argument("--seconds", type=float, default=1e9)
     given = words.parse_args()
-    joined = Joined(given.name.encode(), given.cookie.encode(), given.tick)
+    joined = Joined(given.name.encode(), cookie_of(given.cookie), given.tick)
     print("ready", flush=True)
     if given.dial:
         joined.dial(given.dial.encode())

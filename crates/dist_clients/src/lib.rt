@@ -8,6 +8,7 @@
 mod carrying;
 mod client;
 mod clients;
+mod front;
 mod holding;
 mod laws;
 mod open_error;
@@ -19,7 +20,7 @@ mod turn;
 
 pub use client::{Client, Talk};
 pub use holding::Clients;
-pub use laws::{a_frame_asks_once, any_pieces};
+pub use laws::{a_frame_asks_once, a_front_asks, any_pieces};
 pub use open_error::OpenError;
 pub use question::Question;
 pub use turn::Turn;

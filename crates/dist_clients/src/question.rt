@@ -3,6 +3,7 @@
 ghost use Rattle.std.specs.Prelude.{◌≡◌, IfOk};
 ghost use Rattle.dist_clients.specs.Asking.{asked, question};
 
+use crate::front::front_of;
 use dist_epmd::{EpmdError, Request, decode_request};
 use std::alloc::{AllocError, Global};
 
@@ -15,7 +16,7 @@ const MOST: usize = 4094;
 pub enum Question {
     /// It is a front of a frame, and more is to come.
     Inside,
-    /// It is the frame of this request, and nothing stands behind it.
+    /// It is the frame of a body whose front is this request, and nothing stands behind the frame.
     Asks(Request),
     /// Whatever comes behind it, it asks for nothing that is answered: it is the frame of no request, or a longer one than is
     /// read here, or bytes stand behind the frame, or it is a registration from another host.
@@ -55,7 +56,7 @@ pub fn question_of(alloc: Global, local: bool, said: &[u8]) -> Result<Question, 
     if body.len() > len {
         return Ok(Question::Nothing);
     }
-    match decode_request(alloc, body) {
+    match decode_request(alloc, front_of(body)) {
         Ok(request) => Ok(asked(local, request)),
         Err(EpmdError::NoMemory) => Err(AllocError),
         Err(_) => Ok(Question::Nothing),

@@ -7,3 +7,4 @@ pub mod Replies
 pub mod Closings
 pub mod Clauses
 pub mod Losses
+pub mod Numbers

@@ -20,7 +20,7 @@ mod step_error;
 
 pub use dist_ends::{Awaited, Still, UpRecord, Why};
 pub use dist_messages::Opening;
-pub use dist_setup::{NameList, Setup, Version};
+pub use dist_setup::{Limits, NameList, Setup, Version};
 pub use event::Event;
 pub use node::Node;
 pub use reply::{Note, Reply};

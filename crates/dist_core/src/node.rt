@@ -1,10 +1,9 @@
 //! A node, and its steps.
-ghost use Rattle.std.specs.Prelude.{◌≡◌, ◌≤◌, ◌<◌, ◌+◌, List, [], ◌∷◌, ℕ, length, IfOk, IfErr, ◌≢◌, IsTrue, IsOk, OnOk, OnErr, true, false, Ok, Err, Some, None, slice_get, count_by};
+ghost use Rattle.std.specs.Prelude.{◌≡◌, ◌≤◌, ◌<◌, ◌+◌, ◌^◌, ◌||◌, List, [], ◌∷◌, ℕ, length, IfOk, IfErr, ◌≢◌, IsTrue, IsOk, OnOk, OnErr, true, false, Ok, Err, Some, None, slice_get, count_by};
 ghost use Rattle.std.specs.Option.{option_map};
 ghost use Rattle.std.specs.FinMap as map;
-ghost use Rattle.dist_peers.specs.Verdicts.{is_full};
 ghost use Rattle.dist_ends.specs.Ends.{AreLegal, FindsUp, record_in, up_from, up_pair, up_ids, claim_of, is_open, is_dialing, entry_in, table_of, still_of, awaited_of};
-ghost use Rattle.dist_core.specs.Node.{NodeState, ends_after, is_crowded, is_spent, new_id};
+ghost use Rattle.dist_core.specs.Node.{NodeState, ends_after, is_crowded, is_full_for, is_given_out, is_spent, limits_of, new_id};
 ghost use Rattle.dist_core.specs.Clauses.{ClosesOnReply, end_of, loss_reply};
 ghost use Rattle.dist_core.specs.Losses.{IsGone, IsSilent};
 ghost use Rattle.dist_core.specs.Fitting.{Fits};
@@ -28,19 +27,13 @@ use dist_setup::Setup;
 use std::alloc::{AllocError, Global};
 use std::marker::Model;
 
-/// The most steps but those that tell a loss.
-const MOST_STEPS: u32 = 1048576;
-
-/// The most open ends.
-const MOST_OPEN: usize = 4096;
-
 /// A node: what it was set up with, and all its ends.
 #[derive(Drop)]
 pub struct Node {
     setup: Setup,
     ends: Ends,
     /// How many steps were made that told no loss.
-    steps: u32,
+    steps: u64,
 }
 
 impl Model for Node {
@@ -50,7 +43,7 @@ impl Model for Node {
 
     ghost view = { λ n. record { setup = n.setup; steps = n.steps; ends = n.ends } };
 
-    ghost invariant = { λ n. IsKept n.ends n.steps };
+    ghost invariant = { λ n. IsKept n.setup.limits n.ends n.steps };
 }
 
 impl Node {
@@ -94,7 +87,7 @@ impl Node {
         self.ends.is_dialing(id)
     }
 
-    /// How many ends are open, at most 4,096.
+    /// How many ends are open.
     pub fn open_ends(&self) -> usize
         ensures count { result ≡ count_by is_open self.now.ends }
         ensures legal { AreLegal self.now.ends }
@@ -256,13 +249,14 @@ impl Node {
     {
         // That tells what the ends are before the step.
         let _ = self.open_ends();
-        if self.is_spent() {
+        if self.gives_no_end() {
             return Err(StepError::Spent);
         }
         if self.is_crowded() {
             return Err(StepError::Full);
         }
         let id = self.new_id();
+        let _ = self.most_ends();
         if self.ends.add().is_err() {
             return Err(StepError::NoMemory);
         }
@@ -298,15 +292,19 @@ impl Node {
     }
 
     // Makes a step that the definition gives.
-    fn commit(&mut self, effect: Effect, cost: u32) -> Result<Reply, StepError>
+    fn commit(&mut self, effect: Effect, cost: u64) -> Result<Reply, StepError>
         requires fits { AreLegal self.old.ends → Fits self.old (table_of self.old.ends) effect }
         requires few { length (ends_after self.old.ends effect) ≤ self.old.steps + cost }
-        requires bounded { self.old.steps + cost ≤ 1048576 }
+        requires bounded { self.old.steps + cost ≤ (let l = limits_of self.old in l.steps) }
+        requires numbered { length (ends_after self.old.ends effect) ≤ (let l = limits_of self.old in l.ends) }
         ensures ok { IfOk result (λ r. (r ≡ effect.reply) × (self.new ≡ record { setup = self.old.setup; steps = self.old.steps + cost; ends = ends_after self.old.ends effect })) }
         ensures err { IfErr result (λ e. (e ≡ StepError.NoMemory) × (self.new ≡ self.old)) }
         ensures loss { claim_of effect.this ≡ None → effect.reply.end_.0 < length self.old.ends → IsOk result }
     {
         let Effect { reply, this, other } = effect;
+        // These tell that each end has a number, and that the steps can be counted.
+        let _ = self.most_ends();
+        let _ = self.most_steps();
         match self.ends.change(&self.setup.name, reply.end_, this, other) {
             Ok(()) => {
                 self.steps += cost;
@@ -322,7 +320,8 @@ impl Node {
         ensures effect { Gives result (effect_of self.now event.now fresh) }
         ensures loss { IsLoss event.now → result ≢ Err StepError.NoMemory }
         ensures few { length self.now.ends ≤ self.now.steps }
-        ensures bounded { self.now.steps ≤ 1048576 }
+        ensures bounded { self.now.steps ≤ (let l = limits_of self.now in l.steps) }
+        ensures numbered { length self.now.ends ≤ (let l = limits_of self.now in l.ends) }
     {
         match event {
             Event::Dial { peer, opening } => self.dialled(alloc, peer, *opening),
@@ -348,30 +347,56 @@ impl Node {
 
     // All steps were made.
     pub(crate) fn is_spent(&self) -> bool
-        ensures { result ≡ is_spent self.now }
+        ensures is { result ≡ is_spent self.now }
+        ensures left { result ≡ false → self.now.steps + 1 < 2 ^ 64 }
     {
-        self.steps >= MOST_STEPS
+        self.steps >= self.setup.limits.steps
+    }
+
+    // The most steps that it makes.
+    fn most_steps(&self) -> u64
+        ensures most { result ≡ (let l = limits_of self.now in l.steps) }
+        ensures fits { (let l = limits_of self.now in l.steps) < 2 ^ 64 }
+    {
+        self.setup.limits.steps
+    }
+
+    // No further end is given out.
+    pub(crate) fn gives_no_end(&self) -> bool
+        ensures is { result ≡ (is_spent self.now || is_given_out self.now) }
+        ensures left { result ≡ false → self.now.steps + 1 < 2 ^ 64 }
+    {
+        self.is_spent() || self.ends.len() >= self.most_ends() as usize
+    }
+
+    // The most ends that it gives out: each has a number.
+    fn most_ends(&self) -> u32
+        ensures most { result ≡ (let l = limits_of self.now in l.ends) }
+        ensures few { length self.now.ends < 2 ^ 32 }
+    {
+        self.setup.limits.ends
     }
 
     // There is no room for a further open end.
     pub(crate) fn is_crowded(&self) -> bool
         ensures { result ≡ is_crowded self.now }
     {
-        self.open_ends() >= MOST_OPEN
+        self.open_ends() >= self.setup.limits.open_ends as usize
     }
 
     // The number of the next end.
     pub(crate) fn new_id(&self) -> EndId
         ensures { result ≡ new_id self.now }
     {
+        let _ = self.most_ends();
         self.ends.next_id()
     }
 
     // There is no room for an entry of this peer.
     pub(crate) fn is_full_for(&self, peer: &NodeName) -> bool
-        ensures { result ≡ is_full (table_of self.now.ends) (entry_in self.now.ends peer.now) }
+        ensures { result ≡ is_full_for self.now (entry_in self.now.ends peer.now) }
     {
-        self.ends.is_full_for(peer)
+        self.ends.is_full_for(peer, self.setup.limits.entries)
     }
 
     // The verdict on a name.

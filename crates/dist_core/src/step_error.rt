@@ -20,9 +20,10 @@ pub enum StepError {
     WrongPhase,
     /// A dial to a peer that is not idle, and its entry.
     Busy(Entry),
-    /// 1,048,576 steps were made that told no loss.
+    /// As many steps that told no loss were made as the node's limits allow; of a new end also where as many ends were given
+    /// out as they allow.
     Spent,
-    /// A dial with 1,024 entries, or a new end with 4,096 open ends.
+    /// A dial with as many entries as the node's limits allow, or a new end with as many open ends as they allow.
     Full,
     /// Nothing else refuses the step, and no memory was left for it.
     NoMemory,

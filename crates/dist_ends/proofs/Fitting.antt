@@ -17,7 +17,7 @@ use Rattle.dist_ends.specs.declared.phase.Kind.{Kind}
 use Rattle.dist_ends.specs.declared.phase.Kind.TheVariants.{Out, In, Up}
 use Rattle.dist_ends.specs.Ends.{Claim, claim_of, is_claim, same_kind, is_held, is_open, holds_at, names, Agree}
 use Rattle.dist_ends.specs.Change.{StaysClosed, OtherStaysClosed, put_end, IsThere, Fits, claim_at, shifted, AsksShift, raised, AsksRaise, view_after}
-use Rattle.dist_peers.specs.Verdicts.{ruling, is_greater, is_full}
+use Rattle.dist_peers.specs.Verdicts.{ruling, is_greater}
 use Rattle.dist_ends.proofs.Tables.{order, same-name}
 use Rattle.std.proofs.lemmas.Bool.{false≢true}
 use Rattle.dist_ends.proofs.Changes.{Agrees, get-put, get-after, changes-one, changes-two, stays, claimless}
@@ -270,24 +270,24 @@ module _ (me : Name) (es : List End) (t : Table) (a : Agree (map.get t) es) wher
   dial-here id p In i = same_false (eqb id.0 i)
   dial-here id p Up i = same_false (eqb id.0 i)
 
-  pub fit-dial : (id : EndId) (e : End) (p : Name) → StaysClosed (slice_get es id.0) e → claim_at (slice_get es id.0) ≡ None → claim_of e ≡ claims p Out → id.0 ≤ length es → map.get t p ≡ None → is_full t None ≡ false → Fits me es t id e None
-  fit-dial id e p stays was is place idle full =
-      fit-one me es t a id e p (Some (entry.Out id)) None (claims p Out) stays was is place (idle, full) (get-insert order t p (entry.Out id)) tt refl
+  pub fit-dial : (id : EndId) (e : End) (p : Name) → StaysClosed (slice_get es id.0) e → claim_at (slice_get es id.0) ≡ None → claim_of e ≡ claims p Out → id.0 ≤ length es → map.get t p ≡ None → Fits me es t id e None
+  fit-dial id e p stays was is place idle =
+      fit-one me es t a id e p (Some (entry.Out id)) None (claims p Out) stays was is place idle (get-insert order t p (entry.Out id)) tt refl
       (λ k i. (λ j. cond (eqb id.0 i) (own-claim p k Out j) (names k i (idle j))) ∙ dial-here id p k i)
 
   -- an accepted end takes a name: the entry before, and after
-  pub fit-name : (id : EndId) (e : End) (p : Name) (o : Option Entry) (g : Bool) → StaysClosed (slice_get es id.0) e → claim_at (slice_get es id.0) ≡ None → claim_of e ≡ claims p In → id.0 ≤ length es → map.get t p ≡ o → is_greater me p ≡ g → same_name me p ≡ false → is_full t (map.get t p) ≡ false
+  pub fit-name : (id : EndId) (e : End) (p : Name) (o : Option Entry) (g : Bool) → StaysClosed (slice_get es id.0) e → claim_at (slice_get es id.0) ≡ None → claim_of e ≡ claims p In → id.0 ≤ length es → map.get t p ≡ o → is_greater me p ≡ g → same_name me p ≡ false
       → ((k : Kind) (i : ℕ) → cond (eqb id.0 i) (same_kind k In) (names k i o) ≡ names k i (Some (let x = ruling g id o in x.entry))) → Fits me es t id e None
-  fit-name id e p o g stays was is place before greater apart full here =
-      fit-one me es t a id e p (Some (let x = ruling g id o in x.entry)) None (claims p In) stays was is place (apart, full)
+  fit-name id e p o g stays was is place before greater apart here =
+      fit-one me es t a id e p (Some (let x = ruling g id o in x.entry)) None (claims p In) stays was is place apart
       (λ q. get-insert order t p _ q ∙ (λ j. cond (same_name q p) (Some (let x = ruling (greater j) id (before j) in x.entry)) (map.get t q))) tt refl
       (λ k i. (λ j. cond (eqb id.0 i) (own-claim p k In j) (names k i (before j))) ∙ here k i)
 
-  pub fit-name2 : (id : EndId) (e : End) (x : EndId) (s : End) (p : Name) (l : Kind) (o : Option Entry) (g : Bool) → StaysClosed (slice_get es id.0) e → claim_at (slice_get es id.0) ≡ None → claim_of e ≡ claims p In → id.0 ≤ length es → map.get t p ≡ o → is_greater me p ≡ g → same_name me p ≡ false → is_full t (map.get t p) ≡ false
+  pub fit-name2 : (id : EndId) (e : End) (x : EndId) (s : End) (p : Name) (l : Kind) (o : Option Entry) (g : Bool) → StaysClosed (slice_get es id.0) e → claim_at (slice_get es id.0) ≡ None → claim_of e ≡ claims p In → id.0 ≤ length es → map.get t p ≡ o → is_greater me p ≡ g → same_name me p ≡ false
       → claim_of s ≡ None → names l x.0 o ≡ true
       → ((k : Kind) (i : ℕ) → cond (eqb x.0 i) false (cond (eqb id.0 i) (same_kind k In) (names k i o)) ≡ names k i (Some (let x = ruling g id o in x.entry))) → Fits me es t id e (Some (x, s))
-  fit-name2 id e x s p l o g stays was is place before greater apart full gone named here =
-      fit-two me es t a id e x s p l (Some (let x = ruling g id o in x.entry)) None (claims p In) (claim-open e _ is) stays was is place gone (there es p l x.0 (a p l x.0 ∙ ap (names l x.0) before ∙ named)) (ap (names l x.0) before ∙ named) (apart, full)
+  fit-name2 id e x s p l o g stays was is place before greater apart gone named here =
+      fit-two me es t a id e x s p l (Some (let x = ruling g id o in x.entry)) None (claims p In) (claim-open e _ is) stays was is place gone (there es p l x.0 (a p l x.0 ∙ ap (names l x.0) before ∙ named)) (ap (names l x.0) before ∙ named) apart
       (λ q. get-insert order t p _ q ∙ (λ j. cond (same_name q p) (Some (let x = ruling (greater j) id (before j) in x.entry)) (map.get t q))) tt refl
       (λ k i. (λ j. cond (eqb x.0 i) false (cond (eqb id.0 i) (own-claim p k In j) (names k i (before j)))) ∙ here k i)
 

@@ -5,7 +5,7 @@ use Rattle.dist_names.specs.Order.{Name, same_name}
 use Rattle.dist_peers.specs.declared.entry.EndId.{EndId}
 use Rattle.dist_peers.specs.declared.entry.Entry.TheVariants as entry
 use Rattle.dist_peers.specs.Table.{Table, entry_of, with_entry, left_by, is_waiting}
-use Rattle.dist_peers.specs.Verdicts.{ruling, is_greater, is_full}
+use Rattle.dist_peers.specs.Verdicts.{ruling, is_greater}
 use Rattle.dist_ends.specs.declared.phase.Kind.{Kind}
 use Rattle.dist_ends.specs.declared.phase.Kind.TheVariants.{Out, In, Up}
 use Rattle.dist_ends.specs.declared.known.End.{End}
@@ -60,8 +60,8 @@ shifted t me id (Some d) None = with_entry t d.peer (left_by id (entry_of t d.pe
 shifted t me id (Some d) (Some c) = raised t id c.peer d.kind c.kind
 
 abbrev pub AsksEnter : Table → Name → Name → Kind → Type 0
-AsksEnter t me p In = (same_name me p ≡ false) × (is_full t (entry_of t p) ≡ false)
-AsksEnter t me p Out = (entry_of t p ≡ None) × (is_full t None ≡ false)
+AsksEnter t me p In = same_name me p ≡ false
+AsksEnter t me p Out = entry_of t p ≡ None
 AsksEnter t me p Up = Unit {0}
 
 abbrev pub AsksRaise : Table → EndId → Name → Kind → Kind → Type 0

@@ -140,11 +140,11 @@ impl Ends {
         self.peers.at(i)
     }
 
-    /// Whether there is no room for an entry of this peer.
-    pub fn is_full_for(&self, peer: &NodeName) -> bool
-        ensures { result ≡ is_full (table_of self.now) (entry_in self.now peer.now) }
+    /// Whether `most` entries or more are there, and this peer has none of them.
+    pub fn is_full_for(&self, peer: &NodeName, most: u32) -> bool
+        ensures { result ≡ is_full most (table_of self.now) (entry_in self.now peer.now) }
     {
-        self.peers.is_full_for(peer)
+        self.peers.is_full_for(peer, most)
     }
 
     /// What is to be said of a peer's name that comes on this end, at a node of name `me`.
@@ -161,7 +161,7 @@ impl Ends {
         self.peers.ups()
     }
 
-    /// The up end at this place, in the order of the peers' names. It walks the entries once, and they are 1,024 at most.
+    /// The up end at this place, in the order of the peers' names. It walks the entries once.
     pub fn up_at(&self, i: usize) -> Option<(EndId, &UpRecord)>
         ensures { option_map (λ r. (r.0, r.1.now)) result ≡ up_from self.now (slice_get (up_ids (map.entries (table_of self.now))) i) }
     {
@@ -221,7 +221,7 @@ impl Ends {
 
     /// Gives out the next end, of which nothing is known yet.
     pub fn add(&mut self) -> Result<(), AllocError>
-        requires { length self.old + 1 < 2 ^ 32 }
+        requires { length self.old < 2 ^ 32 }
         ensures ok { OnOk result (self.new ≡ changed self.old (end_id (length self.old)) End.Unnamed None) }
         ensures err { OnErr result (self.new ≡ self.old) }
     {
@@ -237,7 +237,7 @@ impl Ends {
         other: Option<(EndId, End)>,
     ) -> Result<(), AllocError>
         requires fits { AreLegal self.old → Fits me.now self.old (table_of self.old) id this other }
-        requires few { length self.old + 1 < 2 ^ 32 }
+        requires few { length self.old < 2 ^ 32 }
         ensures ok { OnOk result (self.new ≡ changed self.old id this other) }
         ensures err { OnErr result (self.new ≡ self.old) }
 

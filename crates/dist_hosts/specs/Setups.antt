@@ -2,12 +2,13 @@
 use Rattle.std.specs.Prelude.{◌≡◌, ⊤, List, [], ◌∷◌}
 use Rattle.dist_names.specs.declared.creation.Creation.{Creation}
 use Rattle.dist_setup.specs.declared.setup.Setup.{Setup}
+use Rattle.dist_setup.specs.Limits.{usual_limits}
 use Rattle.dist_books.specs.declared.closing.Closed.{Closed}
 use Rattle.dist_plan.specs.declared.plan.NodePlan.{NodePlan}
 
 -- WHAT A NODE IS SET UP WITH: all that its plan says, and the creation that the port mapper gave it
 abbrev pub setup_of : NodePlan → Creation → Setup
-setup_of plan creation = record { name = plan.name; cookies = plan.cookies; version = plan.version; flags = plan.flags; required = plan.required; creation = creation; allow = plan.allow }
+setup_of plan creation = record { name = plan.name; cookies = plan.cookies; version = plan.version; flags = plan.flags; required = plan.required; creation = creation; allow = plan.allow; limits = usual_limits }
 
 -- the setup is the plan's, with whatever creation
 abbrev pub IsOfPlan : NodePlan → Setup → Type 0

@@ -1,7 +1,9 @@
 -- The words by which the end of a run, and an order that was not followed, are told.
-use Rattle.std.specs.Prelude.{ℕ, List, codes}
+use Rattle.std.specs.Prelude.{◌≡◌, ◌⊎◌, ℕ, ℤ, Bool, true, false, List, Option, Some, codes, pos}
 use Rattle.dist_core.specs.Words.{refusal_name}
 use Rattle.dist_mapper.specs.Refusals.{error_name}
+use Rattle.dist_mapper.specs.declared.lookup_error.LookupError.{LookupError}
+use Rattle.dist_mapper.specs.declared.lookup_error.LookupError.TheVariants as lookup
 use Rattle.dist_books.specs.declared.closing.CloseError.TheVariants as closing
 use Rattle.dist_hosts.specs.declared.order_fault.OrderRefusal.{OrderRefusal}
 use Rattle.dist_hosts.specs.declared.order_fault.OrderRefusal.TheVariants as refusal
@@ -23,5 +25,19 @@ run_error_name run.NoMemory = codes "NoMemory"
 -- the word of why an order made no step
 abbrev pub order_refusal_name : OrderRefusal → List ℕ
 order_refusal_name refusal.NoRegistry = codes "NoRegistry"
+order_refusal_name refusal.NoDescriptors = codes "NoDescriptors"
 order_refusal_name (refusal.Lookup e) = error_name e
 order_refusal_name (refusal.Step e) = refusal_name e
+
+-- THE NUMBER OF AN ERROR OF THE SYSTEM SAYS THAT NO DESCRIPTOR IS LEFT: the process has as many as it may (EMFILE), or all
+-- processes together do (ENFILE)
+abbrev pub IsOutOfDescriptors : Option ℤ → Type 0
+IsOutOfDescriptors number = (number ≡ Some (pos 24)) ⊎ (number ≡ Some (pos 23))
+
+-- THE PORT MAPPER GAVE NO ANSWER, or broke it off: the lookup ran out of turns, or its stream ended or failed
+abbrev pub is_silence : LookupError → Bool
+is_silence lookup.Limit = true
+is_silence lookup.Ended = true
+is_silence lookup.ReadFailed = true
+is_silence lookup.WriteFailed = true
+is_silence e = false

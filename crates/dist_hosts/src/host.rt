@@ -4,10 +4,11 @@ ghost use Rattle.std.specs.Prelude.{◌≡◌, [], IfOk};
 ghost use Rattle.dist_names.specs.NodeName.{short_of};
 ghost use Rattle.dist_hosts.specs.Setups as setups;
 
+use crate::end_marks::EndMarks;
 use crate::run_error::RunError;
 use crate::seats::{SEATS, SharedOut, shared_out};
 use crate::sockets::{connected, listening};
-use dist_core::{Setup, Version};
+use dist_core::{Limits, Setup, Version};
 use dist_drive::{SocketStream, register};
 use dist_epmd::{AliveReq, HIGHEST, LOWEST};
 use dist_locked::{LockedNode, Tickets};
@@ -40,11 +41,14 @@ impl Refused {
 /// A node under its lock, with the socket that it listens on, and the connection that keeps it registered.
 #[derive(Drop)]
 pub struct Host {
+    pub name: NodeName,
     pub node: LockedNode,
     pub listener: TcpListener,
     pub port: u16,
     pub registered: SocketStream,
     pub refused: Refused,
+    /// Which of the threads that had its seats have ended.
+    pub ended: EndMarks,
 }
 
 // The number of the highest version that a node knows.
@@ -103,6 +107,7 @@ fn setup_of(alloc: Global, plan: &NodePlan, creation: Creation) -> Result<Setup,
         required: plan.required,
         creation,
         allow,
+        limits: Limits::usual(),
     })
 }
 
@@ -146,12 +151,16 @@ pub fn started<R: Net<Listener = TcpListener, Stream = TcpStream>>(
     };
     let (registered, setup) = registered(rt, alloc, mapper_port, plan, port, turns)?;
     let (node, shares) = locked(alloc, setup, tickets)?;
+    let ended = EndMarks::new(alloc, SEATS)?;
+    let name = plan.name.try_clone(alloc)?;
     let host = Host {
+        name,
         node,
         listener,
         port,
         registered,
         refused: Refused::nobody(),
+        ended,
     };
     Ok((host, shares))
 }

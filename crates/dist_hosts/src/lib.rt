@@ -5,6 +5,8 @@
 #![tactic(auto)]
 
 mod challenges;
+mod descriptors;
+mod end_marks;
 mod host;
 mod mapping;
 mod order_fault;
@@ -14,6 +16,8 @@ mod setups;
 mod sockets;
 
 pub use challenges::Challenges;
+pub use descriptors::{Places, most_descriptors, places_of};
+pub use end_marks::EndMarks;
 pub use host::{Host, started};
 pub use mapping::serve_all;
 pub use order_fault::{OrderFault, OrderRefusal};

@@ -17,9 +17,6 @@ use std::time::Clock;
 // The first creation that the port mapper gives.
 const FIRST_CREATION: u32 = 1;
 
-// The most clients of the port mapper at once: 1,024 nodes that are registered, and others that ask.
-const CLIENTS: usize = 1280;
-
 const TURNS_OF_A_SECOND: usize = 100;
 
 // After how many seconds a client is closed that has not asked. Seconds are counted without their parts, so one more than
@@ -55,7 +52,7 @@ fn serve_at<R: Net + Wait + Clock>(
     serve(rt, alloc, &mut server, one_turn(), stop)
 }
 
-/// Serves all clients of the port mapper at this listener and its port, until it is told to stop. A node stays registered as
+/// Serves the clients of the port mapper at this listener and its port, so many at once, until it is told to stop. A node stays registered as
 /// long as its connection does. Where it ends before it is told to, the listener is closed: ListenFailed where the system does
 /// not tell what comes.
 pub fn serve_all<R: Net + Wait + Clock>(
@@ -63,11 +60,12 @@ pub fn serve_all<R: Net + Wait + Clock>(
     alloc: Global,
     listener: TcpListener,
     port: u16,
+    clients: usize,
     turns: usize,
     stop: &AtomicBool,
 ) -> Result<(), RunError> {
     let limits = Limits {
-        clients: CLIENTS,
+        clients,
         seconds: seconds_for(turns),
     };
     match serve_at(rt, alloc, listener, port, limits, stop) {

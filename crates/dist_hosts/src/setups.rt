@@ -6,7 +6,7 @@ ghost use Rattle.dist_hosts.specs.Setups.{IsOfPlan, AreOfPlans};
 use dist_core::Setup;
 use dist_locked::Closed;
 use dist_plan::NodePlan;
-use dist_setup::NameList;
+use dist_setup::{Limits, NameList};
 
 fn is_same_allow(ours: &Option<NameList>, theirs: &Option<NameList>) -> bool
     ensures { IsTrue result ↔ (ours.now ≡ theirs.now) }
@@ -28,6 +28,7 @@ fn is_of_plan(plan: &NodePlan, setup: &Setup) -> bool
         && setup.flags == plan.flags
         && setup.required == plan.required
         && is_same_allow(&setup.allow, &plan.allow)
+        && setup.limits == Limits::usual()
 }
 
 /// Whether the closed nodes are those of the plans: as many, in their order, each set up as its plan says, whatever creation it

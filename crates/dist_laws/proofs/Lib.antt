@@ -8,3 +8,5 @@ pub mod UpEnds
 pub mod Crossings
 pub mod Doomed
 pub mod Answering
+pub mod EntryCounts
+pub mod Limits

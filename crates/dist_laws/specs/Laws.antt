@@ -1,5 +1,6 @@
 -- What the laws of a step say.
-use Rattle.std.specs.Prelude.{◌≡◌, ◌≢◌, ℕ, Bool, true, false, List, [], Option, Some, None, Ok, slice_get}
+use Rattle.std.specs.Prelude.{◌≡◌, ◌≢◌, ◌≤◌, ℕ, Bool, true, false, List, [], Option, Some, None, Ok, count_by, length, slice_get}
+use Rattle.std.specs.FinMap as map
 use Rattle.dist_names.specs.Order.{Name}
 use Rattle.dist_names.specs.declared.flags.Flags.{Flags}
 use Rattle.dist_names.specs.declared.creation.Creation.{Creation}
@@ -18,7 +19,7 @@ use Rattle.dist_ends.specs.declared.known.Attempt.{Attempt}
 use Rattle.dist_ends.specs.declared.known.UpRecord.{UpRecord}
 use Rattle.dist_ends.specs.declared.known.End.{End}
 use Rattle.dist_ends.specs.declared.known.End.TheVariants as ends
-use Rattle.dist_ends.specs.Ends.{entry_in, holds, is_open}
+use Rattle.dist_ends.specs.Ends.{entry_in, holds, is_open, table_of}
 use Rattle.dist_setup.specs.declared.setup.Setup.{Setup}
 use Rattle.dist_setup.specs.Rules.{own_digest, same_bytes}
 use Rattle.dist_core.specs.declared.event.Event.{Event}
@@ -26,7 +27,7 @@ use Rattle.dist_core.specs.declared.event.Event.TheVariants as event
 use Rattle.dist_core.specs.declared.reply.Reply.{Reply}
 use Rattle.dist_core.specs.declared.reply.Note.TheVariants as note
 use Rattle.dist_core.specs.declared.effect.Effect.{Effect}
-use Rattle.dist_core.specs.Node.{NodeState, new_id}
+use Rattle.dist_core.specs.Node.{NodeState, limits_of, new_id}
 use Rattle.dist_core.specs.Effects.{dooms_other, shuts_other}
 use Rattle.dist_core.specs.Rows.{IsChallenge}
 use Rattle.dist_core.specs.Step.{effect_of, after}
@@ -55,6 +56,13 @@ closed_of (Some x) = 1
 -- how many ends a reply tells as closed
 abbrev pub closed_by : Reply → ℕ
 closed_by r = closed_of r.closed
+
+-- the node made no more steps, gave out no more ends, and has no more open ends and entries than its limits allow
+pub record IsWithinLimits (n : NodeState) : Type 0 where
+  pub steps : n.steps ≤ (let l = limits_of n in l.steps)
+  pub given_out : length n.ends ≤ (let l = limits_of n in l.ends)
+  pub open_ends : count_by is_open n.ends ≤ (let l = limits_of n in l.open_ends)
+  pub entries : map.len (table_of n.ends) ≤ (let l = limits_of n in l.entries)
 
 -- the digest that came is that of the own cookie and the own challenge
 abbrev pub IsRightRecord : Setup → UpRecord → Type 0

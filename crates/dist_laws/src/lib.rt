@@ -6,6 +6,7 @@
 #![tactic(auto)]
 
 mod laws;
+mod limit_laws;
 mod step_laws;
 
 pub use laws::{
@@ -14,6 +15,7 @@ pub use laws::{
     another_end_is_replaced, entries_are_whole, open_ends_change, setup_never_changes,
     steps_are_rows,
 };
+pub use limit_laws::{limits_are_kept, usual_nodes_have_numbers};
 pub use step_laws::{
     a_lost_end_is_closed, a_reply_is_of_its_end, a_step_has_an_effect, a_step_keeps,
     an_up_end_closes_on_a_right_reply, open_ends_after_a_step, two_ends_change_at_most,

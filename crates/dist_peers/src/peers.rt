@@ -13,10 +13,11 @@ use std::alloc::{AllocError, Global};
 use std::collections::BTreeMap;
 use std::marker::Model;
 
-/// The most entries, our own limit.
-const MOST: usize = 1024;
+/// The most entries that `dial` and `name_came` make, our own limit.
+const MOST: u32 = 1024;
 
-/// The entries of the peers that aren't idle, at most 1,024.
+/// The entries of the peers that aren't idle. `dial` and `name_came` make at most 1,024; a caller of `dial_idle` and
+/// `take_name` keeps to its own limit by asking `is_full_for` first.
 ///
 /// Contracts see a finite map from names to entries, and `at` shows it in the order of the names.
 #[derive(Drop)]
@@ -26,7 +27,7 @@ pub struct Peers {
 }
 
 impl Model for Peers {
-    ghost use Rattle.std.specs.Prelude.{◌≡◌, ◌≤◌, true, length};
+    ghost use Rattle.std.specs.Prelude.{◌≡◌, true};
     ghost use Rattle.std.specs.FinMap as map;
     ghost use Rattle.std.specs.Coded.{coded_list, coded_ℕ};
     ghost use Rattle.dist_names.specs.Order.{name_cmp};
@@ -89,24 +90,24 @@ impl Peers {
         up_in(&self.by_name, i)
     }
 
-    /// Whether a further entry would be needed for this peer, and 1,024 are there. A table with room is not searched.
+    /// Whether `most` entries or more are there, and this peer has none of them. A table with room is not searched.
     #[tactic(auto, using(crate::proofs::Rooms::room))]
-    pub fn is_full_for(&self, peer: &NodeName) -> bool
-        ensures { result ≡ is_full self.now (entry_of self.now peer.now) }
+    pub fn is_full_for(&self, peer: &NodeName, most: u32) -> bool
+        ensures { result ≡ is_full most self.now (entry_of self.now peer.now) }
     {
-        if self.len() < MOST {
+        if self.len() < most as usize {
             return false;
         }
-        self.is_full_with(self.entry(peer))
+        self.is_full_with(self.entry(peer), most)
     }
 
-    // Whether a further entry would be needed for a peer that has this one, and 1,024 are there.
-    fn is_full_with(&self, entry: Option<Entry>) -> bool
-        ensures { result ≡ is_full self.now entry }
+    // Whether `most` entries or more are there, and a peer that has this one has none of them.
+    fn is_full_with(&self, entry: Option<Entry>, most: u32) -> bool
+        ensures { result ≡ is_full most self.now entry }
     {
         match entry {
             Some(_) => false,
-            None => self.len() >= MOST,
+            None => self.len() >= most as usize,
         }
     }
 
@@ -136,7 +137,7 @@ impl Peers {
         if let Some(entry) = self.entry(peer) {
             return Err(PeersError::Busy(entry));
         }
-        if self.len() >= MOST {
+        if self.is_full_with(None, MOST) {
             return Err(PeersError::Full);
         }
         match self.put(peer, Entry::Out(id)) {
@@ -163,7 +164,7 @@ impl Peers {
         ensures unchanged { OnErr result (self.new ≡ self.old) }
     {
         let entry = self.entry(peer);
-        if self.is_full_with(entry) {
+        if self.is_full_with(entry, MOST) {
             return Err(PeersError::Full);
         }
         let ruling = ruling_of(me.cmp(peer).is_gt(), id, entry);
@@ -179,8 +180,6 @@ impl Peers {
     pub fn dial_idle(&mut self, peer: &NodeName, id: EndId) -> Result<(), AllocError>
         // `entry` is the test.
         requires idle { entry_of self.old peer.now ≡ None }
-        // `is_full_for` is the test.
-        requires room { is_full self.old None ≡ false }
         ensures ok { OnOk result (self.new ≡ map.insert self.old peer.now (Entry.Out id)) }
         ensures err { OnErr result (self.new ≡ self.old) }
     {
@@ -188,14 +187,12 @@ impl Peers {
         Ok(())
     }
 
-    /// A peer's name came on this end, and there is room for its entry: that becomes the one of the table of verdicts. An
-    /// idle peer, as most are, is searched once.
+    /// A peer's name came on this end: its entry becomes the one of the table of verdicts. An idle peer, as most are, is
+    /// searched once.
     ///
     /// Want of memory changes nothing.
     #[tactic(auto, using(crate::proofs::Others::put_there, crate::proofs::Others::put_over))]
     pub fn take_name(&mut self, me: &NodeName, peer: &NodeName, id: EndId) -> Result<(), AllocError>
-        // `is_full_for` is the test.
-        requires room { is_full self.old (entry_of self.old peer.now) ≡ false }
         ensures ok { OnOk result (self.new ≡ map.insert self.old peer.now (let r = ruling (is_greater me.now peer.now) id (entry_of self.old peer.now) in r.entry)) }
         ensures err { OnErr result (self.new ≡ self.old) }
     {
@@ -232,9 +229,8 @@ impl Peers {
         }
     }
 
-    // Gives a peer an entry, and answers the one that it had; a further peer only where there is room.
+    // Gives a peer an entry, and answers the one that it had.
     fn put(&mut self, peer: &NodeName, entry: Entry) -> Result<Option<Entry>, AllocError>
-        requires { is_full self.old (entry_of self.old peer.now) ≡ false }
         ensures was { IfOk result (λ was. was ≡ entry_of self.old peer.now) }
         ensures ok { OnOk result (self.new ≡ map.insert self.old peer.now entry) }
         ensures err { OnErr result (self.new ≡ self.old) }

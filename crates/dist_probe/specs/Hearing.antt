@@ -1,5 +1,5 @@
 -- What is heard of a node, where one message of it is awaited.
-use Rattle.std.specs.Prelude.{◌≡◌, ℕ, ◌<◌, List, Option, Some, None}
+use Rattle.std.specs.Prelude.{◌≡◌, ℕ, ◌<◌, false, List, [], ◌∷◌, ◌++◌, Option, Some, None}
 use Rattle.std.specs.Int.{w16}
 use Rattle.dist_names.specs.Bytes.{number}
 use Rattle.dist_frames.specs.Stream.{framed}
@@ -12,12 +12,19 @@ use Rattle.dist_streams.specs.Turns.{Hears}
 use Rattle.dist_streams.specs.declared.turn_error.TurnError.{TurnError}
 use Rattle.dist_streams.specs.declared.turn_error.TurnError.TheVariants as fault
 use Rattle.dist_mapper.specs.Serving.{IsInside}
+use Rattle.dist_probe.specs.Bodies.{is_one_of}
 use Rattle.dist_probe.specs.declared.hearing.Heard.{Heard}
 use Rattle.dist_probe.specs.declared.hearing.Heard.TheVariants as heard
 
--- the most bytes of a body that is read as one of the handshake, our own limit
+-- A length above this one counts only before a tag of the accepting side: two bytes of another service may look like one. Our own
+-- choice.
 abbrev pub most : ℕ
 most = 1024
+
+-- the first bytes of what an accepting side says: s of a status, n of an older challenge, N of a newer one, a of an acknowledgement
+-- (ERTS User's Guide, Distribution Handshake)
+abbrev pub tags : List ℕ
+tags = 0x73 ∷ 0x6e ∷ 0x4e ∷ 0x61 ∷ []
 
 -- what is heard where the stream gave or took no more
 abbrev pub heard_instead : TurnError → Heard
@@ -41,7 +48,7 @@ IsHeardIn other body = ⊥
 abbrev pub IsWhole : Heard → List ℕ → Type 0
 IsWhole (heard.Said m) bytes = Frames m bytes
 IsWhole (heard.NoMessage error) bytes = (body : List ℕ) × (bytes ≡ framed w16 body) × IsCause Acceptor body error
-IsWhole (heard.Length front) bytes = (bytes ≡ number w16 front) × (most < front)
+IsWhole (heard.Length front) bytes = (first : ℕ) × (bytes ≡ number w16 front ++ first ∷ []) × (most < front) × (is_one_of tags first ≡ false)
 IsWhole heard.NoMemory bytes = Unit {0}
 IsWhole other bytes = ⊥
 

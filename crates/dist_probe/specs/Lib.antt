@@ -1,3 +1,4 @@
+pub mod Bodies
 pub mod Services
 pub mod Words
 pub mod Styles

@@ -3,7 +3,8 @@
 ghost use Rattle.std.specs.Prelude.{◌≡◌};
 ghost use Rattle.dist_probe.specs.Hearing.{HearsMessage, IsHeardIn, heard_instead};
 
-use dist_mapper::{Arrived, read_frame};
+use crate::bodies::read_frame_of;
+use dist_mapper::Arrived;
 use dist_messages::{Message, MessageError, Side, decode};
 use dist_streams::{Limited, Stream, TurnError};
 use std::alloc::Global;
@@ -15,7 +16,8 @@ pub enum Heard {
     Said(Message),
     /// A body that is no message of the accepting side.
     NoMessage(MessageError),
-    /// Two bytes that are the length of no frame of a handshake: above 1,024, our own limit.
+    /// Two bytes that are the length of no frame of a handshake: above 1,024, and what stands behind them is no tag of the
+    /// accepting side.
     Length(u16),
     /// The other side closed the connection.
     Gone,
@@ -27,9 +29,13 @@ pub enum Heard {
     NoMemory,
 }
 
-// The most bytes of a body that a node says while it shakes hands: a challenge has 19 and those of a name, and room is left
-// for bytes that a newer release may add. Our own choice.
+// A length above this one counts only before a tag: two bytes of another service may look like one, and nobody is to wait for a
+// body that never comes. Our own choice.
 const MOST: u16 = 1024;
+
+// The tags of the accepting side: a status, an older challenge, a newer one, an acknowledgement. Source: ERTS User's Guide,
+// Distribution Handshake.
+const TAGS: [u8; 4] = [0x73, 0x6e, 0x4e, 0x61];
 
 /// What is heard where the stream gave or took no more.
 pub fn heard_instead(fault: TurnError) -> Heard
@@ -55,12 +61,13 @@ fn heard_in(alloc: Global, body: &[u8]) -> Heard
 
 /// The next message of the node, within the turns that are left. It writes nothing.
 ///
-/// Of a frame whose length is above 1,024 the length alone is read.
+/// A body has up to 65,535 bytes. Where a length is above 1,024, and the byte behind it is no tag, those three bytes alone are
+/// read.
 pub fn hear<S: Stream>(alloc: Global, limited: &mut Limited<'_, S>) -> Heard
     ensures hears { HearsMessage (S.meaning limited.old.stream.now) (S.meaning limited.new.stream.now) limited.old.left limited.new.left result }
     ensures loan { limited.new.stream.ghost_name ≡ limited.old.stream.ghost_name }
 {
-    match read_frame(alloc, limited, MOST) {
+    match read_frame_of(alloc, limited, MOST, &TAGS) {
         Arrived::Body(body) => heard_in(alloc, body.as_slice()),
         Arrived::Long(len) => Heard::Length(len),
         Arrived::Stopped(fault) => heard_instead(fault),

@@ -6,6 +6,7 @@
 #![tactic(auto)]
 
 mod asking;
+mod bodies;
 mod hearing;
 mod judging;
 mod knocking;
@@ -15,6 +16,7 @@ mod verdict;
 mod words;
 
 pub use asking::{Peer, Report, ask_node, lacking};
+pub use bodies::read_frame_of;
 pub use hearing::{Heard, hear, heard_instead};
 pub use judging::{ack_verdict, challenge_verdict, status_verdict};
 pub use knocking::speaks_tls;

@@ -1,5 +1,6 @@
 //! The thread of a node that accepts connections.
 
+use crate::connection::Carrier;
 use crate::crew::{Crew, Rest};
 use crate::site::Site;
 use dist_core::Event;
@@ -15,16 +16,20 @@ fn take_in<'s, E, R: Threads + Wait + Sync, G>(
     connection: Connection,
 ) {
     let link = link_of(connection.dialler_port, crew.host().port);
+    let stream = connection.stream;
+    let carrier = Carrier { link, stream };
     match crew.step(&Event::Incoming { link }) {
-        Ok((end_, nothing)) => crew.start(number, end_, nothing, connection),
-        Err(_) => crew.keep_closed(connection),
+        Ok((end_, nothing)) => crew.start(number, end_, nothing, carrier),
+        Err(_) => crew.part_with(carrier),
     }
 }
 
-// Accepts until as many turns in a row were quiet as the plan says, or until the run has failed.
+// Accepts until as many turns in a row were quiet as the plan says, or until the run has failed. A connection for which there is
+// no place is closed, and nobody is told of it.
 fn accept_into<'s, E, R: Threads + Wait + Clock + Sync, G>(
     site: &Site<'_, R, G>,
     crew: &mut Crew<'s, E, R, G>,
+    places: usize,
 ) {
     let mut number = 0usize;
     let mut quiet = 0usize;
@@ -32,11 +37,14 @@ fn accept_into<'s, E, R: Threads + Wait + Clock + Sync, G>(
         if quiet >= site.turns || site.has_failed() {
             break;
         }
+        crew.join_ended();
         match accepted(site.rt, &crew.host().listener) {
             Some(connection) => {
-                take_in(crew, number, connection);
-                number = number.saturating_add(1);
-                quiet = 0;
+                if crew.open_count() < places {
+                    take_in(crew, number, connection);
+                    number = number.saturating_add(1);
+                    quiet = 0;
+                }
             }
             None => quiet = quiet.saturating_add(1),
         }
@@ -53,7 +61,9 @@ pub fn accept_all<'s, E, R: Threads + Wait + Clock + Sync, G>(
     challenges: Challenges,
 ) -> Rest {
     let refused = &host.refused.accepting;
-    let mut crew = Crew::new(scope, site, host, refused, pool, challenges);
-    accept_into(site, &mut crew);
+    let dials = site.dials_to(host);
+    let places = site.places.node.saturating_add(dials);
+    let mut crew = Crew::new(scope, site, host, refused, pool, challenges, dials);
+    accept_into(site, &mut crew, places);
     crew.joined()
 }

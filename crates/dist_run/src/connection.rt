@@ -10,6 +10,14 @@ use std::alloc::Global;
 use std::sync::Wait;
 use std::sync::atomic::{AtomicUsize, Ordering};
 
+/// The connection of an end.
+#[derive(Drop)]
+pub struct Carrier {
+    /// Which ports it joins.
+    pub link: u64,
+    pub stream: SocketStream,
+}
+
 /// An end of a node, with what is needed to drive it.
 #[derive(Drop)]
 pub struct Job<'a> {
@@ -22,7 +30,7 @@ pub struct Job<'a> {
     /// The seat for its steps.
     pub seat: Seat,
     /// The connection.
-    pub stream: SocketStream,
+    pub carrier: Carrier,
     /// What the end said when it was opened.
     pub first: ByteString,
     /// Where its challenges come from.
@@ -31,41 +39,53 @@ pub struct Job<'a> {
     pub turns: usize,
 }
 
-/// What is left of a job. Neither the seat nor the stream is let go before the run ends.
+/// What is left of a job.
 #[derive(Drop)]
 pub struct Left {
+    /// The seat, which the next job may have.
     pub seat: Seat,
-    pub stream: SocketStream,
+    /// The connection.
+    pub carrier: Carrier,
+    /// Whether the end is closed.
+    pub is_over: bool,
 }
 
 impl<'a> Job<'a> {
-    /// Drives the end. The job whose number is `refused` is the one for which no thread could be made: its end is lost.
+    /// Drives the end, and marks that its seat is free. The job whose number is `refused` is the one for which no thread could
+    /// be made: its end is lost.
     pub fn run<R: Wait>(self, rt: &R, alloc: Global, refused: &AtomicUsize) -> Left {
-        if refused.load(Ordering::SeqCst) == self.number {
+        let host = self.host;
+        let left = if refused.load(Ordering::SeqCst) == self.number {
             self.give_away(rt)
         } else {
             self.drive(rt, alloc)
-        }
+        };
+        host.ended.set(left.seat.number(), true);
+        left
     }
 
     // Loses the end before anything is read or written.
     fn give_away<R: Wait>(self, rt: &R) -> Left {
-        let (mut seat, stream) = (self.seat, self.stream);
+        let (mut seat, carrier) = (self.seat, self.carrier);
         lose(rt, &self.host.node, &mut seat, self.end_, Why::GaveUp);
-        say_goodbye(&stream);
-        Left { seat, stream }
+        say_goodbye(&carrier.stream);
+        Left {
+            seat,
+            carrier,
+            is_over: true,
+        }
     }
 
     fn drive<R: Wait>(self, rt: &R, alloc: Global) -> Left {
         let (node, end_, turns) = (&self.host.node, self.end_, self.turns);
-        let (seat, mut stream, mut challenges) = (self.seat, self.stream, self.challenges);
+        let (seat, mut carrier, mut challenges) = (self.seat, self.carrier, self.challenges);
         let first = self.first.as_slice();
         let driven = drive_end(
             rt,
             alloc,
             node,
             seat,
-            &mut stream,
+            &mut carrier.stream,
             &mut challenges,
             end_,
             first,
@@ -73,8 +93,12 @@ impl<'a> Job<'a> {
         );
         let (seat, is_over) = settled(rt, node, end_, driven);
         if is_over {
-            say_goodbye(&stream);
+            say_goodbye(&carrier.stream);
         }
-        Left { seat, stream }
+        Left {
+            seat,
+            carrier,
+            is_over,
+        }
     }
 }

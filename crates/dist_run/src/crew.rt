@@ -1,10 +1,10 @@
 //! The threads for connections that one thread starts at one node.
 
-use crate::connection::{Job, Left};
+use crate::connection::{Carrier, Job, Left};
 use crate::site::Site;
 use dist_core::{Event, StepError, Why};
 use dist_drive::SocketStream;
-use dist_hosts::{Challenges, Connection, Host, Pool, say_goodbye};
+use dist_hosts::{Challenges, Host, Pool, say_goodbye};
 use dist_locked::{Receipt, Seat, lose};
 use dist_names::ByteString;
 use dist_peers::EndId;
@@ -12,6 +12,14 @@ use std::mem;
 use std::sync::Wait;
 use std::sync::atomic::{AtomicUsize, Ordering};
 use std::thread::{JoinHandle, Scope, Threads};
+
+// A thread that was started and not joined yet.
+#[derive(Drop)]
+struct Running {
+    // The number of its seat.
+    seat: u32,
+    handle: JoinHandle<Left>,
+}
 
 /// Threads that were started and not joined yet, with what is left of the others.
 #[derive(Drop)]
@@ -22,8 +30,10 @@ pub struct Crew<'s, E, R, G> {
     refused: &'s AtomicUsize,
     pool: Pool,
     challenges: Challenges,
-    handles: Vec<JoinHandle<Left>>,
+    running: Vec<Running>,
     streams: Vec<SocketStream>,
+    // How many connections of closed ends may still be kept that are of no known dial of the run.
+    spare: usize,
 }
 
 /// What a crew leaves: its seats, and its streams.
@@ -41,7 +51,7 @@ fn said(receipt: Receipt) -> (EndId, ByteString) {
 }
 
 impl<'s, E, R: Threads + Wait + Sync, G> Crew<'s, E, R, G> {
-    /// A crew that has started nothing.
+    /// A crew that has started nothing. It keeps so many connections of closed ends that are of no known dial of the run.
     pub fn new(
         scope: &'s Scope<'s, E>,
         site: &'s Site<'s, R, G>,
@@ -49,6 +59,7 @@ impl<'s, E, R: Threads + Wait + Sync, G> Crew<'s, E, R, G> {
         refused: &'s AtomicUsize,
         pool: Pool,
         challenges: Challenges,
+        spare: usize,
     ) -> Crew<'s, E, R, G> {
         Crew {
             scope,
@@ -57,8 +68,9 @@ impl<'s, E, R: Threads + Wait + Sync, G> Crew<'s, E, R, G> {
             refused,
             pool,
             challenges,
-            handles: Vec::new(site.alloc),
+            running: Vec::new(site.alloc),
             streams: Vec::new(site.alloc),
+            spare,
         }
     }
 
@@ -87,49 +99,100 @@ impl<'s, E, R: Threads + Wait + Sync, G> Crew<'s, E, R, G> {
         lose(self.site.rt, &self.host.node, own, end_, why);
     }
 
-    /// Keeps a connection that has no open end to the end of the run.
-    pub fn keep_closed(&mut self, connection: Connection) {
-        say_goodbye(&connection.stream);
-        self.site.keep(&mut self.streams, connection.stream);
+    // Whether the connection of a closed end is to be kept. Both sockets of each dial of the run are, so that no two of them have
+    // one pair of ports. A connection may come before its link is noted, so the first few are kept whosever they are: where no
+    // stranger comes, that is all of them.
+    fn keeps_closed(&mut self, link: u64) -> bool {
+        if self.site.is_of_dial(link) {
+            return true;
+        }
+        if self.spare == 0 {
+            return false;
+        }
+        self.spare -= 1;
+        true
     }
 
-    /// Loses an end, whose connection is kept.
-    pub fn give_up(&mut self, end_: EndId, why: Why, connection: Connection) {
+    /// Closes the connection of a closed end, or keeps it to the end of the run, where its ports must not be used again.
+    pub fn part_with(&mut self, carrier: Carrier) {
+        say_goodbye(&carrier.stream);
+        if self.keeps_closed(carrier.link) {
+            self.site.keep(&mut self.streams, carrier.stream);
+        }
+    }
+
+    /// Loses an end that no thread drives.
+    pub fn give_up(&mut self, end_: EndId, why: Why, carrier: Carrier) {
         self.lose(end_, why);
-        self.keep_closed(connection);
+        self.part_with(carrier);
+    }
+
+    /// How many connections it has and has not let go.
+    pub fn open_count(&self) -> usize {
+        self.running.len().saturating_add(self.streams.len())
     }
 
     // Keeps what is left of a job. The seat comes back to its place.
     fn keep_left(&mut self, left: Left) {
         self.site.keep(&mut self.pool.free, left.seat);
-        self.site.keep(&mut self.streams, left.stream);
+        if left.is_over {
+            self.part_with(left.carrier);
+        } else {
+            self.site.keep(&mut self.streams, left.carrier.stream);
+        }
+    }
+
+    // The next thread that has ended.
+    fn next_ended(&mut self) -> Option<Running> {
+        let ended = &self.host.ended;
+        let place = self
+            .running
+            .iter()
+            .position(|running| ended.is_set(running.seat))?;
+        if place < self.running.len() {
+            Some(self.running.swap_remove(place))
+        } else {
+            None
+        }
+    }
+
+    /// Joins the threads that have ended. Their seats come back.
+    pub fn join_ended(&mut self) {
+        for _ in 0..self.running.len() {
+            let Some(running) = self.next_ended() else {
+                return;
+            };
+            self.keep_left(running.handle.join(self.site.rt));
+        }
     }
 
     // A seat and room for a thread, or why an end gets none.
     fn seat(&mut self) -> Result<Seat, Why> {
-        if self.handles.reserve(1).is_err() {
+        self.join_ended();
+        if self.running.reserve(1).is_err() {
             return Err(Why::NoMemory);
         }
         self.pool.free.pop().ok_or(Why::GaveUp)
     }
 
     /// Starts a thread that drives an end. Where no seat is left, or no thread can be made, the end is lost.
-    pub fn start(&mut self, number: usize, end_: EndId, first: ByteString, connection: Connection) {
+    pub fn start(&mut self, number: usize, end_: EndId, first: ByteString, carrier: Carrier) {
         match self.seat() {
             Ok(seat) => {
+                self.host.ended.set(seat.number(), false);
                 let job = Job {
                     number,
                     host: self.host,
                     end_,
                     seat,
-                    stream: connection.stream,
+                    carrier,
                     first,
                     challenges: self.challenges.fork(),
                     turns: self.site.turns,
                 };
                 self.spawn(job);
             }
-            Err(why) => self.give_up(end_, why, connection),
+            Err(why) => self.give_up(end_, why, carrier),
         }
     }
 
@@ -140,10 +203,11 @@ impl<'s, E, R: Threads + Wait + Sync, G> Crew<'s, E, R, G> {
             self.refused,
             job.number,
         );
+        let seat = job.seat.number();
         match self.scope.spawn(move || job.run(rt, alloc, refused)) {
             Ok(handle) => {
-                if let Err(failed) = self.handles.push(handle) {
-                    self.keep_left(failed.value.join(rt));
+                if let Err(failed) = self.running.push(Running { seat, handle }) {
+                    self.keep_left(failed.value.handle.join(rt));
                 }
             }
             Err(back) => {
@@ -156,9 +220,9 @@ impl<'s, E, R: Threads + Wait + Sync, G> Crew<'s, E, R, G> {
 
     // Joins all threads.
     fn join_all(&mut self) {
-        let handles = mem::replace(&mut self.handles, Vec::new(self.site.alloc));
-        for handle in handles {
-            self.keep_left(handle.join(self.site.rt));
+        let all = mem::replace(&mut self.running, Vec::new(self.site.alloc));
+        for running in all {
+            self.keep_left(running.handle.join(self.site.rt));
         }
     }
 

@@ -2,6 +2,7 @@
 
 ghost use Rattle.std.specs.Prelude.{◌≡◌};
 
+use crate::connection::Carrier;
 use crate::crew::{Crew, Rest};
 use crate::site::Site;
 use dist_core::{Event, Opening, StepError, Why};
@@ -47,8 +48,9 @@ fn looked_up<R: Net<Listener = TcpListener, Stream = TcpStream>, G>(
     site: &Site<'_, R, G>,
     to: &NodeName,
 ) -> Result<Peer, OrderRefusal> {
-    let Ok(connection) = connected(site.rt, site.mapper_port) else {
-        return Err(OrderRefusal::NoRegistry);
+    let connection = match connected(site.rt, site.mapper_port) {
+        Ok(connection) => connection,
+        Err(error) => return Err(OrderRefusal::of_connect(&error)),
     };
     let mut stream = connection.stream;
     match lookup(site.alloc, &mut stream, to.short(), site.turns) {
@@ -56,7 +58,7 @@ fn looked_up<R: Net<Listener = TcpListener, Stream = TcpStream>, G>(
             port: peer.port,
             opening: opening_for(&peer),
         }),
-        Err(error) => Err(OrderRefusal::Lookup(error)),
+        Err(error) => Err(OrderRefusal::of_lookup(error, site.places.is_short)),
     }
 }
 
@@ -106,9 +108,12 @@ fn open<'s, E, R: Threads + Wait + Sync, G: Gate>(
     connection: Connection,
 ) {
     let link = link_of(connection.dialler_port, port);
+    crew.site().note_link(number, link);
+    let stream = connection.stream;
+    let carrier = Carrier { link, stream };
     match opened(crew, worker, end_, link) {
-        Ok(first) => crew.start(number as usize, end_, first, connection),
-        Err(why) => crew.give_up(end_, why, connection),
+        Ok(first) => crew.start(number as usize, end_, first, carrier),
+        Err(why) => crew.give_up(end_, why, carrier),
     }
 }
 
@@ -205,7 +210,7 @@ fn crews_of<'s, E, R: Threads + Wait + Sync, G>(
             break;
         };
         let refused = refused_of(host, worker);
-        crews.push(Crew::new(scope, site, host, refused, pool, challenges.fork()))?;
+        crews.push(Crew::new(scope, site, host, refused, pool, challenges.fork(), 0))?;
     }
     Ok(crews)
 }

@@ -8,8 +8,8 @@ use crate::crew::Rest;
 use crate::site::{Dial, Site};
 use crate::threads::{Ended, Pools, run_threads};
 use dist_hosts::{
-    Challenges, Host, OrderFault, Pool, RunError, SharedOut, are_of_plans, listening, serve_all,
-    started,
+    Challenges, Host, OrderFault, Places, Pool, RunError, SharedOut, are_of_plans, listening,
+    most_descriptors, places_of, serve_all, started,
 };
 use dist_locked::{Book, Closed, Gate, Seat, Tickets, close};
 use dist_plan::{DialPlan, NodePlan, Plan};
@@ -84,7 +84,7 @@ fn dials_of(alloc: Global, nodes: &[NodePlan], plans: &[DialPlan]) -> Result<Vec
     for plan in plans {
         let from = place_of(nodes, plan);
         let to = plan.to.try_clone(alloc)?;
-        dials.push(Dial { from, to })?;
+        dials.push(Dial::new(from, to))?;
     }
     Ok(dials)
 }
@@ -186,6 +186,7 @@ fn run_hosts<R, G>(
     alloc: Global,
     plan: &Plan,
     mapper_port: u16,
+    places: Places,
     gate: &G,
     challenges: Challenges,
 ) -> Result<Ran, RunError>
@@ -203,12 +204,20 @@ where
         hosts: hosts.as_slice(),
         dials: dials.as_slice(),
         mapper_port,
+        places,
         turns,
         gate,
         failed: AtomicBool::new(false),
     };
     let ended = run_threads(site, pools, challenges)?;
     ran_of(alloc, hosts, ended)
+}
+
+// How the descriptors of the process are shared out among what a plan has.
+fn places_for(plan: &Plan) -> Places {
+    let nodes = u16::try_from(plan.node.as_slice().len()).unwrap_or(u16::MAX);
+    let dials = u16::try_from(plan.dial.as_slice().len()).unwrap_or(u16::MAX);
+    places_of(most_descriptors(), nodes, dials)
 }
 
 // Serves the port mapper while the nodes run. Where it ended before it was told to, that is the run's fault.
@@ -227,12 +236,16 @@ where
 {
     let stop = AtomicBool::new(false);
     let (turns, stop) = (plan.turns as usize, &stop);
+    let places = places_for(plan);
+    let clients = places.clients;
     thread::scope(thread::scope_env(), rt, move |scope| {
-        let serving = scope.spawn(move || serve_all(rt, alloc, listener, port, turns, stop));
+        let serving = scope.spawn(move || serve_all(
+            rt, alloc, listener, port, clients, turns, stop,
+        ));
         let Ok(handle) = serving else {
             return Err(RunError::ThreadFailed);
         };
-        let ran = run_hosts(rt, alloc, plan, port, gate, challenges);
+        let ran = run_hosts(rt, alloc, plan, port, places, gate, challenges);
         stop.store(true, Ordering::SeqCst);
         handle.join(rt).and(ran)
     })

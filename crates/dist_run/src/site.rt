@@ -1,9 +1,9 @@
 //! What all threads of a run share.
 
-use dist_hosts::Host;
+use dist_hosts::{Host, Places};
 use dist_names::NodeName;
 use std::alloc::Global;
-use std::sync::atomic::{AtomicBool, Ordering};
+use std::sync::atomic::{AtomicBool, AtomicU64, Ordering};
 
 /// A dial that is ordered: which node makes it, and to whom.
 #[derive(Drop)]
@@ -12,6 +12,22 @@ pub struct Dial {
     pub from: usize,
     /// The name of the peer.
     pub to: NodeName,
+    /// The link of its connection, once it has one.
+    pub link: AtomicU64,
+}
+
+// No connection has this link, since none leads to port 0.
+const NO_LINK: u64 = 0;
+
+impl Dial {
+    /// A dial that has no connection yet.
+    pub fn new(from: usize, to: NodeName) -> Dial {
+        Dial {
+            from,
+            to,
+            link: AtomicU64::new(NO_LINK),
+        }
+    }
 }
 
 /// What all threads of a run share.
@@ -27,6 +43,8 @@ pub struct Site<'a, R, G> {
     pub dials: &'a [Dial],
     /// The port of the port mapper.
     pub mapper_port: u16,
+    /// How the descriptors of the process are shared out.
+    pub places: Places,
     /// The most turns of a connection and of a lookup.
     pub turns: usize,
     /// Where the workers ask whether to go on.
@@ -44,6 +62,29 @@ impl<'a, R, G> Site<'a, R, G> {
     /// Whether the run has failed.
     pub fn has_failed(&self) -> bool {
         self.failed.load(Ordering::SeqCst)
+    }
+
+    /// Notes the link of a dial's connection.
+    pub fn note_link(&self, number: u32, link: u64) {
+        if let Some(dial) = self.dials.get(number as usize) {
+            dial.link.store(link, Ordering::SeqCst);
+        }
+    }
+
+    /// How many dials of the run lead to this node: the port mapper finds it by its short name.
+    pub fn dials_to(&self, host: &Host) -> usize {
+        let short = host.name.short();
+        self.dials
+            .iter()
+            .filter(|dial| dial.to.short() == short)
+            .count()
+    }
+
+    /// Whether a dial of the run is known to have this link.
+    pub fn is_of_dial(&self, link: u64) -> bool {
+        self.dials
+            .iter()
+            .any(|dial| dial.link.load(Ordering::SeqCst) == link)
     }
 
     /// Keeps something until the run ends. Without memory for it the run fails.

@@ -7,6 +7,7 @@ use Rattle.dist_names.specs.declared.flags.Flags.{Flags}
 use Rattle.dist_secret.specs.Cookie.{cookie_of}
 use Rattle.dist_secret.specs.Cookies.{CookieTable, is_full_for, with_cookie}
 use Rattle.dist_setup.specs.declared.setup.Setup.{Setup}
+use Rattle.dist_setup.specs.Limits.{usual_limits}
 use Rattle.dist_setup.specs.declared.version.Version.{Version}
 use Rattle.dist_setup.specs.declared.version.Version.TheVariants as version
 use Rattle.dist_script.specs.declared.node_line.Terms.{Terms}
@@ -112,7 +113,7 @@ abbrev pub behind_cookies : List ℕ → Terms → CookieTable → List (List �
 behind_cookies name terms cookies words =
     allowed_in words >>= (λ allow.
     name_in name >>= (λ named.
-    Some (record { name = named; cookies = cookies; version = terms.version; flags = terms.flags; required = terms.required; creation = terms.creation; allow = allow })))
+    Some (record { name = named; cookies = cookies; version = terms.version; flags = terms.flags; required = terms.required; creation = terms.creation; allow = allow; limits = usual_limits })))
 
 -- THE LINE OF A NODE, behind its first word: a name, the usual cookie, how the node is met, the cookies of peers, the names that are allowed
 abbrev pub node_in : List (List ℕ) → Option Setup

@@ -7,7 +7,7 @@ ghost use Rattle.dist_script.specs.Fields.{Reads, ReadsPlainly, behind, first_in
 ghost use Rattle.dist_script.specs.Nodes.{version_in, behind_version, required_in, behind_required, is_visible, cookie_in, cookie_added, further_in, cookies_in, names_in, allowed_in, terms_in, behind_terms, behind_cookies, node_in};
 
 use crate::fields::{line_end, name_of, name_word, number_word};
-use dist_core::{NameList, Setup, Version};
+use dist_core::{Limits, NameList, Setup, Version};
 use dist_names::{Creation, Flags, NodeName};
 use dist_secret::{Cookie, CookieError, Cookies, CookiesError};
 use dist_words::{LineFault, Words, flags_value};
@@ -185,6 +185,7 @@ fn setup_behind(
         required: terms.required,
         creation: terms.creation,
         allow,
+        limits: Limits::usual(),
     })
 }
 

@@ -7,6 +7,7 @@
 
 mod checks;
 mod laws;
+mod limits;
 mod saying;
 mod setup;
 mod version;
@@ -18,6 +19,7 @@ pub use laws::{
     announced_flags_fit, flags_tell_versions, low_halves_suffice, messages_can_be_said,
     what_is_said_is_read,
 };
+pub use limits::Limits;
 pub use saying::{ack_frame, challenge_frame, greeting, name_frame, reply_frame, status_frame};
 pub use setup::{NameList, Setup};
 pub use version::Version;

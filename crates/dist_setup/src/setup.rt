@@ -3,6 +3,7 @@ ghost use Rattle.std.specs.Prelude.{◌≡◌, ◌↔◌, length, slice_get, IsT
 ghost use Rattle.std.specs.Option.{option_map};
 ghost use Rattle.dist_names.specs.Order.{same_name, is_listed};
 
+use crate::limits::Limits;
 use crate::version::Version;
 use dist_names::{Creation, Flags, NodeName};
 use dist_secret::Cookies;
@@ -27,6 +28,8 @@ pub struct Setup {
     pub creation: Creation,
     /// The peers that may connect, where they are limited. Our own choice: a dial is not bound by it.
     pub allow: Option<NameList>,
+    /// How long it lasts, and how much it holds. `Limits::usual()` or `Limits::long_running()` serve most nodes.
+    pub limits: Limits,
 }
 
 impl Setup {
@@ -42,6 +45,7 @@ impl Setup {
             required: self.required,
             creation: self.creation,
             allow: copied_allow(alloc, &self.allow)?,
+            limits: self.limits,
         })
     }
 }

@@ -1,3 +1,4 @@
 pub mod Stream
 pub mod Socket
 pub mod Turns
+pub mod Deadline

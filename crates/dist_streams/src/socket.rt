@@ -1,9 +1,9 @@
 //! A socket as a stream.
 
-ghost use Rattle.std.specs.Prelude.{◌≡◌, ◌≤◌, None, length, IfOk, IsErrAnd};
+ghost use Rattle.std.specs.Prelude.{◌≡◌, ℕ, ◌≤◌, None, List, length, IfOk, IsErrAnd};
 ghost use Rattle.std.specs.Duration.{as_nanos};
 ghost use Rattle.std.specs.IoError.{error_kind};
-ghost use Rattle.dist_streams.specs.Stream.{heard_count, took_count, unused};
+ghost use Rattle.dist_streams.specs.Stream.{Reads, Writes, heard_count, took_count, unused};
 ghost use Rattle.dist_streams.specs.Socket.{is_quiet, heard_as, took_as};
 
 use crate::marks::{is_end, is_failed_read, is_failed_write};
@@ -64,6 +64,44 @@ impl SocketStream {
         ensures { result.now ≡ self.now.socket }
     {
         &self.socket
+    }
+
+    /// One turn without a read, which counts as a quiet one. The system isn't asked.
+    pub(crate) fn rest(&mut self) -> Heard
+        ensures quiet { result ≡ Heard.Quiet }
+        ensures reads { (room : List ℕ) → Reads (⟦<SocketStream as Stream>⟧.meaning self.old) (⟦<SocketStream as Stream>⟧.meaning self.new) room result }
+    {
+        self.calls = self.calls.saturating_add(1);
+        Heard::Quiet
+    }
+
+    /// One turn without a write, which counts as a quiet one. The system isn't asked.
+    pub(crate) fn hold(&mut self) -> Took
+        ensures quiet { result ≡ Took.Quiet }
+        ensures writes { (bytes : List ℕ) → Writes (⟦<SocketStream as Stream>⟧.meaning self.old) (⟦<SocketStream as Stream>⟧.meaning self.new) bytes result }
+    {
+        self.calls = self.calls.saturating_add(1);
+        Took::Quiet
+    }
+
+    /// One turn whose read has failed before the system was asked for bytes.
+    pub(crate) fn fail_read(&mut self) -> Heard
+        ensures failed { result ≡ Heard.Failed }
+        ensures reads { (room : List ℕ) → Reads (⟦<SocketStream as Stream>⟧.meaning self.old) (⟦<SocketStream as Stream>⟧.meaning self.new) room result }
+    {
+        self.calls = self.calls.saturating_add(1);
+        self.read_failed = true;
+        Heard::Failed
+    }
+
+    /// One turn whose write has failed before the system was given bytes.
+    pub(crate) fn fail_write(&mut self) -> Took
+        ensures failed { result ≡ Took.Failed }
+        ensures writes { (bytes : List ℕ) → Writes (⟦<SocketStream as Stream>⟧.meaning self.old) (⟦<SocketStream as Stream>⟧.meaning self.new) bytes result }
+    {
+        self.calls = self.calls.saturating_add(1);
+        self.write_failed = true;
+        Took::Failed
     }
 
     /// The socket, given back.

@@ -1,5 +1,5 @@
 -- What the words of a port mapper ask for (ERTS Reference Manual, epmd).
-use Rattle.std.specs.Prelude.{ℕ, ◌^◌, Bool, true, false, ◌&&◌, ◌==◌, List, [], ◌∷◌, Option, Some, None, option_map, Result, Ok, Err, length, codes, nat_lt, nat_le, if◌then◌else◌}
+use Rattle.std.specs.Prelude.{ℕ, Bool, true, false, ◌&&◌, ◌==◌, List, [], ◌∷◌, Option, Some, None, Result, Ok, Err, length, codes, nat_lt, nat_le, if◌then◌else◌}
 use Rattle.std.specs.List.{find}
 use Rattle.std.proofs.Common.{Bor}
 use Rattle.std.specs.Cmp.Lexicographic.{pointwise}

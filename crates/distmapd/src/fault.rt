@@ -1,5 +1,8 @@
 //! Why the program ends.
 
+ghost use Rattle.std.specs.Prelude.{◌≡◌};
+ghost use Rattle.distmapd.specs.declared.fault.Fault.TheVariants.{NoMemory};
+
 use crate::refusal::Refusal;
 use std::alloc::AllocError;
 use thiserror::Error;
@@ -28,6 +31,9 @@ pub enum Fault {
     /// The port mapper gives no answer.
     #[error("NoAnswer")]
     NoAnswer,
+    /// The port mapper's answer was cut, and what came of it was printed.
+    #[error("AnswerCut: names may be missing")]
+    AnswerCut,
     /// What was asked for could not be written.
     #[error("WriteFailed")]
     WriteFailed,
@@ -47,6 +53,8 @@ impl Fault {
 }
 
 impl From<AllocError> for Fault {
+    ghost from_gives = { λ _ fault. fault ≡ NoMemory };
+
     fn from(_error: AllocError) -> Fault {
         Fault::NoMemory
     }

@@ -1,9 +1,12 @@
 //! A port mapper for Erlang nodes, in place of `epmd`: it stays in the foreground, and serves all clients at once.
 #![tactic(auto)]
 
+mod answer;
 mod fault;
 mod key;
+mod listing;
 mod names;
+mod output;
 mod reading;
 mod refusal;
 mod settings;
@@ -11,6 +14,7 @@ mod sockets;
 
 use crate::fault::Fault;
 use crate::names::print_names;
+use crate::output::print;
 use crate::reading::settings_of;
 use crate::settings::{Settings, Task};
 use crate::sockets::{listeners, port_of};
@@ -44,7 +48,7 @@ Status: 0 done, 1 a fault here, 2 a bad command line.
 ";
 
 /// The version of the program.
-const VERSION: &str = "distmapd 0.1\n";
+const VERSION: &str = "distmapd 0.2.0\n";
 
 // The least creation: below it stand those that nodes without one use. Source: OTP, erl_epmd.
 const LEAST_CREATION: u32 = 4;
@@ -109,14 +113,6 @@ fn perform<R: Net + Wait + Clock, W: Write>(
         Task::Version => print(out, VERSION),
         Task::Names => print_names(rt, alloc, settings.port, out),
         Task::Serve => run(host, alloc, &settings),
-    }
-}
-
-fn print<W: Write>(out: &mut W, text: &str) -> Result<(), Fault> {
-    let written = out.write_all(text.as_bytes());
-    match written.and(out.flush()) {
-        Ok(()) => Ok(()),
-        Err(_) => Err(Fault::WriteFailed),
     }
 }
 

@@ -1,8 +1,9 @@
 -- WHAT THE COMMANDS PRINT.
 use Rattle.std.specs.Prelude.{◌≡◌, ℕ, zero, suc, List, [], ◌∷◌, ◌++◌, length, codes, decimal, Option, Some, Ok}
-use Rattle.std.specs.List.{concat}
+use Rattle.std.specs.List.{All, concat}
 use Rattle.std.specs.Io.KnownBytes.{Appends, Consumes, IsAtEnd}
 use Rattle.hex.specs.Hex.{encode_lower}
+use Rattle.dist_numerals.specs.Escaped.{escaped_lines, IsPrintableOrLineFeed}
 use Rattle.dist_secret.specs.Digest.{digest_of}
 use Rattle.dist_secret.specs.Hearing.{Hears}
 use Rattle.dist_streams.specs.Stream.{StreamState}
@@ -41,6 +42,10 @@ PrintsCookie before after challenge old new = (cookie : List ℕ) × Hears befor
 -- the text of the answer to a question for all nodes was put there, asked in at most so many turns
 abbrev pub PrintsNames : StreamState → StreamState → ℕ → Option (List ℕ) → Option (List ℕ) → Type 0
 PrintsNames before after turns old new = (port : ℕ) × (text : List ℕ) × AsksFor Names before after turns names_meant (Ok (port, text)) × Appends old new text
+
+-- ON A TERMINAL: the escape of that text was put there, of which no terminal acts upon a byte
+abbrev pub PrintsEscapedNames : StreamState → StreamState → ℕ → Option (List ℕ) → Option (List ℕ) → Type 0
+PrintsEscapedNames before after turns old new = (port : ℕ) × (text : List ℕ) × AsksFor Names before after turns names_meant (Ok (port, text)) × All IsPrintableOrLineFeed (escaped_lines text) × Appends old new (escaped_lines text)
 
 -- ---- `run`
 

@@ -16,7 +16,7 @@ use dist_play::enact;
 use std::alloc::{AllocError, Global};
 use std::env;
 use std::fs::File;
-use std::io::{ErrorKind, Write};
+use std::io::{ErrorKind, IsTerminal, Write};
 use std::net::{Net, TcpListener, TcpStream};
 use std::process::ExitCode;
 use std::random::RandomSource;
@@ -81,6 +81,21 @@ fn texts(alloc: Global, words: &[String]) -> Result<Vec<&str>, AllocError> {
     words.iter().map(|word| word.as_str()).collect(alloc)
 }
 
+// What the port mapper knows, as it came, or by its escape where standard output is a terminal.
+fn print_names<W: Write, E: Write>(rt: &HostRuntime, port: u16, out: &mut W, err: &mut E) -> u8 {
+    let alloc = rt.alloc();
+    match names::connected(rt, port) {
+        Ok(mut stream) if rt.stdout().is_terminal() => names::names_on_terminal(
+            alloc,
+            &mut stream,
+            out,
+            err,
+        ),
+        Ok(mut stream) => names::names(alloc, &mut stream, out, err),
+        Err(_) => Fault::ConnectFailed.tell(err),
+    }
+}
+
 // Does what an order says, and answers the exit status.
 fn follow<R, W: Write, E: Write>(
     rt: &HostRuntime,
@@ -104,10 +119,7 @@ where
             Ok(mut file) => cookie::cookie(alloc, &mut file, challenge, out, err),
             Err(_) => Fault::OpenFailed.tell(err),
         },
-        Order::Names { port } => match names::connected(rt, port) {
-            Ok(mut stream) => names::names(alloc, &mut stream, out, err),
-            Err(_) => Fault::ConnectFailed.tell(err),
-        },
+        Order::Names { port } => print_names(rt, port, out, err),
         Order::Run { file } => match File::open(rt, file) {
             Ok(mut file) => run::run_file(host, alloc, &mut file, out, err),
             Err(_) => Fault::OpenFailed.tell(err),

@@ -2,35 +2,38 @@
 
 ghost use Rattle.std.specs.Prelude.{◌≡◌, ◌≤◌, IfErr, OnOk};
 ghost use Rattle.distnode.specs.Fault.{status_of};
-ghost use Rattle.distnode.specs.Printed.{PrintsNames};
+ghost use Rattle.distnode.specs.Printed.{PrintsNames, PrintsEscapedNames};
 
 use crate::fault::Fault;
 use crate::output::write_text;
 use dist_mapper::ask_names;
-use dist_streams::{SocketStream, Stream, connect};
-use std::alloc::Global;
+use dist_numerals::escape_lines;
+use dist_streams::{DeadlineStream, Stream, connect_by, deadline_after};
+use std::alloc::{AllocError, Global};
 use std::io::{self, Write};
 use std::net::{Ipv4Addr, SocketAddr};
 use std::time::Duration;
 
-/// The most turns. A turn is one read or one write, a quiet one among them, which over a socket waits for at most 5
-/// milliseconds. A real port mapper writes each line of its answer by itself, so that as many reads may be needed as it
-/// knows nodes: an `epmd` holds some 1,018, and there is room for 1,024. A silent one is given up after some seconds. Our
-/// own choice.
+/// The most turns. A turn is one read or one write, a quiet one among them. A real port mapper writes each line of its answer
+/// by itself, so that as many reads may be needed as it knows nodes: an `epmd` holds some 1,018, and there is room for 1,024.
+/// Our own choice.
 const MOST_TURNS: usize = 1280;
 
-/// How long a read or a write waits: the length of a turn.
-const TURN_IN_MILLISECONDS: u64 = 5;
+/// How long the question and its answer may take, whatever comes meanwhile. Our own choice.
+const ANSWER_IN_SECONDS: u64 = 5;
 
 /// How long a connect may take. Where so many connections wait to be accepted that the system drops further ones, a connect
 /// without a limit waits some two minutes. Our own choice.
 const CONNECT_IN_SECONDS: u64 = 8;
 
-/// A connection to the port mapper of this host, each read and write of which waits for one turn.
-pub fn connected(rt: &HostRuntime, port: u16) -> io::Result<SocketStream> {
+/// A connection to the port mapper of this host, which is quiet once the time of the answer is over. TimedOut where it was not
+/// made within the time of a connect; any other error is the system's.
+pub fn connected(rt: &HostRuntime, port: u16) -> io::Result<DeadlineStream<&HostRuntime>> {
     let address = SocketAddr::from((Ipv4Addr::LOCALHOST, port));
-    let turn = Duration::from_millis(TURN_IN_MILLISECONDS);
-    connect(rt, &address, Duration::from_secs(CONNECT_IN_SECONDS), turn)
+    let until = deadline_after(rt, Duration::from_secs(CONNECT_IN_SECONDS))?;
+    let stream = connect_by(rt, &address, until)?.into_inner();
+    let until = deadline_after(rt, Duration::from_secs(ANSWER_IN_SECONDS))?;
+    Ok(DeadlineStream::new(stream, rt, until))
 }
 
 fn perform<S: Stream, W: Write>(alloc: Global, stream: &mut S, out: &mut W) -> Result<(), Fault>
@@ -53,6 +56,38 @@ pub fn names<S: Stream, W: Write, E: Write>(
     ensures printed { result ≡ 0 → PrintsNames (S.meaning stream.old) (S.meaning stream.new) MOST_TURNS (W.contents out.old) (W.contents out.new) }
 {
     match perform(alloc, stream, out) {
+        Ok(()) => 0,
+        Err(fault) => fault.tell(err),
+    }
+}
+
+fn perform_on_terminal<S: Stream, W: Write>(
+    alloc: Global,
+    stream: &mut S,
+    out: &mut W,
+) -> Result<(), Fault>
+    ensures status { IfErr result (λ fault. status_of fault ≡ 1) }
+    ensures printed { OnOk result (PrintsEscapedNames (S.meaning stream.old) (S.meaning stream.new) MOST_TURNS (W.contents out.old) (W.contents out.new)) }
+{
+    let (_port, text) = ask_names(alloc, stream, MOST_TURNS).map_err(Fault::NoAnswer)?;
+    match escape_lines(alloc, text.as_slice()) {
+        Ok(escaped) => write_text(out, escaped.as_bytes()),
+        Err(AllocError) => Err(Fault::NoMemory),
+    }
+}
+
+/// The same for an output that is a terminal: whoever listens at the port may have written the answer, and a terminal acts
+/// upon some bytes, so each line is printed by its escape.
+pub fn names_on_terminal<S: Stream, W: Write, E: Write>(
+    alloc: Global,
+    stream: &mut S,
+    out: &mut W,
+    err: &mut E,
+) -> u8
+    ensures status { result ≤ 1 }
+    ensures printed { result ≡ 0 → PrintsEscapedNames (S.meaning stream.old) (S.meaning stream.new) MOST_TURNS (W.contents out.old) (W.contents out.new) }
+{
+    match perform_on_terminal(alloc, stream, out) {
         Ok(()) => 0,
         Err(fault) => fault.tell(err),
     }

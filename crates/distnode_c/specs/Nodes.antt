@@ -6,6 +6,8 @@ use Rattle.dist_secret.specs.declared.cookie_error.CookieError.{CookieError}
 use Rattle.dist_peers.specs.declared.entry.EndId.{EndId}
 use Rattle.dist_ends.specs.declared.known.UpRecord.{UpRecord}
 use Rattle.dist_setup.specs.declared.setup.Setup.{Setup}
+use Rattle.dist_setup.specs.declared.limits.Limits.{Limits}
+use Rattle.dist_setup.specs.Limits.{long_running_limits}
 use Rattle.dist_setup.specs.declared.version.Version.{Version}
 use Rattle.dist_setup.specs.declared.version.Version.TheVariants.{Five, Six}
 use Rattle.dist_secret.specs.Cookies.{is_full_for}
@@ -31,9 +33,19 @@ version_of n = if n == 5 then Some Five else (if (n == 6) || (n == 0) then Some 
 abbrev pub limit_of : ℕ → Option (List Name)
 limit_of n = if n == 0 then None else Some []
 
+-- the number that was given, where 0 stands for another one
+abbrev pub number_or : ℕ → ℕ → ℕ
+number_or other n = if n == 0 then other else n
+
+-- the limits that numbers give: 0 stands for that of a node that runs for years
+abbrev pub limits_in : DnSetup → Limits
+limits_in u =
+    let most = long_running_limits in
+    record { steps = number_or most.steps u.most_steps; ends = number_or most.ends u.most_ends; entries = number_or most.entries u.most_entries; open_ends = number_or most.open_ends u.most_open_ends }
+
 -- the setup of a name, a cookie for all peers, a version and numbers
 abbrev pub setup_of : Name → List ℕ → Version → DnSetup → Setup
-setup_of name cookie v u = record { name = name; cookies = record { usual = cookie; own = [] }; version = v; flags = record { 0 = u.flags }; required = record { 0 = u.required }; creation = record { 0 = u.creation }; allow = limit_of u.limited }
+setup_of name cookie v u = record { name = name; cookies = record { usual = cookie; own = [] }; version = v; flags = record { 0 = u.flags }; required = record { 0 = u.required }; creation = record { 0 = u.creation }; allow = limit_of u.limited; limits = limits_in u }
 
 -- a name and a cookie are read, or the first reason why not; memory is wanted only where there is none
 abbrev pub ReadsBoth : Result (List ℕ × List ℕ) ℕ → Result (List ℕ) NameError → Result (List ℕ) CookieError → Type 0

@@ -7,7 +7,7 @@ ghost use Rattle.dist_names.specs.NodeName.{named};
 ghost use Rattle.dist_secret.specs.Cookie.{cookie_of};
 ghost use Rattle.dist_ends.specs.Ends.{up_from, up_ids, table_of, record_in};
 ghost use Rattle.distnode_c.specs.Steps.{Copies, said};
-ghost use Rattle.distnode_c.specs.Nodes.{Makes, News, ReadsBoth, AllowsAt, KeysAt, AtGuest, version_of, limit_of, Frees, Says, Tells, TellsAt};
+ghost use Rattle.distnode_c.specs.Nodes.{Makes, News, ReadsBoth, AllowsAt, KeysAt, AtGuest, version_of, limit_of, limits_in, number_or, Frees, Says, Tells, TellsAt};
 
 use crate::codes::{
     IN_USE, NO_MEMORY, NO_SUCH, NOT_A_NODE, OK, STARTED, cookie_code, name_code, setup_code,
@@ -15,7 +15,7 @@ use crate::codes::{
 use crate::copies::copied;
 use crate::held::{DnNode, MARK};
 use crate::told::creation_parts;
-use dist_core::{NameList, Setup, UpRecord, Version};
+use dist_core::{Limits, NameList, Setup, UpRecord, Version};
 use dist_guest::Guest;
 use dist_names::{Creation, Flags, NameError, NodeName};
 use dist_peers::EndId;
@@ -23,7 +23,7 @@ use dist_secret::{Cookie, Cookies};
 use std::alloc::Global;
 use std::mem::size_of;
 
-const _: () = prove!(size_of::<DnSetup>() == 32 && size_of::<DnPeer>() == 32);
+const _: () = prove!(size_of::<DnSetup>() == 48 && size_of::<DnPeer>() == 32);
 
 /// What a node is set up with, but for its name and its cookie.
 #[repr(C)]
@@ -39,6 +39,15 @@ pub struct DnSetup {
     pub version: u32,
     /// Where it isn't 0, only peers that are allowed may connect.
     pub limited: u32,
+    /// The most ends that it ever gives out. In this field and the three that follow 0 stands for the number of
+    /// `Limits::long_running()`.
+    pub most_ends: u32,
+    /// The most steps that it makes, losses not counted.
+    pub most_steps: u64,
+    /// The most peers that have an entry at one time.
+    pub most_entries: u32,
+    /// The most ends that are open at one time.
+    pub most_open_ends: u32,
 }
 
 /// A peer that is up.
@@ -91,6 +100,32 @@ fn limit_of(alloc: Global, number: u32) -> Option<NameList>
     }
 }
 
+// The number that was given, where 0 stands for another one.
+fn steps_or(other: u64, given: u64) -> u64
+    ensures { result ≡ number_or other given }
+{
+    if given == 0 { other } else { given }
+}
+
+// The number that was given, where 0 stands for another one.
+fn count_or(other: u32, given: u32) -> u32
+    ensures { result ≡ number_or other given }
+{
+    if given == 0 { other } else { given }
+}
+
+fn limits_in(setup: &DnSetup) -> Limits
+    ensures { result ≡ limits_in setup.now }
+{
+    let most = Limits::long_running();
+    Limits {
+        steps: steps_or(most.steps, setup.most_steps),
+        ends: count_or(most.ends, setup.most_ends),
+        entries: count_or(most.entries, setup.most_entries),
+        open_ends: count_or(most.open_ends, setup.most_open_ends),
+    }
+}
+
 // A name and a cookie. That memory is short for the name is told only where the text has a cookie.
 fn read_both(alloc: Global, name: &[u8], cookie: &[u8]) -> Result<(NodeName, Cookie), u32>
     ensures { ReadsBoth result (named name.now) (cookie_of cookie.now) }
@@ -136,6 +171,7 @@ pub extern "C" fn dn_node_new(
                 required: Flags(setup.required),
                 creation: Creation(setup.creation),
                 allow: limit_of(alloc, setup.limited),
+                limits: limits_in(setup),
             };
             made(node, alloc, setup)
         }

@@ -2,6 +2,8 @@
 use Rattle.std.specs.Prelude.{ℕ, ◌==◌, if◌then◌else◌}
 use Rattle.distping.specs.declared.fault.Fault.{Fault}
 use Rattle.distping.specs.declared.fault.Fault.TheVariants as fault
+use Rattle.distping.specs.declared.cookie.Refusal.{Refusal}
+use Rattle.distping.specs.declared.cookie.Refusal.TheVariants as refusal
 
 -- 2 where the command line is at fault, else 1
 abbrev pub status_of : Fault → ℕ
@@ -11,6 +13,11 @@ status_of fault.BadFlags = 2
 status_of fault.OneNodeAlone = 2
 status_of fault.ListenAlone = 2
 status_of other = 1
+
+-- the same where there is no cookie to try
+abbrev pub refusal_status : Refusal → ℕ
+refusal_status (refusal.NotPrivate file) = 1
+refusal_status (refusal.Fault fault) = status_of fault
 
 -- the first of two statuses, unless it is 0
 abbrev pub first_of : ℕ → ℕ → ℕ

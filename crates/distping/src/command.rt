@@ -14,6 +14,10 @@ const MAPPER_PORT: u16 = 4369;
 /// How many seconds a connect, a lookup and a talk may take each. A node gives up a handshake after 7. Our own choice.
 const USUAL_SECONDS: u16 = 8;
 
+// The turns of a talk beside those that pass in quiet seconds. A port mapper writes each line of its names by itself, so as
+// many reads may be needed as it knows nodes. Our own choice.
+const TURNS_IN_PLENTY: usize = 4096;
+
 /// What is done in place of dialling.
 #[derive(Clone, Copy)]
 pub enum Instead {
@@ -78,6 +82,8 @@ pub struct Choices<'a> {
     pub listen: Option<u16>,
     /// An object of JSON is printed for each node, in place of the lines.
     pub json: bool,
+    /// The cookie's file is read even where others than its owner may use it.
+    pub takes_any_file: bool,
 }
 
 impl<'a> Choices<'a> {
@@ -89,14 +95,15 @@ impl<'a> Choices<'a> {
         }
     }
 
-    /// How many reads and writes a talk may take, each of which waits for 10 milliseconds at most.
+    /// How many reads and writes a lookup or a talk may take. The clock ends it before: a quiet one waits for a second, and
+    /// beside those there are turns in plenty. An answer of the port mapper, of 4,096 bytes a turn, is bounded by them.
     pub fn turns(&self) -> usize {
-        self.seconds as usize * 100 + 10
+        self.seconds as usize + TURNS_IN_PLENTY
     }
 }
 
 // The program's words that stand by themselves.
-const SWITCHES: [&str; 2] = ["no-cookie", "json"];
+const SWITCHES: [&str; 3] = ["no-cookie", "json", "cookie-unsafe"];
 
 // The program's words that a value stands behind.
 const VALUES: [&str; 8] = [
@@ -248,6 +255,7 @@ fn choices_in<'a>(matches: &ArgMatches<'a>, usual_port: u16) -> Result<Choices<'
         seconds: seconds.unwrap_or(USUAL_SECONDS),
         listen,
         json: matches.get_flag("json"),
+        takes_any_file: matches.get_flag("cookie-unsafe"),
     })
 }
 

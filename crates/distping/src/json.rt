@@ -1,19 +1,25 @@
-//! What was found, as one object of JSON. Each text in it is written by serde_json.
+//! What was found, as one object of JSON. Each text in it is written by serde_json; what somebody else gave, another machine or
+//! the command line, is escaped before, so that it is printable in the text and in whatever a reader of JSON makes of it.
 
 use crate::lines::{Piece, push_flags, push_piece, release_texts, text_of};
+use crate::listening::{Caller, Listen, Taken};
 use crate::pairs::Pairing;
 use crate::probing::{Dial, Found, Registration};
 use dist_flag_names::{Dflag, Release, missing, release_of};
 use dist_names::{Flags, NodeName};
+use dist_numerals::escape;
 use dist_probe::{Peer, Verdict};
 use serde_json::Value;
 use std::alloc::{AllocError, Global};
+use std::net::SocketAddr;
 
 // The value of a member.
 #[derive(Clone, Copy)]
 enum Member<'a> {
-    // A text.
-    Text(&'a str),
+    // A text of the program itself.
+    Text(&'static str),
+    // A name that somebody gave, escaped.
+    Name(&'a [u8]),
     // What stands there as it is: a number, `true`, `false`, `null`, or the inside of a text that has no character which
     // JSON writes in another way.
     Plain(Piece<'a>),
@@ -33,11 +39,18 @@ fn push_text(alloc: Global, line: &mut String, text: &str) -> Result<(), AllocEr
     line.push_str(&quoted)
 }
 
+// Puts a name behind a text.
+fn push_name(alloc: Global, line: &mut String, bytes: &[u8]) -> Result<(), AllocError> {
+    let name = escape(alloc, bytes)?;
+    push_text(alloc, line, &name)
+}
+
 // Puts the value of a member behind a text.
 fn push_value(alloc: Global, line: &mut String, value: Member<'_>) -> Result<(), AllocError> {
     match value {
         Member::Text(text) => push_text(alloc, line, text),
-        Member::Plain(piece) => push_piece(line, piece),
+        Member::Name(bytes) => push_name(alloc, line, bytes),
+        Member::Plain(piece) => push_piece(alloc, line, piece),
         Member::Names(flags) => push_flags(line, flags, "\"", ",\"", "\""),
     }
 }
@@ -46,7 +59,7 @@ fn push_value(alloc: Global, line: &mut String, value: Member<'_>) -> Result<(),
 fn push_members(
     alloc: Global,
     line: &mut String,
-    members: &[(&str, Member<'_>)],
+    members: &[(&'static str, Member<'_>)],
 ) -> Result<(), AllocError> {
     for (before, value) in members {
         line.push_str(before)?;
@@ -55,12 +68,19 @@ fn push_members(
     Ok(())
 }
 
+// The flags that a node lacks, where it said its own, so that newer releases refuse it.
+fn lacking_at(peer: &Option<Peer>) -> Flags {
+    match peer {
+        Some(peer) => missing(peer.flags, Release::Otp28.required()),
+        None => Flags(0),
+    }
+}
+
 // The flags that lack: of the probe where the node refuses it for them, else of the node where newer releases refuse it.
 fn lacking_of(verdict: Verdict, peer: &Option<Peer>) -> Flags {
-    match (verdict, peer) {
-        (Verdict::LacksFlags(flags), _) => flags,
-        (_, Some(peer)) => missing(peer.flags, Release::Otp28.required()),
-        (_, None) => Flags(0),
+    match verdict {
+        Verdict::LacksFlags(flags) => flags,
+        _ => lacking_at(peer),
     }
 }
 
@@ -78,8 +98,8 @@ fn port_member(port: Option<u16>) -> Member<'static> {
 }
 
 // The address of the host, where it has one, between what stands before and behind it.
-fn address_of(found: &Found) -> (&'static str, Piece<'static>, &'static str) {
-    match found.address {
+fn address_of(address: Option<SocketAddr>) -> (&'static str, Piece<'static>, &'static str) {
+    match address {
         Some(address) => (",\"address\":\"", Piece::Host(address.ip()), "\""),
         None => (",\"address\":", Piece::Text("null"), ""),
     }
@@ -120,10 +140,10 @@ fn push_names_of(
     dial: &Dial<'_>,
     found: &Found,
 ) -> Result<(), AllocError> {
-    let (before, address, behind) = address_of(found);
+    let (before, address, behind) = address_of(found.address);
     let members = [
-        ("{\"node\":", Member::Text(text_of(dial.node.bytes()))),
-        (",\"name\":", Member::Text(text_of(dial.own.bytes()))),
+        ("{\"node\":", Member::Name(dial.node.bytes())),
+        (",\"name\":", Member::Name(dial.own.bytes())),
         (before, Member::Plain(address)),
         (behind, NOTHING),
     ];
@@ -154,10 +174,7 @@ fn push_peer(alloc: Global, line: &mut String, peer: &Peer) -> Result<(), AllocE
     let flags = peer.flags;
     let (_, release) = release_texts(release_of(flags));
     let members = [
-        (
-            ",\"peer\":{\"name\":",
-            Member::Text(text_of(peer.name.as_slice())),
-        ),
+        (",\"peer\":{\"name\":", Member::Name(peer.name.as_slice())),
         (
             ",\"creation\":",
             Member::Plain(Piece::Number(peer.creation.0)),
@@ -171,9 +188,13 @@ fn push_peer(alloc: Global, line: &mut String, peer: &Peer) -> Result<(), AllocE
     push_members(alloc, line, &members)
 }
 
-// Puts what the node said of itself behind a text, where it did.
-fn push_found_peer(alloc: Global, line: &mut String, found: &Found) -> Result<(), AllocError> {
-    match &found.peer {
+// Puts what a node said of itself behind a text, where it did.
+fn push_found_peer(
+    alloc: Global,
+    line: &mut String,
+    peer: &Option<Peer>,
+) -> Result<(), AllocError> {
+    match peer {
         Some(peer) => push_peer(alloc, line, peer),
         None => line.push_str(",\"peer\":null"),
     }
@@ -197,6 +218,54 @@ fn push_verdict(
     push_members(alloc, line, &members)
 }
 
+// Puts the own name, and where a caller came from and to, behind a text.
+fn push_call(
+    alloc: Global,
+    line: &mut String,
+    listen: &Listen<'_>,
+    caller: &Caller,
+) -> Result<(), AllocError> {
+    let (before, address, behind) = address_of(caller.address);
+    let members = [
+        ("{\"name\":", Member::Name(listen.setup.name.bytes())),
+        (before, Member::Plain(address)),
+        (behind, NOTHING),
+        (",\"port\":", number(listen.port)),
+    ];
+    push_members(alloc, line, &members)
+}
+
+// Puts what came of a caller behind a text.
+fn push_outcome(
+    alloc: Global,
+    line: &mut String,
+    lacking: Flags,
+    taken: Taken,
+) -> Result<(), AllocError> {
+    let (name, cause) = taken.texts();
+    let members = [
+        (",\"lacking\":[", Member::Names(lacking)),
+        ("],\"verdict\":", Member::Text(name)),
+        (",\"cause\":", Member::Text(cause)),
+        (",\"exit\":", number(u16::from(taken.status()))),
+        ("}\n", NOTHING),
+    ];
+    push_members(alloc, line, &members)
+}
+
+// Puts what was found of a caller, and what came of it, behind a text.
+fn push_caller(
+    alloc: Global,
+    line: &mut String,
+    listen: &Listen<'_>,
+    caller: &Caller,
+    taken: Taken,
+) -> Result<(), AllocError> {
+    push_call(alloc, line, listen, caller)?;
+    push_found_peer(alloc, line, &caller.peer)?;
+    push_outcome(alloc, line, lacking_at(&caller.peer), taken)
+}
+
 // Puts what can be told of two nodes behind a text.
 fn push_pair<'x>(
     alloc: Global,
@@ -207,8 +276,8 @@ fn push_pair<'x>(
 ) -> Result<(), AllocError> {
     let (name, cause) = pairing.texts();
     let members = [
-        ("{\"first\":", Member::Text(text_of(first.bytes()))),
-        (",\"second\":", Member::Text(text_of(second.bytes()))),
+        ("{\"first\":", Member::Name(first.bytes())),
+        (",\"second\":", Member::Name(second.bytes())),
         (",\"pair\":", Member::Text(name)),
         (",\"cause\":", Member::Text(cause)),
         (",\"exit\":", number(u16::from(pairing.status()))),
@@ -228,7 +297,7 @@ fn push_object(
     push_names_of(alloc, line, dial, found)?;
     push_registration(alloc, line, found.registration)?;
     push_answer(alloc, line, found)?;
-    push_found_peer(alloc, line, found)?;
+    push_found_peer(alloc, line, &found.peer)?;
     push_verdict(alloc, line, lacking_of(verdict, &found.peer), verdict)
 }
 
@@ -241,6 +310,18 @@ pub fn pair_object(
 ) -> Result<String, AllocError> {
     let mut line = String::new(alloc);
     push_pair(alloc, &mut line, first, second, pairing)?;
+    Ok(line)
+}
+
+/// What was found of a caller, and what came of it, as one line.
+pub fn caller_object(
+    alloc: Global,
+    listen: &Listen<'_>,
+    caller: &Caller,
+    taken: Taken,
+) -> Result<String, AllocError> {
+    let mut line = String::new(alloc);
+    push_caller(alloc, &mut line, listen, caller, taken)?;
     Ok(line)
 }
 

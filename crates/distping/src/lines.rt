@@ -1,7 +1,8 @@
 //! What is printed: a line for each step, each flushed at once, so that one sees where the program waits.
 
-ghost use Rattle.std.specs.Prelude.{◌≡◌, ◌++◌, IfOk, string_bytes};
-ghost use Rattle.distping.specs.Texts.{TellsVerdict};
+ghost use Rattle.std.specs.Prelude.{◌≡◌, ◌++◌, IfOk, OnOk, string_bytes};
+ghost use Rattle.dist_numerals.specs.Escaped.{escaped, quoted};
+ghost use Rattle.distping.specs.Texts.{Puts, TellsVerdict};
 
 use crate::dialling::Place;
 use crate::fault::Fault;
@@ -12,6 +13,7 @@ use dist_flag_names::{Dflag, Release, Told, missing, told_by};
 use dist_mapper::LookupError;
 use dist_messages::Status;
 use dist_names::{Flags, NodeName};
+use dist_numerals::{escape, escape_lines, quote};
 use dist_probe::{Peer, Verdict, style_of};
 use std::alloc::{AllocError, Global};
 use std::io::{Stdout, Write};
@@ -28,11 +30,18 @@ pub struct Lines {
     pub quiet: bool,
 }
 
-/// A piece of a line.
+/// A piece of a line. What somebody else gave, another machine or the command line, is no text of the program: it comes into a
+/// line as a name or as foreign bytes alone, and so escaped.
 #[derive(Clone, Copy)]
 pub enum Piece<'a> {
-    /// A text.
-    Text(&'a str),
+    /// A text of the program itself.
+    Text(&'static str),
+    /// A name that somebody gave: between double quotes, and escaped.
+    Name(&'a [u8]),
+    /// Other bytes that somebody gave: escaped.
+    Foreign(&'a [u8]),
+    /// What is escaped already.
+    Escaped(&'a str),
     /// A number in decimal digits.
     Number(u32),
     /// Flags in hexadecimal digits.
@@ -45,8 +54,8 @@ pub enum Piece<'a> {
     Lookup(LookupError),
 }
 
-/// The text that bytes are.
-pub fn text_of(bytes: &[u8]) -> &str {
+/// The text that bytes of the program itself are.
+pub fn text_of(bytes: &'static [u8]) -> &'static str {
     std::str::from_utf8(bytes).unwrap_or("?")
 }
 
@@ -69,6 +78,20 @@ pub fn push_flags<'x>(
     Ok(())
 }
 
+// Puts a name that somebody gave behind a text.
+fn push_name(alloc: Global, text: &mut String, name: &[u8]) -> Result<(), AllocError>
+    ensures { OnOk result (string_bytes text.new ≡ string_bytes text.old ++ quoted name.now) }
+{
+    text.push_str(&quote(alloc, name)?)
+}
+
+// Puts other bytes that somebody gave behind a text.
+fn push_foreign(alloc: Global, text: &mut String, bytes: &[u8]) -> Result<(), AllocError>
+    ensures { OnOk result (string_bytes text.new ≡ string_bytes text.old ++ escaped bytes.now) }
+{
+    text.push_str(&escape(alloc, bytes)?)
+}
+
 // Puts a name behind a text, with this before it and that behind it.
 fn push_within(
     text: &mut String,
@@ -82,9 +105,14 @@ fn push_within(
 }
 
 /// Puts a piece behind a text.
-pub fn push_piece(text: &mut String, piece: Piece<'_>) -> Result<(), AllocError> {
+pub fn push_piece(alloc: Global, text: &mut String, piece: Piece<'_>) -> Result<(), AllocError>
+    ensures { OnOk result (Puts piece.entry (string_bytes text.old) (string_bytes text.new)) }
+{
     match piece {
         Piece::Text(part) => text.push_str(part),
+        Piece::Name(bytes) => push_name(alloc, text, bytes),
+        Piece::Foreign(bytes) => push_foreign(alloc, text, bytes),
+        Piece::Escaped(part) => text.push_str(part),
         Piece::Number(number) => write!(text, "{number}"),
         Piece::Digits(flags) => write!(text, "{:x}", flags.0),
         Piece::Names(flags) => push_flags(text, flags, " ", " ", ""),
@@ -97,7 +125,7 @@ pub fn push_piece(text: &mut String, piece: Piece<'_>) -> Result<(), AllocError>
 fn joined(alloc: Global, pieces: &[Piece<'_>]) -> Result<String, AllocError> {
     let mut line = String::new(alloc);
     for piece in pieces {
-        push_piece(&mut line, *piece)?;
+        push_piece(alloc, &mut line, *piece)?;
     }
     Ok(line)
 }
@@ -219,14 +247,17 @@ impl Lines {
     }
 
     // A line of flags by name.
-    fn put_flags(self, front: &str, flags: Flags) -> Result<(), Fault> {
+    fn put_flags(self, front: &'static str, flags: Flags) -> Result<(), Fault> {
         self.put(&[Piece::Text(front), Piece::Names(flags), Piece::Text("\n")])
     }
 
     /// Which node is dialled, where there are several.
     pub fn put_node(self, node: &NodeName) -> Result<(), Fault> {
-        let name = text_of(node.bytes());
-        self.put(&[Piece::Text("-- "), Piece::Text(name), Piece::Text("\n")])
+        self.put(&[
+            Piece::Text("-- "),
+            Piece::Name(node.bytes()),
+            Piece::Text("\n"),
+        ])
     }
 
     /// A warning where the two names could not dial each other.
@@ -251,7 +282,7 @@ impl Lines {
         };
         self.put(&[
             Piece::Text(front),
-            Piece::Text(host),
+            Piece::Foreign(host.as_bytes()),
             Piece::Text(" is "),
             Piece::Host(address.ip()),
             Piece::Text(hint),
@@ -264,7 +295,7 @@ impl Lines {
             Piece::Text("✓  epmd      port "),
             Piece::Number(u32::from(mapper_port)),
             Piece::Text(" answers: "),
-            Piece::Text(text_of(info.name.as_slice())),
+            Piece::Name(info.name.as_slice()),
             Piece::Text(" listens at port "),
             Piece::Number(u32::from(info.port)),
             Piece::Text(", versions "),
@@ -276,7 +307,7 @@ impl Lines {
     }
 
     /// A place was not reached.
-    pub fn put_unreached(self, step: &str, port: u16, place: Place) -> Result<(), Fault> {
+    pub fn put_unreached(self, step: &'static str, port: u16, place: Place) -> Result<(), Fault> {
         self.put(&[
             Piece::Text("✗  "),
             Piece::Text(step),
@@ -304,10 +335,11 @@ impl Lines {
         if names.is_empty() {
             return self.put(&[Piece::Text("   epmd      no node at all is registered there\n")]);
         }
-        for line in text_of(names).lines() {
+        let text = escape_lines(self.alloc, names)?;
+        for line in text.lines() {
             self.put(&[
                 Piece::Text("   epmd      "),
-                Piece::Text(line),
+                Piece::Escaped(line),
                 Piece::Text("\n"),
             ])?;
         }
@@ -330,7 +362,7 @@ impl Lines {
         self.put(&[
             Piece::Text(mark_of(status)),
             Piece::Text("  name      said "),
-            Piece::Text(text_of(own.bytes())),
+            Piece::Name(own.bytes()),
             Piece::Text(" with flags "),
             Piece::Digits(flags.announced()),
             Piece::Text("; the node says "),
@@ -344,7 +376,7 @@ impl Lines {
         let (before, release) = told_texts(peer.flags);
         self.put(&[
             Piece::Text("✓  node      "),
-            Piece::Text(text_of(peer.name.as_slice())),
+            Piece::Name(peer.name.as_slice()),
             Piece::Text(kind_of(peer.flags)),
             Piece::Number(peer.creation.0),
             Piece::Text(", flags "),
@@ -385,7 +417,7 @@ impl Lines {
             Piece::Text("✓  listen    port "),
             Piece::Number(u32::from(port)),
             Piece::Text(", as "),
-            Piece::Text(text_of(name.bytes())),
+            Piece::Name(name.bytes()),
             Piece::Text(": waiting for one connection\n"),
         ])
     }
@@ -401,10 +433,13 @@ impl Lines {
 
     /// What came of a connection that was taken.
     pub fn put_outcome(self, taken: Taken) -> Result<(), Fault> {
+        let (name, cause) = taken.texts();
         self.put(&[
             Piece::Text(mark_at(taken.status())),
             Piece::Text("  "),
-            Piece::Text(taken.text()),
+            Piece::Text(name),
+            Piece::Text(": "),
+            Piece::Text(cause),
             Piece::Text("\n"),
         ])
     }
@@ -420,9 +455,9 @@ impl Lines {
         self.put(&[
             Piece::Text(pairing_mark(pairing)),
             Piece::Text("  pair      "),
-            Piece::Text(text_of(first.bytes())),
+            Piece::Name(first.bytes()),
             Piece::Text(" and "),
-            Piece::Text(text_of(second.bytes())),
+            Piece::Name(second.bytes()),
             Piece::Text(": "),
             Piece::Text(name),
             Piece::Text(": "),

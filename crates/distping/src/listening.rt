@@ -3,20 +3,24 @@
 ghost use Rattle.std.specs.Prelude.{◌≡◌};
 ghost use Rattle.distping.specs.Listening.{heard_verdict, reply_verdict, taken_status};
 
-use crate::dialling::turn;
+use crate::dialling::{Connection, talk_over};
 use crate::fault::Fault;
 use crate::lines::Lines;
-use dist_mapper::{Arrived, read_frame};
+use dist_mapper::Arrived;
 use dist_messages::{Form, Message, MessageError, Side, Status, decode};
 use dist_names::{ByteString, NodeName};
-use dist_probe::{Heard, Peer, Service, heard_instead, service_of};
+use dist_probe::{Heard, Peer, Service, heard_instead, read_frame_of, service_of};
 use dist_setup::{Setup, ack_frame, challenge_frame, own_digest, status_frame};
 use dist_streams::{Limited, SocketStream};
 use std::alloc::Global;
-use std::net::{Ipv4Addr, TcpListener, TcpStream};
+use std::net::{Ipv4Addr, SocketAddr, TcpListener, TcpStream};
 
-// The most bytes of a body that a node says while it shakes hands. Our own choice, as that of the dialling probe.
+// A length above this one counts only before a tag, as at the dialling probe. Our own choice.
 const MOST: u16 = 1024;
+
+// The tags of the dialling side: an older name, a newer one, a status, a complement, a reply. Source: ERTS User's Guide,
+// Distribution Handshake.
+const TAGS: [u8; 5] = [0x6e, 0x4e, 0x73, 0x63, 0x72];
 
 /// What came of a connection that was taken.
 #[derive(Clone, Copy)]
@@ -43,20 +47,26 @@ pub enum Taken {
 
 impl Taken {
     /// Its word, and what it means, in a sentence without a full stop.
-    pub fn text(self) -> &'static str {
+    pub fn texts(self) -> (&'static str, &'static str) {
         match self {
-            Taken::Up => "Up: the node reaches us, and has our cookie",
-            Taken::Answered =>
-                "Answered: the node reaches us and took our name; no cookie was compared",
-            Taken::WrongCookie => "WrongCookie: the node reaches us, and has another cookie",
-            Taken::NoName => "NoName: the connection ended before a name was said",
-            Taken::Left =>
-                "Left: the node closed the connection upon our challenge: it dialled another name than --name",
-            Taken::Silent => "Silent: nothing whole came in time",
-            Taken::Unexpected =>
-                "Unexpected: what came is none that a node of OTP 23 or newer says at this place",
-            Taken::Foreign(_) => "Foreign: what dials is no node",
-            Taken::NoMemory => "NoMemory: memory ran out here",
+            Taken::Up => ("Up", "the node reaches us, and has our cookie"),
+            Taken::Answered => (
+                "Answered",
+                "the node reaches us and took our name; no cookie was compared",
+            ),
+            Taken::WrongCookie => ("WrongCookie", "the node reaches us, and has another cookie"),
+            Taken::NoName => ("NoName", "the connection ended before a name was said"),
+            Taken::Left => (
+                "Left",
+                "the node closed the connection upon our challenge: it dialled another name than --name",
+            ),
+            Taken::Silent => ("Silent", "nothing whole came in time"),
+            Taken::Unexpected => (
+                "Unexpected",
+                "what came is none that a node of OTP 23 or newer says at this place",
+            ),
+            Taken::Foreign(_) => ("Foreign", "what dials is no node"),
+            Taken::NoMemory => ("NoMemory", "memory ran out here"),
         }
     }
 
@@ -84,8 +94,8 @@ fn heard_in(alloc: Global, body: &[u8]) -> Heard {
 }
 
 // The next message of the dialling side.
-fn hear(alloc: Global, limited: &mut Limited<'_, SocketStream>) -> Heard {
-    match read_frame(alloc, limited, MOST) {
+fn hear(alloc: Global, limited: &mut Limited<'_, Connection>) -> Heard {
+    match read_frame_of(alloc, limited, MOST, &TAGS) {
         Arrived::Body(body) => heard_in(alloc, body.as_slice()),
         Arrived::Long(len) => Heard::Length(len),
         Arrived::Stopped(fault) => heard_instead(fault),
@@ -141,7 +151,7 @@ fn reply_verdict(wanted: Option<[u8; 16]>, digest: [u8; 16]) -> Taken
 }
 
 // Says a frame and hears what comes upon it.
-fn exchange(alloc: Global, limited: &mut Limited<'_, SocketStream>, text: &ByteString) -> Heard {
+fn exchange(alloc: Global, limited: &mut Limited<'_, Connection>, text: &ByteString) -> Heard {
     match limited.write_all(text.as_slice()) {
         Ok(()) => hear(alloc, limited),
         Err(fault) => heard_instead(fault),
@@ -149,11 +159,7 @@ fn exchange(alloc: Global, limited: &mut Limited<'_, SocketStream>, text: &ByteS
 }
 
 // Takes the name with `ok`, and says the challenge, the second frame.
-fn welcomed(
-    alloc: Global,
-    limited: &mut Limited<'_, SocketStream>,
-    challenge: &ByteString,
-) -> Heard {
+fn welcomed(alloc: Global, limited: &mut Limited<'_, Connection>, challenge: &ByteString) -> Heard {
     match status_frame(alloc, Status::Ok) {
         Ok(status) => match limited.write_all(status.as_slice()) {
             Ok(()) => exchange(alloc, limited, challenge),
@@ -166,7 +172,7 @@ fn welcomed(
 // Takes the name with `ok`, says the challenge, and hears what comes upon it.
 fn challenged(
     alloc: Global,
-    limited: &mut Limited<'_, SocketStream>,
+    limited: &mut Limited<'_, Connection>,
     setup: &Setup,
     fresh: u32,
 ) -> Heard {
@@ -179,7 +185,7 @@ fn challenged(
 // Acknowledges a reply whose digest is right.
 fn acknowledged(
     alloc: Global,
-    limited: &mut Limited<'_, SocketStream>,
+    limited: &mut Limited<'_, Connection>,
     setup: &Setup,
     peer: &NodeName,
     challenge: u32,
@@ -196,7 +202,7 @@ fn acknowledged(
 // What comes of a name that was said.
 fn talk(
     alloc: Global,
-    limited: &mut Limited<'_, SocketStream>,
+    limited: &mut Limited<'_, Connection>,
     listen: &Listen<'_>,
     peer: &NodeName,
 ) -> Taken {
@@ -207,7 +213,7 @@ fn talk(
 // What comes of what is heard upon the challenge.
 fn upon_challenge(
     alloc: Global,
-    limited: &mut Limited<'_, SocketStream>,
+    limited: &mut Limited<'_, Connection>,
     listen: &Listen<'_>,
     peer: &NodeName,
     heard: &Heard,
@@ -223,7 +229,7 @@ fn upon_challenge(
 // What comes of a reply.
 fn replied(
     alloc: Global,
-    limited: &mut Limited<'_, SocketStream>,
+    limited: &mut Limited<'_, Connection>,
     listen: &Listen<'_>,
     peer: &NodeName,
     challenge: u32,
@@ -251,37 +257,66 @@ pub struct Listen<'a> {
     pub fresh: u32,
     /// Its cookie is compared.
     pub compares: bool,
-    /// How many reads and writes a talk may take.
+    /// How many seconds a talk may take, one at least.
+    pub seconds: u16,
+    /// How many reads and writes it may take.
     pub turns: usize,
 }
 
+/// What was found of who dialled.
+#[derive(Drop)]
+pub struct Caller {
+    /// The address that it dialled from.
+    pub address: Option<SocketAddr>,
+    /// What it said of itself.
+    pub peer: Option<Peer>,
+}
+
+impl Caller {
+    /// Nothing so far.
+    pub fn nobody() -> Caller {
+        Caller {
+            address: None,
+            peer: None,
+        }
+    }
+}
+
 // Waits for one connection.
-fn accepted(rt: &HostRuntime, listen: &Listen<'_>, lines: Lines) -> Result<SocketStream, Fault> {
+fn accepted(
+    rt: &HostRuntime,
+    listen: &Listen<'_>,
+    lines: Lines,
+    caller: &mut Caller,
+) -> Result<Connection, Fault> {
     match TcpListener::bind(rt, (Ipv4Addr::UNSPECIFIED, listen.port)) {
-        Ok(listener) => accepted_at(&listener, listen, lines),
+        Ok(listener) => accepted_at(rt, &listener, listen, lines, caller),
         Err(_) => Err(Fault::ListenFailed),
     }
 }
 
 // The same at this listener.
 fn accepted_at(
+    rt: &HostRuntime,
     listener: &TcpListener,
     listen: &Listen<'_>,
     lines: Lines,
-) -> Result<SocketStream, Fault> {
+    caller: &mut Caller,
+) -> Result<Connection, Fault> {
     lines.put_listening(listen.port, &listen.setup.name)?;
     match listener.accept() {
-        Ok((socket, address)) => match lines.put_taken(&address) {
-            Ok(()) => timed(socket),
-            Err(fault) => Err(fault),
-        },
+        Ok((socket, address)) => {
+            caller.address = Some(address);
+            lines.put_taken(&address)?;
+            timed(rt, socket, listen.seconds)
+        }
         Err(_) => Err(Fault::ListenFailed),
     }
 }
 
-// The stream over a socket.
-fn timed(socket: TcpStream) -> Result<SocketStream, Fault> {
-    match SocketStream::timed(socket, turn()) {
+// The stream over a socket, for a talk of so many seconds.
+fn timed(rt: &HostRuntime, socket: TcpStream, seconds: u16) -> Result<Connection, Fault> {
+    match talk_over(rt, SocketStream::new(socket), seconds) {
         Ok(stream) => Ok(stream),
         Err(_) => Err(Fault::ListenFailed),
     }
@@ -289,7 +324,7 @@ fn timed(socket: TcpStream) -> Result<SocketStream, Fault> {
 
 // Tells the name that was said, and goes on from there.
 fn greeted(
-    limited: &mut Limited<'_, SocketStream>,
+    limited: &mut Limited<'_, Connection>,
     listen: &Listen<'_>,
     lines: Lines,
     peer: &Peer,
@@ -303,26 +338,32 @@ fn greeted(
 
 // Hears the name, and goes on from there.
 fn heard(
-    limited: &mut Limited<'_, SocketStream>,
+    limited: &mut Limited<'_, Connection>,
     listen: &Listen<'_>,
     lines: Lines,
+    caller: &mut Caller,
 ) -> Result<Taken, Fault> {
     match peer_in(hear(lines.alloc, limited)) {
-        Ok(peer) => greeted(limited, listen, lines, &peer),
+        Ok(peer) => {
+            let taken = greeted(limited, listen, lines, &peer);
+            caller.peer = Some(peer);
+            taken
+        }
         Err(taken) => Ok(taken),
     }
 }
 
-/// Takes one connection, tells what the other side says, and answers what came of it.
+/// Takes one connection, tells what the other side says, and answers what came of it. What was found stands in `caller`.
 pub fn take_connection(
     rt: &HostRuntime,
     listen: &Listen<'_>,
     lines: Lines,
+    caller: &mut Caller,
 ) -> Result<Taken, Fault> {
-    let mut stream = accepted(rt, listen, lines)?;
+    let mut stream = accepted(rt, listen, lines, caller)?;
     let mut limited = Limited {
         stream: &mut stream,
         left: listen.turns,
     };
-    heard(&mut limited, listen, lines)
+    heard(&mut limited, listen, lines, caller)
 }

@@ -8,6 +8,7 @@ ghost use Rattle.std.specs.Prelude.{◌≡◌};
 ghost use Rattle.distping.specs.Faults.{first_of};
 
 mod command;
+mod cookie;
 mod dialling;
 mod fault;
 mod json;
@@ -16,28 +17,29 @@ mod listening;
 mod pairs;
 mod probing;
 
-use command::{CookieSource, Instead, Wanted, name_of, wanted_of};
+use command::{Instead, Wanted, name_of, wanted_of};
+use cookie::{Refusal, cookie_of};
 use dist_names::NodeName;
 use dist_numerals::number_16;
 use dist_probe::Verdict;
-use dist_secret::{Cookie, read_cookie};
+use dist_secret::Cookie;
 use fault::Fault;
-use json::{object_of, pair_object};
+use json::{caller_object, object_of, pair_object};
 use lines::Lines;
-use listening::{Listen, take_connection};
+use listening::{Caller, Listen, Taken, take_connection};
 use pairs::{Half, pairing_of};
 use probing::{Dial, Found, drawn, probe, setup_of};
 use std::alloc::Global;
 use std::env::{self, VarError};
-use std::fs::File;
 use std::io::ErrorKind;
 use std::process::ExitCode;
 
 /// How the program is called.
 const HELP: &str =
-    "usage: distping NODE.. [--name NAME] [--cookie FILE | --no-cookie] [--flags FLAG,..|HEX]
+    "usage: distping NODE.. [--name NAME] [--cookie FILE | --no-cookie] [--cookie-unsafe] [--flags FLAG,..|HEX]
                 [--epmd-port N] [--port N] [--address HOST] [--seconds N] [--json]
-       distping --listen PORT --name NAME [--cookie FILE | --no-cookie] [--flags FLAG,..|HEX] [--seconds N]
+       distping --listen PORT --name NAME [--cookie FILE | --no-cookie] [--cookie-unsafe] [--flags FLAG,..|HEX]
+                [--seconds N] [--json]
        distping --help | --version
 
 Dials a live Erlang node, tells what happens, step by step, and ends with one verdict, its cause and its remedy.
@@ -47,13 +49,14 @@ Of several nodes it also tells what can be told of each two of them.
   --name NAME     the own name (distping@ and the host part of NODE)
   --cookie FILE   the file of the cookie ($HOME/.erlang.cookie)
   --no-cookie     stop at the node's challenge: no cookie is tried
+  --cookie-unsafe take the cookie's file even where others than its owner may use it
   --flags         what is announced: names of flags, or hexadecimal digits (what OTP 23 to 29 take; hidden)
   --epmd-port N   the port of the port mapper (ERL_EPMD_PORT, else 4369)
   --port N        the node's port: the port mapper is not asked
   --address HOST  the host to connect to, in place of the host part of NODE
   --seconds N     the most that a connect, a lookup and the talk may take each (8)
   --listen PORT   takes one connection as the node NAME would, and tells what the other side says
-  --json          an object of JSON for each node and each pair, in place of the lines
+  --json          an object of JSON for each node, each pair and each connection taken, in place of the lines
   --help, --version
 
 Status: 0 up, 1 a fault here, 2 a bad command line, 3 the host's name, 4 the port mapper, 5 the registration,
@@ -61,7 +64,7 @@ Status: 0 up, 1 a fault here, 2 a bad command line, 3 the host's name, 4 the por
 ";
 
 /// The version of the program, and of what it speaks.
-const VERSION: &str = "distping 0.1, distribution handshake of version 6\n";
+const VERSION: &str = "distping 0.2.0, distribution handshake of version 6\n";
 
 fn main(rt: HostRuntime) -> ExitCode {
     match perform(&rt) {
@@ -129,44 +132,27 @@ fn print(rt: &HostRuntime, text: &str) -> Result<u8, Fault> {
 
 // Does what is asked for, with the cookie that is.
 fn follow(rt: &HostRuntime, wanted: &Wanted<'_>) -> Result<u8, Fault> {
-    let cookie = cookie_of(rt, rt.alloc(), wanted.choices.cookie)?;
-    match (wanted.choices.listen, &wanted.name) {
-        (Some(port), Some(name)) => take_one(rt, wanted, name, port, cookie.as_ref()),
-        _ => dial_all(rt, wanted, cookie.as_ref()),
+    match cookie_in(rt, wanted) {
+        Ok(cookie) => follow_with(rt, wanted, cookie.as_ref()),
+        Err(refusal) => Ok(refusal.tell(&mut rt.stderr())),
     }
 }
 
-// The cookie of a file.
-fn cookie_at(rt: &HostRuntime, alloc: Global, path: &str) -> Result<Cookie, Fault> {
-    match File::open(rt, path) {
-        Ok(mut file) => read_cookie(alloc, &mut file).map_err(Fault::NoCookie),
-        Err(_) => Err(Fault::OpenFailed),
-    }
+// The cookie that is asked for.
+fn cookie_in(rt: &HostRuntime, wanted: &Wanted<'_>) -> Result<Option<Cookie>, Refusal> {
+    let home = variable(rt, "HOME")?;
+    cookie_of(rt, &wanted.choices, home.as_deref())
 }
 
-// The cookie of the file that is named, else of the home folder's, where there is one.
-fn cookie_of(
+// Does what is asked for, with this cookie.
+fn follow_with(
     rt: &HostRuntime,
-    alloc: Global,
-    source: CookieSource<'_>,
-) -> Result<Option<Cookie>, Fault> {
-    match source {
-        CookieSource::Nowhere => Ok(None),
-        CookieSource::File(path) => Ok(Some(cookie_at(rt, alloc, path)?)),
-        CookieSource::Home => match variable(rt, "HOME")? {
-            Some(home) => home_cookie(rt, alloc, &home),
-            None => Ok(None),
-        },
-    }
-}
-
-// The cookie of a home folder, where there is one.
-fn home_cookie(rt: &HostRuntime, alloc: Global, home: &str) -> Result<Option<Cookie>, Fault> {
-    let path = format!(in alloc; "{home}/.erlang.cookie")?;
-    match cookie_at(rt, alloc, &path) {
-        Ok(cookie) => Ok(Some(cookie)),
-        Err(Fault::OpenFailed) => Ok(None),
-        Err(fault) => Err(fault),
+    wanted: &Wanted<'_>,
+    cookie: Option<&Cookie>,
+) -> Result<u8, Fault> {
+    match (wanted.choices.listen, &wanted.name) {
+        (Some(port), Some(name)) => take_one(rt, wanted, name, port, cookie),
+        _ => dial_all(rt, wanted, cookie),
     }
 }
 
@@ -203,17 +189,32 @@ fn take_one(
         port,
         fresh,
         compares: cookie.is_some(),
+        seconds: choices.seconds,
         turns: choices.turns(),
     };
-    listen(rt, &one)
+    listen(rt, &one, lines_of(rt, choices.json))
 }
 
 // Takes one connection, tells what came of it, and answers its status.
-fn listen(rt: &HostRuntime, one: &Listen<'_>) -> Result<u8, Fault> {
-    let lines = lines_of(rt, false);
-    let taken = take_connection(rt, one, lines)?;
-    lines.put_outcome(taken)?;
+fn listen(rt: &HostRuntime, one: &Listen<'_>, lines: Lines) -> Result<u8, Fault> {
+    let mut caller = Caller::nobody();
+    let taken = take_connection(rt, one, lines, &mut caller)?;
+    tell_outcome(one, lines, &caller, taken)?;
     Ok(taken.status())
+}
+
+// Tells what came of a connection.
+fn tell_outcome(
+    one: &Listen<'_>,
+    lines: Lines,
+    caller: &Caller,
+    taken: Taken,
+) -> Result<(), Fault> {
+    if lines.quiet {
+        lines.write_made(caller_object(lines.alloc, one, caller, taken))
+    } else {
+        lines.put_outcome(taken)
+    }
 }
 
 // Tells what a probe came to.

@@ -4,7 +4,7 @@ ghost use Rattle.std.specs.Prelude.{◌≡◌};
 ghost use Rattle.distping.specs.Places.{lookup_verdict, mapper_verdict, port_verdict};
 
 use crate::command::Choices;
-use crate::dialling::{Place, connected, resolved};
+use crate::dialling::{Connection, Place, connected, connected_until, resolved, second_before};
 use crate::fault::Fault;
 use crate::lines::Lines;
 use dist_epmd::PortInfo;
@@ -13,17 +13,11 @@ use dist_messages::Status;
 use dist_names::{ByteString, Creation, Flags, NodeName};
 use dist_probe::{Awaited, Peer, Report, Service, Verdict, ask_node, speaks_tls};
 use dist_secret::{Cookie, Cookies};
-use dist_setup::{Setup, Version};
-use dist_streams::SocketStream;
+use dist_setup::{Limits, Setup, Version};
 use std::alloc::Global;
 use std::net::SocketAddr;
 use std::random::RandomSource;
-
-// How long a second connection waits for an answer of TLS, in turns of 10 milliseconds. A node waits 7 seconds.
-const TURNS_OF_A_KNOCK: usize = 100;
-
-// A port mapper writes each line of its names by itself, so as many more reads may be needed as it knows nodes.
-const TURNS_OF_NAMES: usize = 1280;
+use std::time::Instant;
 
 /// What the port mapper knows of a node.
 #[derive(Clone, Copy)]
@@ -69,8 +63,8 @@ impl Found {
 enum Unknown {
     /// It was not reached.
     Place(Place),
-    /// The lookup went wrong.
-    Lookup(LookupError),
+    /// The lookup went wrong, whose time ends then.
+    Lookup(LookupError, Instant),
 }
 
 /// What ends a probe.
@@ -148,6 +142,7 @@ pub fn setup_of(
         required: Flags(0),
         creation: Creation(creation),
         allow: None,
+        limits: Limits::usual(),
     })
 }
 
@@ -160,7 +155,7 @@ fn address_of(dial: &Dial<'_>) -> Result<SocketAddr, Stop> {
 }
 
 // A connection to the port mapper.
-fn mapper_at(dial: &Dial<'_>, address: &SocketAddr) -> Result<SocketStream, Place> {
+fn mapper_at(dial: &Dial<'_>, address: &SocketAddr) -> Result<Connection, Place> {
     let choices = &dial.choices;
     connected(dial.rt, address, choices.mapper_port, choices.seconds)
 }
@@ -212,33 +207,34 @@ fn lookup_verdict(error: LookupError) -> Verdict
     }
 }
 
-// The lines of all names that the port mapper knows.
-fn names_at(dial: &Dial<'_>, address: &SocketAddr) -> Option<ByteString> {
-    let mut stream = mapper_at(dial, address).ok()?;
-    let limit = dial.choices.turns().saturating_add(TURNS_OF_NAMES);
-    match ask_names(dial.lines.alloc, &mut stream, limit) {
+// The lines of all names that the port mapper knows, asked for until this time.
+fn names_at(dial: &Dial<'_>, address: &SocketAddr, until: Instant) -> Option<ByteString> {
+    let mut stream = connected_until(dial.rt, address, dial.choices.mapper_port, until)?;
+    match ask_names(dial.lines.alloc, &mut stream, dial.choices.turns()) {
         Ok((_port, text)) => Some(text),
         Err(_) => None,
     }
 }
 
-// Tells the names that are registered there, where the port mapper gives them.
-fn put_names(dial: &Dial<'_>, address: &SocketAddr) -> Result<(), Fault> {
-    match names_at(dial, address) {
+// Tells the names that are registered there, where the port mapper gives them by this time.
+fn put_names(dial: &Dial<'_>, address: &SocketAddr, until: Instant) -> Result<(), Fault> {
+    match names_at(dial, address, until) {
         Some(names) => dial.lines.put_names(names.as_slice()),
         None => Ok(()),
     }
 }
 
-// Tells why there is no registration, with the names that are registered there.
+// Tells why there is no registration, with the names that are registered there. They are asked for only where they are
+// printed.
 fn put_unregistered(
     dial: &Dial<'_>,
     address: &SocketAddr,
     error: LookupError,
+    until: Instant,
 ) -> Result<(), Fault> {
     dial.lines.put_no_answer(dial.choices.mapper_port, error)?;
     match error {
-        LookupError::NotThere => put_names(dial, address),
+        LookupError::NotThere if !dial.lines.quiet => put_names(dial, address, until),
         _ => Ok(()),
     }
 }
@@ -252,11 +248,11 @@ fn looked_up(dial: &Dial<'_>, address: &SocketAddr) -> Result<PortInfo, Unknown>
 }
 
 // The same over this connection.
-fn asked_for(dial: &Dial<'_>, stream: &mut SocketStream) -> Result<PortInfo, Unknown> {
+fn asked_for(dial: &Dial<'_>, stream: &mut Connection) -> Result<PortInfo, Unknown> {
     let (short, limit) = (dial.node.short(), dial.choices.turns());
     match lookup(dial.lines.alloc, stream, short, limit) {
         Ok(info) => Ok(info),
-        Err(error) => Err(Unknown::Lookup(error)),
+        Err(error) => Err(Unknown::Lookup(error, stream.deadline())),
     }
 }
 
@@ -275,8 +271,8 @@ fn registration_of(dial: &Dial<'_>, address: &SocketAddr) -> Result<Registration
     match looked_up(dial, address) {
         Ok(info) => told_registration(dial, &info),
         Err(Unknown::Place(place)) => Err(no_mapper(dial, place)),
-        Err(Unknown::Lookup(error)) => {
-            let told = put_unregistered(dial, address, error);
+        Err(Unknown::Lookup(error, until)) => {
+            let told = put_unregistered(dial, address, error, until);
             Err(ended(told, lookup_verdict(error)))
         }
     }
@@ -298,11 +294,12 @@ fn no_node(dial: &Dial<'_>, port: u16, place: Place) -> Stop {
     ended(told, port_verdict(place))
 }
 
-// Whether TLS is spoken there, which a second connection finds out: some servers close without a word upon a name.
-fn is_tls(dial: &Dial<'_>, address: &SocketAddr, port: u16) -> bool {
-    match connected(dial.rt, address, port, dial.choices.seconds) {
-        Ok(mut stream) => speaks_tls(&mut stream, TURNS_OF_A_KNOCK),
-        Err(_) => false,
+// Whether TLS is spoken there, which a second connection finds out: some servers close without a word upon a name. It takes a
+// second at most, and ends at this time at the latest.
+fn is_tls(dial: &Dial<'_>, address: &SocketAddr, port: u16, until: Instant) -> bool {
+    match connected_until(dial.rt, address, port, second_before(dial.rt, until)) {
+        Some(mut stream) => speaks_tls(&mut stream, dial.choices.turns()),
+        None => false,
     }
 }
 
@@ -332,28 +329,40 @@ fn told_report(dial: &Dial<'_>, report: &Report) -> Result<Verdict, Stop> {
 }
 
 // The talk with the node.
-fn talk(dial: &Dial<'_>, stream: &mut SocketStream) -> Result<Report, Stop> {
+fn talk(dial: &Dial<'_>, stream: &mut Connection) -> Result<Report, Stop> {
     let fresh = drawn(dial.rt)?;
     let setup = setup_of(dial.rt, dial.own, dial.choices.flags, dial.cookie)?;
-    let (replies, limit) = (dial.cookie.is_some(), dial.choices.turns());
     let report = ask_node(
         dial.lines.alloc,
         stream,
         &setup,
         dial.node,
         fresh,
-        replies,
-        limit,
+        dial.cookie.is_some(),
+        dial.choices.turns(),
     );
     Ok(report)
 }
 
-// Connects to the node, and talks with it.
-fn talked(dial: &Dial<'_>, address: &SocketAddr, port: u16) -> Result<Report, Stop> {
+// Tells that the node was reached, and talks with it.
+fn talked_over(
+    dial: &Dial<'_>,
+    address: &SocketAddr,
+    port: u16,
+    stream: &mut Connection,
+) -> Result<Report, Stop> {
+    match dial.lines.put_connected(address, port) {
+        Ok(()) => talk(dial, stream),
+        Err(fault) => Err(Stop::Fault(fault)),
+    }
+}
+
+// Connects to the node, and talks with it. Beside what it said stands when the time of the talk ends.
+fn talked(dial: &Dial<'_>, address: &SocketAddr, port: u16) -> Result<(Report, Instant), Stop> {
     match connected(dial.rt, address, port, dial.choices.seconds) {
-        Ok(mut stream) => match dial.lines.put_connected(address, port) {
-            Ok(()) => talk(dial, &mut stream),
-            Err(fault) => Err(Stop::Fault(fault)),
+        Ok(mut stream) => match talked_over(dial, address, port, &mut stream) {
+            Ok(report) => Ok((report, stream.deadline())),
+            Err(stop) => Err(stop),
         },
         Err(place) => Err(no_node(dial, port, place)),
     }
@@ -366,17 +375,23 @@ fn asked(
     port: u16,
     found: &mut Found,
 ) -> Result<Verdict, Stop> {
-    let report = talked(dial, address, port)?;
+    let (report, until) = talked(dial, address, port)?;
     let told = told_report(dial, &report);
     found.status = report.status;
     found.peer = report.peer;
-    told
+    Ok(behind_talk(dial, address, port, told?, until))
 }
 
 // What a verdict upon the talk means: TLS may close without a word upon a name.
-fn behind_talk(dial: &Dial<'_>, address: &SocketAddr, port: u16, verdict: Verdict) -> Verdict {
+fn behind_talk(
+    dial: &Dial<'_>,
+    address: &SocketAddr,
+    port: u16,
+    verdict: Verdict,
+    until: Instant,
+) -> Verdict {
     match verdict {
-        Verdict::Gone(Awaited::Status) if is_tls(dial, address, port) => {
+        Verdict::Gone(Awaited::Status) if is_tls(dial, address, port, until) => {
             Verdict::Foreign(Service::Tls)
         }
         other => other,
@@ -390,8 +405,7 @@ fn steps(dial: &Dial<'_>, found: &mut Found) -> Result<Verdict, Stop> {
     found.address = Some(address);
     let port = port_of(dial, &address, found)?;
     found.port = Some(port);
-    let verdict = asked(dial, &address, port, found)?;
-    Ok(behind_talk(dial, &address, port, verdict))
+    asked(dial, &address, port, found)
 }
 
 /// Dials the node, tells each step, and answers what it comes to. What was found stands in `found`.

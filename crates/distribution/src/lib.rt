@@ -18,18 +18,21 @@
 //!     required: Flags(0),
 //!     creation: Creation(drawn),
 //!     allow: None,
+//!     limits: Limits::long_running(),
 //! };
 //! let mut node = Node::new(alloc, setup);
 //! let peer = NodeName::new(alloc, b"b@127.0.0.1")?;
 //! ```
 //!
 //! 2. The port mapper is asked where the node listens. A node that others are to find `register`s first, over a connection
-//!    that it keeps.
+//!    that it keeps. A talk that has to end by the clock goes over a `DeadlineStream`, which is quiet once its deadline is
+//!    reached: then the turns that are left pass at once. Those of a lookup, of 4,096 bytes each, also bound the memory that an
+//!    answer takes.
 //!
 //! ```text
-//! let turn = Duration::from_millis(50);
-//! let mut mapper = connect(&rt, &mapper_address, Duration::from_secs(8), turn)?;
-//! let info = lookup(alloc, &mut mapper, peer.short(), 160)?;
+//! let until = deadline_after(&rt, Duration::from_secs(8))?;
+//! let mut mapper = connect_by(&rt, &mapper_address, until)?;
+//! let info = lookup(alloc, &mut mapper, peer.short(), 4096)?;
 //! ```
 //!
 //! 3. The node is told to dial, then the connection is made, then the node is told that it is there. A connection that does
@@ -38,7 +41,8 @@
 //! ```text
 //! let opening = opening_for(&info);
 //! let end_ = node.step(alloc, &Event::Dial { peer, opening }, 0)?.end_;
-//! let mut stream = connect(&rt, &node_address, Duration::from_secs(8), turn)?;
+//! let until = deadline_after(&rt, Duration::from_secs(8))?;
+//! let mut stream = connect_by(&rt, &node_address, until)?;
 //! let opened = node.step(alloc, &Event::Opened { end_, link: 0 }, 0)?;
 //! ```
 //!
@@ -50,7 +54,7 @@
 //! ```text
 //! let mut desk = MemoryDesk::new(alloc, node, end_)?;
 //! let first = opened.say.as_slice();
-//! match handshake(alloc, &mut stream, &mut desk, &mut challenge, end_, first, 160) {
+//! match handshake(alloc, &mut stream, &mut desk, &mut challenge, end_, first, AMPLE_TURNS) {
 //!     Reached::Up { record, rest } => ..     // the peer's name, its creation, the flags of both; what stood behind
 //!     Reached::Ended(outcome) => ..          // refused, by the node or by its peer, or the connection failed
 //! }
@@ -61,9 +65,10 @@
 //!    side has another cookie. A program that reads its frames itself, by `Limited::read_exact` and `Node::step`, asks
 //!    `Node::awaits` before it tells the loss. `drive` does all of this for a node that only keeps its connections.
 //!
-//! 5. The stream is the program's. `Packets` parts what comes into packets; one of no bytes is a tick. `header` is what stands
-//!    before a packet that is written, and `tick` a whole one. `Ticker` says when a tick is due and when a silent peer is given
-//!    up; it is told the time, in milliseconds, whenever something was read or written.
+//! 5. The stream is the program's. The link has no deadline: `SocketStream::timed` makes of the socket a stream each read and
+//!    write of which waits for one turn. `Packets` parts what comes into packets; one of no bytes is a tick. `header` is what
+//!    stands before a packet that is written, and `tick` a whole one. `Ticker` says when a tick is due and when a silent peer is
+//!    given up; it is told the time, in milliseconds, whenever something was read or written.
 //!
 //! ```text
 //! let mut packets = Packets::new(alloc, 16_777_216);
@@ -81,13 +86,13 @@
 //!
 //! 6. To leave, `stream.shut()`, and let the stream go; the node is told `Event::Lost`, if it is used on.
 //!
-//! Which errors come: `NameError`, `CookieError`, `LookupError`, `StepError`, `TurnError`, `PacketError`, and of `connect` the
-//! system's `io::Error`; `Why` is the cause of an end that is closed.
+//! Which errors come: `NameError`, `CookieError`, `LookupError`, `StepError`, `TurnError`, `PacketError`, and of `connect`,
+//! `connect_by` and `deadline_after` the system's `io::Error`; `Why` is the cause of an end that is closed.
 #![tactic(auto)]
 
 pub use dist_core::{
-    Awaited, Event, NameList, Node, Note, Opening, Reply, Setup, StepError, Still, UpRecord,
-    Version, Why,
+    Awaited, Event, Limits, NameList, Node, Note, Opening, Reply, Setup, StepError, Still,
+    UpRecord, Version, Why,
 };
 pub use dist_drive::{Desk, Draws, MemoryDesk, Outcome, Reached, drive, handshake, opening_for};
 pub use dist_epmd::{AliveReq, NodeInfo, PortInfo};
@@ -99,6 +104,7 @@ pub use dist_packets::{PacketError, Packets, header, tick, write_packet};
 pub use dist_peers::{EndId, Entry};
 pub use dist_secret::{Cookie, CookieError, Cookies, CookiesError, read_cookie};
 pub use dist_streams::{
-    FaultStream, Heard, Limited, SocketStream, Stream, Took, TurnError, connect,
+    AMPLE_TURNS, DeadlineStream, FaultStream, Heard, Limited, SocketStream, Stream, Took,
+    TurnError, connect, connect_by, deadline_after, time_left,
 };
 pub use dist_ticks::{Due, Ticker};

@@ -27,6 +27,8 @@ pub struct Wanted<'a> {
     pub name: Option<&'a str>,
     /// The cookie's file, where it is not that of the home folder.
     pub cookie_file: Option<&'a str>,
+    /// Whether the file may be one that others than its owner can read.
+    pub is_unsafe: bool,
     /// The port of the port mapper.
     pub mapper_port: u16,
     /// After how many seconds a silent peer is given up, one at least.
@@ -39,6 +41,7 @@ struct Matched<'a> {
     node: Option<&'a str>,
     name: Option<&'a str>,
     cookie_file: Option<&'a str>,
+    is_unsafe: bool,
     mapper_port: Option<&'a str>,
     net_ticktime: Option<&'a str>,
 }
@@ -46,10 +49,18 @@ struct Matched<'a> {
 // The program's words that take a value.
 const VALUES: [&str; 4] = ["name", "cookie-file", "epmd-port", "net-ticktime"];
 
+// The program's word that takes none.
+const UNSAFE: &str = "cookie-unsafe";
+
 fn program<'a>(alloc: Global) -> Result<Command<'a>, AllocError> {
     let mut program = Command::new(alloc, "joining")
         .no_binary_name(true)
-        .arg(Arg::new(alloc, "node").action(ArgAction::Set))?;
+        .arg(Arg::new(alloc, "node").action(ArgAction::Set))?
+        .arg(
+            Arg::new(alloc, UNSAFE)
+                .long(UNSAFE)
+                .action(ArgAction::SetTrue),
+        )?;
     for id in VALUES {
         program = program.arg(Arg::new(alloc, id).long(id).action(ArgAction::Set))?;
     }
@@ -61,6 +72,7 @@ fn matched_in<'a>(matches: &ArgMatches<'a>) -> Matched<'a> {
         node: matches.get_str("node"),
         name: matches.get_str("name"),
         cookie_file: matches.get_str("cookie-file"),
+        is_unsafe: matches.get_flag(UNSAFE),
         mapper_port: matches.get_str("epmd-port"),
         net_ticktime: matches.get_str("net-ticktime"),
     }
@@ -95,6 +107,7 @@ fn wanted_of<'a>(matched: Matched<'a>, mapper_port: u16) -> Option<Wanted<'a>> {
         node: matched.node?,
         name: matched.name,
         cookie_file: matched.cookie_file,
+        is_unsafe: matched.is_unsafe,
         mapper_port: number_of(matched.mapper_port, mapper_port)?,
         net_ticktime,
     })

@@ -1,28 +1,37 @@
-//! How a node is joined: the port mapper is asked where it listens, a connection is made, and the handshake driven.
+//! How a node is joined: the port mapper is asked where it listens, a connection is made, and the handshake driven. Each of
+//! these has its time by the clock.
 
 use crate::fault::Fault;
 use crate::handshake::shaken;
 use crate::link::Link;
 use distribution::{
-    EndId, Event, Node, NodeName, Opening, Packets, SocketStream, connect, lookup, opening_for,
+    DeadlineStream, EndId, Event, Node, NodeName, Opening, Packets, SocketStream, connect_by,
+    deadline_after, lookup, opening_for,
 };
 use std::alloc::Global;
 use std::net::{SocketAddr, ToSocketAddrs};
 use std::random::RandomSource;
-use std::time::Duration;
-
-/// How long a read or a write waits: the length of a turn.
-const TURN_IN_MILLISECONDS: u64 = 50;
+use std::time::{Duration, Instant};
 
 /// How long a connect may take.
 const CONNECT_IN_SECONDS: u64 = 8;
 
-/// How many reads and writes a lookup and a handshake may take each: 8 seconds of silence. A node gives up after 7.
-pub const MOST_TURNS: usize = 160;
+/// How long a lookup and a handshake may take each, whatever comes meanwhile. A node gives up a handshake after 7.
+const TALK_IN_SECONDS: u64 = 8;
+
+/// The most reads and writes of a lookup, if its time is not over before: 4,096 reads of 4,096 bytes bound the memory that an
+/// answer takes.
+const TURNS_OF_A_LOOKUP: usize = 4096;
+
+/// How long a read or a write of the link waits: the length of a turn.
+const TURN_IN_MILLISECONDS: u64 = 50;
 
 /// The most bytes of a packet that is taken. Our own choice; Erlang nodes cut larger messages into fragments of 64 KiB where
 /// both sides announce `DFLAG_FRAGMENTS`, which this one does not.
 const MOST_OF_PACKET: usize = 16_777_216;
+
+/// A connection that is quiet once the time of its lookup or its handshake is over.
+type Connection<'a> = DeadlineStream<&'a HostRuntime>;
 
 // How a node is dialled: where it listens, which opening it knows, and the challenge of this one connection.
 #[derive(Clone, Copy)]
@@ -48,11 +57,30 @@ fn resolved(rt: &HostRuntime, host: &[u8]) -> Option<SocketAddr> {
     addresses.find(|address| address.is_ipv4())
 }
 
-// A connection to this address.
-fn connected(rt: &HostRuntime, address: &SocketAddr) -> Option<SocketStream> {
-    let limit = Duration::from_secs(CONNECT_IN_SECONDS);
-    let turn = Duration::from_millis(TURN_IN_MILLISECONDS);
-    connect(rt, address, limit, turn).ok()
+// The time that is so many seconds from now.
+fn seconds_from_now(rt: &HostRuntime, seconds: u64) -> Result<Instant, Fault> {
+    match deadline_after(rt, Duration::from_secs(seconds)) {
+        Ok(time) => Ok(time),
+        Err(_) => Err(Fault::SystemFailed),
+    }
+}
+
+// The connection, with the time of a lookup or a handshake from now on.
+fn talk_over(rt: &HostRuntime, stream: SocketStream) -> Result<Connection<'_>, Fault> {
+    let until = seconds_from_now(rt, TALK_IN_SECONDS)?;
+    Ok(DeadlineStream::new(stream, rt, until))
+}
+
+// A connection to this address, if it was made in time.
+fn connected<'a>(
+    rt: &'a HostRuntime,
+    address: &SocketAddr,
+) -> Result<Option<Connection<'a>>, Fault> {
+    let until = seconds_from_now(rt, CONNECT_IN_SECONDS)?;
+    match connect_by(rt, address, until) {
+        Ok(stream) => Ok(Some(talk_over(rt, stream.into_inner())?)),
+        Err(_) => Ok(None),
+    }
 }
 
 // The way to a node, as the port mapper of its host knows it.
@@ -67,10 +95,10 @@ fn way_to(
         return Err(Fault::NoHost);
     };
     address.set_port(mapper_port);
-    let Some(mut stream) = connected(rt, &address) else {
+    let Some(mut stream) = connected(rt, &address)? else {
         return Err(Fault::NoMapper);
     };
-    match lookup(alloc, &mut stream, node.short(), MOST_TURNS) {
+    match lookup(alloc, &mut stream, node.short(), TURNS_OF_A_LOOKUP) {
         Ok(info) => {
             address.set_port(info.port);
             let opening = opening_for(&info);
@@ -90,10 +118,19 @@ fn dial(alloc: Global, node: &mut Node, peer: NodeName, opening: Opening) -> Res
     Ok(node.step(alloc, &dial, 0)?.end_)
 }
 
+// The connection for the link: each read and write waits for one turn.
+fn with_turns(stream: Connection<'_>) -> Result<SocketStream, Fault> {
+    let turn = Duration::from_millis(TURN_IN_MILLISECONDS);
+    match SocketStream::timed(stream.into_inner().into_inner(), turn) {
+        Ok(stream) => Ok(stream),
+        Err(_) => Err(Fault::SystemFailed),
+    }
+}
+
 // The link over a connection that an end dialled.
 fn linked(
     alloc: Global,
-    stream: SocketStream,
+    stream: Connection<'_>,
     node: Node,
     end_: EndId,
     challenge: u32,
@@ -101,7 +138,7 @@ fn linked(
     let mut stream = stream;
     let (record, rest) = shaken(alloc, &mut stream, node, end_, challenge)?;
     Ok(Link {
-        stream,
+        stream: with_turns(stream)?,
         record,
         packets: Packets::behind_handshake(alloc, MOST_OF_PACKET, rest),
     })
@@ -117,7 +154,7 @@ fn join_by(
 ) -> Result<Link, Fault> {
     let mut node = node;
     let end_ = dial(alloc, &mut node, peer, way.opening)?;
-    match connected(rt, &way.address) {
+    match connected(rt, &way.address)? {
         Some(stream) => linked(alloc, stream, node, end_, way.challenge),
         None => Err(Fault::NoNode),
     }

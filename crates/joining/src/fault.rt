@@ -6,7 +6,7 @@ use std::io;
 use std::io::{ErrorKind, Write};
 
 /// What ends the program otherwise than at the end of its input.
-#[derive(Clone, Copy)]
+#[derive(Drop)]
 pub enum Fault {
     /// The words of the command line ask for nothing.
     BadCommandLine,
@@ -14,6 +14,8 @@ pub enum Fault {
     BadName,
     /// The cookie's file could not be opened.
     OpenFailed,
+    /// The cookie's file, which is named here, gives others than its owner leave to reach it.
+    NotPrivate(String),
     /// The cookie's file has no cookie.
     NoCookie(CookieError),
     /// The host part of the node's name has no address here.
@@ -62,14 +64,23 @@ fn not_up_text(awaited: Option<Awaited>) -> &'static str {
     }
 }
 
+// What is told of a cookie's file that others can reach: the reason, in the words of `erl`, and the remedy.
+fn tell_not_private<E: Write>(path: &str, err: &mut E) -> io::Result<()> {
+    write!(
+        err,
+        ": cookie file {path} must be accessible by owner only (chmod 600 {path}, or --cookie-unsafe takes it)"
+    )
+}
+
 impl Fault {
     // What is told of it first.
-    fn text(self) -> &'static str {
+    fn text(&self) -> &'static str {
         match self {
             Fault::BadCommandLine => "bad command line (joining --help)",
             Fault::BadName =>
                 "a node's name has one @, something on both sides, and 3 to 255 bytes",
             Fault::OpenFailed => "OpenFailed: the cookie's file",
+            Fault::NotPrivate(_) => "NotPrivate",
             Fault::NoCookie(error) => error.name(),
             Fault::NoHost => "NoHost: the host part of the node's name has no address here",
             Fault::NoMapper => "ConnectFailed: the port mapper",
@@ -84,18 +95,22 @@ impl Fault {
     }
 
     // Tells what stands behind that.
-    fn tell_behind<E: Write>(self, err: &mut E) -> io::Result<()> {
+    fn tell_behind<E: Write>(&self, err: &mut E) -> io::Result<()> {
         match self {
+            Fault::NotPrivate(path) => tell_not_private(path, err),
             Fault::NoCookie(error) => write!(err, ": {error}"),
+            Fault::NotFound(LookupError::Limit) => err.write_all(
+                b": the port mapper gave no whole answer in time",
+            ),
             Fault::NotFound(error) => write!(err, ": {error}"),
-            Fault::NotUp(_, awaited) => err.write_all(not_up_text(awaited).as_bytes()),
+            Fault::NotUp(_, awaited) => err.write_all(not_up_text(*awaited).as_bytes()),
             Fault::Lost(_) => err.write_all(b": the link is lost"),
             _ => Ok(()),
         }
     }
 
     // The exit status: 2 where the command line is at fault, 3 where the node was not joined, 4 where the link was lost, else 1.
-    fn status(self) -> u8 {
+    fn status(&self) -> u8 {
         match self {
             Fault::BadCommandLine | Fault::BadName => 2,
             Fault::NoHost

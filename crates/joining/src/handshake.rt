@@ -1,10 +1,9 @@
 //! The handshake of a dialled end whose connection is there.
 
-use crate::dialling::MOST_TURNS;
 use crate::fault::Fault;
 use distribution::{
-    Awaited, ByteString, Draws, EndId, Event, MemoryDesk, Node, Outcome, Reached, SocketStream,
-    UpRecord, Why, handshake,
+    AMPLE_TURNS, Awaited, ByteString, Draws, EndId, Event, MemoryDesk, Node, Outcome, Reached,
+    Stream, UpRecord, Why, handshake,
 };
 use std::alloc::Global;
 
@@ -51,26 +50,34 @@ fn not_up(desk: &MemoryDesk, end_: EndId, outcome: Outcome) -> Fault {
 }
 
 // Drives the end until it is up.
-fn come_up(
+fn come_up<S: Stream>(
     alloc: Global,
-    stream: &mut SocketStream,
+    stream: &mut S,
     desk: &mut MemoryDesk,
     end_: EndId,
     first: &[u8],
     challenge: u32,
 ) -> Result<(UpRecord, Vec<u8>), Fault> {
     let mut challenge = Challenge { number: challenge };
-    match handshake(alloc, stream, desk, &mut challenge, end_, first, MOST_TURNS) {
+    match handshake(
+        alloc,
+        stream,
+        desk,
+        &mut challenge,
+        end_,
+        first,
+        AMPLE_TURNS,
+    ) {
         Reached::Up { record, rest } => Ok((record, rest)),
         Reached::Ended(outcome) => Err(not_up(desk, end_, outcome)),
     }
 }
 
-/// Makes the handshake of a dialled end whose connection is there. What is known of the peer, and the bytes that were read
+/// Makes the handshake of a dialled end whose connection is there, for as long as the stream is not quiet for good. What is known of the peer, and the bytes that were read
 /// behind the last frame, with which the packets begin.
-pub fn shaken(
+pub fn shaken<S: Stream>(
     alloc: Global,
-    stream: &mut SocketStream,
+    stream: &mut S,
     node: Node,
     end_: EndId,
     challenge: u32,

@@ -5,6 +5,7 @@
 #![tactic(auto)]
 
 mod command;
+mod cookie;
 mod dialling;
 mod fault;
 mod handshake;
@@ -12,17 +13,16 @@ mod link;
 mod telling;
 
 use command::{Asked, Wanted, asked_of};
+use cookie::cookie_at;
 use dialling::{drawn, join_node};
 use dist_numerals::number_16;
 use distribution::{
-    Cookie, Cookies, Creation, Flags, NameError, Node, NodeName, Release, Setup, Version,
-    read_cookie,
+    Cookie, Cookies, Creation, Flags, Limits, NameError, Node, NodeName, Release, Setup, Version,
 };
 use fault::Fault;
 use link::Link;
 use std::alloc::{AllocError, Global};
 use std::env::{self, VarError};
-use std::fs::File;
 use std::io::{self, ErrorKind, Write};
 use std::process::ExitCode;
 use std::sync::Arc;
@@ -34,8 +34,8 @@ use telling::tell_up;
 const MAPPER_PORT: u16 = 4369;
 
 /// How the program is called.
-const HELP: &str =
-    "usage: joining NODE [--name NAME] [--cookie-file FILE] [--epmd-port N] [--net-ticktime N]
+const HELP: &str = "usage: joining NODE [--name NAME] [--cookie-file FILE] [--cookie-unsafe]
+                    [--epmd-port N] [--net-ticktime N]
        joining --help
 
 Joins a live Erlang node as a hidden node, tells each packet that comes, and leaves at the end of its input.
@@ -43,6 +43,7 @@ Joins a live Erlang node as a hidden node, tells each packet that comes, and lea
   NODE               the node to join, NAME@HOST
   --name NAME        the own name (joining@ and the host part of NODE)
   --cookie-file FILE the file of the cookie ($HOME/.erlang.cookie)
+  --cookie-unsafe    take a cookie's file that others than its owner can read
   --epmd-port N      the port of the port mapper (ERL_EPMD_PORT, else 4369)
   --net-ticktime N   after how many seconds a silent peer is given up (60), as the node's net_ticktime
 
@@ -144,28 +145,19 @@ fn own_name(alloc: Global, wanted: &Wanted<'_>, peer: &NodeName) -> Result<NodeN
     }
 }
 
-// The cookie of a file.
-fn cookie_at(rt: &HostRuntime, path: &str) -> Result<Cookie, Fault> {
-    match File::open(rt, path) {
-        Ok(mut file) => read_cookie(rt.alloc(), &mut file).map_err(Fault::NoCookie),
-        Err(_) => Err(Fault::OpenFailed),
+// The file of the home folder that has the cookie, as `erl` finds it.
+fn home_file(rt: &HostRuntime) -> Result<String, Fault> {
+    match variable(rt, "HOME")? {
+        Some(home) => Ok(format!(in rt.alloc(); "{home}/.erlang.cookie")?),
+        None => Err(Fault::OpenFailed),
     }
 }
 
-// The cookie of the home folder.
-fn home_cookie(rt: &HostRuntime) -> Result<Cookie, Fault> {
-    let Some(home) = variable(rt, "HOME")? else {
-        return Err(Fault::OpenFailed);
-    };
-    let path = format!(in rt.alloc(); "{home}/.erlang.cookie")?;
-    cookie_at(rt, &path)
-}
-
 // The cookie of the file that is named, else of the home folder's.
-fn cookie_of(rt: &HostRuntime, file: Option<&str>) -> Result<Cookie, Fault> {
-    match file {
-        Some(path) => cookie_at(rt, path),
-        None => home_cookie(rt),
+fn cookie_of(rt: &HostRuntime, wanted: &Wanted<'_>) -> Result<Cookie, Fault> {
+    match wanted.cookie_file {
+        Some(path) => cookie_at(rt, path, wanted.is_unsafe),
+        None => cookie_at(rt, &home_file(rt)?, wanted.is_unsafe),
     }
 }
 
@@ -179,6 +171,7 @@ fn setup_of(alloc: Global, name: NodeName, cookie: Cookie, creation: u32) -> Set
         required: Flags(0),
         creation: Creation(creation),
         allow: None,
+        limits: Limits::long_running(),
     }
 }
 
@@ -187,7 +180,7 @@ fn node_of(rt: &HostRuntime, wanted: &Wanted<'_>, peer: &NodeName) -> Result<Nod
     let alloc = rt.alloc();
     let creation = drawn(rt)?;
     let name = own_name(alloc, wanted, peer)?;
-    let cookie = cookie_of(rt, wanted.cookie_file)?;
+    let cookie = cookie_of(rt, wanted)?;
     Ok(Node::new(alloc, setup_of(alloc, name, cookie, creation)))
 }
 

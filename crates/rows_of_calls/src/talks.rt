@@ -9,12 +9,12 @@ use dist_mapper::FaultStream;
 use dist_names::{Creation, Flags, NodeName};
 use dist_probe::{Awaited, Verdict, ask_node};
 use dist_secret::{Cookie, Cookies};
-use dist_setup::{Setup, Version};
+use dist_setup::{Limits, Setup, Version};
 use std::alloc::Global;
 use std::fmt::Write;
 
 // More reads and writes than any talk makes.
-const MOST_TURNS: usize = 1000;
+const MOST_TURNS: usize = 10_000;
 
 /// Tells the verdict; before it what was said, if that is not as it is wanted, and the faults with which the talk goes otherwise.
 pub fn put_talk(alloc: Global, told: &mut String, case: &str, pieces: &str) -> Option<()> {
@@ -86,6 +86,7 @@ fn setup_of(alloc: Global, talk: &str) -> Option<Setup> {
         required: Flags(0),
         creation: Creation(77),
         allow: None,
+        limits: Limits::usual(),
     })
 }
 

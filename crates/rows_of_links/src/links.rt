@@ -2,8 +2,8 @@
 
 use crate::sockets::{TURNS, both_ends};
 use distribution::{
-    ByteString, Cookie, Cookies, Creation, Draws, EndId, Event, Flags, Limited, MemoryDesk, Node,
-    NodeName, Opening, Outcome, Reached, Release, Setup, SocketStream, Version, Why, drive,
+    ByteString, Cookie, Cookies, Creation, Draws, EndId, Event, Flags, Limited, Limits, MemoryDesk,
+    Node, NodeName, Opening, Outcome, Reached, Release, Setup, SocketStream, Version, Why, drive,
     handshake, tick,
 };
 use std::alloc::Global;
@@ -38,6 +38,7 @@ fn node_of(alloc: Global, name: &str, cookie: &str, creation: u32) -> Option<Nod
         required: Flags(0),
         creation: Creation(creation),
         allow: None,
+        limits: Limits::usual(),
     };
     Some(Node::new(alloc, setup))
 }

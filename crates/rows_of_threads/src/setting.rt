@@ -1,6 +1,6 @@
 //! What the rows share: two nodes, what each says in a handshake, what a node is told, and where challenges come from.
 
-use dist_core::{Event, Opening, Setup, Still, Version, Why};
+use dist_core::{Event, Limits, Opening, Setup, Still, Version, Why};
 use dist_drive::Draws;
 use dist_names::{ByteString, Creation, Flags, NodeName};
 use dist_peers::EndId;
@@ -49,6 +49,7 @@ pub fn setup_of(alloc: Global, is_a: bool) -> Option<Setup> {
         required: Flags(0),
         creation: Creation(creation),
         allow: None,
+        limits: Limits::usual(),
     })
 }
 

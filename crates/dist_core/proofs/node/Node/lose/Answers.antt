@@ -14,4 +14,5 @@ invariant_of-self c =
     record {
       few = omega (arith, ap length c.close.ensures, length-within es c.args.id.0 (ends.Closed c.args.why) within, c.self.invariant.few);
       bounded = c.self.invariant.bounded;
+      numbered = omega (arith, ap length c.close.ensures, length-within es c.args.id.0 (ends.Closed c.args.why) within, c.self.invariant.numbered);
     }

@@ -7,7 +7,7 @@ pub change_row-requires : goal.change_row-requires
 change_row-requires c = record { there = found-there c.self.inside.by_name.entries c.args.peer.now c.args.self.now c.self.view_is c.self.invariant c.requires }
 
 pub invariant_of-self : goal.invariant_of-self
-invariant_of-self c = record { sorted = sorted-from _ c.change_row.ensures.ordered; few = omega (arith, c.change_row.ensures.len, c.self.invariant.few) }
+invariant_of-self c = record { sorted = sorted-from _ c.change_row.ensures.ordered }
 
 pub returns-clause-changed : goal.returns-clause-changed
 returns-clause-changed c = updated c.self.inside.by_name.entries _ c.args.peer.now (Some c.args.entry) c.self.invariant.sorted (sorted-from _ c.change_row.ensures.ordered) (c.change_row.ensures.changed.0) ∙ ap (λ m. map.insert m c.args.peer.now c.args.entry) c.self.view_is

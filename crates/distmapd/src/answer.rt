@@ -1,0 +1,71 @@
+//! What a port mapper answers that is asked for all names: 4 bytes of its port, a line for each name, and the end (ERTS User's
+//! Guide, Distribution Protocol, Get All Registered Names from EPMD).
+
+ghost use Rattle.std.specs.Prelude.{◌≡◌, IfOk, IfErr};
+ghost use Rattle.distmapd.specs.Answers.{AnswersNames, HearsRest, IsFaultOfAsking};
+
+use crate::fault::Fault;
+use dist_streams::{AMPLE_TURNS, Limited, Stream, TurnError};
+use std::alloc::{AllocError, Global};
+
+// The frame of the question: a body of one byte.
+const QUESTION: [u8; 3] = [0, 1, b'n'];
+
+// The most bytes of one read.
+const PIECE: usize = 4096;
+
+// No more is read once so many bytes came, so that no answer takes all memory. A name has its line of at most 280 bytes, so
+// there is room for 3,700 and more. Our own choice.
+const ENOUGH: usize = 1_048_576;
+
+/// What came of an answer.
+#[derive(Drop)]
+pub struct Answer {
+    /// The bytes that came, in their order.
+    pub bytes: Vec<u8>,
+    /// Whether the port mapper ended it. Else a read failed, the time was over, or more came than is read.
+    pub is_ended: bool,
+}
+
+// Appends what comes, up to the end, to the first fault or to enough bytes. Tells whether the end was read.
+fn read_rest<S: Stream>(
+    limited: &mut Limited<'_, S>,
+    bytes: &mut Vec<u8>,
+) -> Result<bool, AllocError>
+    ensures heard { IfOk result (λ is_ended. HearsRest (S.meaning limited.old.stream.now) (S.meaning limited.new.stream.now) limited.old.left limited.new.left is_ended bytes.old.items bytes.new.items) }
+    ensures loan { limited.new.stream.ghost_name ≡ limited.old.stream.ghost_name }
+{
+    let mut room = [0u8; PIECE];
+    loop {
+        match limited.read(&mut room) {
+            Ok(count) => {
+                bytes.extend_from_slice(&room[..count])?;
+                if bytes.len() >= ENOUGH {
+                    return Ok(false);
+                }
+            }
+            Err(TurnError::Ended) => return Ok(true),
+            Err(_) => return Ok(false),
+        }
+    }
+}
+
+/// Asks for all names, and reads what comes: up to the end, or up to a fault, a stream that stays quiet, or a mebibyte and
+/// at most 4,095 bytes more.
+///
+/// NoAnswer where the question could not be said whole, and NoMemory. Nothing else is refused: what came may be cut anywhere.
+pub fn ask<S: Stream>(alloc: Global, stream: &mut S) -> Result<Answer, Fault>
+    ensures ok { IfOk result (λ answer. AnswersNames (S.meaning stream.old) (S.meaning stream.new) answer) }
+    ensures err { IfErr result IsFaultOfAsking }
+{
+    let mut limited = Limited {
+        stream,
+        left: AMPLE_TURNS,
+    };
+    if limited.write_all(&QUESTION).is_err() {
+        return Err(Fault::NoAnswer);
+    }
+    let mut bytes = Vec::new(alloc);
+    let is_ended = read_rest(&mut limited, &mut bytes)?;
+    Ok(Answer { bytes, is_ended })
+}

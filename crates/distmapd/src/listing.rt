@@ -1,0 +1,62 @@
+//! What `-names` prints of an answer.
+
+ghost use Rattle.std.specs.Prelude.{◌≡◌, IfOk};
+ghost use Rattle.std.specs.String.{string_bytes};
+ghost use Rattle.distmapd.specs.Listing.{Prints, has_whole_lines, is_whole, line_end, listing};
+
+use crate::answer::Answer;
+use crate::fault::Fault;
+use crate::output::print;
+use dist_numerals::escape_lines;
+use std::alloc::{AllocError, Global};
+use std::io::Write;
+
+// Whether the text has whole lines alone, or none.
+fn has_whole_lines(text: &[u8]) -> bool
+    ensures { result ≡ has_whole_lines text.now }
+{
+    text.is_empty() || text.ends_with(b"\n")
+}
+
+// Whether an answer with this text is whole.
+fn is_whole(is_ended: bool, text: &[u8]) -> bool
+    ensures { result ≡ is_whole is_ended text.now }
+{
+    is_ended && has_whole_lines(text)
+}
+
+// What ends the last line where it was cut.
+fn line_end(text: &[u8]) -> &'static str
+    ensures { result.now ≡ line_end text.now }
+{
+    if has_whole_lines(text) { "" } else { "\n" }
+}
+
+// The port mapper's port, and its lines. A name may have any bytes, and what is not printable in it is escaped.
+#[tactic(auto, unfolding(crate::specs::Listing::listing))]
+fn listing(alloc: Global, port: u32, text: &[u8]) -> Result<String, AllocError>
+    ensures { IfOk result (λ printed. string_bytes printed ≡ listing port text.now) }
+{
+    let lines = escape_lines(alloc, text)?;
+    let end = line_end(text);
+    format!(in alloc; "epmd: up and running on port {port} with data:\n{lines}{end}")
+}
+
+/// Prints what came of an answer.
+///
+/// AnswerCut where it was printed and the answer isn't whole: its end did not come, or came in mid-line. NoAnswer where not even the
+/// port came, and NoMemory: then nothing is printed. WriteFailed where it could not be printed whole.
+pub fn print_answer<W: Write>(alloc: Global, answer: &Answer, out: &mut W) -> Result<(), Fault>
+    ensures { Prints (W.contents out.old) (W.contents out.new) answer.now result }
+{
+    let Some((port, text)) = answer.bytes.split_first_chunk::<4>() else {
+        return Err(Fault::NoAnswer);
+    };
+    let printed = listing(alloc, u32::from_be_bytes(*port), text)?;
+    print(out, &printed)?;
+    if is_whole(answer.is_ended, text) {
+        Ok(())
+    } else {
+        Err(Fault::AnswerCut)
+    }
+}

@@ -1,0 +1,202 @@
+// Package distnode is the handshake of Erlang's distribution protocol over libdistnode, whose steps are proved to be those of its
+// definition: a node, the registry of a port mapper, and the port mapper's messages.
+//
+// There are no sockets, no clock and no random numbers in here: the caller owns them, tells what happened, and does what the reply says.
+// cmd/join is a whole program; docs/C_LIBRARY.md of the sources has the order of calls.
+package distnode
+
+// #cgo pkg-config: distnode
+// #include <stdlib.h>
+// #include <distnode.h>
+import "C"
+
+import "unsafe"
+
+// longestName is how many bytes a name has at most.
+const longestName = 255
+
+// Setup is what a node is set up with, beside its name and its cookie. Fields that are 0 have their usual values.
+type Setup struct {
+	Flags        uint64 // that it announces; those of the handshake's version are added and removed as they must be
+	Required     uint64 // that it asks of a peer, beside those of the version
+	Creation     uint32 // the number of this incarnation, as the port mapper answered it
+	Version      uint32 // the highest version of the handshake that it knows: 5 or 6; 0 stands for 6
+	Limited      bool   // only peers that Allow names may connect
+	MostEnds     uint32 // that it ever gives out; 0 stands for 4,294,967,295
+	MostSteps    uint64 // that it makes, losses not counted; 0 stands for 2^64 - 1
+	MostEntries  uint32 // peers with which it has or makes a connection at one time; 0 stands for 65,536
+	MostOpenEnds uint32 // ends that are open at one time; 0 stands for 65,536
+}
+
+// Reply is what a step did.
+type Reply struct {
+	End    uint32 // the event's end, or the one that was given out
+	Say    []byte // what is to be written on its connection
+	Taken  int    // how many of the bytes that were given were taken
+	Closed Why    // not 0: an end was closed, this one or another, and its connection is to be closed once Say was written
+	Other  uint32 // which end was closed
+	Up     bool   // this end came up: what follows on its connection is the caller's
+}
+
+// Peer is a peer that is up.
+type Peer struct {
+	Name        []byte
+	End         uint32
+	Common      uint64 // the flags that both announced
+	Creation    uint32
+	HasCreation bool // a peer of version 5 tells none
+}
+
+// Node is a node, which one goroutine uses at a time: others under a lock. Free lets it go.
+type Node struct {
+	node *C.dn_node // in C's memory, since it stays where it is
+}
+
+// NewNode makes a node of this name, with this cookie for each peer that has none of its own. The text of a cookie is that of its file.
+func NewNode(name, cookie []byte, setup Setup) (*Node, error) {
+	given := C.dn_setup{
+		flags: C.uint64_t(setup.Flags), required: C.uint64_t(setup.Required), creation: C.uint32_t(setup.Creation),
+		version: C.uint32_t(setup.Version), limited: number(setup.Limited), most_ends: C.uint32_t(setup.MostEnds),
+		most_steps: C.uint64_t(setup.MostSteps), most_entries: C.uint32_t(setup.MostEntries),
+		most_open_ends: C.uint32_t(setup.MostOpenEnds),
+	}
+	node := (*C.dn_node)(C.calloc(1, C.sizeof_dn_node))
+	text, length := bytesOf(name)
+	secret, secretLength := bytesOf(cookie)
+	if err := done(C.dn_node_new(node, text, length, secret, secretLength, &given)); err != nil {
+		C.free(unsafe.Pointer(node))
+		return nil, err
+	}
+	return &Node{node}, nil
+}
+
+// Free lets the node go. A later call is refused as NotANode, and so is this one.
+func (n *Node) Free() error {
+	if n.node == nil {
+		return NotANode
+	}
+	err := done(C.dn_node_free(n.node))
+	C.free(unsafe.Pointer(n.node))
+	n.node = nil
+	return err
+}
+
+// Allow lets this peer connect, where the setup limits them. Before the first step.
+func (n *Node) Allow(peer []byte) error {
+	if n.node == nil {
+		return NotANode
+	}
+	name, length := bytesOf(peer)
+	return done(C.dn_node_allow(n.node, name, length))
+}
+
+// SetCookie keeps a cookie for this peer alone. Before the first step.
+func (n *Node) SetCookie(peer, cookie []byte) error {
+	if n.node == nil {
+		return NotANode
+	}
+	name, length := bytesOf(peer)
+	secret, secretLength := bytesOf(cookie)
+	return done(C.dn_node_cookie(n.node, name, length, secret, secretLength))
+}
+
+// step makes a call and reads its reply.
+func (n *Node) step(call func(reply *C.dn_reply) C.uint32_t) (Reply, error) {
+	if n.node == nil {
+		return Reply{}, NotANode
+	}
+	var it C.dn_reply
+	if err := done(call(&it)); err != nil {
+		return Reply{}, err
+	}
+	reply := Reply{End: uint32(it.id), Taken: int(it.taken), Closed: Why(it.closed), Other: uint32(it.closed_id), Up: it.up != 0}
+	if it.say == 0 {
+		return reply, nil
+	}
+	say, err := copied(int(it.say), func(room *C.uint8_t, most C.size_t, length *C.size_t) C.uint32_t {
+		return C.dn_node_say(n.node, room, most, length)
+	})
+	reply.Say = say
+	return reply, err
+}
+
+// Dial tells that the node is to connect to this peer: the reply has a new end. isNew opens by the name N of version 6, else by n.
+func (n *Node) Dial(peer []byte, isNew bool) (Reply, error) {
+	name, length := bytesOf(peer)
+	return n.step(func(reply *C.dn_reply) C.uint32_t { return C.dn_node_dial(n.node, name, length, number(isNew), reply) })
+}
+
+// Opened tells that the connection of a dialled end is there.
+func (n *Node) Opened(end uint32) (Reply, error) {
+	return n.step(func(reply *C.dn_reply) C.uint32_t { return C.dn_node_opened(n.node, C.uint32_t(end), reply) })
+}
+
+// Incoming tells that a connection was accepted: the reply has a new end.
+func (n *Node) Incoming() (Reply, error) {
+	return n.step(func(reply *C.dn_reply) C.uint32_t { return C.dn_node_incoming(n.node, reply) })
+}
+
+// Received takes the frame at the front of what came, which Taken counts; the error is Awaits where it has not come whole. The challenge
+// is a random number, drawn anew.
+func (n *Node) Received(end uint32, data []byte, challenge uint32) (Reply, error) {
+	came, length := bytesOf(data)
+	return n.step(func(reply *C.dn_reply) C.uint32_t {
+		return C.dn_node_received(n.node, C.uint32_t(end), came, length, C.uint32_t(challenge), reply)
+	})
+}
+
+// Lost tells that the connection of an end is lost or given up.
+func (n *Node) Lost(end uint32, why Why) (Reply, error) {
+	return n.step(func(reply *C.dn_reply) C.uint32_t {
+		return C.dn_node_lost(n.node, C.uint32_t(end), C.uint32_t(why), reply)
+	})
+}
+
+// Tick tells that a tick is due on an end that is up.
+func (n *Node) Tick(end uint32) (Reply, error) {
+	return n.step(func(reply *C.dn_reply) C.uint32_t { return C.dn_node_tick(n.node, C.uint32_t(end), reply) })
+}
+
+func (n *Node) peer(call func(peer *C.dn_peer, room *C.uint8_t) C.uint32_t) (Peer, error) {
+	if n.node == nil {
+		return Peer{}, NotANode
+	}
+	var it C.dn_peer
+	var room [longestName]byte
+	if err := done(call(&it, (*C.uint8_t)(&room[0]))); err != nil {
+		return Peer{}, err
+	}
+	name := append([]byte(nil), room[:it.name]...)
+	return Peer{name, uint32(it.id), uint64(it.common), uint32(it.creation), it.has_creation != 0}, nil
+}
+
+// PeerOf tells the peer that is up on an end; the error is NoSuch where there is none.
+func (n *Node) PeerOf(end uint32) (Peer, error) {
+	return n.peer(func(peer *C.dn_peer, room *C.uint8_t) C.uint32_t {
+		return C.dn_node_peer_of(n.node, C.uint32_t(end), peer, room, longestName)
+	})
+}
+
+// Peers tells the peers that are up, in the order of their names.
+func (n *Node) Peers() ([]Peer, error) {
+	var peers []Peer
+	for {
+		peer, err := n.peer(func(peer *C.dn_peer, room *C.uint8_t) C.uint32_t {
+			return C.dn_node_peer_at(n.node, C.size_t(len(peers)), peer, room, longestName)
+		})
+		if err == NoSuch {
+			return peers, nil
+		}
+		if err != nil {
+			return nil, err
+		}
+		peers = append(peers, peer)
+	}
+}
+
+// CookieDigest is the digest of a challenge under a cookie.
+func CookieDigest(cookie []byte, challenge uint32) (digest [16]byte, err error) {
+	secret, length := bytesOf(cookie)
+	err = done(C.dn_cookie_digest(secret, length, C.uint32_t(challenge), (*C.uint8_t)(&digest[0])))
+	return digest, err
+}
