@@ -20,8 +20,9 @@
  * hands out is to be freed; a node alone is let go, by dn_node_free.
  *
  * Every function answers a dn_code. Its errors are listed in their order: the first that holds is told. A code other than
- * DN_OK leaves the node, and what the pointers lead to, as they were, but for a length or a peer that is told beside
- * DN_NO_ROOM. After DN_NO_MEMORY the same call does its work once there is memory. */
+ * DN_OK leaves the node, and what the pointers lead to, as they were, but for what is told beside DN_NO_ROOM, and for the end
+ * that dn_node_dial and dn_node_incoming give up to make room, which they tell beside any code. After DN_NO_MEMORY the same
+ * call does its work once there is memory. */
 #ifndef DISTNODE_H
 #define DISTNODE_H
 
@@ -54,13 +55,15 @@ typedef enum dn_code {
     DN_NO_ROOM = 4,         /* the caller's room is too short; the length that is needed was told */
     DN_AWAITS = 5,          /* no whole frame stands at the front: call again with these bytes and those that follow */
     DN_NO_SUCH = 6,         /* a cause, a place or a version names nothing */
-    DN_STARTED = 7,         /* the node has made a step, and its setup no longer changes */
+    DN_TOO_LONG = 8,        /* a body has more than 65,535 bytes, and no frame can have it */
+    DN_PEER_IN_USE = 9,     /* a peer whose cookie is to be changed is connected, or about to be */
     DN_NO_SUCH_END = 10,    /* the number was never given out */
     DN_GONE = 11,           /* the end is closed */
     DN_WRONG_PHASE = 12,    /* the end is open, and takes no such event now */
     DN_BUSY = 13,           /* a dial to a peer that has an end */
     DN_SPENT = 14,          /* the node has made most_steps steps, or given out most_ends ends; a loss is still taken */
-    DN_FULL = 15,           /* most_entries peers have an entry, most_open_ends ends are open, or 1,024 names have cookies */
+    DN_FULL = 15,           /* most_open_ends ends are up, most_entries peers have an entry, or 1,024 names have cookies */
+    DN_OPEN_ENDS = 16,      /* an end is open, and the node does not begin anew */
     DN_NAME_TOO_SHORT = 20, /* a name has fewer than 3 bytes */
     DN_NAME_TOO_LONG = 21,  /* a name has more than 255 bytes */
     DN_NAME_BAD_BYTE = 22,  /* a name has a byte that is not from 0x21 to 0x7E */
@@ -92,18 +95,69 @@ typedef enum dn_why {
     DN_WHY_NO_MEMORY = 15
 } dn_why;
 
+/* A status of the handshake, as one side says it and the other hears it. */
+typedef enum dn_status {
+    DN_STATUS_NONE = 0,            /* there was none */
+    DN_STATUS_OK = 1,              /* ok: the handshake goes on */
+    DN_STATUS_OK_SIMULTANEOUS = 2, /* ok_simultaneous: it goes on, and the attempt of the side that says so is given up */
+    DN_STATUS_NOK = 3,             /* nok: it does not, since the attempt of the side that says so goes on */
+    DN_STATUS_NOT_ALLOWED = 4,     /* not_allowed: it does not, since the name or its flags are refused */
+    DN_STATUS_ALIVE = 5,           /* alive: there is a connection already, and is it to be given up? */
+    DN_STATUS_TRUE = 6,            /* true: it is, and the handshake goes on */
+    DN_STATUS_FALSE = 7            /* false: it is not */
+} dn_status;
+
+/* How an end stands: what it awaits of the other side, where it is open and not up. */
+typedef enum dn_phase {
+    DN_PHASE_NONE = 0,            /* the number was never given out */
+    DN_PHASE_CLOSED = 1,
+    DN_PHASE_CONNECTION = 2,      /* dialled: its connection, which is not there yet */
+    DN_PHASE_NAME = 3,            /* accepted: the peer's name, so that the peer is not known yet */
+    DN_PHASE_STATUS = 4,          /* dialled: a status, to the name that was said */
+    DN_PHASE_CHALLENGE = 5,       /* dialled: a challenge */
+    DN_PHASE_ACK = 6,             /* dialled: an acknowledgement of the reply that was said */
+    DN_PHASE_TRUE_OR_FALSE = 7,   /* accepted: true or false, to the status alive that was said */
+    DN_PHASE_COMPLEMENT = 8,      /* accepted: a complement to the old form of name */
+    DN_PHASE_REPLY = 9,           /* accepted: a reply to the challenge that was said */
+    DN_PHASE_DOOMED_DIALING = 10, /* dialled and superseded: its connection, with which it is closed */
+    DN_PHASE_DOOMED = 11,         /* dialled and superseded: a status, with which it is closed */
+    DN_PHASE_UP = 12
+} dn_phase;
+
+/* Which ends hold a peer. One that was superseded, and is closed with the next that it hears, holds nothing. */
+typedef enum dn_state {
+    DN_STATE_IDLE = 0,      /* none */
+    DN_STATE_OUT = 1,       /* one that was dialled, and is not up */
+    DN_STATE_IN = 2,        /* one that was accepted and took the peer's name, and is not up */
+    DN_STATE_UP = 3,        /* one that is up */
+    DN_STATE_CHALLENGED = 4 /* one that is up, and one that was accepted, on which the peer came anew and which is not up */
+} dn_state;
+
 /* What a node is set up with, beside its name and its cookie. Fields that are 0 have their usual values. */
 typedef struct dn_setup {
     uint64_t flags;          /* that it announces; those of the handshake's version are added and removed as they must be */
     uint64_t required;       /* that it asks of a peer, beside those of the version */
     uint32_t creation;       /* the number of this incarnation, as the port mapper answered it */
     uint32_t version;        /* the highest version of the handshake that it knows: 5 or 6; 0 stands for 6 */
-    uint32_t limited;        /* not 0: only peers that dn_node_allow names may connect */
+    uint32_t limited;        /* not 0: only peers that dn_node_allow lets in may connect */
     uint32_t most_ends;      /* that it ever gives out, closed ones counted too; 0 stands for 4,294,967,295 */
     uint64_t most_steps;     /* that it makes, losses not counted; 0 stands for 2^64 - 1 */
     uint32_t most_entries;   /* peers with which it has or makes a connection at one time; 0 stands for 65,536 */
-    uint32_t most_open_ends; /* ends that are open at one time; 0 stands for 65,536 */
+    uint32_t most_open_ends; /* ends that are open at one time; 0 stands for 65,536. Where most_entries is no less, a newcomer
+                                finds room as long as some open end is not up */
+    uint64_t mandatory_25;   /* the flags that DFLAG_MANDATORY_25_DIGEST stands for: DN_MANDATORY_25, or 0 for none */
 } dn_setup;
+
+/* DFLAG_MANDATORY_25_DIGEST, 0x4000000, in the flags of a peer: OTP 25 and later read it as the flags that they ask for
+ * (EXTENDED_REFERENCES, FUN_TAGS, NEW_FUN_TAGS, EXTENDED_PIDS_PORTS, EXPORT_PTR_TAG, BIT_BINARIES, NEW_FLOATS, UTF8_ATOMS,
+ * MAP_TAG, BIG_CREATION, HANDSHAKE_23), so that a later release may announce it alone. A node with mandatory_25 does the same:
+ * where the digest is among the flags of a name or a challenge that comes, those of mandatory_25 are added to them before
+ * anything else is done with them: the lower 32 bits alone, where the name or the challenge is an older one and has no more.
+ *
+ * What came is then read as what it stands for, and the common flags that are told are those that this node announced and that
+ * were read so. They are the same on both sides where a node that announces the digest also announces what it stands for, as
+ * every release up to 29 does. What this node itself announces is not changed: it is to announce both. */
+#define DN_MANDATORY_25 UINT64_C(0x1070f94)
 
 /* What a step did. */
 typedef struct dn_reply {
@@ -127,6 +181,20 @@ typedef struct dn_peer {
     uint32_t has_creation;
 } dn_peer;
 
+/* The ends that hold a peer. */
+typedef struct dn_entry {
+    uint32_t state;   /* a dn_state */
+    uint32_t up;      /* the end that is up, in DN_STATE_UP and DN_STATE_CHALLENGED; else 0 */
+    uint32_t pending; /* the end that is not, in DN_STATE_OUT, DN_STATE_IN and DN_STATE_CHALLENGED; else 0 */
+} dn_entry;
+
+/* An end. */
+typedef struct dn_end {
+    size_t peer;    /* how many bytes its peer's name has: the one that was dialled, that came, or that is up; else 0 */
+    uint32_t phase; /* a dn_phase */
+    uint32_t why;   /* in DN_PHASE_CLOSED: a dn_why; else 0 */
+} dn_end;
+
 /* ---- a node is made, and let go */
 
 /* Makes a node without ends. The name is `alive@host`, at most 255 bytes, with no 0 behind. The cookie is a text as the file
@@ -136,25 +204,60 @@ typedef struct dn_peer {
 uint32_t dn_node_new(dn_node *node, const uint8_t *name, size_t name_len, const uint8_t *cookie, size_t cookie_len,
                      const dn_setup *setup);
 
-/* Lets this peer connect, and from the first such call on only peers that were named so; a dial is not bound by it. Only
- * before the first step. Each call copies what was set before, so many thousand names take their time.
- * Errors: DN_NOT_A_NODE, DN_STARTED, DN_NAME_*, DN_NO_MEMORY. */
-uint32_t dn_node_allow(dn_node *node, const uint8_t *peer, size_t peer_len);
-
-/* Keeps a cookie for this peer, in place of one that it has of its own. Only before the first step.
- * Errors: DN_NOT_A_NODE, DN_STARTED, DN_NAME_*, DN_COOKIE_*, DN_FULL (1,024 other names have their own), DN_NO_MEMORY, which
- * may also come before DN_FULL. */
-uint32_t dn_node_cookie(dn_node *node, const uint8_t *peer, size_t peer_len, const uint8_t *cookie, size_t cookie_len);
-
 /* Lets a node go, with all its memory. The struct holds none then, and may be used anew. It needs no memory.
  * Errors: DN_NOT_A_NODE. */
 uint32_t dn_node_free(dn_node *node);
 
-/* ---- steps: each writes a dn_reply where it answers DN_OK */
+/* Begins anew, with the setup, the cookies and the allow list that the node has: ends get their numbers from 0 on again, steps
+ * are counted from 0, and nothing is kept of the ends that were. 4,294,967,295 ends last for 136 years at one connection a second,
+ * and for 25 days at 2,000, as an attacker may make them: before they are used up the caller tells dn_node_lost for each end that
+ * is open, forgets their numbers, and calls this. It needs no memory.
+ * Errors: DN_NOT_A_NODE, DN_OPEN_ENDS. */
+uint32_t dn_node_renew(dn_node *node);
+
+/* ---- who may connect, and under which cookie: at any time. None of these is a step: it isn't counted, and what the newest
+ * step said and heard stays */
+
+/* Lets peers connect, and from the first such call on, or where dn_setup has `limited`, only peers that were let in so. The
+ * text has one of the three forms of OTP's net_kernel:allow/1, and a peer is let in where one text that is kept matches its
+ * name: `alive@host` that peer; a host, which is any text without an @, every peer of that host; and `alive@`, whose last byte
+ * is its only @, every peer of that name at any host. Alone, an alive and a host have 1 to 253 bytes. It concerns names that
+ * come later: a peer that is connected stays so. A dial is not bound by it.
+ * Errors: DN_NOT_A_NODE, DN_NAME_*, DN_NO_MEMORY. */
+uint32_t dn_node_allow(dn_node *node, const uint8_t *peer, size_t peer_len);
+
+/* Keeps this text no more, where the peers that may connect are limited: once none is left, no peer may. A peer that another
+ * text matches may still connect: of each text that was kept its own call. Where all may, nothing changes. A peer that is
+ * connected stays so; dn_node_lost takes it off.
+ * Errors: DN_NOT_A_NODE, DN_NAME_*, DN_NO_MEMORY (for the text alone). */
+uint32_t dn_node_disallow(dn_node *node, const uint8_t *peer, size_t peer_len);
+
+/* Keeps a cookie for this peer, in place of one that it has of its own. It may be changed while dn_node_entry tells
+ * DN_STATE_IDLE of the peer: else an end is up under the cookie that it has now, or in a handshake, and is to be lost before.
+ * Errors: DN_NOT_A_NODE, DN_NAME_*, DN_COOKIE_*, DN_PEER_IN_USE, DN_FULL (1,024 other names have their own), DN_NO_MEMORY,
+ * which may also come before these two. */
+uint32_t dn_node_cookie(dn_node *node, const uint8_t *peer, size_t peer_len, const uint8_t *cookie, size_t cookie_len);
+
+/* Changes the cookie of every peer that has none of its own: the one that dn_node_new was given. It walks over all peers that
+ * are connected or about to be.
+ * Errors: DN_NOT_A_NODE, DN_COOKIE_*, DN_PEER_IN_USE (one of those has no cookie of its own), DN_NO_MEMORY, which may also come
+ * before that. */
+uint32_t dn_node_usual_cookie(dn_node *node, const uint8_t *cookie, size_t cookie_len);
+
+/* ---- steps: each writes a dn_reply where it answers DN_OK
+ *
+ * A newcomer always finds room, as long as some open end is not up: where dn_node_dial or dn_node_incoming would be refused as
+ * DN_FULL, the end that has been open and not up for the longest is given up before, as by dn_node_lost with DN_WHY_GAVE_UP.
+ * So nobody who holds connections open and shows no cookie keeps another out. reply->closed is DN_WHY_GAVE_UP then, and
+ * reply->closed_id that end, whose connection is to be closed; it has nothing to say. Both are told with every code, and are 0
+ * where no end was given up: so look at reply->closed also where the newcomer itself is refused, as by DN_NO_MEMORY.
+ *
+ * A peer that is up is never given up for a newcomer. DN_FULL is left where all open ends are up; and, where most_entries is
+ * less than most_open_ends, where it is used up by peers that are up or that hold a later end than the one given up. */
 
 /* The node is to connect to this peer: reply->id is the number of a new end. The caller looks the peer up, connects, and
  * tells dn_node_opened, or dn_node_lost with DN_WHY_DIAL_FAILED. An opening of 0 says the name in the old form, any other in
- * that of OTP 23 and above.
+ * that of OTP 23 and above. reply->closed and reply->closed_id tell the end that made room, with every code.
  * Errors: DN_NAME_*, DN_NOT_A_NODE, DN_BUSY, DN_SPENT, DN_FULL, DN_NO_MEMORY, which may also come before these four. */
 uint32_t dn_node_dial(dn_node *node, const uint8_t *peer, size_t peer_len, uint32_t opening, dn_reply *reply);
 
@@ -162,8 +265,9 @@ uint32_t dn_node_dial(dn_node *node, const uint8_t *peer, size_t peer_len, uint3
  * Errors: DN_NOT_A_NODE, DN_NO_SUCH_END, DN_GONE, DN_WRONG_PHASE (no connection is awaited), DN_SPENT, DN_NO_MEMORY. */
 uint32_t dn_node_opened(dn_node *node, uint32_t id, dn_reply *reply);
 
-/* A connection was accepted: reply->id is the number of a new end.
- * Errors: DN_NOT_A_NODE, DN_SPENT, DN_FULL (most_open_ends ends are open), DN_NO_MEMORY. */
+/* A connection was accepted: reply->id is the number of a new end. reply->closed and reply->closed_id tell the end that made
+ * room, with every code.
+ * Errors: DN_NOT_A_NODE, DN_SPENT, DN_FULL (most_open_ends ends are up), DN_NO_MEMORY. */
 uint32_t dn_node_incoming(dn_node *node, dn_reply *reply);
 
 /* Bytes came on an end: takes the frame at their front, and reply->taken says how many they are. The caller drops those, and
@@ -174,6 +278,11 @@ uint32_t dn_node_incoming(dn_node *node, dn_reply *reply);
 uint32_t dn_node_received(dn_node *node, uint32_t id, const uint8_t *bytes, size_t len, uint32_t challenge,
                           dn_reply *reply);
 
+/* The same of one frame without its length, for a caller whose sockets take lengths off, as Erlang's do with {packet, 2}:
+ * reply->taken is len then.
+ * Errors: DN_NOT_A_NODE, DN_TOO_LONG, DN_NO_SUCH_END, DN_GONE, DN_WRONG_PHASE, DN_SPENT, DN_NO_MEMORY. */
+uint32_t dn_node_body(dn_node *node, uint32_t id, const uint8_t *body, size_t len, uint32_t challenge, dn_reply *reply);
+
 /* The connection of an end is lost or given up, for a cause of dn_why. It never lacks memory.
  * Errors: DN_NO_SUCH (the cause), DN_NOT_A_NODE, DN_NO_SUCH_END, DN_GONE. */
 uint32_t dn_node_lost(dn_node *node, uint32_t id, uint32_t why, dn_reply *reply);
@@ -182,12 +291,65 @@ uint32_t dn_node_lost(dn_node *node, uint32_t id, uint32_t why, dn_reply *reply)
  * Errors: DN_NOT_A_NODE, DN_NO_SUCH_END, DN_GONE, DN_WRONG_PHASE (it is not up), DN_SPENT, DN_NO_MEMORY. */
 uint32_t dn_node_tick(dn_node *node, uint32_t id, dn_reply *reply);
 
+/* Forgets why the ends below this number were closed: their cause is told as DN_WHY_ENDED from now on. They answer DN_GONE as
+ * ever, no number is given out twice, and what is open stays as it is, whatever its number. This is no step: it isn't counted,
+ * and the reply that dn_node_say copies stays. It needs no memory, and gives back what was kept of those ends: a node that
+ * calls it from time to time, as with the number of its newest end, keeps the memory of its open ends, however many there
+ * were. One that doesn't keeps some bytes of every end.
+ * Errors: DN_NOT_A_NODE. */
+uint32_t dn_node_forget(dn_node *node, uint32_t below);
+
 /* ---- questions: none changes the node */
 
 /* Copies what the newest step says, and tells its length; before the first step that is nothing. It may be asked again until
  * the next step. 1,024 bytes of room are enough for any step.
  * Errors: DN_NOT_A_NODE, DN_NO_ROOM (*len is the length). */
 uint32_t dn_node_say(dn_node *node, uint8_t *room, size_t room_len, size_t *len);
+
+/* The same frame by frame, without the lengths, for a caller whose sockets put them before: copies the body at a place of
+ * what the newest step says, from 0 on. Each is to be written by itself. A tick is no such frame, but a packet with a length
+ * of 4 bytes: there an empty packet is to be written.
+ * Errors: DN_NOT_A_NODE, DN_NO_SUCH (it says no more bodies), DN_NO_ROOM (*len is the length). */
+uint32_t dn_node_say_body(dn_node *node, size_t place, uint8_t *room, size_t room_len, size_t *len);
+
+/* The status that the newest step says, and the one that it heard, in the frame that it took: each a dn_status. So it is known
+ * why a peer said no where an end was closed with DN_WHY_STATUS_REFUSED: it heard DN_STATUS_NOK, of a peer whose own attempt
+ * goes on, DN_STATUS_NOT_ALLOWED, or DN_STATUS_FALSE. A status is told that either side can say; one of the wrong side closes
+ * its end with DN_WHY_MALFORMED. Both are DN_STATUS_NONE before the first step.
+ * Errors: DN_NOT_A_NODE. */
+uint32_t dn_node_status(dn_node *node, uint32_t *said, uint32_t *heard);
+
+/* What dn_node_received with these bytes and this challenge would answer, and dn_node_body with this body: the same code and
+ * the same reply, and nothing is done. What dn_node_say copies stays that of the newest step.
+ *
+ * That is for a caller who may refuse a peer although it has shown the cookie, as one with a table of connections of its own:
+ *
+ *   1. It asks dn_node_ready for each frame first. Where reply->up is not 1, it makes the step by dn_node_received, as ever.
+ *   2. Where reply->up is 1, the step would bring the end up. The caller looks by dn_node_end which peer that is, and whether
+ *      it lets it in. On an accepted end the acknowledgement has not been said yet; on a dialled one the peer has said its own,
+ *      and counts this node as up already.
+ *   3. It admits the peer by making the step: dn_node_received with the same bytes and the same challenge, before any other
+ *      step. Or it refuses, by dn_node_lost with DN_WHY_GAVE_UP, and closes the connection: the peer hears nothing more.
+ *
+ * Another step in between may change the answer, as one that closes this end. Then the step itself tells what it does.
+ * Errors: those of dn_node_received, and those of dn_node_body. DN_NO_MEMORY may come where the step itself has enough. */
+uint32_t dn_node_ready(dn_node *node, uint32_t id, const uint8_t *bytes, size_t len, uint32_t challenge, dn_reply *reply);
+uint32_t dn_node_ready_body(dn_node *node, uint32_t id, const uint8_t *body, size_t len, uint32_t challenge, dn_reply *reply);
+
+/* Which ends hold a peer.
+ * Errors: DN_NOT_A_NODE, DN_NAME_*, DN_NO_MEMORY. */
+uint32_t dn_node_entry(dn_node *node, const uint8_t *peer, size_t peer_len, dn_entry *entry);
+
+/* How an end stands, and the name of its peer, also before it is up: which peer an end would let in; or, before dn_node_lost,
+ * how far its handshake came. The name is copied to the room, which 255 bytes fill at most, and the rest is told also beside
+ * DN_NO_ROOM.
+ * Errors: DN_NOT_A_NODE, DN_NO_ROOM. */
+uint32_t dn_node_end(dn_node *node, uint32_t id, dn_end *end, uint8_t *room, size_t room_len);
+
+/* The end that has been open and not up for the longest: the one that makes room for a newcomer, and the first to be given up
+ * by a caller that limits how long a handshake takes. All calls together take the time of one walk over the ends.
+ * Errors: DN_NOT_A_NODE, DN_NO_SUCH (every open end is up). */
+uint32_t dn_node_oldest(dn_node *node, uint32_t *id);
 
 /* The peer at a place among those that are up, in the order of their names, from 0 on; and the peer that is up on an end. The
  * name is copied to the room, which 255 bytes fill at most, and the rest is told also beside DN_NO_ROOM.
@@ -286,8 +448,10 @@ uint32_t dn_why_name(uint32_t why, uint8_t *room, size_t room_len, size_t *len);
 #define DN_ASSERT _Static_assert
 #endif
 #ifdef DN_ASSERT
-DN_ASSERT(sizeof(dn_node) == 16 && sizeof(dn_registry) == 16 && sizeof(dn_served) == 16 && sizeof(dn_setup) == 48 && sizeof(dn_reply) == 48, "structs have other sizes");
-DN_ASSERT(sizeof(dn_peer) == 32 && sizeof(dn_info) == 8 && sizeof(size_t) == 8, "structs have other sizes");
+DN_ASSERT(sizeof(dn_node) == 16 && sizeof(dn_registry) == 16 && sizeof(dn_served) == 16, "structs have other sizes");
+DN_ASSERT(sizeof(dn_setup) == 56 && sizeof(dn_reply) == 48, "structs have other sizes");
+DN_ASSERT(sizeof(dn_peer) == 32 && sizeof(dn_entry) == 12 && sizeof(dn_end) == 16, "structs have other sizes");
+DN_ASSERT(sizeof(dn_info) == 8 && sizeof(size_t) == 8, "structs have other sizes");
 #undef DN_ASSERT
 #endif
 

@@ -22,7 +22,7 @@
 #include <time.h>
 #include <unistd.h>
 
-enum { MOST_LINKS = 64, ROOM = 65540, SAY = 1024, COOKIE = 4097 };
+enum { MOST_LINKS = 64, ROOM = 65540, SAY = 1024, COOKIE = 4097, FORGET_EACH = 65536 };
 
 /* A connection that carries one end of the node. */
 struct link {
@@ -106,6 +106,20 @@ static void lose(struct link *it, uint32_t why) {
     close_link(it, why);
 }
 
+/* Closes the connection of the end that a reply tells as closed. */
+static void close_told(const dn_reply *reply) {
+    struct link *it = reply->closed ? link_of(reply->closed_id) : NULL;
+    if (it) close_link(it, reply->closed);
+}
+
+/* What dn_node_dial and dn_node_incoming answer: an end that made room is told with every code. Now and then the node forgets
+ * why ends were closed, and gives that memory back. */
+static uint32_t newcomer(uint32_t code, const dn_reply *reply) {
+    close_told(reply);
+    if (!code && reply->id % FORGET_EACH == 0) dn_node_forget(&node, reply->id);
+    return code;
+}
+
 /* Does what a reply wants: writes, closes, notes who is up. */
 static void said(struct link *it, const dn_reply *reply) {
     uint8_t say[SAY];
@@ -124,10 +138,7 @@ static void said(struct link *it, const dn_reply *reply) {
         it->up = 1;
         printf("up %s %016llx %u\n", it->name, (unsigned long long)peer.common, peer.creation), fflush(stdout);
     }
-    if (reply->closed) {
-        struct link *other = link_of(reply->closed_id);
-        if (other) close_link(other, reply->closed);
-    }
+    close_told(reply);
     if (failed && it->fd >= 0) lose(it, DN_WHY_WRITE_FAILED);
 }
 
@@ -196,7 +207,7 @@ static int looked_up(const char *host, int epmd, const char *peer) {
 
 static void dial(const char *peer, int epmd) {
     dn_reply reply;
-    uint32_t code = dn_node_dial(&node, (const uint8_t *)peer, strlen(peer), 1, &reply);
+    uint32_t code = newcomer(dn_node_dial(&node, (const uint8_t *)peer, strlen(peer), 1, &reply), &reply);
     if (code) stop("the dial", code);
     uint32_t end = reply.id;
     const char *host = strchr(peer, '@') + 1;
@@ -208,6 +219,14 @@ static void dial(const char *peer, int epmd) {
     } else if (!dn_node_opened(&node, end, &reply)) {
         said(it, &reply);
     }
+}
+
+static void accept_on(int listener) {
+    dn_reply reply;
+    int fd = accept(listener, NULL, NULL);
+    if (fd < 0) return;
+    if (newcomer(dn_node_incoming(&node, &reply), &reply)) close(fd);
+    else if (!new_link(fd, reply.id)) close(fd), dn_node_lost(&node, reply.id, DN_WHY_GAVE_UP, &reply);
 }
 
 /* The text of a cookie's file. */
@@ -255,8 +274,9 @@ int main(int argc, char **argv) {
     int listener = socket(AF_INET, SOCK_STREAM, 0), mapper = connected("127.0.0.1", epmd);
     if (bind(listener, (struct sockaddr *)&at, size) || listen(listener, 8) || getsockname(listener, (struct sockaddr *)&at, &size))
         stop("cannot listen", 0);
-    /* flags as an Erlang node of OTP 25 announces them, but for DFLAG_PUBLISHED */
-    dn_setup setup = {.flags = 0x403070f94, .creation = registered(mapper, argv[1], ntohs(at.sin_port))};
+    /* flags as an Erlang node of OTP 25 announces them, but for DFLAG_PUBLISHED; each open end has a place in the table */
+    uint32_t creation = registered(mapper, argv[1], ntohs(at.sin_port));
+    dn_setup setup = {.flags = 0x403070f94, .creation = creation, .most_open_ends = MOST_LINKS};
     uint32_t code = dn_node_new(&node, (const uint8_t *)argv[1], strlen(argv[1]), cookie, cookie_len, &setup);
     if (code) stop("no node", code);
     printf("ready\n"), fflush(stdout);
@@ -274,13 +294,7 @@ int main(int argc, char **argv) {
         poll(polled, n, wait > 0 ? (int)(wait * 1000) + 1 : 0);
         for (nfds_t i = 1; i < n; i++)
             if (polled[i].revents && of[i]->fd == polled[i].fd) came(of[i]);
-        if (polled[0].revents) {
-            dn_reply reply;
-            int fd = accept(listener, NULL, NULL);
-            if (fd >= 0 && !dn_node_incoming(&node, &reply)) {
-                if (!new_link(fd, reply.id)) close(fd), dn_node_lost(&node, reply.id, DN_WHY_GAVE_UP, &reply);
-            } else if (fd >= 0) close(fd);
-        }
+        if (polled[0].revents) accept_on(listener);
         if (due <= now()) {
             due += every;
             for (struct link *it = links; it < links + MOST_LINKS; it++)

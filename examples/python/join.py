@@ -21,6 +21,8 @@ import distnode as dn
 
 HIDDEN_FLAGS = 0x403070F94  # as an Erlang node of OTP 25 announces them, but for DFLAG_PUBLISHED
 EPMD = ("127.0.0.1", int(os.environ.get("ERL_EPMD_PORT", "4369")))
+MOST_OPEN = 512  # ends at one time: a process has 1,024 descriptors by custom
+FORGET_EACH = 65_536  # ends: so often what was kept of those that are closed is given back
 
 
 class Link:
@@ -42,7 +44,7 @@ class Joined:
         result, creation = dn.alive_answer(self.registration.recv(6, socket.MSG_WAITALL))
         if result:
             raise SystemExit("the port mapper refuses the name")
-        self.node = dn.Node(name, cookie, HIDDEN_FLAGS, creation)
+        self.node = dn.Node(name, cookie, HIDDEN_FLAGS, creation, most_open_ends=MOST_OPEN)
         self.selector.register(self.listener, selectors.EVENT_READ, None)
 
     def link(self, stream: socket.socket, end: int) -> Link:
@@ -51,9 +53,33 @@ class Joined:
         self.selector.register(stream, selectors.EVENT_READ, link)
         return link
 
+    def new_end(self, call, *given) -> int:
+        """An end of `dial` or `incoming`. Where another made room for it, that one's connection is closed, also where the
+        newcomer is refused."""
+        try:
+            reply = call(*given)
+        except dn.Refused as refused:
+            if refused.closed:
+                self.close(*refused.closed)
+            raise
+        if reply.closed:
+            self.close(*reply.closed)
+        if reply.end % FORGET_EACH == 0:
+            self.node.forget(reply.end)
+        return reply.end
+
+    def accept(self) -> None:
+        stream = self.listener.accept()[0]
+        try:
+            end = self.new_end(self.node.incoming)
+        except dn.Refused:
+            stream.close()
+            return
+        self.link(stream, end)
+
     def dial(self, peer: bytes) -> None:
         alive, _, host = peer.partition(b"@")
-        end = self.node.dial(peer).end
+        end = self.new_end(self.node.dial, peer)
         try:
             with socket.create_connection((host.decode(), EPMD[1]), timeout=10) as asked:
                 asked.sendall(dn.port_request(alive))
@@ -115,7 +141,7 @@ class Joined:
         while (now := time.monotonic()) < stop:
             for key, _ in self.selector.select(max(0, min(stop, due) - now)):
                 if key.data is None:
-                    self.link(self.listener.accept()[0], self.node.incoming().end)
+                    self.accept()
                 elif key.data.end in self.links:
                     self.guarded(key.data, self.take)
             if due <= time.monotonic():

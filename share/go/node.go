@@ -15,6 +15,12 @@ import "unsafe"
 // longestName is how many bytes a name has at most.
 const longestName = 255
 
+// bodyRoom is more than the longest frame that a node says.
+const bodyRoom = 1024
+
+// Mandatory25 has the flags that DFLAG_MANDATORY_25_DIGEST stands for, as OTP 25 and later read it.
+const Mandatory25 = C.DN_MANDATORY_25
+
 // Setup is what a node is set up with, beside its name and its cookie. Fields that are 0 have their usual values.
 type Setup struct {
 	Flags        uint64 // that it announces; those of the handshake's version are added and removed as they must be
@@ -25,17 +31,21 @@ type Setup struct {
 	MostEnds     uint32 // that it ever gives out; 0 stands for 4,294,967,295
 	MostSteps    uint64 // that it makes, losses not counted; 0 stands for 2^64 - 1
 	MostEntries  uint32 // peers with which it has or makes a connection at one time; 0 stands for 65,536
-	MostOpenEnds uint32 // ends that are open at one time; 0 stands for 65,536
+	MostOpenEnds uint32 // ends that are open at one time; 0 stands for 65,536. A newcomer finds room as long as one is not up
+	Mandatory25  uint64 // the flags that DFLAG_MANDATORY_25_DIGEST of a peer stands for: Mandatory25, or 0 for none
 }
 
-// Reply is what a step did.
+// Reply is what a step did; of Ready and ReadyBody, what it would do.
 type Reply struct {
-	End    uint32 // the event's end, or the one that was given out
-	Say    []byte // what is to be written on its connection
-	Taken  int    // how many of the bytes that were given were taken
-	Closed Why    // not 0: an end was closed, this one or another, and its connection is to be closed once Say was written
-	Other  uint32 // which end was closed
-	Up     bool   // this end came up: what follows on its connection is the caller's
+	End         uint32 // the event's end, or the one that was given out
+	Say         []byte // what is to be written on its connection
+	Taken       int    // how many of the bytes that were given were taken
+	Closed      Why    // not 0: an end was closed, this one or another, and its connection is to be closed once Say was written
+	Other       uint32 // which end was closed
+	Up          bool   // this end came up: what follows on its connection is the caller's
+	Common      uint64 // where it came up: the flags that both announced
+	Creation    uint32 // where it came up: the peer's creation
+	HasCreation bool   // a peer of version 5 tells none
 }
 
 // Peer is a peer that is up.
@@ -58,7 +68,7 @@ func NewNode(name, cookie []byte, setup Setup) (*Node, error) {
 		flags: C.uint64_t(setup.Flags), required: C.uint64_t(setup.Required), creation: C.uint32_t(setup.Creation),
 		version: C.uint32_t(setup.Version), limited: number(setup.Limited), most_ends: C.uint32_t(setup.MostEnds),
 		most_steps: C.uint64_t(setup.MostSteps), most_entries: C.uint32_t(setup.MostEntries),
-		most_open_ends: C.uint32_t(setup.MostOpenEnds),
+		most_open_ends: C.uint32_t(setup.MostOpenEnds), mandatory_25: C.uint64_t(setup.Mandatory25),
 	}
 	node := (*C.dn_node)(C.calloc(1, C.sizeof_dn_node))
 	text, length := bytesOf(name)
@@ -81,7 +91,17 @@ func (n *Node) Free() error {
 	return err
 }
 
-// Allow lets this peer connect, where the setup limits them. Before the first step.
+// Renew begins anew, with the setup, the cookies and the peers that may connect: ends get their numbers from 0 on again. It is
+// refused as OpenEnds while an end is open.
+func (n *Node) Renew() error {
+	if n.node == nil {
+		return NotANode
+	}
+	return done(C.dn_node_renew(n.node))
+}
+
+// Allow lets this peer connect, and from the first call on only peers that were named so. At any time; a peer that is connected
+// stays so.
 func (n *Node) Allow(peer []byte) error {
 	if n.node == nil {
 		return NotANode
@@ -90,7 +110,16 @@ func (n *Node) Allow(peer []byte) error {
 	return done(C.dn_node_allow(n.node, name, length))
 }
 
-// SetCookie keeps a cookie for this peer alone. Before the first step.
+// Disallow lets this peer connect no more, where the peers that may are named. One that is connected stays so.
+func (n *Node) Disallow(peer []byte) error {
+	if n.node == nil {
+		return NotANode
+	}
+	name, length := bytesOf(peer)
+	return done(C.dn_node_disallow(n.node, name, length))
+}
+
+// SetCookie keeps a cookie for this peer alone. It is refused as PeerInUse while the peer is connected, or about to be.
 func (n *Node) SetCookie(peer, cookie []byte) error {
 	if n.node == nil {
 		return NotANode
@@ -100,27 +129,46 @@ func (n *Node) SetCookie(peer, cookie []byte) error {
 	return done(C.dn_node_cookie(n.node, name, length, secret, secretLength))
 }
 
-// step makes a call and reads its reply.
-func (n *Node) step(call func(reply *C.dn_reply) C.uint32_t) (Reply, error) {
+// SetUsualCookie changes the cookie of each peer that has none of its own. It is refused as PeerInUse while one of those is
+// connected, or about to be.
+func (n *Node) SetUsualCookie(cookie []byte) error {
 	if n.node == nil {
-		return Reply{}, NotANode
+		return NotANode
+	}
+	secret, secretLength := bytesOf(cookie)
+	return done(C.dn_node_usual_cookie(n.node, secret, secretLength))
+}
+
+// replied makes a call and reads its reply but for what it says, and how many bytes those are. An end that made room is told
+// beside an error too.
+func (n *Node) replied(call func(reply *C.dn_reply) C.uint32_t) (Reply, int, error) {
+	if n.node == nil {
+		return Reply{}, 0, NotANode
 	}
 	var it C.dn_reply
 	if err := done(call(&it)); err != nil {
-		return Reply{}, err
+		return Reply{Closed: Why(it.closed), Other: uint32(it.closed_id)}, 0, err
 	}
-	reply := Reply{End: uint32(it.id), Taken: int(it.taken), Closed: Why(it.closed), Other: uint32(it.closed_id), Up: it.up != 0}
-	if it.say == 0 {
-		return reply, nil
+	return Reply{
+		End: uint32(it.id), Taken: int(it.taken), Closed: Why(it.closed), Other: uint32(it.closed_id), Up: it.up != 0,
+		Common: uint64(it.common), Creation: uint32(it.creation), HasCreation: it.has_creation != 0,
+	}, int(it.say), nil
+}
+
+// step makes a call and reads its reply.
+func (n *Node) step(call func(reply *C.dn_reply) C.uint32_t) (Reply, error) {
+	reply, say, err := n.replied(call)
+	if err != nil || say == 0 {
+		return reply, err
 	}
-	say, err := copied(int(it.say), func(room *C.uint8_t, most C.size_t, length *C.size_t) C.uint32_t {
+	reply.Say, err = copied(say, func(room *C.uint8_t, most C.size_t, length *C.size_t) C.uint32_t {
 		return C.dn_node_say(n.node, room, most, length)
 	})
-	reply.Say = say
 	return reply, err
 }
 
-// Dial tells that the node is to connect to this peer: the reply has a new end. isNew opens by the name N of version 6, else by n.
+// Dial tells that the node is to connect to this peer: the reply has a new end. Closed and Other tell an end that was given up
+// to make room, beside an error too. isNew opens by the name N of version 6, else by n.
 func (n *Node) Dial(peer []byte, isNew bool) (Reply, error) {
 	name, length := bytesOf(peer)
 	return n.step(func(reply *C.dn_reply) C.uint32_t { return C.dn_node_dial(n.node, name, length, number(isNew), reply) })
@@ -131,7 +179,8 @@ func (n *Node) Opened(end uint32) (Reply, error) {
 	return n.step(func(reply *C.dn_reply) C.uint32_t { return C.dn_node_opened(n.node, C.uint32_t(end), reply) })
 }
 
-// Incoming tells that a connection was accepted: the reply has a new end.
+// Incoming tells that a connection was accepted: the reply has a new end. Closed and Other tell an end that was given up to
+// make room, beside an error too.
 func (n *Node) Incoming() (Reply, error) {
 	return n.step(func(reply *C.dn_reply) C.uint32_t { return C.dn_node_incoming(n.node, reply) })
 }
@@ -145,6 +194,34 @@ func (n *Node) Received(end uint32, data []byte, challenge uint32) (Reply, error
 	})
 }
 
+// ReceivedBody takes one frame without its length, for a caller whose sockets take lengths off. Bodies has what it says.
+func (n *Node) ReceivedBody(end uint32, body []byte, challenge uint32) (Reply, error) {
+	came, length := bytesOf(body)
+	return n.step(func(reply *C.dn_reply) C.uint32_t {
+		return C.dn_node_body(n.node, C.uint32_t(end), came, length, C.uint32_t(challenge), reply)
+	})
+}
+
+// Ready is what Received would answer to these bytes and this challenge; nothing is done, and Say is empty. Where Up is true,
+// the caller looks by End which peer that is, and lets it in by Received with the same bytes and the same challenge, or refuses
+// it by Lost with GaveUp.
+func (n *Node) Ready(end uint32, data []byte, challenge uint32) (Reply, error) {
+	came, length := bytesOf(data)
+	reply, _, err := n.replied(func(reply *C.dn_reply) C.uint32_t {
+		return C.dn_node_ready(n.node, C.uint32_t(end), came, length, C.uint32_t(challenge), reply)
+	})
+	return reply, err
+}
+
+// ReadyBody is what ReceivedBody would answer, as Ready is what Received would.
+func (n *Node) ReadyBody(end uint32, body []byte, challenge uint32) (Reply, error) {
+	came, length := bytesOf(body)
+	reply, _, err := n.replied(func(reply *C.dn_reply) C.uint32_t {
+		return C.dn_node_ready_body(n.node, C.uint32_t(end), came, length, C.uint32_t(challenge), reply)
+	})
+	return reply, err
+}
+
 // Lost tells that the connection of an end is lost or given up.
 func (n *Node) Lost(end uint32, why Why) (Reply, error) {
 	return n.step(func(reply *C.dn_reply) C.uint32_t {
@@ -155,6 +232,36 @@ func (n *Node) Lost(end uint32, why Why) (Reply, error) {
 // Tick tells that a tick is due on an end that is up.
 func (n *Node) Tick(end uint32) (Reply, error) {
 	return n.step(func(reply *C.dn_reply) C.uint32_t { return C.dn_node_tick(n.node, C.uint32_t(end), reply) })
+}
+
+// Forget forgets why the ends below this number were closed, and gives back the memory that was kept of them. Open ends stay as
+// they are. A node that runs for long calls it now and then, as with the number of its newest end.
+func (n *Node) Forget(below uint32) error {
+	if n.node == nil {
+		return NotANode
+	}
+	return done(C.dn_node_forget(n.node, C.uint32_t(below)))
+}
+
+// Bodies tells the frames that the newest step says, each without its length, and each to be written by itself. A tick is none
+// of them: there an empty packet is to be written.
+func (n *Node) Bodies() ([][]byte, error) {
+	if n.node == nil {
+		return nil, NotANode
+	}
+	var bodies [][]byte
+	for {
+		body, err := copied(bodyRoom, func(room *C.uint8_t, most C.size_t, length *C.size_t) C.uint32_t {
+			return C.dn_node_say_body(n.node, C.size_t(len(bodies)), room, most, length)
+		})
+		if err == NoSuch {
+			return bodies, nil
+		}
+		if err != nil {
+			return nil, err
+		}
+		bodies = append(bodies, body)
+	}
 }
 
 func (n *Node) peer(call func(peer *C.dn_peer, room *C.uint8_t) C.uint32_t) (Peer, error) {

@@ -1,5 +1,5 @@
 -- What one happening does to the world: the incarnations and the connections after it.
-use Rattle.std.proofs.Common.{◌≡◌, ℕ, suc, ◌^◌, ◌<◌, Bool, true, false, cond, ltb, not, ◌&&◌, List, [], ◌∷◌, ◌++◌, length, Option, Some, None, Result, Ok, Err, IfSome, refl, sym, ap, ◌∙◌, arith, slice_get, is_some}
+use Rattle.std.proofs.Common.{◌≡◌, ℕ, suc, ◌^◌, ◌<◌, Bool, true, false, cond, ltb, not, ◌&&◌, List, [], ◌∷◌, ◌++◌, length, Option, Some, None, Result, Ok, Err, IfSome, refl, sym, ap, ◌∙◌, subst, arith, slice_get, is_some}
 use Rattle.std.specs.Option.{option_map}
 use Rattle.std.specs.Int.{w16}
 use Rattle.dist_names.specs.declared.creation.Creation.{Creation}
@@ -7,6 +7,9 @@ use Rattle.dist_messages.specs.declared.message.Side.{Side}
 use Rattle.dist_frames.specs.Stream.{first_body}
 use Rattle.dist_peers.specs.declared.entry.EndId.{EndId}
 use Rattle.dist_setup.specs.declared.setup.Setup.{Setup}
+use Rattle.dist_core.specs.declared.changing.Change.{Change}
+use Rattle.dist_core.specs.declared.changing.ChangeError.TheVariants.{InUse, Full}
+use Rattle.dist_core.specs.Changing.{after_change, change, finds_no_room, is_in_use}
 use Rattle.dist_core.specs.declared.event.Event.{Event}
 use Rattle.dist_core.specs.declared.event.Event.TheVariants as event
 use Rattle.dist_core.specs.declared.effect.Effect.{Effect}
@@ -19,7 +22,7 @@ use Rattle.dist_agreement.specs.Rows.{EndRow, rows_after}
 use Rattle.dist_agreement.specs.World.{World, Life, Conn, runs, runs_for, running, row_at, end_at}
 use Rattle.dist_agreement.specs.Delivery.{delivered, body_taken, text_to, change_to, spoken}
 use Rattle.dist_ends.specs.Ends.{is_dialing}
-use Rattle.dist_agreement.specs.Happenings.{most_begins, most_connections, lived, answered, told_in, told, told_of, new_life, begun, ended, halted, conn_of, reached_life, new_conn, reached, opened_on, opened, next_end, accepted_by, accepted, is_open_end, is_nonempty, came, came_on, came_to, deliver, taken_body, taken_from, taken_on, taken_by, take_next, applied}
+use Rattle.dist_agreement.specs.Happenings.{most_begins, most_connections, lived, answered, told_in, told, told_of, new_life, begun, ended, halted, with_node, reset_to, reset_in, reset, conn_of, reached_life, new_conn, reached, opened_on, opened, next_end, accepted_by, accepted, is_open_end, is_nonempty, came, came_on, came_to, deliver, taken_body, taken_from, taken_on, taken_by, take_next, applied}
 use Rattle.dist_agreement.specs.Agreement.{Fits}
 use Rattle.dist_agreement.proofs.Places.{first-passes, both-true}
 
@@ -48,6 +51,7 @@ pub data Act (F : Type 0) (w : World) (ls : List Life) (cs : List Conn) : Type 0
   Comes : (side : Side) → (c n : ℕ) → ls ≡ w.lives → cs ≡ at_place c (change_to side (delivered n)) w.conns → Act F w ls cs
   Tells : (i : ℕ) → (old : Life) → (v : Event) → (fresh : ℕ) → (f : Effect) → (ds : List Conn) → (F → fresh < 2 ^ 32) → slice_get w.lives i ≡ Some old → runs old ≡ true → effect_of old.node v fresh ≡ Ok f → Ready w i v ds
       → ls ≡ at_place i (λ l. lived w.clock v f.reply (after old.node v f) old) w.lives → cs ≡ spoken ds (slice_get (rows_after w.clock v f.reply old.rows) f.reply.end_.0) f.reply.say → Act F w ls cs
+  Resets : (i : ℕ) → (old : Life) → (v : Change) → slice_get w.lives i ≡ Some old → runs old ≡ true → change old.node v ≡ Ok (after_change old.node v) → ls ≡ at_place i (with_node (after_change old.node v)) w.lives → cs ≡ w.conns → Act F w ls cs
 
 pub record Acted (F : Type 0) (w x : World) : Type 0 where
   pub setups : x.setups ≡ w.setups
@@ -122,6 +126,19 @@ acts w (happening.Halt a) = by (running w a) refl
 acts w (happening.Dial a p o) = told_of-acts (Unit {0}) w (running w a) (event.Dial p o) tt (λ id link e. absurd cc)
 acts w (happening.Tick a id) = told_of-acts (Unit {0}) w (running w a) (event.Tick id) tt (λ x link e. absurd cc)
 acts w (happening.Lose a id y) = told_of-acts (Unit {0}) w (running w a) (event.Lost id y) tt (λ x link e. absurd cc)
+acts w (happening.Reset a v) = by (running w a) refl
+  where
+    done : (i : ℕ) (l : Life) → slice_get w.lives i ≡ Some l → runs l ≡ true → (b c : Bool) → is_in_use l.node v ≡ b → finds_no_room l.node v ≡ c → Acts (Unit {0}) w (reset_to w i (cond b (Err InUse) (cond c (Err Full) (Ok (after_change l.node v)))))
+    done i l at live true c e d = tt
+    done i l at live false true e d = tt
+    done i l at live false false e d = record { setups = refl; clock = refl; act = Resets i l v at live (λ j. cond (e j) (Err InUse) (cond (d j) (Err Full) (Ok (after_change l.node v)))) refl refl }
+
+    by : (o : Option ℕ) → running w a ≡ o → Acts (Unit {0}) w (reset w o v)
+    by None e = tt
+    by (Some i) e =
+        let g = life-of w a i e in let r = is-running w a i g.0 e g.1 in
+        let P : Option Life → Type 0 = λ o. Acts (Unit {0}) w (reset_in w i o v) in
+        subst P (sym g.1) (done i g.0 g.1 r.1 (is_in_use (let l = g.0 in l.node) v) (finds_no_room (let l = g.0 in l.node) v) refl refl)
 acts w (happening.Reach a id b) = by (running w a) (running w b) refl refl
   where
     by : (o u : Option ℕ) → running w a ≡ o → running w b ≡ u → Acts (Unit {0}) w (reached w id.0 o u)

@@ -14,7 +14,7 @@ use Rattle.dist_agreement.specs.Rows.{EndRow}
 use Rattle.dist_agreement.specs.World.{World, Life, Conn, runs, row_of_life, empty}
 use Rattle.dist_agreement.specs.Run.{run}
 use Rattle.dist_agreement.specs.Laws.{AllLives, OwnDigests}
-use Rattle.dist_agreement.specs.Agreement.{IsUp, IsAgreed, AreAgreed, Agreement, AreSetups, AllFit}
+use Rattle.dist_agreement.specs.Agreement.{bare, IsUp, IsAgreed, AreAgreed, Agreement, AreSetups, AllFit}
 use Rattle.dist_agreement.proofs.Wires.{NotedAt, Noted, rose_of}
 use Rattle.dist_agreement.proofs.Keeping.{IsKept, kept}
 use Rattle.dist_agreement.proofs.Lookups.{row_in, end_in, setup_in, setup_of, far, decide}
@@ -39,13 +39,13 @@ module _ (laws : NodeLaws) where
     who-by : (i b : ℕ) (l : Life) (s : Setup) → slice_get w.lives i ≡ Some l → slice_get w.setups b ≡ Some s → l.node.setup.name ≡ s.name → l.who ≡ b
     who-by i b l s al ab e = let o = h.owns i l al in let k = h.setups in k.distinct l.who b o.setup s o.there ab (sym (ap (λ (s : Setup). s.name) o.is) ∙ e)
 
-    -- an incarnation of node a has a's setup, but for the creation
-    setup-by : (i a : ℕ) (l : Life) (s : Setup) → slice_get w.lives i ≡ Some l → slice_get w.setups a ≡ Some s → l.who ≡ a → l.node.setup ≡ record s { creation = l.node.setup.creation }
+    -- an incarnation of node a has a's setup, but for the creation, the cookies and the allow list
+    setup-by : (i a : ℕ) (l : Life) (s : Setup) → slice_get w.lives i ≡ Some l → slice_get w.setups a ≡ Some s → l.who ≡ a → bare l.node.setup ≡ bare (record s { creation = l.node.setup.creation })
     setup-by i a l s al aa e =
         let o = h.owns i l al in
         let z : Some o.setup ≡ Some s = sym o.there ∙ ap (slice_get w.setups) e ∙ aa in
         let q : o.setup ≡ s = cc in
-        o.is ∙ ap (λ (r : Setup). record r { creation = l.node.setup.creation }) q
+        o.is ∙ ap (λ (r : Setup). bare (record r { creation = l.node.setup.creation })) q
 
     module _ {a b c : ℕ} (x : IsUp w a b c) where
       sits-who : {side : Side} {d : ℕ} (s : Seat w side d) → (Sits laws w h) x s → (let l = s.life in l.who) ≡ a
@@ -139,32 +139,32 @@ module _ (laws : NodeLaws) where
         abbrev sy : Setup
         sy = y.life.node.setup
 
-        agreed-by : (own away : Setup) (kept : UpRecord) → Noted own away (ends.Up kept) → kept.digest_received ≡ own_digest own kept.peer kept.challenge → IsAgreed own away kept
-        agreed-by own away kept n e = record { flags = n.0 ∙ (λ i. common (announced-is own i) (announced-is away i)); creation = n.1; digest = e }
+        agreed-by : (own away : Setup) (kept : UpRecord) → Noted (bare own) (bare away) (ends.Up kept) → kept.digest_received ≡ own_digest own kept.peer kept.challenge → IsAgreed own away kept
+        agreed-by own away kept n e = record { flags = n.0 ∙ (λ i. common (announced-is (bare own) i) (announced-is (bare away) i)); creation = n.1; digest = e }
 
-        shared-by : Noted sx sy (ends.Up x.kept) → Noted sy sx (ends.Up y.kept) → x.kept.common.0 ≡ y.kept.common.0
-        shared-by n m = n.0 ∙ and_comm (announced_by sx) (announced_by sy) ∙ sym m.0
+        shared-by : Noted (bare sx) (bare sy) (ends.Up x.kept) → Noted (bare sy) (bare sx) (ends.Up y.kept) → x.kept.common.0 ≡ y.kept.common.0
+        shared-by n m = n.0 ∙ and_comm (announced_by (bare sx)) (announced_by (bare sy)) ∙ sym m.0
 
-        setup-x : x.life.node.setup ≡ record y.other { creation = x.life.node.setup.creation }
+        setup-x : bare x.life.node.setup ≡ bare (record y.other { creation = x.life.node.setup.creation })
         setup-x = setup-by x.place a x.life y.other x.lives y.named (let r = (running-is laws w h) x in r.0)
 
-        setup-y : y.life.node.setup ≡ record x.other { creation = y.life.node.setup.creation }
+        setup-y : bare y.life.node.setup ≡ bare (record x.other { creation = y.life.node.setup.creation })
         setup-y = setup-by y.place b y.life x.other y.lives x.named (let r = (running-is laws w h) y in r.0)
 
         -- a dialled, and b accepted
         forth : c ≡ d → (k : Conn) → slice_get w.conns c ≡ Some k → x.place ≡ k.life → x.id ≡ k.dialler → y.place ≡ k.target → k.accepted ≡ Some y.id → AreAgreed w a b c d x y
         forth e k ak p i q j =
-            let wi = h.wires c k ak sx sy ((setup-is laws w h) x k.life p) ((setup-is laws w h) y k.target q) in
-            let nx : Noted sx sy (ends.Up x.kept) = (let P : Option End → Type 0 = λ o. NotedAt sx sy o in subst P ((end-is laws w h) x k.life k.dialler p i) wi.noted_back) in
-            let ny : Noted sy sx (ends.Up y.kept) = (let P : Option End → Type 0 = λ o. NotedAt sy sx o in subst P (ap (far (end_in w.lives k.target)) j ∙ (end-is laws w h) y k.target y.id q refl) wi.noted_there) in
+            let wi = h.wires c k ak (bare sx) (bare sy) ((setup-is laws w h) x k.life p) ((setup-is laws w h) y k.target q) in
+            let nx : Noted (bare sx) (bare sy) (ends.Up x.kept) = (let P : Option End → Type 0 = λ o. NotedAt (bare sx) (bare sy) o in subst P ((end-is laws w h) x k.life k.dialler p i) wi.noted_back) in
+            let ny : Noted (bare sy) (bare sx) (ends.Up y.kept) = (let P : Option End → Type 0 = λ o. NotedAt (bare sy) (bare sx) o in subst P (ap (far (end_in w.lives k.target)) j ∙ (end-is laws w h) y k.target y.id q refl) wi.noted_there) in
             record { same = e; conn = k; there = ak; joined = inl (record { life = sym p; dialler = sym i; target = sym q; accepted = j }); setup_a = setup-x; setup_b = setup-y; at_a = agreed-by sx sy x.kept nx digest-x; at_b = agreed-by sy sx y.kept ny digest-y; shared = shared-by nx ny }
 
         -- b dialled, and a accepted
         back : c ≡ d → (k : Conn) → slice_get w.conns c ≡ Some k → y.place ≡ k.life → y.id ≡ k.dialler → x.place ≡ k.target → k.accepted ≡ Some x.id → AreAgreed w a b c d x y
         back e k ak p i q j =
-            let wi = h.wires c k ak sy sx ((setup-is laws w h) y k.life p) ((setup-is laws w h) x k.target q) in
-            let ny : Noted sy sx (ends.Up y.kept) = (let P : Option End → Type 0 = λ o. NotedAt sy sx o in subst P ((end-is laws w h) y k.life k.dialler p i) wi.noted_back) in
-            let nx : Noted sx sy (ends.Up x.kept) = (let P : Option End → Type 0 = λ o. NotedAt sx sy o in subst P (ap (far (end_in w.lives k.target)) j ∙ (end-is laws w h) x k.target x.id q refl) wi.noted_there) in
+            let wi = h.wires c k ak (bare sy) (bare sx) ((setup-is laws w h) y k.life p) ((setup-is laws w h) x k.target q) in
+            let ny : Noted (bare sy) (bare sx) (ends.Up y.kept) = (let P : Option End → Type 0 = λ o. NotedAt (bare sy) (bare sx) o in subst P ((end-is laws w h) y k.life k.dialler p i) wi.noted_back) in
+            let nx : Noted (bare sx) (bare sy) (ends.Up x.kept) = (let P : Option End → Type 0 = λ o. NotedAt (bare sx) (bare sy) o in subst P (ap (far (end_in w.lives k.target)) j ∙ (end-is laws w h) x k.target x.id q refl) wi.noted_there) in
             record { same = e; conn = k; there = ak; joined = inr (record { life = sym p; dialler = sym i; target = sym q; accepted = j }); setup_a = setup-x; setup_b = setup-y; at_a = agreed-by sx sy x.kept nx digest-x; at_b = agreed-by sy sx y.kept ny digest-y; shared = shared-by nx ny }
 
         on-one : c ≡ d → (k m : Conn) → slice_get w.conns c ≡ Some k → slice_get w.conns d ≡ Some m → (Stands_on laws w h) x k → (Stands_on laws w h) y m → AreAgreed w a b c d x y

@@ -5,6 +5,7 @@ use Rattle.dist_ends.specs.declared.known.End.{End}
 use Rattle.dist_agreement.specs.Lists.{at_place}
 use Rattle.dist_agreement.specs.Rows.{EndRow}
 use Rattle.dist_agreement.specs.World.{Life, Conn}
+use Rattle.dist_agreement.specs.Agreement.{bare}
 use Rattle.dist_agreement.proofs.Ways.{on_way}
 use Rattle.dist_agreement.proofs.Wires.{IsWire, Quiet, Hushed, quiet-refl, wire-quiet}
 use Rattle.dist_agreement.proofs.Lookups.{row_in, end_in, setup_in, setup_of, far, at-other, placed, unplaced, life-there, decide}
@@ -37,7 +38,7 @@ setups-were ls ls' cs stays l c k at n m hn hm =
     let d = l.dialled c k at in
     let g = life-there ls k.life k.dialler d.row d.there in
     let t = l.target c k at in
-    (setup-was ls ls' stays k.life n (let a = g.0 in let b = a.node in b.setup) (ap setup_of g.1) hn, setup-was ls ls' stays k.target m t.0 t.1 hm)
+    (setup-was ls ls' stays k.life n (let a = g.0 in let b = a.node in bare b.setup) (ap setup_of g.1) hn, setup-was ls ls' stays k.target m t.0 t.1 hm)
 
 quiet-far : (f g : ℕ → Option EndRow) (o : Option ℕ) → ((y : ℕ) → o ≡ Some y → Quiet (f y) (g y)) → Quiet (far f o) (far g o)
 quiet-far f g None h = quiet-refl None

@@ -7,7 +7,7 @@ use Rattle.dist_agreement.specs.Rows.{EndRow, past}
 use Rattle.dist_agreement.specs.World.{World, Life, Conn, row_of_life, empty}
 use Rattle.dist_agreement.specs.Run.{run}
 use Rattle.dist_agreement.specs.Order.{Numbers, AreAbove, Accepted, InOrder, AreInOrder, OnlyLastRuns}
-use Rattle.dist_agreement.specs.Agreement.{AreSetups, AllFit}
+use Rattle.dist_agreement.specs.Agreement.{bare, AreSetups, AllFit}
 use Rattle.dist_agreement.proofs.Stands.{Below}
 use Rattle.dist_agreement.proofs.Ways.{on_way}
 use Rattle.dist_agreement.proofs.Wires.{IsWire, named_of, replied_of, rose_of, peer_of}
@@ -24,8 +24,8 @@ past-some t (Some n) h = (n, refl, past-is t n h)
 -- ---- connections
 
 module _ (w : World) (h : IsKept w) (c : ℕ) (k : Conn) (a b : Life) (x : EndRow) (ak : slice_get w.conns c ≡ Some k) (aa : slice_get w.lives k.life ≡ Some a) (ab : slice_get w.lives k.target ≡ Some b) (ax : slice_get a.rows k.dialler ≡ Some x) where
-  wire : IsWire a.node.setup b.node.setup (on_way k.there) (on_way k.back) (row_in w.lives k.life k.dialler) (far (row_in w.lives k.target) k.accepted) (end_in w.lives k.life k.dialler) (far (end_in w.lives k.target) k.accepted)
-  wire = h.wires c k ak a.node.setup b.node.setup (ap setup_of aa) (ap setup_of ab)
+  wire : IsWire (bare a.node.setup) (bare b.node.setup) (on_way k.there) (on_way k.back) (row_in w.lives k.life k.dialler) (far (row_in w.lives k.target) k.accepted) (end_in w.lives k.life k.dialler) (far (end_in w.lives k.target) k.accepted)
+  wire = h.wires c k ak (bare a.node.setup) (bare b.node.setup) (ap setup_of aa) (ap setup_of ab)
 
   near : row_in w.lives k.life k.dialler ≡ Some x
   near = ap (λ o. row_of_life o k.dialler) aa ∙ ax

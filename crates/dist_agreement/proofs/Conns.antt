@@ -10,6 +10,7 @@ use Rattle.dist_ends.specs.declared.known.End.{End}
 use Rattle.dist_core.specs.declared.event.Event.{Event}
 use Rattle.dist_core.specs.declared.event.Event.TheVariants as event
 use Rattle.dist_core.specs.declared.effect.Effect.{Effect}
+use Rattle.dist_core.specs.Changing.{after_change}
 use Rattle.dist_core.specs.Node.{ends_after}
 use Rattle.dist_core.specs.Step.{effect_of}
 use Rattle.dist_core.specs.Rows.{Row}
@@ -17,13 +18,13 @@ use Rattle.dist_agreement.specs.declared.happening.Happening.{Happening}
 use Rattle.dist_agreement.specs.Lists.{at_place, add_some}
 use Rattle.dist_agreement.specs.Rows.{EndRow, given_by, mark, rows_after, new_row}
 use Rattle.dist_agreement.specs.World.{World, Life, runs, row_of_life, empty}
-use Rattle.dist_agreement.specs.Happenings.{reached_life, reached_row, conn_of}
+use Rattle.dist_agreement.specs.Happenings.{with_node, reached_life, reached_row, conn_of}
 use Rattle.dist_agreement.specs.Run.{run}
 use Rattle.dist_agreement.specs.Laws.{AllLives, UpsAreLinked}
 use Rattle.dist_ends.specs.Change.{other_view}
 use Rattle.dist_agreement.proofs.Places.{at-one, at-more, get-more, get-place, eqb-self}
-use Rattle.dist_agreement.proofs.Acts.{Act, Begins, Ends, Reaches, Comes, Tells, Ready, Plain, Accepts, Takes}
-use Rattle.dist_agreement.proofs.Turns.{kept-by-all, one-step, all-free}
+use Rattle.dist_agreement.proofs.Acts.{Act, Begins, Ends, Reaches, Comes, Tells, Resets, Ready, Plain, Accepts, Takes}
+use Rattle.dist_agreement.proofs.Turns.{kept-by-all, one-step, alike, all-free}
 use Rattle.dist_agreement.proofs.Deeds.{is_given, deed_of}
 use Rattle.dist_agreement.proofs.Unmarked.{get-row, same-length}
 use Rattle.dist_agreement.proofs.Hushing.{end-after, gives}
@@ -138,6 +139,7 @@ module _ (laws : NodeLaws) where
         opens (Plain plain o e) id link q = ap conn_of (sym (ap (λ o. row_of_life o id.0) at)) ∙ o id link q
         opens (Accepts c k iv ak free target e) id link q = absurd (let z : event.Incoming c ≡ event.Opened id link = sym iv ∙ q in cc)
         opens (Takes x row c k body iv ar on ak first e) id link q = absurd (let z : event.Frame x body ≡ event.Opened id link = sym iv ∙ q in cc)
+    by-act (Resets j old v at live ok is k) i l al = at-one (λ i l. JoinedLife l) j _ w.lives (λ y ay. subst (λ (m : Life). JoinedLife (with_node (after_change old.node v) m)) (alike w.lives j old y at ay) (h.joined j old at)) h.joined i l (ap (λ ls. slice_get ls i) (sym is) ∙ al)
 
   all-joined : (ss : List Setup) (hs : List Happening) → IsJoined (run hs (empty ss))
   all-joined ss hs = kept-by-all IsJoined (λ h. Unit {0})

@@ -3,20 +3,24 @@ use Rattle.std.proofs.Common.{◌≡◌, ℕ, zero, suc, ◌+◌, ◌^◌, ◌<�
 use Rattle.std.proofs.lemmas.Bool.{false≢true}
 use Rattle.std.proofs.lemmas.Option.{slice_get_within}
 use Rattle.std.specs.Option.{option_map}
+use Rattle.dist_names.specs.NodeName.{IsNodeName}
 use Rattle.dist_names.specs.declared.creation.Creation.{Creation}
 use Rattle.dist_setup.specs.declared.setup.Setup.{Setup}
+use Rattle.dist_setup.specs.Rules.{announced_by}
+use Rattle.dist_core.specs.declared.changing.Change.{Change}
+use Rattle.dist_core.specs.Changing.{after_change}
 use Rattle.dist_core.specs.declared.event.Event.{Event}
 use Rattle.dist_core.specs.declared.effect.Effect.{Effect}
 use Rattle.dist_core.specs.Step.{after}
 use Rattle.dist_agreement.specs.declared.happening.Happening.{Happening}
 use Rattle.dist_agreement.specs.Lists.{at_place, first_where}
 use Rattle.dist_agreement.specs.World.{World, Life, Conn, runs, runs_for, running, empty}
-use Rattle.dist_agreement.specs.Happenings.{new_life, ended, reached_life, lived}
+use Rattle.dist_agreement.specs.Happenings.{new_life, ended, with_node, reached_life, lived}
 use Rattle.dist_agreement.specs.Run.{run}
-use Rattle.dist_agreement.specs.Agreement.{AreSetups, Fits, AllFit}
+use Rattle.dist_agreement.specs.Agreement.{bare, AreSetups, Fits, AllFit}
 use Rattle.dist_agreement.specs.Laws.{AllLives}
 use Rattle.dist_agreement.proofs.Places.{at-one, at-more, get-more, eqb-self}
-use Rattle.dist_agreement.proofs.Acts.{Act, Acted, Begins, Ends, Reaches, Comes, Tells}
+use Rattle.dist_agreement.proofs.Acts.{Act, Acted, Begins, Ends, Reaches, Comes, Tells, Resets}
 use Rattle.dist_agreement.proofs.Turns.{kept-by-all, one-step, alike, all-free}
 use Rattle.dist_agreement.proofs.Sayings.{IsFit}
 use Rattle.dist_agreement.proofs.Lives.{IsLife}
@@ -24,16 +28,16 @@ use Rattle.dist_agreement.proofs.Spanning.{IsSeen, seen_keeps}
 use Rattle.dist_agreement.proofs.Lookups.{eqb-not, decide}
 use Rattle.dist_agreement.proofs.Linking.{Linked}
 use Rattle.dist_agreement.proofs.AllWires.{Wires}
-use Rattle.dist_agreement.proofs.WireSteps.{begun-linked, begun-wires, ended-linked, ended-wires, come-linked, come-wires}
+use Rattle.dist_agreement.proofs.WireSteps.{begun-linked, begun-wires, ended-linked, ended-wires, reset-linked, reset-wires, bare-stays, come-linked, come-wires}
 use Rattle.dist_agreement.proofs.Reached.{reached-linked, reached-wires}
 use Rattle.dist_agreement.proofs.Accepting.{told-kept}
 use Rattle.dist_agreement.specs.NodeLaws.{NodeLaws}
 
--- the incarnation has its node's setup, but for the creation
+-- the incarnation has its node's setup, but for the creation, the cookies and the allow list
 pub record Owns (setups : List Setup) (l : Life) : Type 0 where
   pub setup : Setup
   pub there : slice_get setups l.who ≡ Some setup
-  pub is : l.node.setup ≡ record setup { creation = (let n = l.node in let s = n.setup in s.creation) }
+  pub is : bare l.node.setup ≡ bare (record setup { creation = (let n = l.node in let s = n.setup in s.creation) })
 
 -- ALL NUMBERS OF A LATER INCARNATION are above those of an earlier one of the same node, and only the last runs
 abbrev pub InOrder : List Life → Type 0
@@ -53,7 +57,7 @@ pub record IsKept (w : World) : Type 0 where
 pub record SameHead (t : ℕ) (old l : Life) : Type 0 where
   pub who : l.who ≡ old.who
   pub begun : l.begun ≡ old.begun
-  pub setup : l.node.setup ≡ old.node.setup
+  pub setup : bare l.node.setup ≡ bare old.node.setup
   pub over : (l.over ≡ old.over) ⊎ (old.over ≡ None)
 
 abbrev Heads : ℕ → List Life → List Life → Type 0
@@ -72,13 +76,22 @@ runs-none l h = by l.over h
     by None e = refl
     by (Some n) e = absurd cc
 
+-- whether a setup is fit says nothing of cookies and allow list
+fit-same : (s r : Setup) → bare r ≡ bare s → IsFit s → IsFit r
+unfolding announced_by
+fit-same s r e f = record {
+  name = subst IsNodeName (sym (ap (λ (z : Setup). z.name) e)) f.name;
+  flags = subst (λ n. n < 2 ^ 64) (sym (ap announced_by e)) f.flags;
+  creation = subst (λ (c : Creation). c.0 < 2 ^ 32) (sym (ap (λ (z : Setup). z.creation) e)) f.creation;
+}
+
 heads-fit : (t : ℕ) (ls xs : List Life) → Heads t ls xs → ((i : ℕ) (l : Life) → slice_get ls i ≡ Some l → IsFit l.node.setup) → (i : ℕ) (l : Life) → slice_get xs i ≡ Some l → IsFit l.node.setup
-heads-fit t ls xs h f i l at = let g = h i l at in let s = g.2 in subst IsFit (sym s.setup) (f i g.0 g.1)
+heads-fit t ls xs h f i l at = let g = h i l at in let s = g.2 in fit-same (let o = g.0 in o.node.setup) l.node.setup s.setup (f i g.0 g.1)
 
 heads-own : (t : ℕ) (ss : List Setup) (ls xs : List Life) → Heads t ls xs → ((i : ℕ) (l : Life) → slice_get ls i ≡ Some l → Owns ss l) → (i : ℕ) (l : Life) → slice_get xs i ≡ Some l → Owns ss l
 heads-own t ss ls xs h f i l at =
     let g = h i l at in let s = g.2 in let o = f i g.0 g.1 in
-    record { setup = o.setup; there = ap (slice_get ss) s.who ∙ o.there; is = s.setup ∙ o.is ∙ ap (λ (z : Setup). record o.setup { creation = z.creation }) (sym s.setup) }
+    record { setup = o.setup; there = ap (slice_get ss) s.who ∙ o.there; is = s.setup ∙ o.is ∙ ap (λ (z : Setup). bare (record o.setup { creation = z.creation })) (sym s.setup) }
 
 heads-order : (t : ℕ) (ls xs : List Life) → Heads t ls xs → InOrder ls → InOrder xs
 heads-order t ls xs h o i j a b lt ax bx same =
@@ -126,7 +139,10 @@ reaches-heads : (w : World) (i id : ℕ) → Heads w.clock w.lives (at_place i (
 reaches-heads w i id = heads-at w.clock i (reached_life id (length w.conns)) w.lives (λ l e. record { who = refl; begun = refl; setup = refl; over = inl refl })
 
 tells-heads : (w : World) (i : ℕ) (old : Life) (v : Event) (f : Effect) → slice_get w.lives i ≡ Some old → Heads w.clock w.lives (at_place i (λ (l : Life). lived w.clock v f.reply (after old.node v f) old) w.lives)
-tells-heads w i old v f at = heads-at w.clock i (λ l. lived w.clock v f.reply (after old.node v f) old) w.lives (λ l e. let z = alike w.lives i old l at e in record { who = ap (λ (l : Life). l.who) z; begun = ap (λ (l : Life). l.begun) z; setup = ap (λ (l : Life). l.node.setup) z; over = inl (ap (λ (l : Life). l.over) z) })
+tells-heads w i old v f at = heads-at w.clock i (λ l. lived w.clock v f.reply (after old.node v f) old) w.lives (λ l e. let z = alike w.lives i old l at e in record { who = ap (λ (l : Life). l.who) z; begun = ap (λ (l : Life). l.begun) z; setup = ap (λ (l : Life). bare l.node.setup) z; over = inl (ap (λ (l : Life). l.over) z) })
+
+resets-heads : (w : World) (i : ℕ) (old : Life) (v : Change) → slice_get w.lives i ≡ Some old → Heads w.clock w.lives (at_place i (with_node (after_change old.node v)) w.lives)
+resets-heads w i old v at = heads-at w.clock i (with_node (after_change old.node v)) w.lives (λ l e. record { who = refl; begun = refl; setup = bare-stays old.node.setup v ∙ ap (λ (l : Life). bare l.node.setup) (alike w.lives i old l at e); over = inl refl })
 
 module _ (w : World) (seen : AllLives (IsSeen w.clock) w) (order : InOrder w.lives) where
   begun-order : (who : ℕ) (s : Setup) (c : Creation) → running w who ≡ None → InOrder (w.lives ++ new_life who w.clock s c ∷ [])
@@ -157,6 +173,7 @@ module _ (w : World) (seen : AllLives (IsSeen w.clock) w) (order : InOrder w.liv
   order-after ls cs (Reaches i id j old away at live ata livea d n is k) = subst InOrder (sym is) (heads-order w.clock w.lives _ (reaches-heads w i id) order)
   order-after ls cs (Comes side c n is k) = subst InOrder (sym is) order
   order-after ls cs (Tells i old v fresh f ds fits at live ok ready is k) = subst InOrder (sym is) (heads-order w.clock w.lives _ (tells-heads w i old v f at) order)
+  order-after ls cs (Resets i old v at live ok is k) = subst InOrder (sym is) (heads-order w.clock w.lives _ (resets-heads w i old v at) order)
 
 -- in every world, whatever its setups and numbers
 pub record IsTimely (w : World) : Type 0 where
@@ -218,6 +235,11 @@ module _ (laws : NodeLaws) where
         subst (λ x. P x cs) (sym is) (subst (P _) (sym k) (by-heads (at_place i (λ l. lived w.clock v f.reply (after old.node v f) old) w.lives) _
         (tells-heads w i old v f at)
         g.0 g.1))
+    rest ls cs (Resets i old v at live ok is k) =
+        let P : List Life → List Conn → Type 0 = λ x y. Rest x y in
+        subst (λ x. P x cs) (sym is) (subst (P _) (sym k) (by-heads (at_place i (with_node (after_change old.node v)) w.lives) w.conns
+        (resets-heads w i old v at)
+        (reset-linked i v w.lives old at w.conns h.linked) (reset-wires i v w.lives old at w.conns h.linked h.wires)))
 
     pub happening-keeps : (x : World) → Acted F w x → IsKept (record x { clock = x.clock + 1 })
     happening-keeps x a =

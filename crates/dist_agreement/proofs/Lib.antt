@@ -25,6 +25,7 @@ pub mod AllWires
 pub mod WireSteps
 pub mod Reached
 pub mod Growing
+pub mod Sames
 pub mod Telling
 pub mod OwnWires
 pub mod Speaking

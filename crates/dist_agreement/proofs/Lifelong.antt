@@ -22,7 +22,7 @@ use Rattle.dist_agreement.specs.NodeLaws.{NodeLaws}
 use Rattle.dist_agreement.proofs.Crossings.{gone-new}
 use Rattle.dist_agreement.proofs.Lives.{IsDecided, IsLife, apart-now, apart-step}
 use Rattle.dist_agreement.proofs.Told.{agree, below-new}
-use Rattle.dist_agreement.proofs.Untold.{begins-decided, begins-life, ends-decided, ends-life, reaches-decided, reaches-life, stays-decided, stays-life}
+use Rattle.dist_agreement.proofs.Untold.{begins-decided, begins-life, ends-decided, ends-life, reaches-decided, reaches-life, resets-decided, resets-life, stays-decided, stays-life}
 
 module _ (laws : NodeLaws) where
   module _ (t : ℕ) (l : Life) (live : runs l ≡ true) (h : IsLife t l) (v : Event) (f : Effect) (deed : Deed l.node v f) where
@@ -41,7 +41,7 @@ module _ (laws : NodeLaws) where
       (let Q : Result Effect StepError → Type 0 = λ o. AreLegal (settled l.node (stepped l.node v o)).ends in subst Q is (laws.step_legal l.node v fresh h.legal))
 
   pub life_keeps : Keeps IsLife
-  life_keeps = record { stays = stays-life; begins = (begins-life laws); ends = ends-life; reaches = reaches-life; lives = lives-life }
+  life_keeps = record { stays = stays-life; begins = (begins-life laws); ends = ends-life; reaches = reaches-life; lives = lives-life; resets = λ t l v live ok h. resets-life t l v h }
 
   lives-decided : (t : ℕ) (l : Life) (v : Event) (fresh : ℕ) (f : Effect) → runs l ≡ true → effect_of l.node v fresh ≡ Ok f → IsDecided t l → IsDecided (t + 1) (lived t v f.reply (after l.node v f) l)
   lives-decided t l v fresh f live is h = let life = h.life in record {
@@ -50,7 +50,7 @@ module _ (laws : NodeLaws) where
   }
 
   decided_keeps : Keeps IsDecided
-  decided_keeps = record { stays = stays-decided; begins = (begins-decided laws); ends = ends-decided; reaches = reaches-decided; lives = lives-decided }
+  decided_keeps = record { stays = stays-decided; begins = (begins-decided laws); ends = ends-decided; reaches = reaches-decided; lives = lives-decided; resets = λ t l v live ok h. resets-decided t l v h }
 
   pub apart_lives : (ss : List Setup) (hs : List Happening) → AllLives Apart (run hs (empty ss))
   apart_lives ss hs i l at = let h = always IsLife life_keeps ss hs i l at in h.apart

@@ -8,9 +8,10 @@ use Rattle.dist_ends.specs.declared.known.End.{End}
 use Rattle.dist_agreement.specs.Lists.{at_place}
 use Rattle.dist_agreement.specs.Rows.{EndRow}
 use Rattle.dist_agreement.specs.World.{Life, row_of_life, end_of_life}
+use Rattle.dist_agreement.specs.Agreement.{bare}
 use Rattle.dist_agreement.proofs.Places.{get-place, get-more, eqb-self}
 
--- the row and the end of this number in incarnation i, and its setup
+-- the row and the end of this number in incarnation i, and its setup without cookies and allow list
 abbrev pub row_in : List Life → ℕ → ℕ → Option EndRow
 row_in ls i p = row_of_life (slice_get ls i) p
 
@@ -19,7 +20,7 @@ end_in ls i p = end_of_life (slice_get ls i) p
 
 abbrev pub setup_of : Option Life → Option Setup
 setup_of None = None
-setup_of (Some l) = Some l.node.setup
+setup_of (Some l) = Some (bare l.node.setup)
 
 abbrev pub setup_in : List Life → ℕ → Option Setup
 setup_in ls i = setup_of (slice_get ls i)
@@ -90,9 +91,9 @@ life-there ls i p x h = by (slice_get ls i) refl h
     by None at e = absurd cc
     by (Some l) at e = (l, at, e)
 
-pub setup-there : (ls : List Life) (i : ℕ) (s : Setup) → setup_in ls i ≡ Some s → (l : Life) × (slice_get ls i ≡ Some l) × (l.node.setup ≡ s)
+pub setup-there : (ls : List Life) (i : ℕ) (s : Setup) → setup_in ls i ≡ Some s → (l : Life) × (slice_get ls i ≡ Some l) × (bare l.node.setup ≡ s)
 setup-there ls i s h = by (slice_get ls i) refl h
   where
-    by : (o : Option Life) → slice_get ls i ≡ o → setup_of o ≡ Some s → (l : Life) × (slice_get ls i ≡ Some l) × (l.node.setup ≡ s)
+    by : (o : Option Life) → slice_get ls i ≡ o → setup_of o ≡ Some s → (l : Life) × (slice_get ls i ≡ Some l) × (bare l.node.setup ≡ s)
     by None at e = absurd cc
     by (Some l) at e = (l, at, cc)

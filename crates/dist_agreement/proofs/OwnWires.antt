@@ -13,6 +13,7 @@ use Rattle.dist_agreement.specs.Lists.{at_place}
 use Rattle.dist_agreement.specs.Rows.{EndRow, written, dooms, shuts_end}
 use Rattle.dist_agreement.specs.World.{Conn, Text, row_of_life, end_of_life}
 use Rattle.dist_agreement.specs.Delivery.{more_said, body_taken, says, text_to, change_to}
+use Rattle.dist_agreement.specs.Agreement.{bare}
 use Rattle.dist_agreement.proofs.Stands.{Fits}
 use Rattle.dist_agreement.proofs.Acts.{IsPlain}
 use Rattle.dist_agreement.proofs.Deeds.{is_given}
@@ -27,6 +28,7 @@ use Rattle.dist_agreement.proofs.Linking.{RowOf, IsEndOf, SameEnds}
 use Rattle.dist_agreement.proofs.AllWires.{WireAt, alike-refl, setups-were, conns-at, linked-same, same-conn}
 use Rattle.dist_agreement.specs.NodeLaws.{NodeLaws}
 use Rattle.dist_agreement.proofs.Growing.{answer-more, once-keeps, say-more, wire-by}
+use Rattle.dist_agreement.proofs.Sames.{bare-same, same-bare, same-refl, wire-same}
 use Rattle.dist_agreement.proofs.Telling.{Kept, all-stay, all-were, below-at, beside, far-below, get-now, life, loc, ls', me, other-wire, own-row, rows', tell-setups, the-row, Telling}
 
 module _ (laws : NodeLaws) (telling : Telling) where
@@ -43,7 +45,7 @@ module _ (laws : NodeLaws) (telling : Telling) where
     abbrev pub x1 : EndRow
     x1 = written w.clock true (dooms f.reply.note (me laws telling)) (shuts_end f.reply.closed (me laws telling)) f.reply x0
 
-    setup-now : setup_in w.lives i ≡ Some (let n = old.node in n.setup)
+    setup-now : setup_in w.lives i ≡ Some (let n = old.node in bare n.setup)
     setup-now = ap setup_of at
 
     row-then : (j p : ℕ) → i ≡ j → (me laws telling) ≡ p → row_in w.lives j p ≡ Some x0
@@ -82,16 +84,16 @@ module _ (laws : NodeLaws) (telling : Telling) where
       own-dial : WireAt (ls' laws telling) (record k { there = more_said f.reply.say k.there; back = T })
       own-dial n m hn hm =
           let b = setups-were w.lives (ls' laws telling) w.conns (tell-setups laws telling) linked c k ak n m hn hm in
-          let z : Some (let n = old.node in n.setup) ≡ Some n = sym setup-now ∙ ap (setup_in w.lives) is-life ∙ b.0 in
-          let same : (let n = old.node in n.setup) ≡ n = cc in
+          let z : Some (let n = old.node in bare n.setup) ≡ Some n = sym setup-now ∙ ap (setup_in w.lives) is-life ∙ b.0 in
+          let same : (let n = old.node in bare n.setup) ≡ n = cc in
           let P : Setup → Type 0 = λ s. setup_in w.lives k.life ≡ Some s → IsWire s m (on_way (more_said f.reply.say k.there)) (on_way T) (row_in (ls' laws telling) k.life k.dialler) (far (row_in (ls' laws telling) k.target) k.accepted) (end_in (ls' laws telling) k.life k.dialler) (far (end_in (ls' laws telling) k.target) k.accepted) in
           subst P same (λ h. made h) b.0
         where
-          made : setup_in w.lives k.life ≡ Some (let n = old.node in n.setup) → IsWire (let n = old.node in n.setup) m (on_way (more_said f.reply.say k.there)) (on_way T) (row_in (ls' laws telling) k.life k.dialler) (far (row_in (ls' laws telling) k.target) k.accepted) (end_in (ls' laws telling) k.life k.dialler) (far (end_in (ls' laws telling) k.target) k.accepted)
+          made : setup_in w.lives k.life ≡ Some (let n = old.node in bare n.setup) → IsWire (let n = old.node in bare n.setup) m (on_way (more_said f.reply.say k.there)) (on_way T) (row_in (ls' laws telling) k.life k.dialler) (far (row_in (ls' laws telling) k.target) k.accepted) (end_in (ls' laws telling) k.life k.dialler) (far (end_in (ls' laws telling) k.target) k.accepted)
           made h =
               let s : Setup = (let n = old.node in n.setup) in
               let b = setups-were w.lives (ls' laws telling) w.conns (tell-setups laws telling) linked c k ak n m hn hm in
-              let w0 : IsWire s m (on_way k.there) (on_way k.back) (Some x0) y (Some e0) d = wire-by s m (on_way k.there) (on_way k.back) _ _ _ _ _ _ _ _ (sym (row-then k.life k.dialler is-life is-id)) refl (sym (end-then k.life k.dialler is-life is-id)) refl (wires c k ak s m h b.1) in
+              let w0 : IsWire s m (on_way k.there) (on_way k.back) (Some x0) y (Some e0) d = wire-same (bare s) s m m (bare-same s) (same-refl m) (on_way k.there) (on_way k.back) _ _ _ _ (wire-by (bare s) m (on_way k.there) (on_way k.back) _ _ _ _ _ _ _ _ (sym (row-then k.life k.dialler is-life is-id)) refl (sym (end-then k.life k.dialler is-life is-id)) refl (wires c k ak (bare s) m h b.1)) in
               let fb = (far-below laws telling) k.target k.accepted in
               let tk = taken (Said Acceptor (MayAnswer m s (named_of y) (rose_of y))) w0.back_said in
               let did : DidDial s m (named_of y) (rose_of y) x1 f.this f.reply.say = did-dial laws old.node m (fit i old at) w.clock x0 e0 dialled fits (named_of y) (rose_of y) fb.0 fb.1 w0.replies w0.follows w0.peer_back w0.noted_back v fresh f small tk.1 at-e (the-row laws telling) (dooms f.reply.note (me laws telling)) (shuts_end f.reply.closed (me laws telling)) in
@@ -107,8 +109,8 @@ module _ (laws : NodeLaws) (telling : Telling) where
                 noted_there = w0.noted_there;
               } in
               let fr = far-row in
-              wire-by s m (on_way (more_said f.reply.say k.there)) (on_way T) _ _ _ _ _ _ _ _ (row-now k.life k.dialler is-life is-id) refl (end-now k.life k.dialler is-life is-id) refl
-              (wire-quiet s m (on_way (more_said f.reply.say k.there)) (on_way T) (Some x1) (Some x1) y _ (Some f.this) (Some f.this) d _ (quiet-refl (Some x1)) fr.0 (λ a b h. h) fr.1 made0)
+              wire-by (bare s) m (on_way (more_said f.reply.say k.there)) (on_way T) _ _ _ _ _ _ _ _ (row-now k.life k.dialler is-life is-id) refl (end-now k.life k.dialler is-life is-id) refl
+              (wire-quiet (bare s) m (on_way (more_said f.reply.say k.there)) (on_way T) (Some x1) (Some x1) y _ (Some f.this) (Some f.this) d _ (quiet-refl (Some x1)) fr.0 (λ a b h. h) fr.1 (wire-same s (bare s) m m (same-bare s) (same-refl m) (on_way (more_said f.reply.say k.there)) (on_way T) _ _ _ _ made0))
 
     module _ (accepted : x0.side ≡ Acceptor) (is-target : i ≡ k.target) (is-accepted : k.accepted ≡ Some (me laws telling)) (T : Text) (taken : Taken_of k.there T) where
       dialler-not : x0.side ≡ Dialler → ⊥
@@ -126,8 +128,8 @@ module _ (laws : NodeLaws) (telling : Telling) where
       own-accept : WireAt (ls' laws telling) (record k { there = T; back = more_said f.reply.say k.back })
       own-accept n m hn hm =
           let b = setups-were w.lives (ls' laws telling) w.conns (tell-setups laws telling) linked c k ak n m hn hm in
-          let z : Some (let n = old.node in n.setup) ≡ Some m = sym setup-now ∙ ap (setup_in w.lives) is-target ∙ b.1 in
-          let same : (let n = old.node in n.setup) ≡ m = cc in
+          let z : Some (let n = old.node in bare n.setup) ≡ Some m = sym setup-now ∙ ap (setup_in w.lives) is-target ∙ b.1 in
+          let same : (let n = old.node in bare n.setup) ≡ m = cc in
           let P : Setup → Type 0 = λ s. setup_in w.lives k.target ≡ Some s → IsWire n s (on_way T) (on_way (more_said f.reply.say k.back)) (row_in (ls' laws telling) k.life k.dialler) (far (row_in (ls' laws telling) k.target) k.accepted) (end_in (ls' laws telling) k.life k.dialler) (far (end_in (ls' laws telling) k.target) k.accepted) in
           subst P same (λ h. made h) b.1
         where
@@ -143,11 +145,11 @@ module _ (laws : NodeLaws) (telling : Telling) where
           far-end-now : far (end_in (ls' laws telling) k.target) k.accepted ≡ Some f.this
           far-end-now = ap (far (end_in (ls' laws telling) k.target)) is-accepted ∙ end-now k.target (me laws telling) is-target refl
 
-          made : setup_in w.lives k.target ≡ Some (let n = old.node in n.setup) → IsWire n (let n = old.node in n.setup) (on_way T) (on_way (more_said f.reply.say k.back)) (row_in (ls' laws telling) k.life k.dialler) (far (row_in (ls' laws telling) k.target) k.accepted) (end_in (ls' laws telling) k.life k.dialler) (far (end_in (ls' laws telling) k.target) k.accepted)
+          made : setup_in w.lives k.target ≡ Some (let n = old.node in bare n.setup) → IsWire n (let n = old.node in bare n.setup) (on_way T) (on_way (more_said f.reply.say k.back)) (row_in (ls' laws telling) k.life k.dialler) (far (row_in (ls' laws telling) k.target) k.accepted) (end_in (ls' laws telling) k.life k.dialler) (far (end_in (ls' laws telling) k.target) k.accepted)
           made h =
               let s : Setup = (let n = old.node in n.setup) in
               let b = setups-were w.lives (ls' laws telling) w.conns (tell-setups laws telling) linked c k ak n m hn hm in
-              let w0 : IsWire n s (on_way k.there) (on_way k.back) x (Some x0) e (Some e0) = wire-by n s (on_way k.there) (on_way k.back) _ _ _ _ _ _ _ _ refl (sym far-then) refl (sym far-end-then) (wires c k ak n s b.0 h) in
+              let w0 : IsWire n s (on_way k.there) (on_way k.back) x (Some x0) e (Some e0) = wire-same n n (bare s) s (same-refl n) (bare-same s) (on_way k.there) (on_way k.back) _ _ _ _ (wire-by n (bare s) (on_way k.there) (on_way k.back) _ _ _ _ _ _ _ _ refl (sym far-then) refl (sym far-end-then) (wires c k ak n (bare s) b.0 h)) in
               let bl = (below-at laws telling) k.life k.dialler in
               let tk = taken (Said Dialler (MaySay n (replied_of x))) w0.there_said in
               let did : DidAccept s n (replied_of x) x1 f.this f.reply.say = did-accept laws old.node n (fit i old at) w.clock x0 e0 accepted fits (replied_of x) bl.2 w0.rises w0.peer_there w0.noted_there v fresh f small tk.1 at-e (the-row laws telling) (dooms f.reply.note (me laws telling)) (shuts_end f.reply.closed (me laws telling)) in
@@ -163,8 +165,8 @@ module _ (laws : NodeLaws) (telling : Telling) where
                 noted_there = did.noted;
               } in
               let nr = near-row in
-              wire-by n s (on_way T) (on_way (more_said f.reply.say k.back)) _ _ _ _ _ _ _ _ refl far-now refl far-end-now
-              (wire-quiet n s (on_way T) (on_way (more_said f.reply.say k.back)) x _ (Some x1) (Some x1) e _ (Some f.this) (Some f.this) nr.0 (quiet-refl (Some x1)) nr.1 (λ a b h. h) made0)
+              wire-by n (bare s) (on_way T) (on_way (more_said f.reply.say k.back)) _ _ _ _ _ _ _ _ refl far-now refl far-end-now
+              (wire-quiet n (bare s) (on_way T) (on_way (more_said f.reply.say k.back)) x _ (Some x1) (Some x1) e _ (Some f.this) (Some f.this) nr.0 (quiet-refl (Some x1)) nr.1 (λ a b h. h) (wire-same n n s (bare s) (same-refl n) (same-bare s) (on_way T) (on_way (more_said f.reply.say k.back)) _ _ _ _ made0))
 
     -- ---- so each connection is a wire still
 

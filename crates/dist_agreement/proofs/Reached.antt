@@ -13,6 +13,7 @@ use Rattle.dist_ends.specs.declared.known.End.TheVariants as ends
 use Rattle.dist_agreement.specs.Lists.{at_place}
 use Rattle.dist_agreement.specs.Rows.{EndRow}
 use Rattle.dist_agreement.specs.World.{Life, Conn, row_of_life, end_of_life}
+use Rattle.dist_agreement.specs.Agreement.{bare}
 use Rattle.dist_agreement.specs.Happenings.{reached_life, reached_row, new_conn, conn_of}
 use Rattle.dist_ends.specs.Ends.{is_dialing, waits_in}
 use Rattle.dist_agreement.proofs.Places.{get-more, eqb-self}
@@ -127,7 +128,7 @@ module _ (i id j : ℕ) (ls : List Life) (cs : List Conn) (old away : Life) (at 
       reach-setups
       (λ d k h. record { new = k; there = get-new d k h; same = ends-refl k; accepted = λ y e. e })
       (λ d h e. split (WasConn cs d h ⊎ NewConn ls' d h) d h e
-      (λ q z. inr (let P : ℕ → Conn → Type 0 = λ d h. NewConn ls' d h in subst (P d) z (subst (λ d. P d (new_conn i id j)) q (record { dialled = new-of; target = (let n = away.node in (n.setup, reach-setups j n.setup (ap setup_of at-away))); free = refl }))))
+      (λ q z. inr (let P : ℕ → Conn → Type 0 = λ d h. NewConn ls' d h in subst (P d) z (subst (λ d. P d (new_conn i id j)) q (record { dialled = new-of; target = (let n = away.node in (bare n.setup, reach-setups j (bare n.setup) (ap setup_of at-away))); free = refl }))))
       (λ s. inl (record { old = h; there = s; same = ends-refl h })))
       (λ d y k h ak ah e. split ((k.accepted ≡ Some y) ⊎ RowOf ls' Acceptor h.target y d) d h ah
       (λ q z. absurd (let w : None ≡ Some y = ap (λ (k : Conn). k.accepted) z ∙ e in cc))

@@ -1,5 +1,5 @@
 -- What a node says is whole frames of messages that it may say.
-use Rattle.std.proofs.Common.{◌≡◌, ℕ, ◌/◌, ◌^◌, ◌<◌, true, false, cond, List, [], ◌∷◌, ◌++◌, length, Option, Ok, refl, sym, ◌∙◌, subst, arith, is_some, length-append, lit<}
+use Rattle.std.proofs.Common.{◌≡◌, ℕ, ◌^◌, ◌<◌, true, false, cond, List, [], ◌∷◌, length, Option, Ok, refl, sym, ◌∙◌, subst, arith, is_some, lit<}
 use Rattle.dist_names.specs.NodeName.{IsNodeName}
 use Rattle.dist_messages.specs.Spelling.{Fits, is_said_by}
 use Rattle.dist_messages.specs.Canonical.{canonical}

@@ -207,4 +207,5 @@ module _ (laws : NodeLaws) where
       over = λ n e. absurd (not-over l n live e);
     };
     lives = λ t l v fresh f live ok h. (told-seen laws) t l v fresh f live ok h;
+    resets = λ t l v live ok h. record { timed = (timed_keeps laws).resets t l v live ok h.timed; lasts = h.lasts; since = h.since; start = (let s = h.start in omega (arith, s)); over = λ n e. absurd (not-over l n live e) };
   }

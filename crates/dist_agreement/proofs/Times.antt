@@ -188,6 +188,7 @@ module _ (laws : NodeLaws) where
       timed = λ i row is. (let o = before-map (reach id c i) (slice_get l.rows i) row (sym (get-reached id c l.rows i) ∙ is) in subst Timed (sym o.2) (reach-any Timed (λ row c g. record { said = g.said; rose = g.rose }) id c i o.0 (h.timed i o.0 o.1)));
     };
     lives = λ t l v fresh f live is h. record { life = (life_keeps laws).lives t l v fresh f live is h.life; timed = told-timed t l live h v f (deed_of laws l.node h.life.legal v fresh f is) };
+    resets = λ t l v live ok h. record { life = (life_keeps laws).resets t l v live ok h.life; timed = h.timed };
   }
 
 module _ (laws : NodeLaws) where

@@ -2,17 +2,19 @@
 use Rattle.std.proofs.Common.{◌≡◌, ℕ, ◌+◌, Bool, true, false, cond, ltb, List, [], ◌∷◌, length, Option, Some, None, Ok, IfSome, refl, sym, ap, ◌∙◌, subst, slice_get}
 use Rattle.dist_names.specs.declared.creation.Creation.{Creation}
 use Rattle.dist_setup.specs.declared.setup.Setup.{Setup}
+use Rattle.dist_core.specs.declared.changing.Change.{Change}
+use Rattle.dist_core.specs.Changing.{after_change, change}
 use Rattle.dist_core.specs.declared.event.Event.{Event}
 use Rattle.dist_core.specs.declared.effect.Effect.{Effect}
 use Rattle.dist_core.specs.Step.{effect_of, after}
 use Rattle.dist_agreement.specs.declared.happening.Happening.{Happening}
 use Rattle.dist_agreement.specs.World.{World, Life, Conn, runs, empty}
-use Rattle.dist_agreement.specs.Happenings.{lived, new_life, ended, reached_life, applied, unclosed, ticked_on, most_applied, applied_at, happens}
+use Rattle.dist_agreement.specs.Happenings.{lived, new_life, ended, reached_life, with_node, applied, unclosed, ticked_on, most_applied, applied_at, happens}
 use Rattle.dist_agreement.specs.Run.{run}
 use Rattle.dist_agreement.specs.Agreement.{Fits}
 use Rattle.dist_agreement.specs.Laws.{AllLives}
 use Rattle.dist_agreement.proofs.Places.{at-one, at-more}
-use Rattle.dist_agreement.proofs.Acts.{Act, Acted, Begins, Ends, Reaches, Comes, Tells, acts}
+use Rattle.dist_agreement.proofs.Acts.{Act, Acted, Begins, Ends, Reaches, Comes, Tells, Resets, acts}
 
 -- WHAT HAPPENS TO AN INCARNATION at number t: l is what place i has afterwards
 pub data Turn (ls : List Life) (t i : ℕ) (l : Life) : Type 0 where
@@ -21,6 +23,7 @@ pub data Turn (ls : List Life) (t i : ℕ) (l : Life) : Type 0 where
   Stops : (old : Life) → slice_get ls i ≡ Some old → runs old ≡ true → l ≡ ended t old → Turn ls t i l
   Links : (old : Life) → (id c : ℕ) → slice_get ls i ≡ Some old → runs old ≡ true → l ≡ reached_life id c old → Turn ls t i l
   Lives : (old : Life) → (v : Event) → (fresh : ℕ) → (f : Effect) → slice_get ls i ≡ Some old → runs old ≡ true → effect_of old.node v fresh ≡ Ok f → l ≡ lived t v f.reply (after old.node v f) old → Turn ls t i l
+  Changes : (old : Life) → (v : Change) → slice_get ls i ≡ Some old → runs old ≡ true → change old.node v ≡ Ok (after_change old.node v) → l ≡ with_node (after_change old.node v) old → Turn ls t i l
 
 same : (ls : List Life) (t : ℕ) (i : ℕ) (l : Life) → slice_get ls i ≡ Some l → Turn ls t i l
 same ls t i l h = Stays h
@@ -34,6 +37,7 @@ turned-by w ls cs (Ends j old at live is k) i l h = at-one (Turn w.lives w.clock
 turned-by w ls cs (Reaches j id k old far at live atf livef d n is ks) i l h = at-one (Turn w.lives w.clock) j _ w.lives (λ x e. Links x id _ e (ap runs (alike w.lives j x old e at) ∙ live) refl) (same w.lives w.clock) i l (ap (λ xs. slice_get xs i) (sym is) ∙ h)
 turned-by w ls cs (Comes side c n is k) i l h = Stays (ap (λ xs. slice_get xs i) (sym is) ∙ h)
 turned-by w ls cs (Tells j old v fresh f ds fits at live ok ready is k) i l h = at-one (Turn w.lives w.clock) j _ w.lives (λ x e. Lives old v fresh f at live ok refl) (same w.lives w.clock) i l (ap (λ xs. slice_get xs i) (sym is) ∙ h)
+turned-by w ls cs (Resets j old v at live ok is k) i l h = at-one (Turn w.lives w.clock) j _ w.lives (λ x e. Changes old v at live ok (ap (with_node (after_change old.node v)) (alike w.lives j x old e at))) (same w.lives w.clock) i l (ap (λ xs. slice_get xs i) (sym is) ∙ h)
 
 -- WHAT A STATEMENT ABOUT ONE INCARNATION AND THE CLOCK HAS TO KEEP
 pub record Keeps (P : ℕ → Life → Type 0) : Type 0 where
@@ -42,6 +46,7 @@ pub record Keeps (P : ℕ → Life → Type 0) : Type 0 where
   pub ends : (t : ℕ) (l : Life) → runs l ≡ true → P t l → P (t + 1) (ended t l)
   pub reaches : (t : ℕ) (l : Life) (id c : ℕ) → runs l ≡ true → P t l → P (t + 1) (reached_life id c l)
   pub lives : (t : ℕ) (l : Life) (v : Event) (fresh : ℕ) (f : Effect) → runs l ≡ true → effect_of l.node v fresh ≡ Ok f → P t l → P (t + 1) (lived t v f.reply (after l.node v f) l)
+  pub resets : (t : ℕ) (l : Life) (v : Change) → runs l ≡ true → change l.node v ≡ Ok (after_change l.node v) → P t l → P (t + 1) (with_node (after_change l.node v) l)
 
 -- what each happening keeps holds after each list of them
 pub kept-by-all : (I : World → Type 0) (F : Happening → Type 0)
@@ -72,6 +77,7 @@ module _ (P : ℕ → Life → Type 0) (k : Keeps P) where
   turned ls t i l h (Stops old at live is) = subst (P (t + 1)) (sym is) (k.ends t old live (h i old at))
   turned ls t i l h (Links old id c at live is) = subst (P (t + 1)) (sym is) (k.reaches t old id c live (h i old at))
   turned ls t i l h (Lives old v fresh f at live s is) = subst (P (t + 1)) (sym is) (k.lives t old v fresh f live s (h i old at))
+  turned ls t i l h (Changes old v at live ok is) = subst (P (t + 1)) (sym is) (k.resets t old v live ok (h i old at))
 
   pub one-step : {F : Type 0} (w x : World) → Acted F w x → AllLives (P w.clock) w → AllLives (P (w.clock + 1)) x
   one-step w x g a i l at = turned w.lives w.clock i l a (turned-by w x.lives x.conns g.act i l at)

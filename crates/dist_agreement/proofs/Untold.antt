@@ -1,9 +1,12 @@
--- An incarnation that is told nothing: it stays, begins, ends, or one of its ends reaches another.
+-- An incarnation that is told nothing: it stays, begins, ends, changes its setup, or one of its ends reaches another.
 use Rattle.std.proofs.Common.{◌≡◌, ℕ, zero, suc, ◌+◌, ◌<◌, ◌≤◌, Bool, true, false, cond, eqb, ltb, ◌&&◌, ◌||◌, List, [], ◌∷◌, Option, Some, None, refl, sym, ap, ◌∙◌, subst, arith, slice_get, is_some}
 use Rattle.std.proofs.lemmas.Bool.{false≢true}
 use Rattle.std.specs.Option.{option_map}
 use Rattle.dist_names.specs.Order.{Name}
 use Rattle.dist_names.specs.declared.creation.Creation.{Creation}
+use Rattle.dist_core.specs.declared.changing.Change.{Change}
+use Rattle.dist_core.specs.declared.changing.Change.TheVariants as change
+use Rattle.dist_core.specs.Changing.{after_change, setup_after}
 use Rattle.dist_ends.specs.declared.known.End.{End}
 use Rattle.dist_ends.specs.declared.phase.Kind.{Kind}
 use Rattle.dist_ends.specs.Ends.{is_claim}
@@ -14,10 +17,10 @@ use Rattle.dist_setup.specs.declared.setup.Setup.{Setup}
 use Rattle.dist_agreement.proofs.Stands.{Fits, Beside, AreBeside, Below}
 use Rattle.dist_agreement.proofs.Marks.{past-once, past-later, later-below, shut-below, once-some}
 use Rattle.dist_agreement.specs.World.{Life, runs}
-use Rattle.dist_agreement.specs.Happenings.{new_life, ended, shut_all, shut_row, reached_life, reached_row}
+use Rattle.dist_agreement.specs.Happenings.{new_life, ended, shut_all, shut_row, with_node, reached_life, reached_row}
 use Rattle.dist_agreement.specs.Holders.{claim_in, held_before}
 use Rattle.dist_agreement.specs.NodeLaws.{NodeLaws}
-use Rattle.dist_agreement.proofs.Lives.{AllBelow, IsDecided, IsGone, IsLife, apart-now, apart-step, before-map, plain-agree, plain-gone}
+use Rattle.dist_agreement.proofs.Lives.{AllBelow, AreGone, IsDecided, IsGone, IsLife, apart-now, apart-step, before-map, plain-agree, plain-gone}
 
 -- ---- an incarnation that ends
 
@@ -125,6 +128,19 @@ stays-life t l h = record { legal = h.legal; beside = h.beside; below = λ i row
 
 pub stays-decided : (t : ℕ) (l : Life) → IsDecided t l → IsDecided (t + 1) l
 stays-decided t l h = record { life = stays-life t l h.life; gone = h.gone }
+
+-- ---- an incarnation whose setup changes
+
+name-stays : (s : Setup) (v : Change) → (let r = setup_after s v in r.name) ≡ s.name
+name-stays s (change.Cookie p c) = refl
+name-stays s (change.UsualCookie c) = refl
+name-stays s (change.Allow ps) = refl
+
+pub resets-life : (t : ℕ) (l : Life) (v : Change) → IsLife t l → IsLife (t + 1) (with_node (after_change l.node v) l)
+resets-life t l v h = let s = stays-life t l h in record { legal = s.legal; beside = s.beside; below = s.below; apart = s.apart }
+
+pub resets-decided : (t : ℕ) (l : Life) (v : Change) → IsDecided t l → IsDecided (t + 1) (with_node (after_change l.node v) l)
+resets-decided t l v h = record { life = resets-life t l v h.life; gone = subst (λ p. AreGone p l.rows) (sym (name-stays l.node.setup v)) h.gone }
 
 module _ (laws : NodeLaws) where
   pub begins-life : (t : ℕ) (who : ℕ) (s : Setup) (c : Creation) → IsLife (t + 1) (new_life who t s c)

@@ -9,7 +9,7 @@ use Rattle.dist_ends.specs.declared.known.End.TheVariants as ends
 use Rattle.dist_setup.specs.Rules.{announced_in, announced_by}
 use Rattle.dist_agreement.specs.Rows.{EndRow, past, is_dialler}
 use Rattle.dist_agreement.specs.World.{World, Life, Conn, runs, row_of_life, end_of_life}
-use Rattle.dist_agreement.specs.Agreement.{IsUp}
+use Rattle.dist_agreement.specs.Agreement.{bare, IsUp}
 use Rattle.dist_agreement.proofs.Acts.{is-running}
 use Rattle.dist_agreement.proofs.Stands.{Stand, Fits, Beside}
 use Rattle.dist_agreement.proofs.Ways.{on_way}
@@ -60,16 +60,10 @@ module _ (laws : NodeLaws) where
         target : (m : Setup) × (setup_in w.lives k.target ≡ Some m)
         target = let l = h.linked in l.target c k ak
 
-        lj : (l : Life) × (slice_get w.lives k.target ≡ Some l) × (l.node.setup ≡ (let g = target in g.0))
+        lj : (l : Life) × (slice_get w.lives k.target ≡ Some l) × (bare l.node.setup ≡ (let g = target in g.0))
         lj = let g = target in setup-there w.lives k.target g.0 g.1
 
-        sx : Setup
-        sx = let g = li in let l = g.0 in l.node.setup
-
-        sy : Setup
-        sy = let g = lj in let l = g.0 in l.node.setup
-
-        wire : IsWire (let g = li in let l = g.0 in l.node.setup) (let g = lj in let l = g.0 in l.node.setup) (on_way k.there) (on_way k.back) (row_in w.lives k.life k.dialler) (far (row_in w.lives k.target) k.accepted) (end_in w.lives k.life k.dialler) (far (end_in w.lives k.target) k.accepted)
+        wire : IsWire (let g = li in let l = g.0 in bare l.node.setup) (let g = lj in let l = g.0 in bare l.node.setup) (on_way k.there) (on_way k.back) (row_in w.lives k.life k.dialler) (far (row_in w.lives k.target) k.accepted) (end_in w.lives k.life k.dialler) (far (end_in w.lives k.target) k.accepted)
         wire = h.wires c k ak _ _ (let g = li in ap setup_of g.1) (let g = lj in ap setup_of g.1)
 
         by : (o : Option ℕ) → k.accepted ≡ o → past r (named_of (far (row_in w.lives k.target) k.accepted)) ≡ true → LineOf c k
@@ -138,7 +132,7 @@ module _ (laws : NodeLaws) where
       pub end-is : (j p : ℕ) → x.place ≡ j → x.id ≡ p → end_in w.lives j p ≡ Some (ends.Up x.kept)
       end-is j p e q = (λ n. end_in w.lives (sym e n) (sym q n)) ∙ ap (λ o. end_of_life o x.id) x.lives ∙ x.is_up
 
-      pub setup-is : (j : ℕ) → x.place ≡ j → setup_in w.lives j ≡ Some own.node.setup
+      pub setup-is : (j : ℕ) → x.place ≡ j → setup_in w.lives j ≡ Some (bare own.node.setup)
       setup-is j e = ap (setup_in w.lives) (sym e) ∙ ap setup_of x.lives
 
       -- the seat of this end

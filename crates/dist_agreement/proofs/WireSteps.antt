@@ -1,13 +1,18 @@
--- All connections are wires still, where a node begins or ends, or bytes come.
+-- All connections are wires still, where a node begins, ends or changes its setup, or bytes come.
 use Rattle.std.proofs.Common.{◌≡◌, ℕ, List, [], ◌∷◌, ◌++◌, Option, Some, None, inl, refl, sym, ap, ◌∙◌, subst, slice_get}
 use Rattle.std.specs.Option.{option_map}
 use Rattle.dist_messages.specs.declared.message.Side.{Side}
 use Rattle.dist_messages.specs.declared.message.Side.TheVariants.{Dialler, Acceptor}
+use Rattle.dist_setup.specs.declared.setup.Setup.{Setup}
+use Rattle.dist_core.specs.declared.changing.Change.{Change}
+use Rattle.dist_core.specs.declared.changing.Change.TheVariants as change
+use Rattle.dist_core.specs.Changing.{after_change, setup_after}
 use Rattle.dist_agreement.specs.Lists.{at_place}
 use Rattle.dist_agreement.specs.Rows.{EndRow}
 use Rattle.dist_agreement.specs.World.{Life, Conn, row_of_life, end_of_life}
 use Rattle.dist_agreement.specs.Delivery.{delivered, change_to}
-use Rattle.dist_agreement.specs.Happenings.{ended, shut_row}
+use Rattle.dist_agreement.specs.Happenings.{ended, shut_row, with_node}
+use Rattle.dist_agreement.specs.Agreement.{bare}
 use Rattle.dist_agreement.proofs.Ways.{way-delivered}
 use Rattle.dist_agreement.proofs.Wires.{Quiet, Hushed, quiet-refl}
 use Rattle.dist_agreement.proofs.Untold.{get-shut}
@@ -65,6 +70,30 @@ module _ (t i : ℕ) (ls : List Life) (old : Life) (at : slice_get ls i ≡ Some
   pub ended-wires : (cs : List Conn) → Linked ls cs → Wires ls cs → Wires (at_place i (ended t) ls) cs
   ended-wires cs = wires-quiet ls (at_place i (ended t) ls) cs cs shut-setups (shut-rel Quiet quiet-refl (shut-quiet t))
       (λ j p. changed-at (λ o. end_of_life o p) Hushed hush-refl i (ended t) ls old at j (λ e a b h. h)) (all-were ls cs)
+
+-- ---- a node changes its setup
+
+pub bare-stays : (s : Setup) (v : Change) → bare (setup_after s v) ≡ bare s
+bare-stays s (change.Cookie p c) = refl
+bare-stays s (change.UsualCookie c) = refl
+bare-stays s (change.Allow ps) = refl
+
+module _ (i : ℕ) (v : Change) (ls : List Life) (old : Life) (at : slice_get ls i ≡ Some old) where
+  abbrev pub reset-lives : List Life
+  reset-lives = at_place i (with_node (after_change (let l = old in l.node) v)) ls
+
+  -- rows and ends stay
+  reset-same : {X : Type 0} (L : Option Life → X) (R : X → X → Type 0) → ((x : X) → R x x) → L (Some (with_node (after_change old.node v) old)) ≡ L (Some old) → (j : ℕ) → R (L (slice_get ls j)) (L (slice_get reset-lives j))
+  reset-same L R same alike j = changed-at L R same i (with_node (after_change old.node v)) ls old at j (λ e. subst (R (L (Some old))) (sym alike) (same (L (Some old))))
+
+  reset-setups : (j : ℕ) → SetupStays (setup_in ls j) (setup_in reset-lives j)
+  reset-setups = reset-same setup_of SetupStays setup-refl (ap Some (bare-stays old.node.setup v))
+
+  pub reset-linked : (cs : List Conn) → Linked ls cs → Linked reset-lives cs
+  reset-linked cs = linked-same ls reset-lives cs cs (λ j p. reset-same (λ o. row_of_life o p) Stays stays-refl refl j) (λ j p. reset-same (λ o. row_of_life o p) Was was-refl refl j) reset-setups (conns-same cs)
+
+  pub reset-wires : (cs : List Conn) → Linked ls cs → Wires ls cs → Wires reset-lives cs
+  reset-wires cs = wires-quiet ls reset-lives cs cs reset-setups (λ j p. reset-same (λ o. row_of_life o p) Quiet quiet-refl refl j) (λ j p. reset-same (λ o. end_of_life o p) Hushed hush-refl refl j) (all-were ls cs)
 
 -- ---- bytes come
 

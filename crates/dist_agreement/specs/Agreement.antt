@@ -1,5 +1,5 @@
 -- AGREEMENT: what two running nodes have in common that each count the other as up.
-use Rattle.std.specs.Prelude.{◌≡◌, ◌≢◌, ℕ, ◌<◌, ◌^◌, Bool, ◌&&◌, if◌then◌else◌, ◌⊎◌, List, Option, Some, None, slice_get}
+use Rattle.std.specs.Prelude.{◌≡◌, ◌≢◌, ℕ, ◌<◌, ◌^◌, Bool, ◌&&◌, if◌then◌else◌, ◌⊎◌, List, [], Option, Some, None, slice_get}
 use Rattle.std.specs.List.{AllByRecursion}
 use Rattle.dist_names.specs.NodeName.{IsNodeName}
 use Rattle.dist_names.specs.Flags.{common}
@@ -43,6 +43,10 @@ pub record Counts (w : World) (a b : ℕ) : Type 0 where
   pub named : slice_get w.setups b ≡ Some other
   pub peer : kept.peer ≡ other.name
 
+-- A SETUP WITHOUT ITS COOKIES AND ITS ALLOW LIST, which a node may change while it runs
+abbrev pub bare : Setup → Setup
+bare s = record s { cookies = record { usual = []; own = [] }; allow = None }
+
 -- both know version 6
 abbrev pub both_six : Setup → Setup → Bool
 both_six own other = knows_six own && knows_six other
@@ -71,9 +75,9 @@ pub record AreAgreed (w : World) (a b c d : ℕ) (x : IsUp w a b c) (y : IsUp w 
   pub conn : Conn
   pub there : slice_get w.conns c ≡ Some conn
   pub joined : Joins conn x.place x.id y.place y.id ⊎ Joins conn y.place y.id x.place x.id
-  -- each incarnation has its node's setup, but for the creation
-  pub setup_a : x.life.node.setup ≡ record y.other { creation = x.life.node.setup.creation }
-  pub setup_b : y.life.node.setup ≡ record x.other { creation = y.life.node.setup.creation }
+  -- each incarnation has its node's setup, but for the creation, the cookies and the allow list
+  pub setup_a : bare x.life.node.setup ≡ bare (record y.other { creation = x.life.node.setup.creation })
+  pub setup_b : bare y.life.node.setup ≡ bare (record x.other { creation = y.life.node.setup.creation })
   pub at_a : IsAgreed x.life.node.setup y.life.node.setup x.kept
   pub at_b : IsAgreed y.life.node.setup x.life.node.setup y.kept
   -- the two records have the same common flags

@@ -8,12 +8,15 @@ use Rattle.dist_frames.specs.Stream.{first_body}
 use Rattle.dist_peers.specs.declared.entry.EndId.{EndId}
 use Rattle.dist_setup.specs.declared.setup.Setup.{Setup}
 use Rattle.dist_ends.specs.declared.known.End.{End}
+use Rattle.dist_core.specs.declared.changing.Change.{Change}
+use Rattle.dist_core.specs.declared.changing.ChangeError.{ChangeError}
 use Rattle.dist_core.specs.declared.event.Event.{Event}
 use Rattle.dist_core.specs.declared.event.Event.TheVariants as event
 use Rattle.dist_core.specs.declared.reply.Reply.{Reply}
 use Rattle.dist_core.specs.declared.step_error.StepError.{StepError}
 use Rattle.dist_ends.specs.Ends.{is_open, is_dialing}
 use Rattle.dist_core.specs.Node.{NodeState}
+use Rattle.dist_core.specs.Changing.{change}
 use Rattle.dist_core.specs.Step.{step}
 use Rattle.dist_core.specs.Runs.{opening}
 use Rattle.dist_agreement.specs.declared.happening.Happening.{Happening}
@@ -93,6 +96,27 @@ ended t l = record l { over = Some t; rows = shut_all t l.rows }
 abbrev pub halted : World → Option ℕ → Option World
 halted w None = None
 halted w (Some i) = Some (record w { lives = at_place i (ended w.clock) w.lives })
+
+-- ---- a change of setup
+
+-- the same incarnation of this node
+abbrev pub with_node : NodeState → Life → Life
+with_node n l = record l { node = n }
+
+-- the world after a change of setup, where it was not refused
+abbrev pub reset_to : World → ℕ → Result NodeState ChangeError → Option World
+reset_to w i (Err e) = None
+reset_to w i (Ok n) = Some (record w { lives = at_place i (with_node n) w.lives })
+
+-- the same, by the incarnation itself where there is one
+abbrev pub reset_in : World → ℕ → Option Life → Change → Option World
+reset_in w i None v = None
+reset_in w i (Some l) v = reset_to w i (change l.node v)
+
+-- a running node changes its cookies or the peers that may connect, where the change is not refused
+abbrev pub reset : World → Option ℕ → Change → Option World
+reset w None v = None
+reset w (Some i) v = reset_in w i (slice_get w.lives i) v
 
 -- ---- connections
 
@@ -220,6 +244,7 @@ applied w (happening.Accept c) = accepted w c (slice_get w.conns c)
 applied w (happening.Deliver i id k) = deliver w id.0 k (running w i)
 applied w (happening.Take i id fresh) = take_next w id fresh (running w i)
 applied w (happening.Lose i id y) = told_of w (running w i) (event.Lost id y) 0
+applied w (happening.Reset i v) = reset w (running w i) v
 
 -- nothing is known of the last step
 abbrev pub unclosed : World → World

@@ -21,9 +21,13 @@ use Rattle.dist_setup.specs.declared.setup.Setup.{Setup}
 use Rattle.dist_setup.specs.Rules.{announced_by, knows_six}
 use Rattle.dist_setup.specs.Saying.{CanBeSaid}
 use Rattle.dist_secret.specs.Digest.{digest_of}
+use Rattle.dist_core.specs.declared.changing.Change.{Change}
+use Rattle.dist_core.specs.Acts.{changed_or}
+use Rattle.dist_core.specs.Changing.{change}
 use Rattle.dist_core.specs.declared.event.Event.{Event}
 use Rattle.dist_core.specs.declared.effect.Effect.{Effect}
 use Rattle.dist_laws.specs.Laws.{IsOther}
+use Rattle.dist_laws.specs.Records.{AreRight}
 use Rattle.dist_core.specs.Node.{NodeState, ends_after}
 use Rattle.dist_core.specs.Rows.{Row, Heard}
 use Rattle.dist_core.specs.Runs.{opening, settled}
@@ -52,7 +56,8 @@ pub record SayingLaws : Type 0 where
   pub halves : (own other : Setup) → (knows_six own && knows_six other) ≡ false → common (announced_by own) (low_half (announced_by other)) ≡ common (announced_by own) (announced_by other)
 
 -- THE LAWS OF ONE STEP: it is a row of the tables; legal ends stay legal; its reply is of the end that was told; the other
--- end that it changes is another one, which is there; what stands at each place afterwards
+-- end that it changes is another one, which is there; what stands at each place afterwards. And the records of ends that are up
+-- stay right, over steps and changes of the setup
 pub record NodeLaws : Type 0 where
   pub names : NameLaws
   pub sayings : SayingLaws
@@ -63,3 +68,6 @@ pub record NodeLaws : Type 0 where
   pub other : (n : NodeState) (v : Event) (fresh : ℕ) (f : Effect) (x : EndId) (s : End) → AreLegal n.ends → effect_of n v fresh ≡ Ok f → f.other ≡ Some (x, s) → IsOther n f.reply.end_ x
   pub places : (n : NodeState) (v : Event) (fresh : ℕ) (f : Effect) → AreLegal n.ends → effect_of n v fresh ≡ Ok f → (f.reply.end_.0 ≤ length n.ends) × IsThere n.ends f.other
   pub after : (es : List End) (f : Effect) (i : ℕ) → f.reply.end_.0 ≤ length es → IsThere es f.other → slice_get (ends_after es f) i ≡ view_after es f.reply.end_ f.this f.other i
+  pub right_opening : (s : Setup) → AreRight (opening s)
+  pub right_step : (n : NodeState) (v : Event) (fresh : ℕ) → AreLegal n.ends → AreRight n → AreRight (settled n (step n v fresh))
+  pub right_change : (n : NodeState) (v : Change) → AreLegal n.ends → AreRight n → AreRight (changed_or n (change n v))

@@ -31,8 +31,8 @@ pub record Conn : Type 0 where
   pub there : Text
   pub back : Text
 
--- THE WORLD: the nodes' setups, all incarnations in the order of their beginnings, all connections, the count of the
--- happenings that applied, and the end that the step of the last of these closed, with its node and the cause
+-- THE WORLD: the setups with which the nodes begin, all incarnations in the order of their beginnings, all connections, the
+-- count of the happenings that applied, and the end that the step of the last of these closed, with its node and the cause
 pub record World : Type 0 where
   pub setups : List Setup
   pub lives : List Life

@@ -2,7 +2,7 @@
 ghost use Rattle.std.specs.Prelude.{◌<◌, ◌^◌};
 ghost use Rattle.dist_agreement.specs.Agreement.{Fits};
 
-use dist_core::{Opening, Why};
+use dist_core::{Change, Opening, Why};
 use dist_names::{Creation, NodeName};
 use dist_peers::EndId;
 
@@ -71,6 +71,12 @@ pub enum Happening {
         node: usize,
         end_: EndId,
         why: Why,
+    },
+    /// The running node changes its cookies or the list of the peers that may connect, as `Node::change` does. It applies
+    /// where the change is not refused. No other node is told, and every end stays as it is.
+    Reset {
+        node: usize,
+        change: Change,
     },
 }
 

@@ -32,7 +32,7 @@ pub fn replies_are_alone()
     nodes_keep_laws();
 }
 
-/// Every end that is up bears the digest of the own cookie and its own challenge.
+/// Every end that is up bears the digest of the own cookie, that which the node has now, and its own challenge.
 pub fn digests_are_own()
     ensures { (setups : List Setup) (happenings : List Happening) → AllLives OwnDigests (run happenings (empty setups)) }
 {

@@ -2,8 +2,9 @@
 //! and whose contracts are the laws.
 //!
 //! A world is a value: the setups of its nodes, all their incarnations, all connections. A list of happenings says what
-//! connects, what is delivered, what is lost and which node is restarted, and `run` of `specs/Run.antt` says what comes of
-//! it. Nothing here runs: the code that plays a world stands in the crate above, and promises to do what `run` says.
+//! connects, what is delivered, what is lost, which node is restarted and which changes its cookies or the peers that may
+//! connect, and `run` of `specs/Run.antt` says what comes of it. Nothing here runs: the code that plays a world stands in the
+//! crate above, and promises to do what `run` says.
 #![tactic(auto)]
 
 mod happening;

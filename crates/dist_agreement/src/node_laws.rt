@@ -3,8 +3,8 @@ ghost use Rattle.dist_agreement.specs.NodeLaws.{NodeLaws};
 
 use dist_ends::ends_after_a_change;
 use dist_laws::{
-    a_reply_is_of_its_end, another_end_is_replaced, entries_are_whole, steps_are_rows,
-    two_ends_change_at_most,
+    a_reply_is_of_its_end, another_end_is_replaced, entries_are_whole, records_stay_right,
+    steps_are_rows, two_ends_change_at_most,
 };
 use dist_names::order_of_names;
 use dist_secret::length_of_digest;
@@ -31,4 +31,5 @@ pub fn nodes_keep_laws()
     a_reply_is_of_its_end();
     another_end_is_replaced();
     two_ends_change_at_most();
+    records_stay_right();
 }

@@ -8,3 +8,5 @@ pub mod Closings
 pub mod Clauses
 pub mod Losses
 pub mod Numbers
+pub mod UsualCookies
+pub mod Forgetting

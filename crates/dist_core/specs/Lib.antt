@@ -10,3 +10,5 @@ pub mod Runs
 pub mod Clauses
 pub mod Losses
 pub mod Words
+pub mod Changing
+pub mod Acts

@@ -2,10 +2,15 @@
 //! and what is said on each. `Node::step` takes one event and one number that was drawn, and gives one reply.
 //!
 //! No input or output, no clock, no randomness, no threads: whoever reads a socket or draws a challenge hands it in.
-//! Once an end is up, the packets on its connection are nobody's concern here.
+//! Once an end is up, the packets on its connection are nobody's concern here. Of an end that was closed the node keeps the
+//! cause alone, until `Node::forget` lets that go too.
+//!
+//! Between two steps the setup can change: the cookies of peers that have no entry, and which names may connect. Where no end is
+//! open, the node can begin anew (`Node::renew`).
 #![tactic(auto)]
 
 mod accepted;
+mod changing;
 mod comparing;
 mod copying;
 mod dialled;
@@ -15,11 +20,13 @@ mod events;
 mod finding;
 mod frames;
 mod node;
+mod renewing;
 mod reply;
 mod step_error;
 
-pub use dist_ends::{Awaited, Still, UpRecord, Why};
-pub use dist_messages::Opening;
+pub use changing::{Change, ChangeError};
+pub use dist_ends::{Absent, Attempt, Awaited, End, Phase, Still, UpRecord, Why};
+pub use dist_messages::{Form, Opening};
 pub use dist_setup::{Limits, NameList, Setup, Version};
 pub use event::Event;
 pub use node::Node;

@@ -2,7 +2,8 @@
 ghost use Rattle.std.specs.Prelude.{◌≡◌, ◌≤◌, ◌<◌, ◌+◌, ◌^◌, ◌||◌, List, [], ◌∷◌, ℕ, length, IfOk, IfErr, ◌≢◌, IsTrue, IsOk, OnOk, OnErr, true, false, Ok, Err, Some, None, slice_get, count_by};
 ghost use Rattle.std.specs.Option.{option_map};
 ghost use Rattle.std.specs.FinMap as map;
-ghost use Rattle.dist_ends.specs.Ends.{AreLegal, FindsUp, record_in, up_from, up_pair, up_ids, claim_of, is_open, is_dialing, entry_in, table_of, still_of, awaited_of};
+ghost use Rattle.dist_ends.specs.Ends.{AreLegal, Finds, FindsUp, oldest_pending, record_in, up_from, up_pair, up_ids, claim_of, is_open, is_dialing, entry_in, table_of, still_of, awaited_of};
+ghost use Rattle.dist_ends.specs.Forgetting.{forgotten};
 ghost use Rattle.dist_core.specs.Node.{NodeState, ends_after, is_crowded, is_full_for, is_given_out, is_spent, limits_of, new_id};
 ghost use Rattle.dist_core.specs.Clauses.{ClosesOnReply, end_of, loss_reply};
 ghost use Rattle.dist_core.specs.Losses.{IsGone, IsSilent};
@@ -19,7 +20,7 @@ use crate::event::Event;
 use crate::finding::{cost, open_end};
 use crate::reply::{Note, Reply};
 use crate::step_error::StepError;
-use dist_ends::{Attempt, Awaited, End, Ends, Still, UpRecord, Why};
+use dist_ends::{Absent, Attempt, Awaited, End, Ends, Still, UpRecord, Why};
 use dist_frames::tick;
 use dist_names::{ByteString, Creation, NodeName};
 use dist_peers::{EndId, Entry, Verdict};
@@ -30,10 +31,10 @@ use std::marker::Model;
 /// A node: what it was set up with, and all its ends.
 #[derive(Drop)]
 pub struct Node {
-    setup: Setup,
-    ends: Ends,
+    pub(crate) setup: Setup,
+    pub(crate) ends: Ends,
     /// How many steps were made that told no loss.
-    steps: u64,
+    pub(crate) steps: u64,
 }
 
 impl Model for Node {
@@ -58,7 +59,7 @@ impl Node {
         }
     }
 
-    /// What it was set up with, which never changes.
+    /// What it is set up with. No step changes it.
     pub fn setup(&self) -> &Setup
         ensures { result.now ≡ self.now.setup }
     {
@@ -157,6 +158,43 @@ impl Node {
         ensures { result ≡ map.len (table_of self.now.ends) }
     {
         self.ends.entries()
+    }
+
+    /// The end of this number, where it is open, or why there is none. Ask this for what no reply tells: which peer an end holds
+    /// before it is up, and where its handshake stands.
+    pub fn open_end(&self, id: EndId) -> Result<&End, Absent>
+        ensures { Finds result (slice_get self.now.ends id.0) }
+    {
+        self.ends.open_end(id)
+    }
+
+    /// The end that has been open and not up for the longest: of the lowest number, since numbers are given out in order. A
+    /// caller that limits how long handshakes take, or how many of them go on at once, gives this end up first: it closes the
+    /// connection and tells [`Event::Lost`].
+    ///
+    /// This is no step, and no other call sees that it was made. It takes `&mut self` to keep how far it has looked, so that all
+    /// calls together walk each number once.
+    pub fn oldest_pending(&mut self) -> Option<EndId>
+        ensures oldest { result ≡ oldest_pending self.old.ends }
+        ensures same { self.new ≡ self.old }
+    {
+        self.ends.oldest_pending()
+    }
+
+    /// Forgets why the ends below this number were closed: from now on each of them answers as if the other side had ended its
+    /// connection ([`Why::Ended`]). What is open stays as it is, and no number is given out again. It takes no memory, and looks
+    /// at each open end once and at each cause that is kept.
+    ///
+    /// A closed end takes one byte, its cause, and none once that is forgotten. So whoever runs a node for years calls this from
+    /// time to time, with a number below which nobody will ask any more why an end was closed. This is no step: it isn't counted,
+    /// says nothing and is never refused. By the law `forgetting_changes_no_step` of `dist_laws` it changes
+    /// nothing else: each event has the reply or the refusal that it would have had, but for the cause that
+    /// [`StepError::Gone`] tells.
+    #[tactic(auto, using(crate::proofs::Forgetting::length_forgotten))]
+    pub fn forget(&mut self, below: EndId)
+        ensures { self.new ≡ record self.old { ends = forgotten below.0 self.old.ends } }
+    {
+        self.ends.forget(below);
     }
 
     /// Takes an event. A refusal changes nothing, and is the first that holds in the order of [`StepError`].

@@ -13,7 +13,7 @@ use std::fmt;
 pub enum StepError {
     /// The number was never given out. The caller's fault, as the four that follow.
     NoSuchEnd,
-    /// The end is closed, for this cause.
+    /// The end is closed, for this cause; for `Ended` also where the node forgot the cause.
     Gone(Why),
     /// The end is open and takes no such event: `Opened` where no connection is awaited, `Frame` before there is one or
     /// once the end is up, `Tick` before it is up.

@@ -39,16 +39,16 @@ place_push steps s h =
 
 -- ---- frames that were handed on are a front of the frames of the call
 
-pub frames_are : FrameLaws → (heard : List ℕ) (handed : List (List ℕ)) (steps : List Step) (r : Reader) → length handed ≡ length steps → Keeps heard handed steps r → frames_of heard steps ≡ handed ++ to_come r
-frames_are laws heard handed steps (Short pending) len k =
-    ap (λ place. through place (bodies heard)) (place_none steps k.none_up) ∙ laws.bodies_are heard handed pending k.accounts
-frames_are laws heard handed steps (Linked ended rest) len (more, k) =
-    let count : position_or_len is_up steps + 1 ≡ length handed = omega (arith, k.last_up) in
-    ap (λ place. through place (bodies heard)) (place_last steps k.last_up)
-    ∙ ap (λ l. take (position_or_len is_up steps + 1) l) (laws.bodies_are heard handed more k.accounts)
-    ∙ ap (λ n. take n (handed ++ bodies more)) count
-    ∙ take-append_seam handed (bodies more)
-    ∙ sym (append-nil handed)
+pub frames_are : FrameLaws → (input : List ℕ) (frames : List (List ℕ)) (steps : List Step) (r : Reader) → length frames ≡ length steps → Keeps input frames steps r → frames_of input steps ≡ frames ++ to_come r
+frames_are laws input frames steps (Short pending) len k =
+    ap (λ place. through place (bodies input)) (place_none steps k.none_up) ∙ laws.bodies_are input frames pending k.accounts
+frames_are laws input frames steps (Linked ended rest) len (more, k) =
+    let count : position_or_len is_up steps + 1 ≡ length frames = omega (arith, k.last_up) in
+    ap (λ place. through place (bodies input)) (place_last steps k.last_up)
+    ∙ ap (λ l. take (position_or_len is_up steps + 1) l) (laws.bodies_are input frames more k.accounts)
+    ∙ ap (λ n. take n (frames ++ bodies more)) count
+    ∙ take-append_seam frames (bodies more)
+    ∙ sym (append-nil frames)
 
 -- ---- the next frame of the call is the one that the reader shows
 
@@ -56,53 +56,53 @@ get_seam : (xs : List (List ℕ)) (x : List ℕ) (ys : List (List ℕ)) → slic
 get_seam [] x ys = refl
 get_seam (y ∷ xs) x ys = get_seam xs x ys
 
-pub next_is : FrameLaws → (heard : List ℕ) (handed : List (List ℕ)) (steps : List Step) (r : Reader) (body : List ℕ) → length handed ≡ length steps → next_body r ≡ Some body → Keeps heard handed steps r → next_frame heard steps ≡ Some body
-next_is laws heard handed steps (Short pending) body len e k =
+pub next_is : FrameLaws → (input : List ℕ) (frames : List (List ℕ)) (steps : List Step) (r : Reader) (body : List ℕ) → length frames ≡ length steps → next_body r ≡ Some body → Keeps input frames steps r → next_frame input steps ≡ Some body
+next_is laws input frames steps (Short pending) body len e k =
     let rest = after_first w16 pending in
-    let are : frames_of heard steps ≡ (handed ++ body ∷ []) ++ bodies rest =
-    ap (λ place. through place (bodies heard)) (place_none steps k.none_up)
-    ∙ laws.bodies_are heard (handed ++ body ∷ []) rest (laws.moved_on heard handed pending body k.accounts e) in
+    let are : frames_of input steps ≡ (frames ++ body ∷ []) ++ bodies rest =
+    ap (λ place. through place (bodies input)) (place_none steps k.none_up)
+    ∙ laws.bodies_are input (frames ++ body ∷ []) rest (laws.moved_on input frames pending body k.accounts e) in
     ap (λ (l : List (List ℕ)). slice_get l (length steps)) are
-    ∙ ap (λ (n : ℕ). slice_get ((handed ++ body ∷ []) ++ bodies rest) n) (sym len)
-    ∙ get_seam handed body (bodies rest)
-next_is laws heard handed steps (Linked ended rest) body len e k = absurd cc
+    ∙ ap (λ (n : ℕ). slice_get ((frames ++ body ∷ []) ++ bodies rest) n) (sym len)
+    ∙ get_seam frames body (bodies rest)
+next_is laws input frames steps (Linked ended rest) body len e k = absurd cc
 
 get_end : (xs : List (List ℕ)) → slice_get xs (length xs) ≡ None
 get_end [] = refl
 get_end (x ∷ xs) = get_end xs
 
 -- where no frame waits in the reader, the call has no next one
-pub next_none : FrameLaws → (heard : List ℕ) (handed : List (List ℕ)) (steps : List Step) (r : Reader) → length handed ≡ length steps → to_come r ≡ [] → Keeps heard handed steps r → next_frame heard steps ≡ None
-next_none laws heard handed steps r len none k =
-    let are : frames_of heard steps ≡ handed = frames_are laws heard handed steps r len k ∙ ap (λ l. handed ++ l) none ∙ append-nil handed in
-    ap (λ (l : List (List ℕ)). slice_get l (length steps)) are ∙ ap (λ (n : ℕ). slice_get handed n) (sym len) ∙ get_end handed
+pub next_none : FrameLaws → (input : List ℕ) (frames : List (List ℕ)) (steps : List Step) (r : Reader) → length frames ≡ length steps → to_come r ≡ [] → Keeps input frames steps r → next_frame input steps ≡ None
+next_none laws input frames steps r len none k =
+    let are : frames_of input steps ≡ frames = frames_are laws input frames steps r len k ∙ ap (λ l. frames ++ l) none ∙ append-nil frames in
+    ap (λ (l : List (List ℕ)). slice_get l (length steps)) are ∙ ap (λ (n : ℕ). slice_get frames n) (sym len) ∙ get_end frames
 
 -- ---- one frame more
 
 length_one : (xs : List Step) (s : Step) → length (xs ++ s ∷ []) ≡ length xs + 1
 length_one xs s = length-append xs (s ∷ [])
 
-last_brings_up : (heard : List ℕ) (handed : List (List ℕ)) (steps : List Step) (s : Step) (rest : List ℕ) → true ≡ is_up s → position_or_len is_up steps ≡ length steps → Accounts heard handed rest → KeepsLinked heard handed (steps ++ s ∷ []) rest
-last_brings_up heard handed steps s rest is none t =
+last_brings_up : (input : List ℕ) (frames : List (List ℕ)) (steps : List Step) (s : Step) (rest : List ℕ) → true ≡ is_up s → position_or_len is_up steps ≡ length steps → Accounts input frames rest → KeepsLinked input frames (steps ++ s ∷ []) rest
+last_brings_up input frames steps s rest is none t =
     let place : position_or_len is_up (steps ++ s ∷ []) ≡ length steps + 0 = place_push steps s none ∙ ap (λ b. length steps + cond b 0 1) (sym is) in
     record { accounts = t; last_up = omega (arith, place, length_one steps s) }
 
-keeps_up : (heard : List ℕ) (handed : List (List ℕ)) (steps : List Step) (s : Step) (rest : List ℕ) (up : Bool) → up ≡ is_up s → position_or_len is_up steps ≡ length steps → Accounts heard handed rest → Keeps heard handed (steps ++ s ∷ []) (after_step up (Short rest))
-keeps_up heard handed steps s rest true is none t = (rest, last_brings_up heard handed steps s rest is none t)
-keeps_up heard handed steps s rest false is none t =
+keeps_up : (input : List ℕ) (frames : List (List ℕ)) (steps : List Step) (s : Step) (rest : List ℕ) (up : Bool) → up ≡ is_up s → position_or_len is_up steps ≡ length steps → Accounts input frames rest → Keeps input frames (steps ++ s ∷ []) (after_step up (Short rest))
+keeps_up input frames steps s rest true is none t = (rest, last_brings_up input frames steps s rest is none t)
+keeps_up input frames steps s rest false is none t =
     let place : position_or_len is_up (steps ++ s ∷ []) ≡ length steps + 1 = place_push steps s none ∙ ap (λ b. length steps + cond b 0 1) (sym is) in
     record { accounts = t; none_up = place ∙ sym (length_one steps s) }
 
 -- the reader of a call, once a frame was taken out of it and handed on
-pub keeps_next : FrameLaws → (heard : List ℕ) (handed : List (List ℕ)) (steps : List Step) (s : Step) (body : List ℕ) (r : Reader) (up : Bool) → up ≡ is_up s → next_body r ≡ Some body → Keeps heard handed steps r → Keeps heard (handed ++ body ∷ []) (steps ++ s ∷ []) (after_step up (without_next r))
-keeps_next laws heard handed steps s body (Short pending) up is e k =
-    keeps_up heard (handed ++ body ∷ []) steps s (after_first w16 pending) up is k.none_up (laws.moved_on heard handed pending body k.accounts e)
-keeps_next laws heard handed steps s body (Linked ended rest) up is e k = absurd cc
+pub keeps_next : FrameLaws → (input : List ℕ) (frames : List (List ℕ)) (steps : List Step) (s : Step) (body : List ℕ) (r : Reader) (up : Bool) → up ≡ is_up s → next_body r ≡ Some body → Keeps input frames steps r → Keeps input (frames ++ body ∷ []) (steps ++ s ∷ []) (after_step up (without_next r))
+keeps_next laws input frames steps s body (Short pending) up is e k =
+    keeps_up input (frames ++ body ∷ []) steps s (after_first w16 pending) up is k.none_up (laws.moved_on input frames pending body k.accounts e)
+keeps_next laws input frames steps s body (Linked ended rest) up is e k = absurd cc
 
 -- what stood behind the frame, where it brought the end up
-pub keeps_rest : FrameLaws → (heard : List ℕ) (handed : List (List ℕ)) (steps : List Step) (s : Step) (body pending : List ℕ) → true ≡ is_up s → first_body w16 pending ≡ Some body → KeepsShort heard handed steps pending → KeepsLinked heard (handed ++ body ∷ []) (steps ++ s ∷ []) (after_first w16 pending)
-keeps_rest laws heard handed steps s body pending is e k =
-    last_brings_up heard (handed ++ body ∷ []) steps s (after_first w16 pending) is k.none_up (laws.moved_on heard handed pending body k.accounts e)
+pub keeps_rest : FrameLaws → (input : List ℕ) (frames : List (List ℕ)) (steps : List Step) (s : Step) (body pending : List ℕ) → true ≡ is_up s → first_body w16 pending ≡ Some body → KeepsShort input frames steps pending → KeepsLinked input (frames ++ body ∷ []) (steps ++ s ∷ []) (after_first w16 pending)
+keeps_rest laws input frames steps s body pending is e k =
+    last_brings_up input (frames ++ body ∷ []) steps s (after_first w16 pending) is k.none_up (laws.moved_on input frames pending body k.accounts e)
 
 -- a linked reader shows no frame
 pub none_linked : (r : Reader) → to_come (linked r) ≡ []
@@ -111,13 +111,13 @@ none_linked (Linked ended rest) = refl
 
 -- ---- more bytes
 
-pub keeps_fed : FrameLaws → (heard piece : List ℕ) (handed : List (List ℕ)) (steps : List Step) (r : Reader) → IsBytes piece → Keeps heard handed steps r → Keeps (heard ++ piece) handed steps (fed r piece)
-keeps_fed laws heard piece handed steps (Short pending) bytes k = record { accounts = laws.fed_on heard piece handed pending k.accounts bytes; none_up = k.none_up }
-keeps_fed laws heard piece handed steps (Linked ended rest) bytes (more, k) = (more ++ piece, record { accounts = laws.fed_on heard piece handed more k.accounts bytes; last_up = k.last_up })
+pub keeps_fed : FrameLaws → (input piece : List ℕ) (frames : List (List ℕ)) (steps : List Step) (r : Reader) → IsBytes piece → Keeps input frames steps r → Keeps (input ++ piece) frames steps (fed r piece)
+keeps_fed laws input piece frames steps (Short pending) bytes k = record { accounts = laws.fed_on input piece frames pending k.accounts bytes; none_up = k.none_up }
+keeps_fed laws input piece frames steps (Linked ended rest) bytes (more, k) = (more ++ piece, record { accounts = laws.fed_on input piece frames more k.accounts bytes; last_up = k.last_up })
 
-pub keeps_told : (heard : List ℕ) (handed : List (List ℕ)) (steps : List Step) (r : Reader) → Keeps heard handed steps r → Keeps heard handed steps (told r)
-keeps_told heard handed steps (Short pending) k = k
-keeps_told heard handed steps (Linked ended rest) k = k
+pub keeps_told : (input : List ℕ) (frames : List (List ℕ)) (steps : List Step) (r : Reader) → Keeps input frames steps r → Keeps input frames steps (told r)
+keeps_told input frames steps (Short pending) k = k
+keeps_told input frames steps (Linked ended rest) k = k
 
 pub keeps_none : Accounts [] [] [] → Keeps [] [] [] (Short [])
 keeps_none none = record { accounts = none; none_up = refl }

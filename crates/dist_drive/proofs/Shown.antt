@@ -1,5 +1,5 @@
 -- What a call shows on its way and where it ends: what was handed on, said and counted.
-use Rattle.std.proofs.Common.{◌≡◌, ℕ, ◌+◌, ◌-◌, ◌*◌, ◌≤◌, ◌⊎◌, Bool, true, false, List, [], ◌∷◌, ◌++◌, length, take, drop, map, Option, Some, None, Result, Ok, Err, refl, sym, ap, subst, ◌∙◌, arith, append_assoc, length-append, inl, inr, ⊎_elim}
+use Rattle.std.proofs.Common.{◌≡◌, ℕ, ◌+◌, ◌-◌, ◌*◌, ◌<◌, ◌≤◌, ◌⊎◌, Bool, true, false, List, [], ◌∷◌, ◌++◌, length, take, drop, map, Option, Some, None, Result, Ok, Err, refl, sym, ap, subst, ◌∙◌, arith, append_assoc, length-append, inl, inr, ⊎_elim}
 use Rattle.std.specs.Prelude.{eqb, if◌then◌else◌}
 use Rattle.std.proofs.lemmas.Bool.{eqb-true}
 use Rattle.std.proofs.lemmas.List.{append-nil, map-append, length-map, take-append-drop}
@@ -10,10 +10,8 @@ use Rattle.dist_frames.specs.History.{Accounts}
 use Rattle.dist_peers.specs.declared.entry.EndId.{EndId}
 use Rattle.dist_ends.specs.declared.why.Why.{Why}
 use Rattle.dist_ends.specs.declared.why.Why.TheVariants as why
-use Rattle.dist_core.specs.declared.event.Event.{Event}
 use Rattle.dist_core.specs.declared.event.Event.TheVariants as event
 use Rattle.dist_core.specs.declared.reply.Reply.{Reply}
-use Rattle.dist_ends.specs.declared.phase.Still.{Still}
 use Rattle.dist_core.specs.declared.step_error.StepError.{StepError}
 use Rattle.dist_streams.specs.Stream.{StreamState}
 use Rattle.dist_streams.specs.Turns.{Rises, Spends, Says, Hears, SaysFront}
@@ -21,12 +19,12 @@ use Rattle.dist_streams.specs.declared.turn_error.TurnError.{TurnError}
 use Rattle.dist_streams.specs.declared.turn_error.TurnError.TheVariants as fault
 use Rattle.dist_drive.specs.declared.outcome.Ending.{Ending}
 use Rattle.dist_drive.specs.declared.outcome.Ending.TheVariants as ending
-use Rattle.dist_drive.specs.Desks.{Step, event_of, number_of, last_reply}
+use Rattle.dist_drive.specs.Desks.{Step, event_of, number_of, last_reply, DeskFacts}
 use Rattle.dist_core.specs.Losses.{IsGone}
-use Rattle.dist_drive.specs.Numbers.{DrawsAll}
-use Rattle.dist_drive.specs.Driven.{frames_of, next_frame, events_of, HandsOnAll, WritesAll, HasCause, TellsLoss, Marks, is_of_end, is_of_failed_read, LeavesUnread, Carries}
+use Rattle.dist_drive.specs.Numbers.{Gives, DrawsAll}
+use Rattle.dist_drive.specs.Driven.{Start, Course, Finish, frames_of, events_of, HandsOnAll, WritesAll, HasCause, TellsLoss, Marks, is_of_end, is_of_failed_read, LeavesUnread, Carries}
 use Rattle.std.specs.Prelude.{◌≢◌, ◌||◌, IsErrAnd, IfOk, IfErr, OnOk, OnErr}
-use Rattle.dist_drive.specs.Running.{Runs, SaysReply, after_reply, own_why, ending_of_stream, HandsOn}
+use Rattle.dist_drive.specs.Running.{Place, Runs, SaysReply, after_reply, own_why, ending_of_stream, HandsOn}
 use Rattle.dist_drive.proofs.Texts.{prepend_known-none, Rises-trans, text_none}
 use Rattle.dist_drive.proofs.Keeping.{keeps_none}
 
@@ -38,7 +36,7 @@ same_length end_ steps handed e =
     let same : length (map event_of steps) ≡ length (events_of end_ handed) = ap length e in
     omega (arith, same, length-map steps event_of, length-map handed (event.Frame end_))
 
-pub draws_push : {W : Type 0} (gives : W → ℕ → W → Type 0) (w : W) (ns : List ℕ) (v u : W) (n : ℕ) → DrawsAll gives w ns v → gives v n u → DrawsAll gives w (ns ++ n ∷ []) u
+pub draws_push : {W : Type 0} (gives : Gives W) (w : W) (ns : List ℕ) (v u : W) (n : ℕ) → DrawsAll gives w ns v → gives v n u → DrawsAll gives w (ns ++ n ∷ []) u
 draws_push gives w [] v u n e g = (u, subst (λ x. gives x n u) (sym e) g, refl)
 draws_push gives w (m ∷ ns) v u n (next, g, more) h = (next, g, draws_push gives next ns v u n more h)
 
@@ -67,7 +65,7 @@ events_one end_ steps handed body n reply e =
     ∙ ap (λ l. l ++ event.Frame end_ body ∷ []) e
     ∙ sym (map-append (event.Frame end_) handed (body ∷ []))
 
-pub numbers_one : {W : Type 0} (gives : W → ℕ → W → Type 0) (w : W) (steps : List Step) (v u : W) (s : Step) → DrawsAll gives w (map number_of steps) v → gives v s.1 u → DrawsAll gives w (map number_of (steps ++ s ∷ [])) u
+pub numbers_one : {W : Type 0} (gives : Gives W) (w : W) (steps : List Step) (v u : W) (s : Step) → DrawsAll gives w (map number_of steps) v → gives v s.1 u → DrawsAll gives w (map number_of (steps ++ s ∷ [])) u
 numbers_one gives w steps v u s p g = subst (λ (l : List ℕ). DrawsAll gives w l u) (sym (map-append number_of steps (s ∷ []))) (draws_push gives w (map number_of steps) v u s.1 p g)
 
 pub list_one : (start before after steps : List Step) (s : Step) → before ≡ start ++ steps → after ≡ before ++ s ∷ [] → after ≡ start ++ (steps ++ s ∷ [])
@@ -154,12 +152,6 @@ gone_unread first start mid new w e is same kept =
     let told : ending.Gone w ≡ e = cc in
     subst (λ (x : Ending). LeavesUnread first start new x) told (record { unread = ap (λ s. s.unread) same ∙ kept.0; ended = ap (λ s. s.ended) same ∙ kept.1; read_failed = ap (λ s. s.read_failed) same ∙ kept.2; ending_is = tt })
 
--- what the ending shows after a reply
-pub record ShowsEnd {D : Type 0} (stands : D → EndId → Still → Type 0) (refuses : D → Event → ℕ → StepError → Type 0) (desk : D) (end_ : EndId) (reply : Reply) (new : StreamState) (left : ℕ) (part : List ℕ) (Handed : Type 0) (steps : List Step) (before : List ℕ) (e : Ending) : Type 0 where
-  pub all : HandsOnAll e Handed
-  pub whole : WritesAll e new (before ++ part ≡ before ++ reply.say)
-  pub cause : (next : Option (List ℕ)) → last_reply steps ≡ Some reply → HasCause stands refuses end_ steps next desk new left e
-
 pub own_is : (end_ : EndId) (closed : Option (EndId × Why)) (w : Why) → own_why end_ closed ≡ Some w → closed ≡ Some (end_, w)
 own_is end_ None w e = absurd cc
 own_is end_ (Some x) w e =
@@ -171,42 +163,78 @@ own_is end_ (Some x) w e =
       | false ↦ λ same is. absurd cc
     ] refl e
 
-pub shows_shut : {D : Type 0} (stands : D → EndId → Still → Type 0) (refuses : D → Event → ℕ → StepError → Type 0) (desk : D) (end_ : EndId) (reply : Reply) {new : StreamState} {left : ℕ} (Handed : Type 0) (steps : List Step) (before : List ℕ) (w : Why) (part : List ℕ) → own_why end_ reply.closed ≡ Some w → ((new.write_failed ≡ true) ⊎ (part ≡ reply.say)) → ShowsEnd stands refuses desk end_ reply new left part Handed steps before (ending.Shut w)
-shows_shut stands refuses desk end_ reply Handed steps before w part own whole = record {
-  all = tt;
-  whole = ⊎_elim (λ h. inl h) (λ h. inr (ap (λ l. before ++ l) h)) whole;
-  cause = λ next newest. (reply, newest, own_is end_ reply.closed w own);
-}
-
 pub failed : {old new : StreamState} {turns left : ℕ} (text : List ℕ) → SaysFront old new turns left (Some fault.WriteFailed) text → new.write_failed ≡ true
 failed text p = p.says.spends.write_failed
 
-pub shows_failed : {D : Type 0} (stands : D → EndId → Still → Type 0) (refuses : D → Event → ℕ → StepError → Type 0) (desk : D) (end_ : EndId) (reply : Reply) {old new : StreamState} {turns left : ℕ} (Handed : Type 0) (steps : List Step) (before : List ℕ) (own : Option Why) (e : Ending) → own_why end_ reply.closed ≡ own → (p : SaysFront old new turns left (Some fault.WriteFailed) reply.say) → after_reply own (Some fault.WriteFailed) ≡ Err e → ShowsEnd stands refuses desk end_ reply new left (take p.count reply.say) Handed steps before e
-shows_failed stands refuses desk end_ reply {new = new} {left = left} Handed steps before (Some w) e is p h =
-    let same : ending.Shut w ≡ e = cc in
-    subst (λ (x : Ending). ShowsEnd stands refuses desk end_ reply new left (take p.count reply.say) Handed steps before x) same (shows_shut stands refuses desk end_ reply Handed steps before w (take p.count reply.say) is (inl (failed reply.say p)))
-shows_failed stands refuses desk end_ reply {new = new} {left = left} Handed steps before None e is p h =
-    let same : ending.Fault why.WriteFailed ≡ e = cc in
-    subst (λ (x : Ending). ShowsEnd stands refuses desk end_ reply new left (take p.count reply.say) Handed steps before x) same (record { all = tt; whole = tt; cause = λ next newest. failed reply.say p })
+module _ {D W : Type 0} (facts : DeskFacts D) (start : Start D W) (course : Course W) (finish : Finish D W) where
+  -- what the ending shows
+  pub record Shows (Handed Said : Type 0) (e : Ending) : Type 0 where
+    pub all : HandsOnAll e Handed
+    pub whole : WritesAll e finish.stream Said
+    pub cause : HasCause facts start course finish e
 
-pub shows_whole : {D : Type 0} (stands : D → EndId → Still → Type 0) (refuses : D → Event → ℕ → StepError → Type 0) (desk : D) (end_ : EndId) (reply : Reply) {old new : StreamState} {turns left : ℕ} (Handed : Type 0) (steps : List Step) (before : List ℕ) (own : Option Why) (e : Ending) → own_why end_ reply.closed ≡ own → (p : SaysFront old new turns left None reply.say) → after_reply own None ≡ Err e → ShowsEnd stands refuses desk end_ reply new left (take p.count reply.say) Handed steps before e
-shows_whole stands refuses desk end_ reply {new = new} {left = left} Handed steps before (Some w) e is p h =
-    let same : ending.Shut w ≡ e = cc in
-    let all : take p.count reply.say ≡ reply.say = ap (λ n. take n reply.say) p.whole ∙ take-length reply.say in
-    subst (λ (x : Ending). ShowsEnd stands refuses desk end_ reply new left (take p.count reply.say) Handed steps before x) same (shows_shut stands refuses desk end_ reply Handed steps before w (take p.count reply.say) is (inr all))
-shows_whole stands refuses desk end_ reply Handed steps before None e is p h = absurd cc
+  -- after a reply, of which a part was said
+  pub record ShowsEnd (reply : Reply) (part : List ℕ) (Handed : Type 0) (before : List ℕ) (e : Ending) : Type 0 where
+    pub all : HandsOnAll e Handed
+    pub whole : WritesAll e finish.stream (before ++ part ≡ before ++ reply.say)
+    pub cause : last_reply course.steps ≡ Some reply → HasCause facts start course finish e
 
-pub shows_limit : {D : Type 0} (stands : D → EndId → Still → Type 0) (refuses : D → Event → ℕ → StepError → Type 0) (desk : D) (end_ : EndId) (reply : Reply) {old new : StreamState} {turns left : ℕ} (Handed : Type 0) (steps : List Step) (before : List ℕ) (own : Option Why) (e : Ending) → (p : SaysFront old new turns left (Some fault.Limit) reply.say) → after_reply own (Some fault.Limit) ≡ Err e → ShowsEnd stands refuses desk end_ reply new left (take p.count reply.say) Handed steps before e
-shows_limit stands refuses desk end_ reply {new = new} {left = left} Handed steps before own e p h =
-    let same : ending.Limit ≡ e = cc in
-    subst (λ (x : Ending). ShowsEnd stands refuses desk end_ reply new left (take p.count reply.say) Handed steps before x) same (record { all = tt; whole = tt; cause = λ next newest. p.says.spends.cause })
+  shows_shut : (reply : Reply) (part : List ℕ) (Handed : Type 0) (before : List ℕ) (w : Why)
+      → own_why start.end_ reply.closed ≡ Some w → ((finish.stream.write_failed ≡ true) ⊎ (part ≡ reply.say)) → ShowsEnd reply part Handed before (ending.Shut w)
+  shows_shut reply part Handed before w own whole = record {
+    all = tt;
+    whole = ⊎_elim (λ h. inl h) (λ h. inr (ap (λ l. before ++ l) h)) whole;
+    cause = λ newest. (reply, newest, own_is start.end_ reply.closed w own);
+  }
 
-pub shows : {D : Type 0} (stands : D → EndId → Still → Type 0) (refuses : D → Event → ℕ → StepError → Type 0) (desk : D) (end_ : EndId) (reply : Reply) {old new : StreamState} {turns left : ℕ} (Handed : Type 0) (steps : List Step) (before : List ℕ) (told : Option TurnError) (e : Ending) → (p : SaysFront old new turns left told reply.say) → after_reply (own_why end_ reply.closed) told ≡ Err e → ShowsEnd stands refuses desk end_ reply new left (take p.count reply.say) Handed steps before e
-shows stands refuses desk end_ reply Handed steps before None e p h = shows_whole stands refuses desk end_ reply Handed steps before (own_why end_ reply.closed) e refl p h
-shows stands refuses desk end_ reply Handed steps before (Some fault.WriteFailed) e p h = shows_failed stands refuses desk end_ reply Handed steps before (own_why end_ reply.closed) e refl p h
-shows stands refuses desk end_ reply Handed steps before (Some fault.Limit) e p h = shows_limit stands refuses desk end_ reply Handed steps before (own_why end_ reply.closed) e p h
-shows stands refuses desk end_ reply Handed steps before (Some fault.ReadFailed) e p h = absurd p.says.fault_is
-shows stands refuses desk end_ reply Handed steps before (Some fault.Ended) e p h = absurd p.says.fault_is
+  shows_failed : (reply : Reply) {old : StreamState} {turns : ℕ} (Handed : Type 0) (before : List ℕ) (own : Option Why) (e : Ending)
+      → own_why start.end_ reply.closed ≡ own → (p : SaysFront old finish.stream turns course.left (Some fault.WriteFailed) reply.say) → after_reply own (Some fault.WriteFailed) ≡ Err e
+      → ShowsEnd reply (take p.count reply.say) Handed before e
+  shows_failed reply Handed before (Some w) e is p h =
+      let same : ending.Shut w ≡ e = cc in
+      subst (λ (x : Ending). ShowsEnd reply (take p.count reply.say) Handed before x) same (shows_shut reply (take p.count reply.say) Handed before w is (inl (failed reply.say p)))
+  shows_failed reply Handed before None e is p h =
+      let same : ending.Fault why.WriteFailed ≡ e = cc in
+      subst (λ (x : Ending). ShowsEnd reply (take p.count reply.say) Handed before x) same (record { all = tt; whole = tt; cause = λ newest. failed reply.say p })
+
+  shows_whole : (reply : Reply) {old : StreamState} {turns : ℕ} (Handed : Type 0) (before : List ℕ) (own : Option Why) (e : Ending)
+      → own_why start.end_ reply.closed ≡ own → (p : SaysFront old finish.stream turns course.left None reply.say) → after_reply own None ≡ Err e
+      → ShowsEnd reply (take p.count reply.say) Handed before e
+  shows_whole reply Handed before (Some w) e is p h =
+      let same : ending.Shut w ≡ e = cc in
+      let all : take p.count reply.say ≡ reply.say = ap (λ n. take n reply.say) p.whole ∙ take-length reply.say in
+      subst (λ (x : Ending). ShowsEnd reply (take p.count reply.say) Handed before x) same (shows_shut reply (take p.count reply.say) Handed before w is (inr all))
+  shows_whole reply Handed before None e is p h = absurd cc
+
+  shows_limit : (reply : Reply) {old : StreamState} {turns : ℕ} (Handed : Type 0) (before : List ℕ) (own : Option Why) (e : Ending)
+      → (p : SaysFront old finish.stream turns course.left (Some fault.Limit) reply.say) → after_reply own (Some fault.Limit) ≡ Err e
+      → ShowsEnd reply (take p.count reply.say) Handed before e
+  shows_limit reply Handed before own e p h =
+      let same : ending.Limit ≡ e = cc in
+      subst (λ (x : Ending). ShowsEnd reply (take p.count reply.say) Handed before x) same (record { all = tt; whole = tt; cause = λ newest. p.says.spends.cause })
+
+  pub shows : (reply : Reply) {old : StreamState} {turns : ℕ} (Handed : Type 0) (before : List ℕ) (told : Option TurnError) (e : Ending)
+      → (p : SaysFront old finish.stream turns course.left told reply.say) → after_reply (own_why start.end_ reply.closed) told ≡ Err e
+      → ShowsEnd reply (take p.count reply.say) Handed before e
+  shows reply Handed before None e p h = shows_whole reply Handed before (own_why start.end_ reply.closed) e refl p h
+  shows reply Handed before (Some fault.WriteFailed) e p h = shows_failed reply Handed before (own_why start.end_ reply.closed) e refl p h
+  shows reply Handed before (Some fault.Limit) e p h = shows_limit reply Handed before (own_why start.end_ reply.closed) e p h
+  shows reply Handed before (Some fault.ReadFailed) e p h = absurd p.says.fault_is
+  shows reply Handed before (Some fault.Ended) e p h = absurd p.says.fault_is
+
+  -- after a read that was refused
+  pub unheard_shows : {old : StreamState} {turns : ℕ} (error : TurnError) (All : Type 0) (text : List ℕ) → All → Hears old finish.stream turns course.left (Some error) [] → Shows All (text ≡ text) (ending_of_stream error)
+  unheard_shows fault.Limit All text all hears = record { all = tt; whole = tt; cause = hears.spends.cause }
+  unheard_shows fault.Ended All text all hears = record { all = all; whole = refl; cause = (hears.spends.ended, hears.spends.cause) }
+  unheard_shows fault.ReadFailed All text all hears = record { all = all; whole = refl; cause = hears.spends.read_failed }
+  unheard_shows fault.WriteFailed All text all hears = absurd hears.fault_is
+
+  -- where the first words were not written whole
+  pub first_shows : {turns : ℕ} {All Said : Type 0} (error : TurnError) → SaysFront start.stream finish.stream turns course.left (Some error) start.first → Shows All Said (ending_of_stream error)
+  first_shows fault.Limit p = record { all = tt; whole = tt; cause = p.says.spends.cause }
+  first_shows fault.WriteFailed p = record { all = tt; whole = tt; cause = failed start.first p }
+  first_shows fault.ReadFailed p = absurd p.says.fault_is
+  first_shows fault.Ended p = absurd p.says.fault_is
 
 pub endings_are : (e f : Ending) → ends_as e ≡ ends_as f → f ≡ e
 endings_are e f h = cc
@@ -219,79 +247,54 @@ pub at_err : {X : Type 0} (P : Ending → Type 0) (r : Result X Ending) (e : End
 at_err P (Ok x) e h p = absurd h
 at_err P (Err y) e h p = subst P (sym h) p
 
-pub at_end : {D W : Type 0} (lists : D → List Step) (refuses : D → Event → ℕ → StepError → Type 0) (gives : W → ℕ → W → Type 0) (end_ other : EndId) (body : List ℕ) (draws drawn : W) (before after : D) (old new : StreamState) (turns left : ℕ) (result : Result Bool Ending) → other ≡ end_ → HandsOn lists refuses gives end_ body draws drawn before after old new turns left result → HandsOn lists refuses gives other body draws drawn before after old new turns left result
-at_end lists refuses gives end_ other body draws drawn before after old new turns left result e h = subst (λ (x : EndId). HandsOn lists refuses gives x body draws drawn before after old new turns left result) (sym e) h
-
--- what the ending shows then
-pub record ShowsUnheard {D : Type 0} (stands : D → EndId → Still → Type 0) (refuses : D → Event → ℕ → StepError → Type 0) (end_ : EndId) (steps : List Step) (desk : D) (new : StreamState) (left : ℕ) (All : Type 0) (text : List ℕ) (e : Ending) : Type 0 where
-  pub all : HandsOnAll e All
-  pub cause : (next : Option (List ℕ)) → HasCause stands refuses end_ steps next desk new left e
-  pub whole : WritesAll e new (text ≡ text)
-
-pub unheard_shows : {D : Type 0} (stands : D → EndId → Still → Type 0) (refuses : D → Event → ℕ → StepError → Type 0) (end_ : EndId) (steps : List Step) (desk : D) {old new : StreamState} {turns left : ℕ} (error : TurnError) (All : Type 0) (text : List ℕ) → All → Hears old new turns left (Some error) [] → ShowsUnheard stands refuses end_ steps desk new left All text (ending_of_stream error)
-unheard_shows stands refuses end_ steps desk fault.Limit All text all hears = record { all = tt; cause = λ next. hears.spends.cause; whole = tt }
-unheard_shows stands refuses end_ steps desk fault.Ended All text all hears = record { all = all; cause = λ next. (hears.spends.ended, hears.spends.cause); whole = refl }
-unheard_shows stands refuses end_ steps desk fault.ReadFailed All text all hears = record { all = all; cause = λ next. hears.spends.read_failed; whole = refl }
-unheard_shows stands refuses end_ steps desk fault.WriteFailed All text all hears = absurd hears.fault_is
+pub at_end : {D W : Type 0} (facts : DeskFacts D) (gives : Gives W) (end_ other : EndId) (body : List ℕ) (before after : Place D W) (result : Result Bool Ending) → other ≡ end_ → HandsOn facts gives end_ body before after result → HandsOn facts gives other body before after result
+at_end facts gives end_ other body before after result e h = subst (λ (x : EndId). HandsOn facts gives x body before after result) (sym e) h
 
 pub endings_same : (e f : Ending) → ends_whole e ≡ ends_whole f → f ≡ e
 endings_same e f h = cc
 
--- what the ending shows where the first words were not written whole
-pub record ShowsFirst {D : Type 0} (stands : D → EndId → Still → Type 0) (refuses : D → Event → ℕ → StepError → Type 0) (end_ : EndId) (desk : D) (new : StreamState) (left : ℕ) (All Said : Type 0) (e : Ending) : Type 0 where
-  pub all : HandsOnAll e All
-  pub cause : (next : Option (List ℕ)) → HasCause stands refuses end_ [] next desk new left e
-  pub whole : WritesAll e new Said
-
-pub first_shows : {D : Type 0} (stands : D → EndId → Still → Type 0) (refuses : D → Event → ℕ → StepError → Type 0) (end_ : EndId) (desk : D) {old new : StreamState} {limit left : ℕ} {All Said : Type 0} (error : TurnError) (first : List ℕ) → SaysFront old new limit left (Some error) first → ShowsFirst stands refuses end_ desk new left All Said (ending_of_stream error)
-first_shows stands refuses end_ desk fault.Limit first p = record { all = tt; cause = λ next. p.says.spends.cause; whole = tt }
-first_shows stands refuses end_ desk fault.WriteFailed first p = record { all = tt; cause = λ next. failed first p; whole = tt }
-first_shows stands refuses end_ desk fault.ReadFailed first p = absurd p.says.fault_is
-first_shows stands refuses end_ desk fault.Ended first p = absurd p.says.fault_is
-
 -- the first words were not written whole
-pub first_cut : {D W : Type 0} (lists : D → List Step) (stands : D → EndId → Still → Type 0) (refuses : D → Event → ℕ → StepError → Type 0) (gives : W → ℕ → W → Type 0) (end_ : EndId) (first : List ℕ) (limit left : ℕ) (old new : StreamState) (desk : D) (draws : W) (error : TurnError)
-    → SaysFront old new limit left (Some error) first
-    → Carries lists stands refuses gives end_ first limit old new (lists desk) desk draws (ending_of_stream error)
-first_cut lists stands refuses gives end_ first limit left old new desk draws error p =
-    let shown = first_shows stands refuses end_ desk error first p in
+pub first_cut : {D W : Type 0} (facts : DeskFacts D) (gives : Gives W) (start : Start D W) (stream : StreamState) (left : ℕ) (error : TurnError)
+    → SaysFront start.stream stream start.limit left (Some error) start.first
+    → Carries facts gives start (record { stream = stream; desk = start.desk; draws = start.draws }) (ending_of_stream error)
+first_cut {D = D} {W = W} facts gives start stream left error p =
+    let course : Course W = record { input = []; steps = []; output = take p.count start.first; left = left; draws = start.draws } in
+    let finish : Finish D W = record { stream = stream; desk = start.desk; draws = start.draws } in
+    let shown = first_shows facts start course finish error p in
     record {
-      heard = [];
-      steps = [];
-      drawn = draws;
-      said = take p.count first;
-      left = left;
-      read = sym (prepend_known-none old.unread) ∙ ap (prepend_known []) (sym p.says.unread);
-      written = p.says.written;
-      list = sym (append-nil (lists desk));
-      frames = (events_of end_ (frames_of [] []), refl);
-      all_frames = shown.all;
+      course = course;
+      input_is = sym (prepend_known-none start.stream.unread) ∙ ap (prepend_known []) (sym p.says.unread);
+      output_is = p.says.written;
+      list_is = sym (append-nil (facts.list start.desk));
+      events = (events_of start.end_ (frames_of [] []), refl);
+      all_events = shown.all;
       numbers = refl;
-      cause = shown.cause (next_frame [] []);
-      text = (drop p.count first, text_none first ∙ sym (take-append-drop p.count first));
+      draws_are = inl refl;
+      cause = shown.cause;
+      text = (drop p.count start.first, text_none start.first ∙ sym (take-append-drop p.count start.first));
       all_text = shown.whole;
-      in_turn = λ i h. absurd (omega (arith, h));
+      in_turn = λ i h. absurd (let none : i < 0 = h in omega (arith, none));
       within = p.says.spends.within;
       turns = p.says.spends.calls;
-      pieces = omega arith;
-      marks = first_marks error first p;
+      pieces = (let none : 0 ≤ 4096 * (start.limit - left) = omega arith in none);
+      marks = first_marks error start.first p;
     }
 
 -- they were
-pub begins_so : {W : Type 0} → Accounts [] [] [] → (gives : W → ℕ → W → Type 0) (end_ : EndId) (first : List ℕ) (limit left : ℕ) (old new : StreamState) (list : List Step) (draws : W)
-    → SaysFront old new limit left None first
-    → Runs gives (record { end_ = end_; first = first; limit = limit; stream = old; list = list; draws = draws }) new left list draws (Short [])
-begins_so none gives end_ first limit left old new list draws p =
-    let says = whole_reply first p in
+pub begins_so : {D W : Type 0} → Accounts [] [] [] → (facts : DeskFacts D) (gives : Gives W) (start : Start D W) (stream : StreamState) (left : ℕ)
+    → SaysFront start.stream stream start.limit left None start.first
+    → Runs facts gives start (record { stream = stream; left = left; desk = start.desk; draws = start.draws }) (Short [])
+begins_so none facts gives start stream left p =
+    let says = whole_reply start.first p in
     record {
-      heard = [];
-      handed = [];
+      input = [];
+      frames = [];
       steps = [];
-      read = sym (prepend_known-none old.unread) ∙ ap (prepend_known []) (sym says.unread);
-      written = says.written ∙ ap (append_known old.written) (sym (text_none first));
+      input_is = sym (prepend_known-none start.stream.unread) ∙ ap (prepend_known []) (sym says.unread);
+      output_is = says.written ∙ ap (append_known start.stream.written) (sym (text_none start.first));
       within = says.spends.within;
       turns = says.spends.calls;
-      list_is = sym (append-nil list);
+      list_is = sym (append-nil (facts.list start.desk));
       events = refl;
       numbers = refl;
       pieces = omega arith;
@@ -302,14 +305,14 @@ begins_so none gives end_ first limit left old new list draws p =
     }
 
 -- the loss was told, or the end was gone or unknown by then
-pub tells : {D : Type 0} (lists : D → List Step) (refuses : D → Event → ℕ → StepError → Type 0) (end_ : EndId) (before after : D) (w : Why) (r : Result (Unit {0}) StepError)
-    → OnOk r ((reply : Reply) × (lists after ≡ lists before ++ (event.Lost end_ w, 0, reply) ∷ []))
+pub tells : {D : Type 0} (facts : DeskFacts D) (end_ : EndId) (before after : D) (w : Why) (r : Result (Unit {0}) StepError)
+    → OnOk r ((reply : Reply) × (facts.list after ≡ facts.list before ++ (event.Lost end_ w, 0, reply) ∷ []))
     → OnErr r (after ≡ before)
-    → IfErr r (λ e. refuses before (event.Lost end_ w) 0 e)
+    → IfErr r (λ e. facts.refusal before (event.Lost end_ w) 0 e)
     → IfErr r IsGone
-    → (told : List Step) × (lists after ≡ lists before ++ told) × TellsLoss refuses end_ before (ending.Fault w) told
-tells lists refuses end_ before after w (Ok x) (reply, list) same why gone = ((event.Lost end_ w, 0, reply) ∷ [], list, inl (reply, refl))
-tells lists refuses end_ before after w (Err e) made same why gone = ([], ap lists same ∙ sym (append-nil (lists before)), inr (refl, (e, why, gone)))
+    → (losses : List Step) × (facts.list after ≡ facts.list before ++ losses) × TellsLoss facts end_ before (ending.Fault w) losses
+tells facts end_ before after w (Ok x) (reply, list) same why gone = ((event.Lost end_ w, 0, reply) ∷ [], list, inl (reply, refl))
+tells facts end_ before after w (Err e) made same why gone = ([], ap facts.list same ∙ sym (append-nil (facts.list before)), inr (refl, (e, why, gone)))
 
 pub if_ok_maps : {X E : Type 0} (P Q : X → Type 0) (r : Result X E) → IfOk r P → ((x : X) → P x → Q x) → IfOk r Q
 if_ok_maps P Q (Ok x) p f = f x p

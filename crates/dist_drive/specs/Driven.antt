@@ -1,5 +1,6 @@
--- ONE DRIVEN CALL: what it read, what it handed on, what it said, and how it ended.
-use Rattle.std.specs.Prelude.{◌≡◌, ◌≢◌, ℕ, ◌+◌, ◌-◌, ◌*◌, ◌<◌, ◌≤◌, ◌⊎◌, Bool, true, false, ◌||◌, List, [], ◌∷◌, ◌++◌, length, take, map, Option, Some, None, is_some, slice_get, position}
+-- ONE DRIVEN CALL: what it read, what it handed on, what it wrote, and how it ended.
+use Rattle.std.specs.Prelude.{◌≡◌, ◌≢◌, ℕ, ◌+◌, ◌-◌, ◌*◌, ◌<◌, ◌≤◌, ◌⊎◌, Bool, true, false, ◌||◌}
+use Rattle.std.specs.Prelude.{List, [], ◌∷◌, ◌++◌, length, take, map, Option, Some, None, is_some, slice_get, position}
 use Rattle.std.specs.List.{flat_map}
 use Rattle.std.specs.Io.KnownBytes.{prepend_known, append_known, IsAtEnd}
 use Rattle.dist_frames.specs.Stream.{bodies}
@@ -20,8 +21,47 @@ use Rattle.dist_drive.specs.declared.outcome.Outcome.{Outcome}
 use Rattle.dist_drive.specs.declared.outcome.Outcome.TheVariants as outcome
 use Rattle.dist_drive.specs.declared.outcome.Ending.{Ending}
 use Rattle.dist_drive.specs.declared.outcome.Ending.TheVariants as ending
-use Rattle.dist_drive.specs.Desks.{Step, event_of, number_of, last_reply, IsOther}
-use Rattle.dist_drive.specs.Numbers.{DrawsAll}
+use Rattle.dist_drive.specs.Desks.{Step, event_of, number_of, reply_of, last_reply, DeskFacts, IsOther}
+use Rattle.dist_drive.specs.Numbers.{Gives, DrawsAll, DrawsOneAtMost}
+
+-- ---- a call, as it begins, what it does, and what it leaves
+
+-- a call as it begins
+pub record Start (D W : Type 0) : Type 0 where
+  -- the end that is driven
+  pub end_ : EndId
+  -- what is written before anything is read
+  pub first : List ℕ
+  -- how many reads and writes may be made
+  pub limit : ℕ
+  -- the stream
+  pub stream : StreamState
+  -- the desk
+  pub desk : D
+  -- the source of challenges
+  pub draws : W
+
+-- what a call does
+pub record Course (W : Type 0) : Type 0 where
+  -- the bytes that its reads give
+  pub input : List ℕ
+  -- the frames that it hands on, each with its number and its reply
+  pub steps : List Step
+  -- the bytes that it writes
+  pub output : List ℕ
+  -- how many reads and writes are left
+  pub left : ℕ
+  -- the source of challenges behind the last step
+  pub draws : W
+
+-- what a call leaves
+pub record Finish (D W : Type 0) : Type 0 where
+  -- the stream
+  pub stream : StreamState
+  -- the desk
+  pub desk : D
+  -- the source of challenges
+  pub draws : W
 
 -- ---- frames and text
 
@@ -31,7 +71,7 @@ IsFront {X = X} front whole = (rest : List X) × (whole ≡ front ++ rest)
 
 -- the reply brought the end up
 abbrev pub is_up : Step → Bool
-is_up step = is_some step.2.up
+is_up step = is_some (reply_of step).up
 
 -- the elements up to and with the one at this place; all, where there is no place
 abbrev pub through : {X : Type 0} → Option ℕ → List X → List X
@@ -41,22 +81,23 @@ through (Some place) xs = take (place + 1) xs
 -- THE FRAMES OF A CALL: the bodies of all that was read, up to and with the one whose reply brought the end up. What
 -- follows that one is packets.
 abbrev pub frames_of : List ℕ → List Step → List (List ℕ)
-frames_of heard steps = through (position is_up steps) (bodies heard)
+frames_of input steps = through (position is_up steps) (bodies input)
 
 -- the next frame of a call, behind those that were handed on
 abbrev pub next_frame : List ℕ → List Step → Option (List ℕ)
-next_frame heard steps = slice_get (frames_of heard steps) (length steps)
+next_frame input steps = slice_get (frames_of input steps) (length steps)
 
 -- the events by which they are handed on
 abbrev pub events_of : EndId → List (List ℕ) → List Event
 events_of end_ frames = map (event.Frame end_) frames
 
--- THE TEXT OF A CALL: what was to be said first, then what each reply says
+-- THE TEXT OF A CALL: what is written first, then what each reply says
 abbrev pub text_of : List ℕ → List Step → List ℕ
-text_of first steps = first ++ flat_map (λ step. step.2.say) steps
+text_of first steps = first ++ flat_map (λ step. (reply_of step).say) steps
 
 -- ---- the ending
 
+-- the outcome of a call that ends so
 abbrev pub outcome_of : Ending → Outcome
 outcome_of ending.Limit = outcome.Limit
 outcome_of (ending.Shut w) = outcome.Closed w
@@ -77,18 +118,34 @@ WritesAll (ending.Fault why.WriteFailed) new All = Unit {0}
 WritesAll (ending.Shut w) new All = (new.write_failed ≡ true) ⊎ All
 WritesAll other new All = All
 
--- What the ending shows. A desk that tells that the end is gone, or refuses a frame, is the one after the last frame that
--- was handed on. The frame that it refuses is the next; where it tells that the end is gone, there is no next one.
-abbrev pub HasCause : {D : Type 0} → (D → EndId → Still → Type 0) → (D → Event → ℕ → StepError → Type 0) → EndId → List Step → Option (List ℕ) → D → StreamState → ℕ → Ending → Type 0
-HasCause stands refuses end_ steps next desk new left ending.Limit = left ≡ 0
-HasCause stands refuses end_ steps next desk new left (ending.Shut w) = (reply : Reply) × (last_reply steps ≡ Some reply) × (reply.closed ≡ Some (end_, w))
-HasCause stands refuses end_ steps next desk new left (ending.Gone w) = (stands desk end_ (still.Gone w) × (next ≡ None)) ⊎ ((body : List ℕ) × (n : ℕ) × (next ≡ Some body) × refuses desk (event.Frame end_ body) n (error.Gone w))
-HasCause stands refuses end_ steps next desk new left (ending.Fault why.Ended) = (new.ended ≡ true) × IsAtEnd new.unread
-HasCause stands refuses end_ steps next desk new left (ending.Fault why.ReadFailed) = new.read_failed ≡ true
-HasCause stands refuses end_ steps next desk new left (ending.Fault why.WriteFailed) = new.write_failed ≡ true
-HasCause stands refuses end_ steps next desk new left (ending.Fault why.NoMemory) = Unit {0}
-HasCause stands refuses end_ steps next desk new left (ending.Fault why.GaveUp) = (body : List ℕ) × (n : ℕ) × (e : StepError) × (next ≡ Some body) × refuses desk (event.Frame end_ body) n e × IsOther e
-HasCause stands refuses end_ steps next desk new left (ending.Fault other) = ⊥
+module _ {D W : Type 0} (facts : DeskFacts D) (start : Start D W) (course : Course W) (finish : Finish D W) where
+  -- there is no next frame
+  abbrev pub HasNoNext : Type 0
+  HasNoNext = next_frame course.input course.steps ≡ None
+
+  -- there is a next frame, and the desk refuses it so
+  abbrev pub RefusesNext : StepError → Type 0
+  RefusesNext error =
+      (body : List ℕ) × (number : ℕ)
+      × (next_frame course.input course.steps ≡ Some body)
+      × facts.refusal finish.desk (event.Frame start.end_ body) number error
+
+  -- the newest reply closed the end, for this cause
+  abbrev pub ClosesEnd : Why → Type 0
+  ClosesEnd w = (reply : Reply) × (last_reply course.steps ≡ Some reply) × (reply.closed ≡ Some (start.end_, w))
+
+  -- What the ending shows. The desk that tells that the end is gone, or refuses a frame, is the one behind the last step.
+  -- Where it tells that the end is gone, no frame is left.
+  abbrev pub HasCause : Ending → Type 0
+  HasCause ending.Limit = course.left ≡ 0
+  HasCause (ending.Shut w) = ClosesEnd w
+  HasCause (ending.Gone w) = (facts.standing finish.desk start.end_ (still.Gone w) × HasNoNext) ⊎ RefusesNext (error.Gone w)
+  HasCause (ending.Fault why.Ended) = (finish.stream.ended ≡ true) × IsAtEnd finish.stream.unread
+  HasCause (ending.Fault why.ReadFailed) = finish.stream.read_failed ≡ true
+  HasCause (ending.Fault why.WriteFailed) = finish.stream.write_failed ≡ true
+  HasCause (ending.Fault why.NoMemory) = Unit {0}
+  HasCause (ending.Fault why.GaveUp) = (error : StepError) × IsOther error × RefusesNext error
+  HasCause (ending.Fault other) = ⊥
 
 -- the call ends since the stream has ended
 abbrev pub is_of_end : Ending → Bool
@@ -109,15 +166,18 @@ IsOfFailedWrite other = ⊥
 -- THE MARKS OF A CALL: the stream's marks that were not there before are told by the ending. So nothing is read once the
 -- stream said that it has ended or that a read failed, and nothing is read or handed on once a write failed.
 pub record Marks (ending : Ending) (old new : StreamState) : Type 0 where
+  -- That the stream has ended is marked where the call ends for that.
   pub ended : new.ended ≡ (is_of_end ending || old.ended)
+  -- That a read failed is marked where the call ends for that.
   pub read_failed : new.read_failed ≡ (is_of_failed_read ending || old.read_failed)
+  -- That a write failed is marked at most where the call may end for that.
   pub write_failed : (new.write_failed ≡ old.write_failed) ⊎ IsOfFailedWrite ending
 
 -- ---- an end that is gone
 
 -- All that the desk can say of the end is that it is gone.
-abbrev pub IsOnlyGone : {D : Type 0} → (D → EndId → Still → Type 0) → D → EndId → Type 0
-IsOnlyGone stands desk end_ = (s : Still) → stands desk end_ s → (w : Why) × (s ≡ still.Gone w)
+abbrev pub IsOnlyGone : {D : Type 0} → DeskFacts D → D → EndId → Type 0
+IsOnlyGone facts desk end_ = (s : Still) → facts.standing desk end_ s → (w : Why) × (s ≡ still.Gone w)
 
 -- The call tells that the end is gone, unless what was to be said first could not be written.
 abbrev pub EndsUnread : List ℕ → Ending → Type 0
@@ -128,63 +188,74 @@ EndsUnread first other = ⊥
 
 -- Nothing is read, and the call ends so.
 pub record LeavesUnread (first : List ℕ) (old new : StreamState) (ending : Ending) : Type 0 where
+  -- No byte is read.
   pub unread : new.unread ≡ old.unread
+  -- No mark of a read is set.
   pub ended : new.ended ≡ old.ended
   pub read_failed : new.read_failed ≡ old.read_failed
+  -- The call tells why.
   pub ending_is : EndsUnread first ending
 
--- A fault of the call's own is told as one loss with that cause, unless the end is gone or unknown by then. Nothing else
--- is told.
-abbrev pub TellsLoss : {D : Type 0} → (D → Event → ℕ → StepError → Type 0) → EndId → D → Ending → List Step → Type 0
-TellsLoss refuses end_ desk (ending.Fault w) told =
-    ((reply : Reply) × (told ≡ (event.Lost end_ w, 0, reply) ∷ []))
-    ⊎ ((told ≡ []) × ((e : StepError) × refuses desk (event.Lost end_ w) 0 e × IsGone e))
-TellsLoss refuses end_ desk other told = told ≡ []
+-- A fault of the call's own is told the desk as one loss with that cause, unless the desk refuses it, since the end is gone
+-- or unknown by then. Nothing else is told. The list has the steps by which it is told.
+abbrev pub TellsLoss : {D : Type 0} → DeskFacts D → EndId → D → Ending → List Step → Type 0
+TellsLoss facts end_ desk (ending.Fault w) losses =
+    ((reply : Reply) × (losses ≡ (event.Lost end_ w, 0, reply) ∷ []))
+    ⊎ ((losses ≡ []) × ((e : StepError) × facts.refusal desk (event.Lost end_ w) 0 e × IsGone e))
+TellsLoss facts end_ desk other losses = losses ≡ []
 
 -- ---- the call
 
--- What was read, handed on and said, up to the ending. The desk and what draws are those after the last frame.
-pub record Carries {D W : Type 0} (lists : D → List Step) (stands : D → EndId → Still → Type 0) (refuses : D → Event → ℕ → StepError → Type 0) (gives : W → ℕ → W → Type 0) (end_ : EndId) (first : List ℕ) (limit : ℕ) (old new : StreamState) (before : List Step) (desk : D) (draws : W) (ending : Ending) : Type 0 where
-  -- what the reads gave
-  pub heard : List ℕ
-  -- the frames that were handed on, each with its number and its reply
-  pub steps : List Step
-  -- what draws, after them
-  pub drawn : W
-  -- what was written
-  pub said : List ℕ
-  -- the turns that are left
-  pub left : ℕ
-  pub read : old.unread ≡ prepend_known heard new.unread
-  pub written : new.written ≡ append_known old.written said
-  -- the desk's list grows by frames of the call in order
-  pub list : lists desk ≡ before ++ steps
-  pub frames : IsFront (map event_of steps) (events_of end_ (frames_of heard steps))
-  pub all_frames : HandsOnAll ending (map event_of steps ≡ events_of end_ (frames_of heard steps))
-  -- each frame with a number of its own, as they are drawn
-  pub numbers : DrawsAll gives draws (map number_of steps) drawn
-  -- why it ended
-  pub cause : HasCause stands refuses end_ steps (next_frame heard steps) desk new left ending
-  -- a front of the text was written; and all that was to be said before a frame was handed on
-  pub text : IsFront said (text_of first steps)
-  pub all_text : WritesAll ending new (said ≡ text_of first steps)
-  pub in_turn : (i : ℕ) → i < length steps → IsFront (text_of first (take i steps)) said
-  -- at most as many reads and writes were made as were allowed, and where the limit is told, so many
-  pub within : left ≤ limit
-  pub turns : Rises (limit - left) old.calls new.calls
-  -- no read gave more than this many bytes
-  pub pieces : length heard ≤ 4096 * (limit - left)
-  -- once a mark is set, the call ends
-  pub marks : Marks ending old new
+module _ {D W : Type 0} (facts : DeskFacts D) (gives : Gives W) (start : Start D W) where
+  -- What is read, handed on and written, up to the ending.
+  pub record Carries (finish : Finish D W) (ending : Ending) : Type 0 where
+    -- what the call does
+    pub course : Course W
+    -- What it reads is a front of what the stream had for reads, and the rest of that is unread still.
+    pub input_is : start.stream.unread ≡ prepend_known course.input finish.stream.unread
+    -- What it writes stands behind what was written before.
+    pub output_is : finish.stream.written ≡ append_known start.stream.written course.output
+    -- The desk's list grows by the steps.
+    pub list_is : facts.list finish.desk ≡ facts.list start.desk ++ course.steps
+    -- What is handed on is a front of the frames of the call, in order.
+    pub events : IsFront (map event_of course.steps) (events_of start.end_ (frames_of course.input course.steps))
+    -- It is all of them, where the ending says so.
+    pub all_events : HandsOnAll ending (map event_of course.steps ≡ events_of start.end_ (frames_of course.input course.steps))
+    -- Each frame has a number of its own, as they are drawn.
+    pub numbers : DrawsAll gives start.draws (map number_of course.steps) course.draws
+    -- At most one more is drawn: for a frame that the desk refuses.
+    pub draws_are : DrawsOneAtMost gives course.draws finish.draws
+    -- The ending has its cause.
+    pub cause : HasCause facts start course finish ending
+    -- What is written is a front of the text of the call.
+    pub text : IsFront course.output (text_of start.first course.steps)
+    -- It is the whole text, where the ending says so.
+    pub all_text : WritesAll ending finish.stream (course.output ≡ text_of start.first course.steps)
+    -- Before a frame is handed on, all is written that is to be said before it.
+    pub in_turn : (i : ℕ) → i < length course.steps → IsFront (text_of start.first (take i course.steps)) course.output
+    -- At most as many reads and writes are made as may be, and where the limit is told, so many.
+    pub within : course.left ≤ start.limit
+    pub turns : Rises (start.limit - course.left) start.stream.calls finish.stream.calls
+    -- No read gives more than 4,096 bytes.
+    pub pieces : length course.input ≤ 4096 * (start.limit - course.left)
+    -- Once a mark is set, the call ends.
+    pub marks : Marks ending start.stream finish.stream
 
--- the whole call: up to its ending, and then the loss that is told, at most one
-pub record Drives {D W : Type 0} (lists : D → List Step) (stands : D → EndId → Still → Type 0) (refuses : D → Event → ℕ → StepError → Type 0) (gives : W → ℕ → W → Type 0) (end_ : EndId) (first : List ℕ) (limit : ℕ) (old new : StreamState) (before after : D) (draws : W) (outcome : Outcome) : Type 0 where
-  pub ending : Ending
-  pub desk : D
-  pub carries : Carries lists stands refuses gives end_ first limit old new (lists before) desk draws ending
-  pub told : List Step
-  pub list : lists after ≡ lists desk ++ told
-  pub loss : TellsLoss refuses end_ desk ending told
-  pub outcome_is : outcome ≡ outcome_of ending
-  -- the desk is asked before anything is read
-  pub gone : IsOnlyGone stands before end_ → LeavesUnread first old new ending
+  -- THE WHOLE CALL: up to its ending, and then the loss that is told, at most one.
+  pub record Drives (finish : Finish D W) (outcome : Outcome) : Type 0 where
+    -- how it ends
+    pub ending : Ending
+    -- the desk before a loss is told
+    pub desk : D
+    -- Up to its ending it carries frames and text.
+    pub carries : Carries (record finish { desk = desk }) ending
+    -- the steps by which a loss is told
+    pub losses : List Step
+    -- They are of a fault of the call's own.
+    pub losses_are : TellsLoss facts start.end_ desk ending losses
+    -- The desk's list grows by them.
+    pub list_is : facts.list finish.desk ≡ facts.list desk ++ losses
+    -- The outcome tells how it ends.
+    pub outcome_is : outcome ≡ outcome_of ending
+    -- The desk is asked before anything is read: of an end that is gone nothing is.
+    pub gone : IsOnlyGone facts start.desk start.end_ → LeavesUnread start.first start.stream finish.stream ending

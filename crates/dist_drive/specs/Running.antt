@@ -1,5 +1,6 @@
 -- What a driven call keeps on its way, and what its parts do.
-use Rattle.std.specs.Prelude.{◌≡◌, ℕ, suc, ◌+◌, ◌-◌, ◌*◌, ◌≤◌, ◌⊎◌, Bool, true, List, [], ◌∷◌, ◌++◌, length, map, Option, Some, None, is_some, Result, Ok, Err, IfOk, IfErr, OnOk, eqb, if◌then◌else◌}
+use Rattle.std.specs.Prelude.{◌≡◌, ℕ, suc, ◌+◌, ◌-◌, ◌*◌, ◌≤◌, ◌⊎◌, Bool, true, List, [], ◌∷◌, ◌++◌, length, map}
+use Rattle.std.specs.Prelude.{Option, Some, None, is_some, Result, Ok, Err, IfOk, IfErr, OnOk, eqb, if◌then◌else◌}
 use Rattle.std.specs.List.{position_or_len}
 use Rattle.std.specs.Io.KnownBytes.{prepend_known, append_known}
 use Rattle.dist_frames.specs.Reader.{Reader, Short, Linked, fed, linked, told}
@@ -7,7 +8,6 @@ use Rattle.dist_frames.specs.History.{Accounts, IsBytes}
 use Rattle.dist_peers.specs.declared.entry.EndId.{EndId}
 use Rattle.dist_ends.specs.declared.why.Why.{Why}
 use Rattle.dist_ends.specs.declared.why.Why.TheVariants as why
-use Rattle.dist_core.specs.declared.event.Event.{Event}
 use Rattle.dist_core.specs.declared.event.Event.TheVariants as event
 use Rattle.dist_core.specs.declared.reply.Reply.{Reply}
 use Rattle.dist_core.specs.declared.step_error.StepError.{StepError}
@@ -18,26 +18,30 @@ use Rattle.dist_streams.specs.declared.turn_error.TurnError.{TurnError}
 use Rattle.dist_streams.specs.declared.turn_error.TurnError.TheVariants as fault
 use Rattle.dist_drive.specs.declared.outcome.Ending.{Ending}
 use Rattle.dist_drive.specs.declared.outcome.Ending.TheVariants as ending
-use Rattle.dist_drive.specs.Desks.{Step, event_of, number_of, last_reply}
-use Rattle.dist_drive.specs.Numbers.{DrawsAll}
-use Rattle.dist_ends.specs.declared.phase.Still.{Still}
-use Rattle.dist_drive.specs.Driven.{is_up, events_of, text_of, Carries}
+use Rattle.dist_drive.specs.Desks.{Step, event_of, number_of, last_reply, DeskFacts}
+use Rattle.dist_drive.specs.Numbers.{Gives, DrawsAll}
+use Rattle.dist_drive.specs.Driven.{Start, Finish, is_up, events_of, text_of, Carries}
 
 -- ---- the reader
 
 -- no frame was handed on yet whose reply brought the end up
-pub record KeepsShort (heard : List ℕ) (handed : List (List ℕ)) (steps : List Step) (pending : List ℕ) : Type 0 where
-  pub accounts : Accounts heard handed pending
+pub record KeepsShort (input : List ℕ) (frames : List (List ℕ)) (steps : List Step) (pending : List ℕ) : Type 0 where
+  -- The input is these frames, and then what is pending.
+  pub accounts : Accounts input frames pending
+  -- No reply brought the end up.
   pub none_up : position_or_len is_up steps ≡ length steps
 
 -- the last frame that was handed on brought the end up
-pub record KeepsLinked (heard : List ℕ) (handed : List (List ℕ)) (steps : List Step) (more : List ℕ) : Type 0 where
-  pub accounts : Accounts heard handed more
+pub record KeepsLinked (input : List ℕ) (frames : List (List ℕ)) (steps : List Step) (more : List ℕ) : Type 0 where
+  -- The input is these frames, and then more.
+  pub accounts : Accounts input frames more
+  -- The last reply, and no earlier one, brought the end up.
   pub last_up : suc (position_or_len is_up steps) ≡ length steps
 
+-- what the reader holds stood in the input behind the frames that were handed on; once it is linked, packets may be gone
 abbrev pub Keeps : List ℕ → List (List ℕ) → List Step → Reader → Type 0
-Keeps heard handed steps (Short pending) = KeepsShort heard handed steps pending
-Keeps heard handed steps (Linked ended rest) = (more : List ℕ) × KeepsLinked heard handed steps more
+Keeps input frames steps (Short pending) = KeepsShort input frames steps pending
+Keeps input frames steps (Linked ended rest) = (more : List ℕ) × KeepsLinked input frames steps more
 
 -- the reader once it is known whether the last frame brought the end up: then all that follows is packets
 abbrev pub after_step : Bool → Reader → Reader
@@ -45,56 +49,67 @@ after_step up r = if up then linked r else r
 
 -- the last frame that was handed on brought the end up, and the reader, which is not yet linked, holds what stood behind it
 abbrev pub KeepsUp : List ℕ → List (List ℕ) → List Step → Reader → Type 0
-KeepsUp heard handed steps (Short rest) = KeepsLinked heard handed steps rest
-KeepsUp heard handed steps (Linked ended rest) = ⊥
+KeepsUp input frames steps (Short rest) = KeepsLinked input frames steps rest
+KeepsUp input frames steps (Linked ended rest) = ⊥
 
 -- ---- the call on its way
 
--- a call when it began
-pub record Start (W : Type 0) : Type 0 where
-  pub end_ : EndId
-  pub first : List ℕ
-  pub limit : ℕ
+-- where a call stands
+pub record Place (D W : Type 0) : Type 0 where
+  -- the stream
   pub stream : StreamState
-  pub list : List Step
+  -- how many reads and writes are left
+  pub left : ℕ
+  -- the desk
+  pub desk : D
+  -- the source of challenges
   pub draws : W
-
--- Each frame that came whole was handed on or waits in the reader, and all that was to be said was said.
-pub record Runs {W : Type 0} (gives : W → ℕ → W → Type 0) (start : Start W) (stream : StreamState) (left : ℕ) (list : List Step) (draws : W) (reader : Reader) : Type 0 where
-  pub heard : List ℕ
-  pub handed : List (List ℕ)
-  pub steps : List Step
-  pub read : start.stream.unread ≡ prepend_known heard stream.unread
-  pub written : stream.written ≡ append_known start.stream.written (text_of start.first steps)
-  pub within : left ≤ start.limit
-  pub turns : Rises (start.limit - left) start.stream.calls stream.calls
-  pub list_is : list ≡ start.list ++ steps
-  pub events : map event_of steps ≡ events_of start.end_ handed
-  pub numbers : DrawsAll gives start.draws (map number_of steps) draws
-  pub pieces : length heard ≤ 4096 * (start.limit - left)
-  pub ended : stream.ended ≡ start.stream.ended
-  pub read_failed : stream.read_failed ≡ start.stream.read_failed
-  pub write_failed : stream.write_failed ≡ start.stream.write_failed
-  pub keeps : Keeps heard handed steps reader
 
 -- the newest reply brought its end up
 abbrev pub IsUpNow : List Step → Type 0
 IsUpNow list = (reply : Reply) × (last_reply list ≡ Some reply) × (is_some reply.up ≡ true)
 
--- The call is on its way. Where a frame brought the end up, no later one was looked at.
-pub record Goes {W : Type 0} (gives : W → ℕ → W → Type 0) (start : Start W) (stream : StreamState) (left : ℕ) (list : List Step) (draws : W) (reader : Reader) (up : Bool) : Type 0 where
-  pub runs : Runs gives start stream left list draws (after_step up reader)
-  pub rest : up ≡ true → KeepsUp runs.heard runs.handed runs.steps reader
-  pub newest : up ≡ true → IsUpNow list
+module _ {D W : Type 0} (facts : DeskFacts D) (gives : Gives W) where
+  -- Each frame that came whole was handed on or waits in the reader, and all that was to be said was written.
+  pub record Runs (start : Start D W) (place : Place D W) (reader : Reader) : Type 0 where
+    -- the bytes that were read
+    pub input : List ℕ
+    -- the frames that were handed on
+    pub frames : List (List ℕ)
+    -- their steps
+    pub steps : List Step
+    -- No byte that was read is lost.
+    pub input_is : start.stream.unread ≡ prepend_known input place.stream.unread
+    -- All that was to be said was written.
+    pub output_is : place.stream.written ≡ append_known start.stream.written (text_of start.first steps)
+    -- At most as many reads and writes were made as may be.
+    pub within : place.left ≤ start.limit
+    pub turns : Rises (start.limit - place.left) start.stream.calls place.stream.calls
+    -- The desk's list grew by the steps.
+    pub list_is : facts.list place.desk ≡ facts.list start.desk ++ steps
+    -- The steps hand on these frames, in order.
+    pub events : map event_of steps ≡ events_of start.end_ frames
+    -- Each has a number of its own, as they are drawn.
+    pub numbers : DrawsAll gives start.draws (map number_of steps) place.draws
+    -- No read gave more than 4,096 bytes.
+    pub pieces : length input ≤ 4096 * (start.limit - place.left)
+    -- No mark was set.
+    pub ended : place.stream.ended ≡ start.stream.ended
+    pub read_failed : place.stream.read_failed ≡ start.stream.read_failed
+    pub write_failed : place.stream.write_failed ≡ start.stream.write_failed
+    -- The reader holds what stands behind those frames.
+    pub keeps : Keeps input frames steps reader
+
+  -- The call is on its way. Where a frame brought the end up, no later one was looked at.
+  pub record Goes (start : Start D W) (place : Place D W) (reader : Reader) (up : Bool) : Type 0 where
+    -- With the reader linked, where the end is up, the call goes on.
+    pub runs : Runs start place (after_step up reader)
+    -- Where the end is up, the reader has what stands behind its frame.
+    pub rest : up ≡ true → KeepsUp runs.input runs.frames runs.steps reader
+    -- It is the newest reply that brought it up.
+    pub newest : up ≡ true → IsUpNow (facts.list place.desk)
 
 -- ---- one frame
-
--- the frame was handed on, with the next number
-pub record MakesStep {W : Type 0} (gives : W → ℕ → W → Type 0) (end_ : EndId) (body : List ℕ) (draws drawn : W) (before after : List Step) : Type 0 where
-  pub number : ℕ
-  pub reply : Reply
-  pub drawn_is : gives draws number drawn
-  pub list : after ≡ before ++ (event.Frame end_ body, number, reply) ∷ []
 
 -- why the call ends where the desk refused a frame
 abbrev pub ending_of_refusal : StepError → Ending
@@ -123,66 +138,110 @@ after_reply None None = Ok tt
 
 -- what a reply says was written, or a front of it
 pub record SaysReply (end_ : EndId) (reply : Reply) (old new : StreamState) (turns left : ℕ) (result : Result Bool Ending) : Type 0 where
+  -- the fault of the writes, where there is one
   pub fault : Option TurnError
+  -- A front of what the reply says was written: all of it, unless there is a fault.
   pub says : SaysFront old new turns left fault reply.say
+  -- The call goes on only where the reply and the fault let it, and the answer is whether the reply brought the end up.
   pub goes_on : IfOk result (λ up. (after_reply (own_why end_ reply.closed) fault ≡ Ok tt) × (up ≡ is_some reply.up))
+  -- It ends as the reply and the fault ask it.
   pub ends : (e : Ending) → result ≡ Err e → after_reply (own_why end_ reply.closed) fault ≡ Err e
 
--- the desk refused the frame, and nothing changed
-pub record RefusesFrame {D : Type 0} (refuses : D → Event → ℕ → StepError → Type 0) (end_ : EndId) (body : List ℕ) (before after : D) (old new : StreamState) (turns left : ℕ) (result : Result Bool Ending) : Type 0 where
-  pub number : ℕ
-  pub error : StepError
-  pub refused : refuses before (event.Frame end_ body) number error
-  pub ends : result ≡ Err (ending_of_refusal error)
-  pub desk_is : after ≡ before
-  pub stream_is : new ≡ old
-  pub turns_are : left ≡ turns
+module _ {D W : Type 0} (facts : DeskFacts D) (gives : Gives W) (end_ : EndId) (body : List ℕ) where
+  -- the frame was handed on, with the next number
+  pub record MakesStep (before after : D) (draws drawn : W) : Type 0 where
+    -- its number
+    pub number : ℕ
+    -- the reply to it
+    pub reply : Reply
+    -- The number is the next one.
+    pub number_is : gives draws number drawn
+    -- The desk's list grew by the step.
+    pub list_is : facts.list after ≡ facts.list before ++ (event.Frame end_ body, number, reply) ∷ []
 
--- the frame was handed on, and what the reply says was written, or a front of it
-pub record TakesFrame {W : Type 0} (gives : W → ℕ → W → Type 0) (end_ : EndId) (body : List ℕ) (draws drawn : W) (before after : List Step) (old new : StreamState) (turns left : ℕ) (result : Result Bool Ending) : Type 0 where
-  pub made : MakesStep gives end_ body draws drawn before after
-  pub says : SaysReply end_ made.reply old new turns left result
+  -- the desk refused the frame, with the next number, and the call ends so
+  pub record RefusesStep (desk : D) (draws drawn : W) (ending : Ending) : Type 0 where
+    -- the number that was drawn for it
+    pub number : ℕ
+    -- why the desk refused it
+    pub error : StepError
+    -- The number is the next one.
+    pub number_is : gives draws number drawn
+    -- The desk may refuse it so.
+    pub refusal : facts.refusal desk (event.Frame end_ body) number error
+    -- The call ends for that.
+    pub ending_is : ending ≡ ending_of_refusal error
 
-abbrev pub HandsOn : {D W : Type 0} → (D → List Step) → (D → Event → ℕ → StepError → Type 0) → (W → ℕ → W → Type 0) → EndId → List ℕ → W → W → D → D → StreamState → StreamState → ℕ → ℕ → Result Bool Ending → Type 0
-HandsOn lists refuses gives end_ body draws drawn before after old new turns left result =
-    RefusesFrame refuses end_ body before after old new turns left result
-    ⊎ TakesFrame gives end_ body draws drawn (lists before) (lists after) old new turns left result
+  -- the same, and nothing changed but the source of challenges
+  pub record RefusesFrame (before after : Place D W) (result : Result Bool Ending) : Type 0 where
+    -- how the call ends
+    pub ending : Ending
+    -- The desk refused the frame.
+    pub step : RefusesStep before.desk before.draws after.draws ending
+    -- The call ends so.
+    pub result_is : result ≡ Err ending
+    -- All else is as it was.
+    pub desk_is : after.desk ≡ before.desk
+    pub stream_is : after.stream ≡ before.stream
+    pub left_is : after.left ≡ before.left
+
+  -- the frame was handed on, and what the reply says was written, or a front of it
+  pub record TakesFrame (before after : Place D W) (result : Result Bool Ending) : Type 0 where
+    -- The frame was handed on.
+    pub step : MakesStep before.desk after.desk before.draws after.draws
+    -- What the reply says was written, or a front of it.
+    pub says : SaysReply end_ step.reply before.stream after.stream before.left after.left result
+
+  -- the desk refused the frame, or took it
+  abbrev pub HandsOn : Place D W → Place D W → Result Bool Ending → Type 0
+  HandsOn before after result = RefusesFrame before after result ⊎ TakesFrame before after result
 
 -- ---- parts of the call
 
--- whatever call was on its way is on its way still
-abbrev pub RunsOn : {W : Type 0} → (W → ℕ → W → Type 0) → EndId → StreamState → StreamState → ℕ → ℕ → List Step → List Step → W → W → Reader → Reader → Type 0
-RunsOn {W = W} gives end_ old new turns left before after draws drawn held holds =
-    (start : Start W) → start.end_ ≡ end_ → Runs gives start old turns before draws held → Runs gives start new left after drawn holds
+module _ {D W : Type 0} (facts : DeskFacts D) (gives : Gives W) (end_ : EndId) (before : Place D W) (held : Reader) where
+  -- whatever call of the end stood at the first place, with this reader, is on its way still
+  abbrev pub RunsOn : Place D W → Reader → Type 0
+  RunsOn after holds = (start : Start D W) → start.end_ ≡ end_ → Runs facts gives start before held → Runs facts gives start after holds
 
--- the same, up to a frame that brought the end up, where one did
-abbrev pub GoesOn : {W : Type 0} → (W → ℕ → W → Type 0) → EndId → StreamState → StreamState → ℕ → ℕ → List Step → List Step → W → W → Reader → Reader → Bool → Type 0
-GoesOn {W = W} gives end_ old new turns left before after draws drawn held holds up =
-    (start : Start W) → start.end_ ≡ end_ → Runs gives start old turns before draws held → Goes gives start new left after drawn holds up
+  -- the same, up to a frame that brought the end up, where one did
+  abbrev pub GoesOn : Place D W → Reader → Bool → Type 0
+  GoesOn after holds up = (start : Start D W) → start.end_ ≡ end_ → Runs facts gives start before held → Goes facts gives start after holds up
 
--- whatever call was on its way ends so
-abbrev pub EndsSo : {D W : Type 0} → (D → List Step) → (D → EndId → Still → Type 0) → (D → Event → ℕ → StepError → Type 0) → (W → ℕ → W → Type 0) → EndId → StreamState → StreamState → ℕ → D → D → W → Reader → Ending → Type 0
-EndsSo {W = W} lists stands refuses gives end_ old new turns before after draws held ending =
-    (start : Start W) → start.end_ ≡ end_ → Runs gives start old turns (lists before) draws held → Carries lists stands refuses gives start.end_ start.first start.limit start.stream new start.list after start.draws ending
+  -- whatever call of the end stood there ends so
+  abbrev pub EndsSo : Finish D W → Ending → Type 0
+  EndsSo finish ending = (start : Start D W) → start.end_ ≡ end_ → Runs facts gives start before held → Carries facts gives start finish ending
 
 -- ---- a piece
 
 -- the read was refused, and the reader is as it was
 pub record HearsNone (old new : StreamState) (turns left : ℕ) (held holds : Reader) (result : Result (Unit {0}) Ending) : Type 0 where
+  -- why it was refused
   pub error : TurnError
+  -- No byte was read.
   pub hears : Hears old new turns left (Some error) []
+  -- The call ends for that.
   pub ends : result ≡ Err (ending_of_stream error)
+  -- The reader is as it was.
   pub held_is : holds ≡ held
 
--- the piece came to the reader, unless memory lacked
+-- the piece came to the reader, unless memory ran out
 pub record HearsSome (old new : StreamState) (turns left : ℕ) (held holds : Reader) (result : Result (Unit {0}) Ending) : Type 0 where
+  -- the piece
   pub piece : List ℕ
+  -- It was read.
   pub hears : Hears old new turns left None piece
+  -- Its elements are bytes.
   pub bytes : IsBytes piece
+  -- It is of at most 4,096 bytes.
   pub small : length piece ≤ 4096
+  -- One turn was taken.
   pub turn : turns ≡ left + 1
-  pub fed_so : OnOk result (holds ≡ told (fed held piece))
+  -- The reader has the piece.
+  pub holds_is : OnOk result (holds ≡ told (fed held piece))
+  -- The call ends only where memory ran out.
   pub ends : IfErr result (λ e. e ≡ ending.Fault why.NoMemory)
 
+-- no piece came, or one
 abbrev pub HearsPiece : StreamState → StreamState → ℕ → ℕ → Reader → Reader → Result (Unit {0}) Ending → Type 0
-HearsPiece old new turns left held holds result = HearsNone old new turns left held holds result ⊎ HearsSome old new turns left held holds result
+HearsPiece old new turns left held holds result =
+    HearsNone old new turns left held holds result ⊎ HearsSome old new turns left held holds result

@@ -1,13 +1,13 @@
 //! One end, driven over a stream.
-ghost use Rattle.std.specs.Prelude.{◌≡◌, ◌<◌, ◌≤◌, ◌+◌, ◌++◌, ◌∷◌, [], ℕ, List, MatchOption, Err, IfOk, IfErr, OnOk, OnErr, take, length};
-ghost use Rattle.dist_core.specs.declared.step_error.StepError.{StepError};
+ghost use Rattle.std.specs.Prelude.{◌≡◌, ◌<◌, ◌≤◌, ◌+◌, ◌++◌, ◌∷◌, [], List, MatchOption, Err, IfOk, IfErr, OnOk, OnErr};
 ghost use Rattle.dist_drive.specs.Desks.{Step};
 ghost use Rattle.dist_drive.specs.Driven.{Carries, Drives, IsOnlyGone, LeavesUnread, TellsLoss};
 ghost use Rattle.dist_frames.specs.Reader.Reader.{Short};
 ghost use Rattle.dist_frames.specs.Reader.{next_body, without_next, to_come, fed, told};
 ghost use Rattle.dist_frames.specs.History.{IsBytes};
 ghost use Rattle.dist_streams.specs.Turns.{fault_of};
-ghost use Rattle.dist_drive.specs.Running.{after_reply, ending_of_refusal, ending_of_stream, own_why, MakesStep, SaysReply, HandsOn, RunsOn, GoesOn, after_step, EndsSo, HearsPiece};
+ghost use Rattle.dist_drive.specs.Running.{after_reply, after_step, ending_of_refusal, ending_of_stream, own_why};
+ghost use Rattle.dist_drive.specs.Running.{MakesStep, RefusesStep, SaysReply, HandsOn, GoesOn, EndsSo, HearsPiece};
 
 use crate::desk::Desk;
 use crate::draws::Draws;
@@ -79,10 +79,11 @@ fn make_step<D: Desk, W: Draws>(
     end_: EndId,
     body: ByteString,
 ) -> Result<(), Ending>
-    ensures ok { OnOk result (MakesStep W.gives end_ body draws.old draws.new (D.list desk.old) (D.list desk.new)) }
+    ensures ok { OnOk result (MakesStep D.facts W.gives end_ body desk.old desk.new draws.old draws.new) }
     ensures err { OnErr result (desk.new ≡ desk.old) }
-    ensures cause { IfErr result (λ e. (n : ℕ) × (why : StepError) × D.refuses desk.old (Event.Frame end_ body) n why × (e ≡ ending_of_refusal why)) }
-    ensures base { (D.base desk.new ≡ D.base desk.old) × (D.serves desk.new ≡ D.serves desk.old) }
+    ensures cause { IfErr result (RefusesStep D.facts W.gives end_ body desk.old draws.old draws.new) }
+    ensures base { D.base desk.new ≡ D.base desk.old }
+    ensures serves { D.serves desk.new ≡ D.serves desk.old }
 {
     let fresh = draws.draw();
     match desk.step(Event::Frame { end_, body }, fresh) {
@@ -97,7 +98,8 @@ fn say_reply<S: Stream>(
     reply: &Reply,
     end_: EndId,
 ) -> Result<bool, Ending>
-    ensures says { SaysReply end_ reply.now (S.meaning limited.old.stream.now) (S.meaning limited.new.stream.now) limited.old.left limited.new.left result }
+    ensures says { SaysReply end_ reply.now (S.meaning limited.old.stream.now) (S.meaning limited.new.stream.now)
+        limited.old.left limited.new.left result }
     ensures loan { limited.new.stream.ghost_name ≡ limited.old.stream.ghost_name }
 {
     let written = limited.write_all(reply.say.as_slice());
@@ -113,9 +115,13 @@ fn hand_on<S: Stream, D: Desk, W: Draws>(
     end_: EndId,
     body: ByteString,
 ) -> Result<bool, Ending>
-    ensures hands { HandsOn D.list D.refuses W.gives end_ body draws.old draws.new desk.old desk.new (S.meaning limited.old.stream.now) (S.meaning limited.new.stream.now) limited.old.left limited.new.left result }
+    ensures hands { HandsOn D.facts W.gives end_ body
+        (record { stream = S.meaning limited.old.stream.now; left = limited.old.left; desk = desk.old; draws = draws.old })
+        (record { stream = S.meaning limited.new.stream.now; left = limited.new.left; desk = desk.new; draws = draws.new })
+        result }
     ensures turns { limited.new.left ≤ limited.old.left }
-    ensures base { (D.base desk.new ≡ D.base desk.old) × (D.serves desk.new ≡ D.serves desk.old) }
+    ensures base { D.base desk.new ≡ D.base desk.old }
+    ensures serves { D.serves desk.new ≡ D.serves desk.old }
     ensures loan { limited.new.stream.ghost_name ≡ limited.old.stream.ghost_name }
 {
     make_step(desk, draws, end_, body)?;
@@ -146,11 +152,16 @@ fn hand_on_all<S: Stream, D: Desk, W: Draws>(
     end_: EndId,
     frames: &mut Frames,
 ) -> Result<bool, Ending>
-    ensures runs { IfOk result (GoesOn W.gives end_ (S.meaning limited.old.stream.now) (S.meaning limited.new.stream.now) limited.old.left limited.new.left (D.list desk.old) (D.list desk.new) draws.old draws.new frames.old frames.new) }
+    ensures runs { IfOk result (GoesOn D.facts W.gives end_
+        (record { stream = S.meaning limited.old.stream.now; left = limited.old.left; desk = desk.old; draws = draws.old }) frames.old
+        (record { stream = S.meaning limited.new.stream.now; left = limited.new.left; desk = desk.new; draws = draws.new }) frames.new) }
     ensures all { IfOk result (λ up. to_come (after_step up frames.new) ≡ []) }
     ensures turns { limited.new.left ≤ limited.old.left }
-    ensures ends { IfErr result (EndsSo D.list D.stands D.refuses W.gives end_ (S.meaning limited.old.stream.now) (S.meaning limited.new.stream.now) limited.old.left desk.old desk.new draws.old frames.old) }
-    ensures base { (D.base desk.new ≡ D.base desk.old) × (D.serves desk.new ≡ D.serves desk.old) }
+    ensures ends { IfErr result (EndsSo D.facts W.gives end_
+        (record { stream = S.meaning limited.old.stream.now; left = limited.old.left; desk = desk.old; draws = draws.old }) frames.old
+        (record { stream = S.meaning limited.new.stream.now; desk = desk.new; draws = draws.new })) }
+    ensures base { D.base desk.new ≡ D.base desk.old }
+    ensures serves { D.serves desk.new ≡ D.serves desk.old }
     ensures loan { limited.new.stream.ghost_name ≡ limited.old.stream.ghost_name }
 {
     fed_and_moved();
@@ -179,7 +190,8 @@ fn keep_piece(frames: &mut Frames, piece: &[u8]) -> Result<(), Ending>
 
 // Reads a piece, and gives it to the reader.
 fn hear<S: Stream>(limited: &mut Limited<'_, S>, frames: &mut Frames) -> Result<(), Ending>
-    ensures hears { HearsPiece (S.meaning limited.old.stream.now) (S.meaning limited.new.stream.now) limited.old.left limited.new.left frames.old frames.new result }
+    ensures hears { HearsPiece (S.meaning limited.old.stream.now) (S.meaning limited.new.stream.now) limited.old.left limited.new.left
+        frames.old frames.new result }
     ensures turn { OnOk result (limited.old.left ≡ limited.new.left + 1) }
     ensures loan { limited.new.stream.ghost_name ≡ limited.old.stream.ghost_name }
 {
@@ -198,12 +210,18 @@ pub fn turn<S: Stream, D: Desk, W: Draws>(
     end_: EndId,
     frames: &mut Frames,
 ) -> Result<bool, Ending>
-    ensures runs { IfOk result (λ up. to_come frames.old ≡ [] → GoesOn W.gives end_ (S.meaning limited.old.stream.now) (S.meaning limited.new.stream.now) limited.old.left limited.new.left (D.list desk.old) (D.list desk.new) draws.old draws.new frames.old frames.new up) }
+    ensures runs { IfOk result (λ up. to_come frames.old ≡ [] → GoesOn D.facts W.gives end_
+        (record { stream = S.meaning limited.old.stream.now; left = limited.old.left; desk = desk.old; draws = draws.old }) frames.old
+        (record { stream = S.meaning limited.new.stream.now; left = limited.new.left; desk = desk.new; draws = draws.new }) frames.new up) }
     ensures all { IfOk result (λ up. to_come (after_step up frames.new) ≡ []) }
-    ensures ends { IfErr result (λ e. to_come frames.old ≡ [] → EndsSo D.list D.stands D.refuses W.gives end_ (S.meaning limited.old.stream.now) (S.meaning limited.new.stream.now) limited.old.left desk.old desk.new draws.old frames.old e) }
+    ensures ends { IfErr result (λ e. to_come frames.old ≡ [] → EndsSo D.facts W.gives end_
+        (record { stream = S.meaning limited.old.stream.now; left = limited.old.left; desk = desk.old; draws = draws.old }) frames.old
+        (record { stream = S.meaning limited.new.stream.now; desk = desk.new; draws = draws.new }) e) }
     ensures fewer { OnOk result (limited.new.left < limited.old.left) }
-    ensures gone { IsOnlyGone D.stands desk.old end_ → ((w : Why) × (result ≡ Err (Ending.Gone w))) × (S.meaning limited.new.stream.now ≡ S.meaning limited.old.stream.now) }
-    ensures base { (D.base desk.new ≡ D.base desk.old) × (D.serves desk.new ≡ D.serves desk.old) }
+    ensures gone { IsOnlyGone D.facts desk.old end_ →
+        ((w : Why) × (result ≡ Err (Ending.Gone w))) × (S.meaning limited.new.stream.now ≡ S.meaning limited.old.stream.now) }
+    ensures base { D.base desk.new ≡ D.base desk.old }
+    ensures serves { D.serves desk.new ≡ D.serves desk.old }
     ensures loan { limited.new.stream.ghost_name ≡ limited.old.stream.ghost_name }
 {
     fed_and_moved();
@@ -226,9 +244,13 @@ fn run<S: Stream, D: Desk, W: Draws>(
     first: &[u8],
     limit: usize,
 ) -> Ending
-    ensures carries { Carries D.list D.stands D.refuses W.gives end_ first.now limit (S.meaning stream.old) (S.meaning stream.new) (D.list desk.old) desk.new draws.old result }
-    ensures gone { IsOnlyGone D.stands desk.old end_ → LeavesUnread first.now (S.meaning stream.old) (S.meaning stream.new) result }
-    ensures base { (D.base desk.new ≡ D.base desk.old) × (D.serves desk.new ≡ D.serves desk.old) }
+    ensures carries { Carries D.facts W.gives
+        (record { end_ = end_; first = first.now; limit = limit; stream = S.meaning stream.old; desk = desk.old; draws = draws.old })
+        (record { stream = S.meaning stream.new; desk = desk.new; draws = draws.new })
+        result }
+    ensures gone { IsOnlyGone D.facts desk.old end_ → LeavesUnread first.now (S.meaning stream.old) (S.meaning stream.new) result }
+    ensures base { D.base desk.new ≡ D.base desk.old }
+    ensures serves { D.serves desk.new ≡ D.serves desk.old }
 {
     fed_and_moved();
     bodies_of_stream();
@@ -254,8 +276,9 @@ fn run<S: Stream, D: Desk, W: Draws>(
 
 // Tells a fault of the call's own as a loss.
 pub fn tell<D: Desk>(desk: &mut D, end_: EndId, ending: Ending)
-    ensures told { (told : List Step) × (D.list desk.new ≡ D.list desk.old ++ told) × TellsLoss D.refuses end_ desk.old ending told }
-    ensures base { (D.base desk.new ≡ D.base desk.old) × (D.serves desk.new ≡ D.serves desk.old) }
+    ensures told { (losses : List Step) × (D.facts.list desk.new ≡ D.facts.list desk.old ++ losses) × TellsLoss D.facts end_ desk.old ending losses }
+    ensures base { D.base desk.new ≡ D.base desk.old }
+    ensures serves { D.serves desk.new ≡ D.serves desk.old }
 {
     if let Ending::Fault(why) = ending {
         let _ = desk.step(Event::Lost { end_, why }, 0);
@@ -274,6 +297,8 @@ pub fn tell<D: Desk>(desk: &mut D, end_: EndId, ending: Ending)
 /// gave nothing), ReadFailed, WriteFailed (also a write that took nothing), NoMemory, GaveUp (the desk refused a frame for
 /// another reason). Limit comes where the turns ran out, and nothing is told then.
 ///
+/// As many numbers are drawn as frames were handed on, and one more where the desk refused a frame.
+///
 /// It is meant for an end that took no frame before. Source: our own choice.
 pub fn drive<S: Stream, D: Desk, W: Draws>(
     alloc: Global,
@@ -284,8 +309,12 @@ pub fn drive<S: Stream, D: Desk, W: Draws>(
     first: &[u8],
     limit: usize,
 ) -> Outcome
-    ensures drives { Drives D.list D.stands D.refuses W.gives end_ first.now limit (S.meaning stream.old) (S.meaning stream.new) desk.old desk.new draws.old result }
-    ensures base { (D.base desk.new ≡ D.base desk.old) × (D.serves desk.new ≡ D.serves desk.old) }
+    ensures drives { Drives D.facts W.gives
+        (record { end_ = end_; first = first.now; limit = limit; stream = S.meaning stream.old; desk = desk.old; draws = draws.old })
+        (record { stream = S.meaning stream.new; desk = desk.new; draws = draws.new })
+        result }
+    ensures base { D.base desk.new ≡ D.base desk.old }
+    ensures serves { D.serves desk.new ≡ D.serves desk.old }
 {
     let ending = run(alloc, stream, desk, draws, end_, first, limit);
     tell(desk, end_, ending);

@@ -1,9 +1,7 @@
 //! One end, driven until it is up.
-ghost use Rattle.std.specs.Prelude.{◌≡◌, IfOk, IfErr, Some};
-ghost use Rattle.dist_core.specs.declared.reply.Reply.{Reply};
-ghost use Rattle.dist_drive.specs.Desks.{last_reply};
+ghost use Rattle.std.specs.Prelude.{◌≡◌, IfOk, IfErr};
 ghost use Rattle.dist_drive.specs.Driven.{Carries, IsOnlyGone, LeavesUnread};
-ghost use Rattle.dist_drive.specs.Handshaking.{ComesUp, ShakesHands};
+ghost use Rattle.dist_drive.specs.Handshaking.{IsUpWith, ComesUp, ShakesHands};
 ghost use Rattle.dist_drive.specs.Running.{IsUpNow};
 
 use crate::desk::Desk;
@@ -19,8 +17,8 @@ use std::alloc::Global;
 
 // The record of the end that the newest reply brought up.
 fn newest_record<D: Desk>(alloc: Global, desk: &D) -> Result<UpRecord, Ending>
-    requires { IsUpNow (D.list desk.now) }
-    ensures ok { IfOk result (λ kept. (reply : Reply) × (last_reply (D.list desk.now) ≡ Some reply) × (reply.up ≡ Some kept)) }
+    requires { IsUpNow (D.facts.list desk.now) }
+    ensures ok { IfOk result (IsUpWith (D.facts.list desk.now)) }
     ensures err { IfErr result (λ e. e ≡ Ending.Fault Why.NoMemory) }
 {
     let Some(reply) = desk.last() else {
@@ -45,10 +43,16 @@ fn come_up<S: Stream, D: Desk, W: Draws>(
     first: &[u8],
     limit: usize,
 ) -> Result<(UpRecord, Vec<u8>), Ending>
-    ensures up { IfOk result (λ up. ComesUp D.list D.stands W.gives end_ first.now limit (S.meaning stream.old) (S.meaning stream.new) desk.old desk.new draws.old draws.new up.0 up.1.items) }
-    ensures carries { IfErr result (Carries D.list D.stands D.refuses W.gives end_ first.now limit (S.meaning stream.old) (S.meaning stream.new) (D.list desk.old) desk.new draws.old) }
-    ensures gone { IsOnlyGone D.stands desk.old end_ → IfErr result (LeavesUnread first.now (S.meaning stream.old) (S.meaning stream.new)) }
-    ensures base { (D.base desk.new ≡ D.base desk.old) × (D.serves desk.new ≡ D.serves desk.old) }
+    ensures up { IfOk result (λ up. ComesUp D.facts W.gives
+        (record { end_ = end_; first = first.now; limit = limit; stream = S.meaning stream.old; desk = desk.old; draws = draws.old })
+        (record { stream = S.meaning stream.new; desk = desk.new; draws = draws.new })
+        up.0 up.1.items) }
+    ensures carries { IfErr result (Carries D.facts W.gives
+        (record { end_ = end_; first = first.now; limit = limit; stream = S.meaning stream.old; desk = desk.old; draws = draws.old })
+        (record { stream = S.meaning stream.new; desk = desk.new; draws = draws.new })) }
+    ensures gone { IsOnlyGone D.facts desk.old end_ → IfErr result (LeavesUnread first.now (S.meaning stream.old) (S.meaning stream.new)) }
+    ensures base { D.base desk.new ≡ D.base desk.old }
+    ensures serves { D.serves desk.new ≡ D.serves desk.old }
 {
     fed_and_moved();
     bodies_of_stream();
@@ -82,8 +86,12 @@ pub fn handshake<S: Stream, D: Desk, W: Draws>(
     first: &[u8],
     limit: usize,
 ) -> Reached
-    ensures shakes { ShakesHands D.list D.stands D.refuses W.gives end_ first.now limit (S.meaning stream.old) (S.meaning stream.new) desk.old desk.new draws.old draws.new result }
-    ensures base { (D.base desk.new ≡ D.base desk.old) × (D.serves desk.new ≡ D.serves desk.old) }
+    ensures shakes { ShakesHands D.facts W.gives
+        (record { end_ = end_; first = first.now; limit = limit; stream = S.meaning stream.old; desk = desk.old; draws = draws.old })
+        (record { stream = S.meaning stream.new; desk = desk.new; draws = draws.new })
+        result }
+    ensures base { D.base desk.new ≡ D.base desk.old }
+    ensures serves { D.serves desk.new ≡ D.serves desk.old }
 {
     match come_up(alloc, stream, desk, draws, end_, first, limit) {
         Ok((record, rest)) => Reached::Up { record, rest },

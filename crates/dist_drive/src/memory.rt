@@ -1,16 +1,11 @@
-ghost use Rattle.std.specs.Prelude.{◌≡◌, ◌≢◌, ◌<◌, ◌≤◌, ◌+◌, ◌++◌, ◌∷◌, [], vec_len, vec_capacity, true, false, Some, None, Ok, Err, IfOk, IfErr, OnOk, OnErr, IsOk, slice_get, option_copied};
-ghost use Rattle.dist_peers.specs.declared.entry.EndId.{EndId};
-ghost use Rattle.dist_ends.specs.declared.known.End.{End};
-ghost use Rattle.dist_core.specs.declared.event.Event.{Event};
+ghost use Rattle.std.specs.Prelude.{◌≡◌, ◌≢◌, ◌<◌, ◌≤◌, ◌+◌, ◌++◌, ◌∷◌, [], vec_len, vec_capacity, false};
+ghost use Rattle.std.specs.Prelude.{Some, Ok, Err, IfOk, IfErr, OnOk, OnErr};
 ghost use Rattle.dist_core.specs.declared.reply.Reply.{Reply};
 ghost use Rattle.dist_core.specs.Answers.{IsLoss, Refuses};
-ghost use Rattle.dist_ends.specs.Ends.{still_of};
-ghost use Rattle.dist_ends.specs.Ends.{is_open};
 ghost use Rattle.dist_core.specs.Clauses.{end_of};
-ghost use Rattle.dist_core.specs.Losses.{is_loss};
-ghost use Rattle.dist_core.specs.Step.{step};
-ghost use Rattle.dist_drive.specs.Desks.{Step, last_reply};
 ghost use Rattle.dist_core.specs.Losses.{IsGone};
+ghost use Rattle.dist_core.specs.Step.{step};
+ghost use Rattle.dist_drive.specs.Memory.{MayRefuse};
 
 use crate::desk::Desk;
 use dist_core::{Event, Node, Reply, StepError, Still};
@@ -92,29 +87,25 @@ fn lacks(alloc: Global, node: &Node, event: &Event, fresh: u32) -> StepError
 }
 
 impl Desk for MemoryDesk {
-    ghost use Rattle.std.specs.Prelude.{◌≡◌, ◌≢◌, ◌⊎◌, Some, slice_get};
-    ghost use Rattle.dist_ends.specs.Ends.{still_of};
-    ghost use Rattle.dist_drive.specs.Memory.{MayRefuse};
+    ghost use Rattle.dist_drive.specs.Memory.{memory_facts};
 
     type Base = ();
-
-    ghost list = { λ d. d.list };
 
     ghost base = { λ d. tt };
 
     ghost serves = { λ d. d.end_ };
 
-    ghost stands = { λ d id s. s ≡ still_of (slice_get d.node.ends id.0) };
-
-    ghost refuses = { λ d event fresh e. MayRefuse d event fresh e };
+    ghost facts = { memory_facts };
 
     fn step(&mut self, event: Event, fresh: u32) -> Result<(), StepError>
-        ensures ok { OnOk result ((reply : Reply) × (self.new.list ≡ self.old.list ++ (event, fresh, reply) ∷ []) × (step self.old.node event fresh ≡ Ok (reply, self.new.node))) }
+        ensures ok { OnOk result ((reply : Reply)
+            × (self.new.list ≡ self.old.list ++ (event, fresh, reply) ∷ [])
+            × (step self.old.node event fresh ≡ Ok (reply, self.new.node))) }
         ensures err { OnErr result (self.new ≡ self.old) }
         ensures refused { IfErr result (λ e. MayRefuse self.old event fresh e) }
         ensures loss { IsLoss event → IfErr result IsGone }
         ensures other { end_of event ≢ Some self.old.end_ → result ≡ Err StepError.NoSuchEnd }
-        ensures base { self.new.end_ ≡ self.old.end_ }
+        ensures serves { self.new.end_ ≡ self.old.end_ }
     {
         if event.end_named() != Some(self.end_) {
             return Err(StepError::NoSuchEnd);

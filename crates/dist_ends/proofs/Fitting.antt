@@ -2,6 +2,7 @@
 use Rattle.std.proofs.Common.{◌≡◌, ℕ, ◌<◌, ◌≤◌, Bool, true, false, cond, eqb, ◌&&◌, length, List, [], ◌∷◌, zero, suc, Option, Some, None, refl, sym, ap, ◌∙◌, subst, arith, slice_get, eq-eqb}
 use Rattle.std.proofs.lemmas.Bool.Decides.{nat_tests}
 use Rattle.std.specs.Ordering.{is_eq}
+use Rattle.std.specs.Option.{option_map}
 use Rattle.std.specs.Cmp.{tied_itself}
 use Rattle.std.specs.FinMap as map
 use Rattle.std.specs.FinMap.{get-insert, get-remove}
@@ -13,9 +14,11 @@ use Rattle.dist_peers.specs.declared.entry.Entry.TheVariants as entry
 use Rattle.dist_ends.specs.declared.known.End.{End}
 use Rattle.dist_ends.specs.declared.known.End.TheVariants as ends
 use Rattle.dist_ends.specs.declared.why.Why.{Why}
+use Rattle.dist_ends.specs.declared.phase.Phase.{Phase}
+use Rattle.dist_ends.specs.declared.phase.Phase.TheVariants as phase
 use Rattle.dist_ends.specs.declared.phase.Kind.{Kind}
 use Rattle.dist_ends.specs.declared.phase.Kind.TheVariants.{Out, In, Up}
-use Rattle.dist_ends.specs.Ends.{Claim, claim_of, is_claim, same_kind, is_held, is_open, holds_at, names, Agree}
+use Rattle.dist_ends.specs.Ends.{Claim, claim_of, is_claim, same_kind, is_held, is_open, is_pending, kind_in, holds_at, names, Agree}
 use Rattle.dist_ends.specs.Change.{StaysClosed, OtherStaysClosed, put_end, IsThere, Fits, claim_at, shifted, AsksShift, raised, AsksRaise, view_after}
 use Rattle.dist_peers.specs.Verdicts.{ruling, is_greater}
 use Rattle.dist_ends.proofs.Tables.{order, same-name}
@@ -64,52 +67,111 @@ pub held-only : (p q : Name) (k l : Kind) (c : Option Claim) → is_claim p l c 
 held-only p q k l None h s = refl
 held-only p q k l (Some c) h s = only p (Some c) (sym (same-name p c.peer (both (same_kind l c.kind) _ h))) q k s
 
--- ---- an end that is closed stays closed
+-- ---- an end that is closed stays closed, and one that is up is never pending again
 
-stays-held : (p : Name) (k : Kind) (o : Option End) (s : End) → is_held p k o ≡ true → StaysClosed o s
-stays-held p k None s h = tt
-stays-held p k (Some ends.Unnamed) s h = tt
-stays-held p k (Some (ends.Attempt b)) s h = tt
-stays-held p k (Some (ends.Up r)) s h = tt
-stays-held p k (Some (ends.Closed w)) s h = absurd (false≢true h)
+-- an end of the first form may become one of the second
+abbrev pub may_be : End → End → Bool
+may_be ends.Unnamed s = true
+may_be (ends.Attempt b) s = true
+may_be (ends.Up r) s = cond (is_pending s) false true
+may_be (ends.Closed w) s = false
 
-stays-claimed : (o : Option End) (c : Claim) (s : End) → claim_at o ≡ Some c → StaysClosed o s
-stays-claimed None c s h = tt
-stays-claimed (Some ends.Unnamed) c s h = tt
-stays-claimed (Some (ends.Attempt b)) c s h = tt
-stays-claimed (Some (ends.Up r)) c s h = tt
-stays-claimed (Some (ends.Closed w)) c s h = absurd cc
+denied : (b : Bool) → cond b false true ≡ true → b ≡ false
+denied true h = absurd (false≢true h)
+denied false h = refl
 
-stays-by : (d s : End) → is_open d ≡ true → StaysClosed (Some d) s
+stays-by : (d s : End) → may_be d s ≡ true → StaysClosed (Some d) s
 stays-by ends.Unnamed s h = tt
 stays-by (ends.Attempt b) s h = tt
-stays-by (ends.Up r) s h = tt
+stays-by (ends.Up r) s h = denied (is_pending s) h
 stays-by (ends.Closed w) s h = absurd (false≢true h)
 
-pub stays-open : (o : Option End) (d s : End) → o ≡ Some d → is_open d ≡ true → StaysClosed o s
+pub stays-open : (o : Option End) (d s : End) → o ≡ Some d → may_be d s ≡ true → StaysClosed o s
 stays-open o d s e h = let P : Option End → Type 0 = λ x. StaysClosed x s in subst P (sym e) (stays-by d s h)
+
+-- an end that holds its peer, and not as up
+stays-held : (p : Name) (k : Kind) (o : Option End) (s : End) → is_held p k o ≡ true → same_kind k Up ≡ false → StaysClosed o s
+stays-held p k None s h u = tt
+stays-held p k (Some ends.Unnamed) s h u = tt
+stays-held p k (Some (ends.Attempt b)) s h u = tt
+stays-held p k (Some (ends.Up r)) s h u = absurd (false≢true (sym (ap (λ b. b && same_name p r.peer) u) ∙ h))
+stays-held p k (Some (ends.Closed w)) s h u = absurd (false≢true h)
+
+stays-claimed : (o : Option End) (c : Claim) (s : End) → claim_at o ≡ Some c → is_pending s ≡ false → StaysClosed o s
+stays-claimed None c s h u = tt
+stays-claimed (Some ends.Unnamed) c s h u = tt
+stays-claimed (Some (ends.Attempt b)) c s h u = tt
+stays-claimed (Some (ends.Up r)) c s h u = u
+stays-claimed (Some (ends.Closed w)) c s h u = absurd cc
 
 pub stays-past : (o : Option End) (s : End) → o ≡ None → StaysClosed o s
 stays-past o s e = let P : Option End → Type 0 = λ x. StaysClosed x s in subst P (sym e) tt
 
-stays-shut : (o : Option End) (w : Why) → StaysClosed o (ends.Closed w)
-stays-shut None w = tt
-stays-shut (Some ends.Unnamed) w = tt
-stays-shut (Some (ends.Attempt b)) w = tt
-stays-shut (Some (ends.Up r)) w = tt
-stays-shut (Some (ends.Closed v)) w = refl
+shut-settled : (s : End) → is_open s ≡ false → is_pending s ≡ false
+shut-settled ends.Unnamed h = absurd (false≢true (sym h))
+shut-settled (ends.Attempt b) h = absurd (false≢true (sym h))
+shut-settled (ends.Up r) h = refl
+shut-settled (ends.Closed w) h = refl
 
-claim-open : (e : End) (c : Claim) → claim_of e ≡ Some c → is_open e ≡ true
-claim-open ends.Unnamed c h = refl
-claim-open (ends.Attempt b) c h = refl
-claim-open (ends.Up r) c h = refl
-claim-open (ends.Closed w) c h = absurd cc
+-- an open end may be closed
+pub stays-closing : (o : Option End) (d : End) (w : Why) → o ≡ Some d → is_open d ≡ true → StaysClosed o (ends.Closed w)
+stays-closing o d w e h = let P : Option End → Type 0 = λ x. StaysClosed x (ends.Closed w) in subst P (sym e) (by d h)
+  where
+    by : (d : End) → is_open d ≡ true → StaysClosed (Some d) (ends.Closed w)
+    by ends.Unnamed h = tt
+    by (ends.Attempt b) h = tt
+    by (ends.Up r) h = refl
+    by (ends.Closed v) h = absurd (false≢true h)
 
--- the other end, which holds p, once end id is e
-other-stays : (es : List End) (i : ℕ) (e : End) (x : ℕ) (s : End) (p : Name) (k : Kind) → i ≤ length es → is_open e ≡ true → is_held p k (slice_get es x) ≡ true → StaysClosed (slice_get (put_end es i e) x) s
-other-stays es i e x s p k place opened held =
+-- an end that holds its peer may be closed
+stays-shut : (p : Name) (k : Kind) (o : Option End) (s : End) → is_held p k o ≡ true → is_open s ≡ false → StaysClosed o s
+stays-shut p k None s h u = tt
+stays-shut p k (Some ends.Unnamed) s h u = tt
+stays-shut p k (Some (ends.Attempt b)) s h u = tt
+stays-shut p k (Some (ends.Up r)) s h u = shut-settled s u
+stays-shut p k (Some (ends.Closed w)) s h u = absurd (false≢true h)
+
+shut-claim : (s : End) → is_open s ≡ false → claim_of s ≡ None
+shut-claim ends.Unnamed h = refl
+shut-claim (ends.Attempt b) h = absurd (false≢true (sym h))
+shut-claim (ends.Up r) h = absurd (false≢true (sym h))
+shut-claim (ends.Closed w) h = refl
+
+-- ---- how an end holds its peer tells whether it is up
+
+abbrev is_up : Option Claim → Bool
+is_up None = false
+is_up (Some c) = same_kind c.kind Up
+
+attempt-not-up : (p : Name) (h : Phase) → is_up (option_map (λ k. record { peer = p; kind = k }) (kind_in h)) ≡ false
+attempt-not-up p phase.Dialing = refl
+attempt-not-up p phase.DoomedDialing = refl
+attempt-not-up p phase.AwaitStatus = refl
+attempt-not-up p phase.Doomed = refl
+attempt-not-up p phase.AwaitChallenge = refl
+attempt-not-up p phase.AwaitAck = refl
+attempt-not-up p phase.AwaitTrue = refl
+attempt-not-up p phase.AwaitComplement = refl
+attempt-not-up p phase.AwaitReply = refl
+
+up-settled : (e : End) → is_up (claim_of e) ≡ true → is_pending e ≡ false
+up-settled ends.Unnamed h = absurd (false≢true h)
+up-settled (ends.Attempt b) h = absurd (false≢true (sym (attempt-not-up b.peer b.phase) ∙ h))
+up-settled (ends.Up r) h = refl
+up-settled (ends.Closed w) h = refl
+
+-- an end that holds a peer, and not as up, may become any other
+free-by : (e s : End) (c : Claim) → claim_of e ≡ Some c → same_kind c.kind Up ≡ false → StaysClosed (Some e) s
+free-by ends.Unnamed s c h u = tt
+free-by (ends.Attempt b) s c h u = tt
+free-by (ends.Up r) s c h u = absurd (false≢true (sym u ∙ sym (ap is_up h)))
+free-by (ends.Closed w) s c h u = absurd cc
+
+-- the other end, once end id is e
+other-stays : (es : List End) (i : ℕ) (e : End) (x : ℕ) (s : End) → i ≤ length es → StaysClosed (Some e) s → StaysClosed (slice_get es x) s → StaysClosed (slice_get (put_end es i e) x) s
+other-stays es i e x s place this other =
     let P : Option End → Type 0 = λ o. StaysClosed o s in
-    subst P (sym (get-put es i e x place)) (elim (eqb i x) as (λ b. StaysClosed (cond b (Some e) (slice_get es x)) s) [ true ↦ stays-by e s opened | false ↦ stays-held p k (slice_get es x) s held ])
+    subst P (sym (get-put es i e x place)) (elim (eqb i x) as (λ b. StaysClosed (cond b (Some e) (slice_get es x)) s) [ true ↦ this | false ↦ other ])
 
 module _ (me : Name) (es : List End) (t : Table) (a : Agree (map.get t) es) where
   -- what is to be shown of a change
@@ -140,12 +202,12 @@ module _ (me : Name) (es : List End) (t : Table) (a : Agree (map.get t) es) wher
       (λ k i. ap (λ b. cond (eqb id.0 i) b (names k i (map.get t p))) (ap (is_claim p k) is) ∙ here k i))
 
   -- two ends change, and the entry of p
-  pub fit-two : (id : EndId) (e : End) (x : EndId) (s : End) (p : Name) (l : Kind) (o : Option Entry) (c d : Option Claim) → is_open e ≡ true → StaysClosed (slice_get es id.0) e → claim_at (slice_get es id.0) ≡ c → claim_of e ≡ d → id.0 ≤ length es
+  pub fit-two : (id : EndId) (e : End) (x : EndId) (s : End) (p : Name) (l : Kind) (o : Option Entry) (c d : Option Claim) → StaysClosed (Some e) s → StaysClosed (slice_get es x.0) s → StaysClosed (slice_get es id.0) e → claim_at (slice_get es id.0) ≡ c → claim_of e ≡ d → id.0 ≤ length es
       → claim_of s ≡ None → x.0 < length es → names l x.0 (map.get t p) ≡ true
       → AsksShift t me id c d → ((q : Name) → map.get (shifted t me id c d) q ≡ cond (same_name q p) o (map.get t q)) → IsOn p c → IsOn p d
       → ((k : Kind) (i : ℕ) → cond (eqb x.0 i) false (cond (eqb id.0 i) (is_claim p k d) (names k i (map.get t p))) ≡ names k i o) → Fits me es t id e (Some (x, s))
-  fit-two id e x s p l o c d opened stays was is place gone there named asks gets on_c on_d here =
-      fit id e (Some (x, s)) c d stays (other-stays es id.0 e x.0 s p l place opened (a p l x.0 ∙ named)) was is place there asks (λ q. cond (same_name q p) o (map.get t q)) gets
+  fit-two id e x s p l o c d this other stays was is place gone there named asks gets on_c on_d here =
+      fit id e (Some (x, s)) c d stays (other-stays es id.0 e x.0 s place this other) was is place there asks (λ q. cond (same_name q p) o (map.get t q)) gets
       (changes-two (map.get t) (slice_get es) p x.0 s id.0 e o a
       (λ q k. claimless s gone q k)
       (λ q k b. ap (is_claim q k) is ∙ only p d on_d q k b)
@@ -245,6 +307,17 @@ own-claim p k l = ap (λ b. same_kind k l && b) (self-same p) ∙ and_true (same
 abbrev pub claims : Name → Kind → Option Claim
 claims p k = Some (record { peer = p; kind = k })
 
+-- an end that a name that comes puts aside wasn't up
+not-held-up : (id x : EndId) (l : Kind) (o : Option Entry) (g : Bool) → names l x.0 o ≡ true
+    → ((k : Kind) (i : ℕ) → cond (eqb x.0 i) false (cond (eqb id.0 i) (same_kind k In) (names k i o)) ≡ names k i (Some (let x = ruling g id o in x.entry))) → same_kind l Up ≡ false
+not-held-up id x Out o g named here = refl
+not-held-up id x In o g named here = refl
+not-held-up id x Up None g named here = no named
+not-held-up id x Up (Some (entry.Out y)) g named here = no named
+not-held-up id x Up (Some (entry.In y)) g named here = no named
+not-held-up id x Up (Some (entry.Up y)) g named here = no (sym (ap (λ b. cond b false (cond (eqb id.0 x.0) false (eqb y.0 x.0))) (same x.0)) ∙ here Up x.0 ∙ named)
+not-held-up id x Up (Some (entry.Challenged y z)) g named here = no (sym (ap (λ b. cond b false (cond (eqb id.0 x.0) false (eqb y.0 x.0))) (same x.0)) ∙ here Up x.0 ∙ named)
+
 module _ (me : Name) (es : List End) (t : Table) (a : Agree (map.get t) es) where
   -- the entry of p, at an end whose claim is known
   pub named-at : (p : Name) (o : Option Entry) → map.get t p ≡ o → (x : EndId) (c : Option Claim) → claim_at (slice_get es x.0) ≡ c → (k : Kind) → names k x.0 o ≡ is_claim p k c
@@ -255,14 +328,14 @@ module _ (me : Name) (es : List End) (t : Table) (a : Agree (map.get t) es) wher
       fit me es t a id e None c c shut tt was is place tt (same-asks t me id c) (map.get t) (λ q. ap (λ m. map.get m q) (same-shift t me id c))
       (stays (map.get t) (slice_get es) id.0 e a (λ q k. ap (is_claim q k) (is ∙ sym was) ∙ sym (at-claim q k (slice_get es id.0))))
 
-  fit-leaves : (id : EndId) (w : Why) (c : Claim) → claim_at (slice_get es id.0) ≡ Some c → id.0 ≤ length es → Fits me es t id (ends.Closed w) None
-  fit-leaves id w c was place =
-      fit-one me es t a id (ends.Closed w) c.peer (left_by id (map.get t c.peer)) (Some c) None (stays-shut (slice_get es id.0) w) was refl place tt (get-with t c.peer (left_by id (map.get t c.peer))) refl tt
+  fit-leaves : (id : EndId) (w : Why) (c : Claim) → StaysClosed (slice_get es id.0) (ends.Closed w) → claim_at (slice_get es id.0) ≡ Some c → id.0 ≤ length es → Fits me es t id (ends.Closed w) None
+  fit-leaves id w c stays was place =
+      fit-one me es t a id (ends.Closed w) c.peer (left_by id (map.get t c.peer)) (Some c) None stays was refl place tt (get-with t c.peer (left_by id (map.get t c.peer))) refl tt
       (left-here id c.kind (map.get t c.peer) (λ k. named-at c.peer (map.get t c.peer) refl id (Some c) was k ∙ own-claim c.peer k c.kind))
 
-  pub fit-closes : (id : EndId) (w : Why) (c : Option Claim) → claim_at (slice_get es id.0) ≡ c → id.0 ≤ length es → Fits me es t id (ends.Closed w) None
-  fit-closes id w None was place = fit-keeps id (ends.Closed w) None (stays-shut (slice_get es id.0) w) was refl place
-  fit-closes id w (Some c) was place = fit-leaves id w c was place
+  pub fit-closes : (id : EndId) (w : Why) (c : Option Claim) → StaysClosed (slice_get es id.0) (ends.Closed w) → claim_at (slice_get es id.0) ≡ c → id.0 ≤ length es → Fits me es t id (ends.Closed w) None
+  fit-closes id w None stays was place = fit-keeps id (ends.Closed w) None stays was refl place
+  fit-closes id w (Some c) stays was place = fit-leaves id w c stays was place
 
   -- a dial
   dial-here : (id : EndId) (p : Name) (k : Kind) (i : ℕ) → cond (eqb id.0 i) (same_kind k Out) (names k i None) ≡ names k i (Some (entry.Out id))
@@ -287,7 +360,7 @@ module _ (me : Name) (es : List End) (t : Table) (a : Agree (map.get t) es) wher
       → claim_of s ≡ None → names l x.0 o ≡ true
       → ((k : Kind) (i : ℕ) → cond (eqb x.0 i) false (cond (eqb id.0 i) (same_kind k In) (names k i o)) ≡ names k i (Some (let x = ruling g id o in x.entry))) → Fits me es t id e (Some (x, s))
   fit-name2 id e x s p l o g stays was is place before greater apart gone named here =
-      fit-two me es t a id e x s p l (Some (let x = ruling g id o in x.entry)) None (claims p In) (claim-open e _ is) stays was is place gone (there es p l x.0 (a p l x.0 ∙ ap (names l x.0) before ∙ named)) (ap (names l x.0) before ∙ named) apart
+      fit-two me es t a id e x s p l (Some (let x = ruling g id o in x.entry)) None (claims p In) (free-by e s _ is refl) (stays-held p l (slice_get es x.0) s (a p l x.0 ∙ ap (names l x.0) before ∙ named) (not-held-up id x l o g named here)) stays was is place gone (there es p l x.0 (a p l x.0 ∙ ap (names l x.0) before ∙ named)) (ap (names l x.0) before ∙ named) apart
       (λ q. get-insert order t p _ q ∙ (λ j. cond (same_name q p) (Some (let x = ruling (greater j) id (before j) in x.entry)) (map.get t q))) tt refl
       (λ k i. (λ j. cond (eqb x.0 i) false (cond (eqb id.0 i) (own-claim p k In j) (names k i (before j)))) ∙ here k i)
 
@@ -296,12 +369,12 @@ module _ (me : Name) (es : List End) (t : Table) (a : Agree (map.get t) es) wher
       → AsksRaise t id p l Up → raised t id p l Up ≡ map.insert t p (entry.Up id)
       → ((k : Kind) (i : ℕ) → cond (eqb id.0 i) (same_kind k Up) (names k i o) ≡ names k i (Some (entry.Up id))) → Fits me es t id e None
   fit-rises id e p l o was is place before asks raise here =
-      fit-one me es t a id e p (Some (entry.Up id)) (claims p l) (claims p Up) (stays-claimed (slice_get es id.0) _ e was) was is place asks (λ q. ap (λ m. map.get m q) raise ∙ get-insert order t p (entry.Up id) q) refl refl
+      fit-one me es t a id e p (Some (entry.Up id)) (claims p l) (claims p Up) (stays-claimed (slice_get es id.0) _ e was (up-settled e (ap is_up is))) was is place asks (λ q. ap (λ m. map.get m q) raise ∙ get-insert order t p (entry.Up id) q) refl refl
       (λ k i. (λ j. cond (eqb id.0 i) (own-claim p k Up j) (names k i (before j))) ∙ here k i)
 
   pub fit-rises2 : (id : EndId) (e : End) (x : EndId) (s : End) (p : Name) (l : Kind) (o : Option Entry) → claim_at (slice_get es id.0) ≡ claims p l → claim_of e ≡ claims p Up → id.0 ≤ length es → map.get t p ≡ o
-      → AsksRaise t id p l Up → raised t id p l Up ≡ map.insert t p (entry.Up id) → claim_of s ≡ None → names Up x.0 o ≡ true
+      → AsksRaise t id p l Up → raised t id p l Up ≡ map.insert t p (entry.Up id) → is_open s ≡ false → names Up x.0 o ≡ true
       → ((k : Kind) (i : ℕ) → cond (eqb x.0 i) false (cond (eqb id.0 i) (same_kind k Up) (names k i o)) ≡ names k i (Some (entry.Up id))) → Fits me es t id e (Some (x, s))
-  fit-rises2 id e x s p l o was is place before asks raise gone named here =
-      fit-two me es t a id e x s p Up (Some (entry.Up id)) (claims p l) (claims p Up) (claim-open e _ is) (stays-claimed (slice_get es id.0) _ e was) was is place gone (there es p Up x.0 (a p Up x.0 ∙ ap (names Up x.0) before ∙ named)) (ap (names Up x.0) before ∙ named) asks (λ q. ap (λ m. map.get m q) raise ∙ get-insert order t p (entry.Up id) q) refl refl
+  fit-rises2 id e x s p l o was is place before asks raise shut named here =
+      fit-two me es t a id e x s p Up (Some (entry.Up id)) (claims p l) (claims p Up) (stays-claimed (Some e) _ s is (shut-settled s shut)) (stays-shut p Up (slice_get es x.0) s (a p Up x.0 ∙ ap (names Up x.0) before ∙ named) shut) (stays-claimed (slice_get es id.0) _ e was (up-settled e (ap is_up is))) was is place (shut-claim s shut) (there es p Up x.0 (a p Up x.0 ∙ ap (names Up x.0) before ∙ named)) (ap (names Up x.0) before ∙ named) asks (λ q. ap (λ m. map.get m q) raise ∙ get-insert order t p (entry.Up id) q) refl refl
       (λ k i. (λ j. cond (eqb x.0 i) false (cond (eqb id.0 i) (own-claim p k Up j) (names k i (before j)))) ∙ here k i)

@@ -7,3 +7,7 @@ pub mod Legal
 pub mod Keeping
 pub mod UpPeers
 pub mod Naming
+pub mod Oldest
+pub mod Forgotten
+pub mod Places
+pub mod Settled

@@ -1,17 +1,16 @@
 -- The up end of a peer is that of its entry.
-use Rattle.std.proofs.Common.{◌≡◌, ℕ, Bool, true, false, ◌==◌, ◌&&◌, eqb, eq-eqb, List, Option, Some, None, refl, sym, ap, ◌∙◌, subst, slice_get}
+use Rattle.std.proofs.Common.{◌≡◌, ℕ, true, ◌==◌, eq-eqb, List, Option, Some, None, refl, sym, ap, ◌∙◌, slice_get}
 use Rattle.std.proofs.lemmas.Bool.{eqb-true}
-use Rattle.std.specs.Option.{option_map, option_and_then}
-use Rattle.dist_names.specs.Order.{Name, same_name, name_cmp}
+use Rattle.std.specs.Option.{option_and_then}
+use Rattle.dist_names.specs.Order.{Name, same_name}
 use Rattle.dist_peers.specs.declared.entry.EndId.{EndId}
 use Rattle.dist_peers.specs.declared.entry.Entry.{Entry}
 use Rattle.dist_peers.specs.declared.entry.Entry.TheVariants as entry
 use Rattle.dist_ends.specs.declared.phase.Kind.TheVariants.{Up}
 use Rattle.dist_ends.specs.declared.known.UpRecord.{UpRecord}
-use Rattle.dist_ends.specs.declared.known.Attempt.{Attempt}
 use Rattle.dist_ends.specs.declared.known.End.{End}
 use Rattle.dist_ends.specs.declared.known.End.TheVariants as ends
-use Rattle.dist_ends.specs.Ends.{holds, holds_at, is_held, names, up_id, up_from, record_in, end_id, up_pair, FindsUp, kind_in, is_claim, claim_of}
+use Rattle.dist_ends.specs.Ends.{holds_at, is_held, names, up_id, up_from, record_in, end_id, up_pair, FindsUp}
 use Rattle.dist_ends.proofs.Tables.{same-name}
 use Rattle.dist_ends.proofs.Fitting.{self-same}
 

@@ -135,6 +135,17 @@ is_open (ends.Attempt a) = true
 is_open (ends.Up r) = true
 is_open (ends.Closed w) = false
 
+-- the end is open, and not up: its handshake goes on, or no name has come yet
+abbrev pub is_pending : End → Bool
+is_pending ends.Unnamed = true
+is_pending (ends.Attempt a) = true
+is_pending (ends.Up r) = false
+is_pending (ends.Closed w) = false
+
+-- THE OLDEST PENDING END: numbers are given out in order, so it is the one of the lowest number
+abbrev pub oldest_pending : List End → Option EndId
+oldest_pending es = option_map end_id (first_of is_pending es)
+
 -- an attempt that was dialled, and no connection is there yet
 abbrev pub waits_in : Phase → Bool
 waits_in phase.Dialing = true

@@ -3,12 +3,14 @@ ghost use Rattle.std.specs.Prelude.{◌≡◌, ℕ, ◌<◌, ◌+◌, ◌^◌, [
 ghost use Rattle.std.specs.Option.{option_map, option_and_then};
 ghost use Rattle.std.specs.FinMap as map;
 ghost use Rattle.dist_peers.specs.Verdicts.{is_full};
-ghost use Rattle.dist_ends.specs.Ends.{AreLegal, FindsUp, record_in, up_from, up_pair, up_id, up_ids, claim_of, is_open, is_dialing, entry_in, table_of, still_of, awaited_of, end_id, verdict_of, Finds};
-ghost use Rattle.dist_ends.specs.Change.{Fits, changed};
+ghost use Rattle.dist_ends.specs.Ends.{AreLegal, FindsUp, record_in, up_from, up_pair, up_id, up_ids, claim_of, is_open, is_dialing, entry_in, table_of, oldest_pending, still_of, awaited_of, end_id, verdict_of, Finds};
+ghost use Rattle.dist_ends.specs.Change.{Fits, StaysClosed, changed};
+ghost use Rattle.dist_ends.specs.Forgetting.{forgotten};
 
 use crate::known::{End, UpRecord};
 use crate::phase::{Absent, Awaited, Phase, Still};
-use crate::slots::{Row, find};
+use crate::rows::Rows;
+use crate::slots::{find, first_waiting};
 use crate::table::{add, apply, shut};
 use crate::why::Why;
 use dist_names::NodeName;
@@ -23,9 +25,11 @@ pub struct Ends {
     /// The entries that the ends make: from a peer to its ends.
     peers: Peers,
     /// For each number that was given out, the slot of its end or the cause of its closing.
-    rows: Vec<Row>,
+    rows: Rows,
     /// The open ends.
     slots: Slab<End>,
+    /// No end before this number is pending, and none will be: it only rises.
+    passed: usize,
 }
 
 impl Model for Ends {
@@ -38,7 +42,7 @@ impl Model for Ends {
 
     ghost view = { λ b. shown b.rows.items b.slots.slots };
 
-    ghost invariant = { λ b. IsKept b.peers b.rows.items b.slots.slots };
+    ghost invariant = { λ b. IsKept b.peers b.rows.items b.slots.slots b.passed };
 }
 
 impl Ends {
@@ -48,8 +52,9 @@ impl Ends {
     {
         Ends {
             peers: Peers::new(alloc),
-            rows: Vec::new(alloc),
+            rows: Rows::new(alloc),
             slots: Slab::new(alloc),
+            passed: 0,
         }
     }
 
@@ -210,10 +215,39 @@ impl Ends {
         }
     }
 
-    /// Closes an end that was given out. It takes no memory.
+    /// The end that has been open and not up for the longest: the one of the lowest number, since numbers are given out in
+    /// order. `None` where none is. No end changes, and no memory is taken.
+    ///
+    /// An end that was up or closed once is never pending again, so what was passed over once is never looked at again: all
+    /// calls together take time for each end once.
+    pub fn oldest_pending(&mut self) -> Option<EndId>
+        ensures oldest { result ≡ oldest_pending self.old }
+        ensures same { self.new ≡ self.old }
+    {
+        self.passed = first_waiting(&self.rows, &self.slots, self.passed);
+        if self.passed < self.rows.len() {
+            Some(EndId(self.passed as u32))
+        } else {
+            None
+        }
+    }
+
+    /// Forgets why the ends below this number were closed: they answer from now on as if the other side had ended each
+    /// connection. What is open stays as it is, and so does every end from the number on; the number may be one that was
+    /// never given out. It takes no memory, and what the causes took is used again for later ends.
+    pub fn forget(&mut self, below: EndId)
+        ensures { self.new ≡ forgotten below.0 self.old }
+    {
+        self.rows.forget(below.0 as usize);
+    }
+
+    /// Closes an end that is open. It takes no memory.
     pub fn close(&mut self, id: EndId, why: Why)
         // `still` is the test.
-        requires { id.0 < length self.old }
+        requires there { id.0 < length self.old }
+
+        // So it is where `still` tells of an open end.
+        requires stays { StaysClosed (slice_get self.old id.0) (End.Closed why) }
         ensures { self.new ≡ changed self.old id (End.Closed why) None }
     {
         shut(&mut self.peers, &mut self.rows, &mut self.slots, id, why);

@@ -8,6 +8,7 @@ mod ends;
 mod known;
 mod laws;
 mod phase;
+mod rows;
 mod slots;
 mod table;
 mod why;

@@ -25,8 +25,8 @@ module _ (x : Event × ℕ) (xs : List (Event × ℕ)) (first after last : Guest
   stays : (e : StepError) → step first.node x.0 x.1 ≡ Err e → after ≡ first → last.node ≡ run (x ∷ xs) first.node
   stays e is same = goes (ap (settled first.node) is ∙ ap node_of (sym same))
 
-  by_answer : (a : Result (Unit {0}) StepError) → IsCall a (step first.node x.0 x.1) first after → last.node ≡ run (begun a x xs) first.node
-  by_answer (Ok u) (r, is, kept) = goes (ap (settled first.node) is)
+  by_answer : (a : Result (Unit {0}) StepError) → IsCall x.0 a (step first.node x.0 x.1) first after → last.node ≡ run (begun a x xs) first.node
+  by_answer (Ok u) (r, is, kept, heard, same) = goes (ap (settled first.node) is)
   by_answer (Err error.NoMemory) (h, same) = ih ∙ ap (λ (g : Guest). run xs g.node) same
   by_answer (Err error.NoSuchEnd) (h, same) = stays error.NoSuchEnd h same
   by_answer (Err (error.Gone w)) (h, same) = stays (error.Gone w) h same

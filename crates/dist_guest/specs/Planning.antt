@@ -1,25 +1,30 @@
--- What the calls do that change the setup of a guest whose node has made no step.
-use Rattle.std.specs.Prelude.{◌≡◌, ℕ, Bool, true, false, List, [], ◌∷◌, ◌++◌, Some, None, Result, Ok, Err, unwrap_or}
+-- What the calls do that change the setup of a guest's node, between two calls.
+use Rattle.std.specs.Prelude.{◌≡◌, ℕ, List, Result}
 use Rattle.dist_names.specs.Order.{Name}
-use Rattle.dist_secret.specs.Cookies.{with_cookie}
-use Rattle.dist_setup.specs.declared.setup.Setup.{Setup}
-use Rattle.dist_core.specs.declared.reply.Reply.{Reply}
-use Rattle.dist_core.specs.Runs.{opening}
+use Rattle.dist_setup.specs.Changing.{allowing, disallowing, with_name, without_name}
+use Rattle.dist_core.specs.declared.changing.ChangeError.{ChangeError}
+use Rattle.dist_core.specs.declared.changing.Change.{Change}
+use Rattle.dist_core.specs.declared.changing.Change.TheVariants.{Allow}
+use Rattle.dist_core.specs.Changing.{IsChange, after_change, change}
+use Rattle.dist_guest.specs.Forms.{limited}
 use Rattle.dist_guest.specs.declared.guest.Guest.{Guest}
-use Rattle.dist_guest.specs.declared.call_error.SetupError.{SetupError}
-use Rattle.dist_guest.specs.declared.call_error.SetupError.TheVariants.{Started, Full, NoMemory}
 
--- the same setup, with this peer among those that may connect, and none but such
-abbrev pub allowing : Setup → Name → Setup
-allowing s p = record s { allow = Some (unwrap_or s.allow [] ++ (p ∷ [])) }
+-- The call made the node's change, or was refused as the node refuses it. What the newest step answered and heard stays.
+abbrev pub Changes : Result (Unit {0}) ChangeError → Change → Guest → Guest → Type 0
+Changes result v old new = IsChange result (change old.node v) old.node new.node × (new ≡ record old { node = new.node })
 
--- the same setup, with this cookie for the peer
-abbrev pub keyed : Setup → Name → List ℕ → Setup
-keyed s p c = record s { cookies = with_cookie s.cookies p c }
+-- this peer may connect beside those that might; where all might, it alone
+abbrev pub lets_in : Guest → Name → Change
+lets_in g p = Allow (allowing g.node.setup.allow p)
 
--- No step was made and there is room: the guest is a new one of this setup. A refusal is the first that holds, and changes nothing.
-abbrev pub SetsUp : Result (Unit {0}) SetupError → Bool → Setup → Guest → Guest → Type 0
-SetsUp (Ok u) full s old new = (old.last ≡ None) × (full ≡ false) × (new ≡ record { node = opening s; last = None })
-SetsUp (Err Started) full s old new = ((r : Reply) × (old.last ≡ Some r)) × (new ≡ old)
-SetsUp (Err Full) full s old new = (old.last ≡ None) × (full ≡ true) × (new ≡ old)
-SetsUp (Err NoMemory) full s old new = (old.last ≡ None) × (full ≡ false) × (new ≡ old)
+-- every peer may connect for which this form stands, beside those that might; where all might, they alone
+abbrev pub with_form : Guest → List ℕ → Guest
+with_form g form = record g { node = after_change g.node (Allow (limited g.node.setup.allow)); reading = record g.reading { forms = with_name g.reading.forms form } }
+
+-- this form is kept no more
+abbrev pub without_form : Guest → List ℕ → Guest
+without_form g form = record g { reading = record g.reading { forms = without_name g.reading.forms form } }
+
+-- this peer may connect no more; where all may, all still may
+abbrev pub shuts_out : Guest → Name → Change
+shuts_out g p = Allow (disallowing g.node.setup.allow p)

@@ -10,3 +10,6 @@ pub mod Doomed
 pub mod Answering
 pub mod EntryCounts
 pub mod Limits
+pub mod Records
+pub mod Causes
+pub mod Forgetting

@@ -1,12 +1,12 @@
 -- What closes an end that is up, where a frame came.
-use Rattle.std.proofs.Common.{◌≡◌, ℕ, true, false, Bool, List, Option, Some, None, Ok, Err, refl, sym, ap, ◌∙◌, subst, slice_get, if◌then◌else◌, ◌==◌}
+use Rattle.std.proofs.Common.{◌≡◌, ℕ, true, false, Bool, List, Option, Some, None, Ok, Err, refl, sym, ap, ◌∙◌, slice_get, if◌then◌else◌, ◌==◌}
 use Rattle.std.proofs.lemmas.Bool.{eqb-true}
 use Rattle.dist_peers.specs.declared.entry.EndId.{EndId}
 use Rattle.dist_ends.specs.declared.why.Why.{Why}
 use Rattle.dist_ends.specs.declared.known.End.{End}
 use Rattle.dist_ends.specs.declared.known.End.TheVariants as ends
 use Rattle.dist_ends.specs.declared.known.UpRecord.{UpRecord}
-use Rattle.dist_ends.specs.Change.{other_view, view_after}
+use Rattle.dist_ends.specs.Change.{other_view}
 use Rattle.dist_ends.specs.Ends.{AreLegal}
 use Rattle.dist_core.specs.declared.effect.Effect.{Effect}
 use Rattle.dist_core.specs.declared.event.Event.TheVariants as event

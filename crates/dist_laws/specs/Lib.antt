@@ -1,1 +1,3 @@
 pub mod Laws
+pub mod Records
+pub mod Forgetting

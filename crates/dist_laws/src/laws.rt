@@ -34,7 +34,7 @@ pub fn entries_are_whole()
     ensures step { (n : NodeState) (v : Event) (fresh : ℕ) → AreLegal n.ends → AreLegal (settled n (step n v fresh)).ends }
 {}
 
-/// The setup never changes.
+/// No step changes the setup.
 pub fn setup_never_changes()
     ensures step { (n : NodeState) (v : Event) (fresh : ℕ) → (settled n (step n v fresh)).setup ≡ n.setup }
     ensures run { (n : NodeState) (events : List (Event × ℕ)) → (run events n).setup ≡ n.setup }

@@ -3,6 +3,7 @@ pub mod Places
 pub mod Edits
 pub mod Writing
 pub mod Told
+pub mod Reset
 pub mod Wired
 pub mod Links
 pub mod Indexes

@@ -8,12 +8,13 @@ ghost use Rattle.dist_lives.specs.Hearing.{wire_of};
 ghost use Rattle.dist_lives.specs.Links.{is_unreached};
 ghost use Rattle.dist_lives.specs.Index.{index_at};
 ghost use Rattle.dist_lives.specs.Telling.{HasTold, Declines};
+ghost use Rattle.dist_lives.specs.Resetting.{Resets, lacks_memory};
 
 use crate::Connections;
 use crate::events::tell;
 use crate::hearing::Heard;
 use crate::life::{Life, is_open};
-use dist_core::{Event, Node, Setup};
+use dist_core::{Change, ChangeError, Event, Node, Setup};
 use dist_messages::Side;
 use dist_names::Creation;
 use dist_peers::EndId;
@@ -162,6 +163,13 @@ impl Lives {
         true
     }
 
+    /// An incarnation changes its setup: whether its node made the change. A refusal changes nothing.
+    pub fn reset(&mut self, place: usize, wanted: Change) -> Result<bool, AllocError>
+        ensures { Resets result place wanted self.old self.new }
+    {
+        reset_at(&mut self.lives, place, wanted)
+    }
+
     /// An end of an incarnation gets a connection.
     pub fn reach(&mut self, place: usize, id: EndId, conn: usize)
         ensures { self.new ≡ at_place place (reached_life id.0 conn) self.old }
@@ -212,6 +220,31 @@ fn end_at(lives: &mut Vec<Life>, place: usize, clock: u64)
         let life = &mut lives[place];
         life.end(clock);
     }
+}
+
+fn reset_at(lives: &mut Vec<Life>, place: usize, wanted: Change) -> Result<bool, AllocError>
+    ensures { Resets result place wanted lives.old.items lives.new.items }
+{
+    if place >= lives.len() {
+        return Ok(false);
+    }
+    let life = &mut lives[place];
+    match life.reset(wanted) {
+        Ok(()) => Ok(true),
+        Err(refusal) => {
+            if lacks_memory(refusal) {
+                return Err(AllocError);
+            }
+            Ok(false)
+        }
+    }
+}
+
+// Want of memory, and no refusal of the change.
+fn lacks_memory(refusal: ChangeError) -> bool
+    ensures { result ≡ lacks_memory refusal }
+{
+    matches!(refusal, ChangeError::NoMemory)
 }
 
 fn reach_at(lives: &mut Vec<Life>, place: usize, id: EndId, conn: usize)

@@ -1,8 +1,9 @@
 //! One incarnation of a node.
 ghost use Rattle.std.specs.Prelude.{◌≡◌, ℕ, ◌<◌, IfOk, Some, slice_get};
+ghost use Rattle.dist_core.specs.Changing.{IsChange, change};
 ghost use Rattle.dist_core.specs.Step.{step};
 ghost use Rattle.dist_agreement.specs.World.{runs, runs_for};
-ghost use Rattle.dist_agreement.specs.Happenings.{ended, reached_life, is_open_end, shut_all, new_life};
+ghost use Rattle.dist_agreement.specs.Happenings.{ended, with_node, reached_life, is_open_end, shut_all, new_life};
 ghost use Rattle.dist_agreement.specs.Lists.{at_place};
 ghost use Rattle.dist_lives.specs.Hearing.{IsHeard, wire_of};
 ghost use Rattle.dist_agreement.specs.Happenings.{reached_row, conn_of};
@@ -14,7 +15,7 @@ ghost use Rattle.std.specs.Option.{option_map};
 use crate::Connections;
 use crate::hearing::{Heard, hear};
 use crate::row::EndRow;
-use dist_core::{Event, Node, Setup, StepError, Still, UpRecord};
+use dist_core::{Change, ChangeError, Event, Node, Setup, StepError, Still, UpRecord};
 use dist_messages::Side;
 use dist_names::{Creation, NodeName};
 use dist_peers::EndId;
@@ -128,6 +129,14 @@ impl Life {
             event,
             fresh,
         )
+    }
+
+    /// Its node changes its setup, or refuses the change.
+    pub fn reset(&mut self, wanted: Change) -> Result<(), ChangeError>
+        ensures node { IsChange result (change self.old.node wanted) self.old.node self.new.node }
+        ensures same { self.new ≡ with_node self.new.node self.old }
+    {
+        self.node.change(wanted)
     }
 
     /// An end gets a connection.

@@ -9,23 +9,28 @@ use Rattle.dist_core.specs.declared.step_error.StepError.{StepError}
 use Rattle.dist_core.specs.declared.step_error.StepError.TheVariants as error
 use Rattle.dist_core.specs.Clauses.{end_of}
 use Rattle.dist_core.specs.Losses.{loss_of}
-use Rattle.dist_drive.specs.Desks.{Step}
+use Rattle.dist_drive.specs.Desks.{Step, DeskFacts}
 use Rattle.dist_books.specs.declared.line.Receipt.{Receipt}
-use Rattle.dist_books.specs.History.{BookState, IsLegal, IsRefused}
+use Rattle.dist_books.specs.History.{BookState, SeatState, IsLegal, IsRefused}
 
 -- the step of a receipt
 abbrev pub entry_of : Receipt → Step
 entry_of r = (r.line.event, r.line.fresh, r.line.reply)
 
--- what contracts see of the desk of a seat: its end, the seat's number, its receipts when the desk was made, and the steps since
+-- what contracts see of the desk of a seat
 pub record DeskState : Type 0 where
+  -- its end
   pub end_ : EndId
+  -- the seat's number
   pub number : ℕ
+  -- the seat's receipts when the desk was made
   pub start : List Receipt
+  -- the steps since
   pub list : List Step
 
-abbrev pub list_of : DeskState → List Step
-list_of d = d.list
+-- the desk of this end and this seat, behind these steps
+abbrev pub desk_of : EndId → SeatState → List Step → DeskState
+desk_of end_ seat steps = record { end_ = end_; number = seat.number; start = seat.list; list = steps }
 
 -- some node with a legal history tells so of the end
 abbrev pub IsStill : EndId → Still → Type 0
@@ -44,4 +49,10 @@ last_loss (s ∷ t ∷ ss) = last_loss (t ∷ ss)
 -- the causes of its refusals: an event that doesn't name the end is refused as unknown, one behind a loss with the cause of
 -- that loss, and any other as some node with a legal history refuses it
 abbrev pub causes : DeskState → Event → ℕ → StepError → Type 0
-causes d v n e = ((end_of v ≢ Some d.end_) × (e ≡ error.NoSuchEnd)) ⊎ (((w : Why) × (last_loss d.list ≡ Some w) × (e ≡ error.Gone w)) ⊎ IsRefused v n e)
+causes d v n e =
+    ((end_of v ≢ Some d.end_) × (e ≡ error.NoSuchEnd))
+    ⊎ (((w : Why) × (last_loss d.list ≡ Some w) × (e ≡ error.Gone w)) ⊎ IsRefused v n e)
+
+-- what the desk says of itself
+abbrev pub seat_facts : DeskFacts DeskState
+seat_facts = record { list = λ d. d.list; standing = stands_so; refusal = causes }

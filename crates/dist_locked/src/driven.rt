@@ -1,8 +1,8 @@
 //! An end of a locked node, driven.
-ghost use Rattle.std.specs.Prelude.{◌≡◌, ℕ, List, [], ◌++◌, map, IfOk, IfErr};
+ghost use Rattle.std.specs.Prelude.{◌≡◌, List, [], ◌++◌, map, IfOk, IfErr};
 ghost use Rattle.dist_drive.specs.Driven.{Drives};
 ghost use Rattle.dist_books.specs.declared.line.Receipt.{Receipt};
-ghost use Rattle.dist_locked.specs.Desks.{DeskState, entry_of, list_of, stands_so, causes};
+ghost use Rattle.dist_locked.specs.Desks.{entry_of, desk_of, seat_facts};
 
 use crate::locked_node::LockedNode;
 use crate::seat_desk::SeatDesk;
@@ -39,7 +39,10 @@ pub fn drive_end<R: Wait, S: Stream, W: Draws>(
     limit: usize,
 ) -> Result<Driven, (AllocError, Seat)>
     ensures receipts { IfOk result (λ r. (r.seat.number ≡ seat.number) × ((kept : List Receipt) × (r.seat.list ≡ seat.list ++ kept) × (map entry_of kept ≡ r.steps.items))) }
-    ensures drives { IfOk result (λ r. (before : DeskState) × (after : DeskState) × (before.end_ ≡ end_) × (before.number ≡ seat.number) × (before.start ≡ seat.list) × (after.end_ ≡ end_) × (before.list ≡ []) × (after.list ≡ r.steps.items) × Drives list_of stands_so causes W.gives end_ first.now limit (S.meaning stream.old) (S.meaning stream.new) before after draws.old r.outcome) }
+    ensures drives { IfOk result (λ r. Drives seat_facts W.gives
+        (record { end_ = end_; first = first.now; limit = limit; stream = S.meaning stream.old; desk = desk_of end_ seat []; draws = draws.old })
+        (record { stream = S.meaning stream.new; desk = desk_of end_ seat r.steps.items; draws = draws.new })
+        r.outcome) }
     ensures err { IfErr result (λ e. (e.1.number ≡ seat.number) × (e.1.list ≡ seat.list)) }
 {
     let mut desk = SeatDesk::new(rt, alloc, node, seat, end_)?;

@@ -7,7 +7,7 @@ ghost use Rattle.dist_core.specs.Clauses.{end_of};
 ghost use Rattle.dist_core.specs.declared.step_error.StepError.{StepError};
 ghost use Rattle.dist_books.specs.declared.line.Receipt.{Receipt};
 ghost use Rattle.dist_drive.specs.Desks.{last_reply};
-ghost use Rattle.dist_locked.specs.Desks.{entry_of, stands_so, causes};
+ghost use Rattle.dist_locked.specs.Desks.{entry_of, causes, seat_facts};
 
 use super::locked_node::LockedNode;
 use dist_books::{Line, Receipt, Seat};
@@ -120,15 +120,11 @@ impl<'a, R: Wait> SeatDesk<'a, R> {
 impl<'a, R: Wait> Desk for SeatDesk<'a, R> {
     type Base = (u32, LinkedList<Receipt>);
 
-    ghost list = { λ d. d.list };
-
     ghost base = { λ d. (d.number, d.start) };
 
     ghost serves = { λ d. d.end_ };
 
-    ghost stands = { stands_so };
-
-    ghost refuses = { causes };
+    ghost facts = { seat_facts };
 
     fn step(&mut self, event: Event, fresh: u32) -> Result<(), StepError> {
         self.make_step(&event, fresh)

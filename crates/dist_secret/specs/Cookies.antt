@@ -1,5 +1,5 @@
 -- Cookies by peer: a finite map from names to cookies, and a cookie for every other name.
-use Rattle.std.specs.Prelude.{◌≡◌, ℕ, Bool, true, false, ◌&&◌, List, length, codes, Option, unwrap_or, is_none, nat_le, Result, Ok, Err}
+use Rattle.std.specs.Prelude.{◌≡◌, ℕ, Bool, true, false, ◌&&◌, List, length, codes, Option, unwrap_or, is_none, is_some, nat_le, Result, Ok, Err}
 use Rattle.std.specs.BTreeMap.{is_at, insert_entry}
 use Rattle.std.specs.Map.{lookup}
 use Rattle.dist_names.specs.Order.{Name, name_cmp, same_name}
@@ -23,6 +23,14 @@ cookie_for table name = unwrap_or (held table name) table.usual
 abbrev pub with_cookie : CookieTable → Name → List ℕ → CookieTable
 with_cookie table name cookie = record table { own = insert_entry name_cmp table.own name cookie }
 
+-- the name has a cookie of its own
+abbrev pub owns : CookieTable → Name → Bool
+owns table name = is_some (held table name)
+
+-- the cookies in which every name has this one that has none of its own
+abbrev pub with_usual : CookieTable → List ℕ → CookieTable
+with_usual table cookie = record table { usual = cookie }
+
 -- a further name finds no room: 1,024 have cookies of their own (our own limit), and this one is none of them
 abbrev pub is_full_for : CookieTable → Name → Bool
 is_full_for table name = is_none (held table name) && nat_le 1024 (length table.own)
@@ -30,6 +38,14 @@ is_full_for table name = is_none (held table name) && nat_le 1024 (length table.
 -- every other name has the cookie that it had
 abbrev pub OthersKeep : Name → CookieTable → CookieTable → Type 0
 OthersKeep name old new = (other : Name) → same_name name other ≡ false → cookie_for new other ≡ cookie_for old other
+
+-- every name that has a cookie of its own has the same one afterwards
+abbrev pub OwnersKeep : CookieTable → CookieTable → Type 0
+OwnersKeep old new = (name : Name) → owns old name ≡ true → cookie_for new name ≡ cookie_for old name
+
+-- every name that had none of its own has this one afterwards
+abbrev pub OthersHave : List ℕ → CookieTable → CookieTable → Type 0
+OthersHave cookie old new = (name : Name) → owns old name ≡ false → cookie_for new name ≡ cookie
 
 -- a call set the cookie; a refusal changed nothing, and want of memory comes only where there was room
 abbrev pub Sets : {T : Type 0} → Result T CookiesError → Name → List ℕ → CookieTable → CookieTable → Type 0

@@ -1,7 +1,7 @@
 //! Cookies by peer.
 
 ghost use Rattle.std.specs.Prelude.{◌≡◌, ◌↔◌, [], OnOk, IfOk, IsTrue, length};
-ghost use Rattle.dist_secret.specs.Cookies.{cookie_for, is_full_for, OthersKeep, Sets};
+ghost use Rattle.dist_secret.specs.Cookies.{cookie_for, is_full_for, owns, with_usual, OthersHave, OthersKeep, OwnersKeep, Sets};
 
 use crate::cookie::Cookie;
 use crate::cookies_error::CookiesError;
@@ -81,6 +81,13 @@ impl Cookies {
         self.own.get(peer).unwrap_or(&self.usual)
     }
 
+    /// Whether this peer has a cookie of its own.
+    pub fn owns(&self, peer: &NodeName) -> bool
+        ensures { result ≡ owns self.now peer.now }
+    {
+        self.own.get(peer).is_some()
+    }
+
     /// Whether 1,024 other names have cookies of their own, so that this one finds no room.
     pub fn is_full_for(&self, peer: &NodeName) -> bool
         ensures { result ≡ is_full_for self.now peer.now }
@@ -105,6 +112,17 @@ impl Cookies {
             Ok(_) => Ok(()),
             Err(_) => Err(CookiesError::NoMemory),
         }
+    }
+
+    /// Changes the cookie of every name that has none of its own. It takes no memory.
+    pub fn set_usual(&mut self, cookie: Cookie)
+        ensures usual { self.new ≡ with_usual self.old cookie }
+
+        // Who has a cookie of its own keeps it, and all others have this one from then on.
+        ensures owners { OwnersKeep self.old self.new }
+        ensures others { OthersHave cookie self.old self.new }
+    {
+        self.usual = cookie;
     }
 
     /// Equal cookies. The only refusal is want of memory.

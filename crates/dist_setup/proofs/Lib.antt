@@ -1,3 +1,5 @@
 pub mod Sayable
 pub mod Versions
 pub mod Wholes
+pub mod Keys
+pub mod Lists

@@ -1,7 +1,6 @@
 -- The lower half of announced flags, and the versions of nodes.
-use Rattle.std.proofs.Common.{◌≡◌, ℕ, ◌-◌, ◌^◌, ◌<◌, ◌≤◌, ◌%◌, Bool, true, false, ◌&&◌, eqb, refl, sym, ap, ◌∙◌, arith, lit<}
+use Rattle.std.proofs.Common.{◌≡◌, ℕ, ◌^◌, ◌<◌, false, ◌&&◌, eqb, sym, ap, ◌∙◌, arith}
 use Rattle.std.proofs.lemmas.Nat.{and_assoc, and_comm, and_le_l, and_le_r, and_mask, and_or_self}
-use Rattle.std.proofs.lemmas.Bool.{and_parts}
 use Rattle.std.specs.Int.Bits.{bit_and, bit_or}
 use Rattle.std.proofs.Math.Nat.{mod-eq_of_lt}
 use Rattle.dist_names.specs.Flags.{low_half, common, has_all, handshake_23, announced}

@@ -1,8 +1,8 @@
 //! Laws of what a node says: each is a function whose contract is the law.
-ghost use Rattle.std.specs.Prelude.{◌≡◌, ℕ, ◌<◌, ◌^◌, ◌&&◌, List, [], length, map, true, false, Ok};
+ghost use Rattle.std.specs.Prelude.{◌≡◌, ℕ, ◌<◌, ◌^◌, ◌&&◌, List, [], Option, length, map, true, false, Ok};
 ghost use Rattle.std.specs.List.{AllByRecursion};
 ghost use Rattle.std.specs.Int.{w16};
-ghost use Rattle.dist_names.specs.Order.{Name};
+ghost use Rattle.dist_names.specs.Order.{Name, same_name};
 ghost use Rattle.dist_names.specs.NodeName.{IsNodeName};
 ghost use Rattle.dist_names.specs.Flags.{low_half, common, has_all, handshake_23};
 ghost use Rattle.dist_names.specs.declared.flags.Flags.{Flags};
@@ -18,6 +18,7 @@ ghost use Rattle.dist_messages.specs.Canonical.{canonical};
 ghost use Rattle.dist_messages.specs.Reading.{read};
 ghost use Rattle.dist_setup.specs.declared.setup.Setup.{Setup};
 ghost use Rattle.dist_setup.specs.Rules.{announced_by, knows_six};
+ghost use Rattle.dist_setup.specs.Changing.{DigestsStay, has_own_cookie, keyed, keyed_usually, letting_in};
 ghost use Rattle.dist_setup.specs.Saying.{CanBeSaid, said};
 
 use dist_messages::written_is_read;
@@ -55,4 +56,12 @@ pub fn flags_tell_versions()
 /// Where one of two nodes knows version 5 alone, they have no flags in common but those of the lower half.
 pub fn low_halves_suffice()
     ensures { (own other : Setup) → (knows_six own && knows_six other) ≡ false → common (announced_by own) (low_half (announced_by other)) ≡ common (announced_by own) (announced_by other) }
+{}
+
+/// Which digests a change of cookies leaves: for every other peer those that were, where one peer's cookie changes; for each peer
+/// that has its own those that were, where the usual one does; and all, where the names change that may connect.
+pub fn other_digests_stay()
+    ensures peer { (s : Setup) (p q : Name) (cookie : List ℕ) → same_name p q ≡ false → DigestsStay s (keyed s p cookie) q }
+    ensures usual { (s : Setup) (p : Name) (cookie : List ℕ) → has_own_cookie s p ≡ true → DigestsStay s (keyed_usually s cookie) p }
+    ensures allowed { (s : Setup) (names : Option (List Name)) (p : Name) → DigestsStay s (letting_in s names) p }
 {}

@@ -15,9 +15,10 @@ mod version;
 pub use checks::{
     announced_by, form_of_old, good_name, is_refused, knows_six, opens_new, own_digest, required_of,
 };
+pub use dist_secret::Cookie;
 pub use laws::{
     announced_flags_fit, flags_tell_versions, low_halves_suffice, messages_can_be_said,
-    what_is_said_is_read,
+    other_digests_stay, what_is_said_is_read,
 };
 pub use limits::Limits;
 pub use saying::{ack_frame, challenge_frame, greeting, name_frame, reply_frame, status_frame};

@@ -1,7 +1,8 @@
-//! The fixed part of a node.
-ghost use Rattle.std.specs.Prelude.{◌≡◌, ◌↔◌, length, slice_get, IsTrue, IfOk};
+//! What a node is set up with.
+ghost use Rattle.std.specs.Prelude.{◌≡◌, ◌↔◌, true, false, length, slice_get, IsTrue, IfOk, OnOk, OnErr};
 ghost use Rattle.std.specs.Option.{option_map};
-ghost use Rattle.dist_names.specs.Order.{same_name, is_listed};
+ghost use Rattle.dist_names.specs.Order.{Name, same_name, is_listed};
+ghost use Rattle.dist_setup.specs.Changing.{with_name, without_name};
 
 use crate::limits::Limits;
 use crate::version::Version;
@@ -10,7 +11,8 @@ use dist_secret::Cookies;
 use std::alloc::{AllocError, Global};
 use std::marker::Model;
 
-/// What a node is set up with. It never changes.
+/// What a node is set up with. No step changes it. Between two steps whoever has the node may change the cookies and the names
+/// that may connect, and nothing else of it.
 #[derive(Drop)]
 pub struct Setup {
     /// The own name.
@@ -106,6 +108,32 @@ impl NameList {
         ensures { result ≡ is_listed self.now name.now }
     {
         self.names.iter().any(|one| is_one(name, one))
+    }
+
+    /// Adds a name, where it isn't among them yet. Where memory runs out the list stays as it was.
+    pub fn add(&mut self, name: NodeName) -> Result<(), AllocError>
+        ensures ok { OnOk result (self.new ≡ with_name self.old name) }
+        ensures err { OnErr result (self.new ≡ self.old) }
+
+        // The name is listed from then on.
+        ensures listed { OnOk result (is_listed self.new name ≡ true) }
+    {
+        if self.lists(name.bytes()) {
+            return Ok(());
+        }
+        self.names.push(name)?;
+        Ok(())
+    }
+
+    /// Takes a name out, as often as it stands there. It takes no memory.
+    pub fn remove(&mut self, name: &NodeName)
+        ensures exact { self.new ≡ without_name self.old name.now }
+
+        // The name is listed no more, and every other as it was.
+        ensures gone { is_listed self.new name.now ≡ false }
+        ensures others { (other : Name) → same_name other name.now ≡ false → is_listed self.new other ≡ is_listed self.old other }
+    {
+        self.names.retain(|one| !is_one(name.bytes(), one));
     }
 
     /// An equal list.

@@ -1,7 +1,7 @@
 //! Worlds: several nodes, their incarnations, and the connections between them, as a machine that is handed happenings.
 //!
-//! No sockets, no clock, no threads: a list of happenings says what connects, what is delivered, what is lost and which
-//! node is restarted, and the world says what comes of it.
+//! No sockets, no clock, no threads: a list of happenings says what connects, what is delivered, what is lost, which node is
+//! restarted and which changes its cookies, and the world says what comes of it.
 #![tactic(auto)]
 
 mod agreement;

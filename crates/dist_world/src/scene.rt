@@ -76,7 +76,7 @@ impl Scene {
         })
     }
 
-    /// What the nodes were set up with, but for their creations.
+    /// What the nodes begin with, but for their creations.
     pub fn setups(&self) -> &[Setup]
         ensures { result.now ≡ self.now.setups }
     {

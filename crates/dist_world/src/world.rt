@@ -95,7 +95,8 @@ impl World {
         self.scene.both_up(a, b)
     }
 
-    /// What the nodes were set up with, in the order of their places. The creations in it are not used.
+    /// What the nodes begin with, in the order of their places. The creations in it are not used, and a node that runs may have
+    /// changed its cookies and the peers that may connect since (`Happening::Reset`).
     pub fn setups(&self) -> &[Setup]
         ensures { result.now ≡ self.now.setups }
     {
@@ -110,7 +111,7 @@ impl World {
     }
 
     /// The node, end and cause that the step of the last happening that applied closed: its own end, or another one. `None`
-    /// where it closed none or made no step (`Begin`, `Halt`, `Reach`, `Deliver`), or none applied yet.
+    /// where it closed none or made no step (`Begin`, `Halt`, `Reset`, `Reach`, `Deliver`), or none applied yet.
     pub fn last_closed(&self) -> Option<(usize, EndId, Why)>
         ensures { result ≡ option_map closing self.now.last_closed }
     {

@@ -10,8 +10,8 @@ use Rattle.dist_ends.specs.declared.why.Why.{Why}
 use Rattle.dist_ends.specs.declared.why.Why.TheVariants as why
 use Rattle.dist_core.specs.declared.step_error.StepError.{StepError}
 use Rattle.dist_core.specs.declared.step_error.StepError.TheVariants as error
-use Rattle.dist_guest.specs.declared.call_error.SetupError.{SetupError}
-use Rattle.dist_guest.specs.declared.call_error.SetupError.TheVariants as plan
+use Rattle.dist_core.specs.declared.changing.ChangeError.{ChangeError}
+use Rattle.dist_core.specs.declared.changing.ChangeError.TheVariants as changing
 
 -- of a refused step
 abbrev pub step_code : StepError → ℕ
@@ -24,10 +24,10 @@ step_code error.Spent = 14
 step_code error.Full = 15
 
 -- of a setup that is not changed
-abbrev pub setup_code : SetupError → ℕ
-setup_code plan.NoMemory = 3
-setup_code plan.Started = 7
-setup_code plan.Full = 15
+abbrev pub change_code : ChangeError → ℕ
+change_code changing.NoMemory = 3
+change_code changing.InUse = 9
+change_code changing.Full = 15
 
 -- of bytes that are no name
 abbrev pub name_code : NameError → ℕ

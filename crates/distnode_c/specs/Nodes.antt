@@ -1,5 +1,5 @@
 -- What the exports say that make a node, let it go or ask it.
-use Rattle.std.specs.Prelude.{◌≡◌, ℕ, ◌⊎◌, ◌||◌, ◌==◌, if◌then◌else◌, Bool, true, false, List, [], length, nat_le, Option, Some, None, Result, Ok, Err}
+use Rattle.std.specs.Prelude.{◌≡◌, ℕ, ◌⊎◌, ◌||◌, ◌==◌, if◌then◌else◌, List, [], length, nat_le, Option, Some, None, Result, Ok, Err}
 use Rattle.dist_names.specs.Order.{Name}
 use Rattle.dist_names.specs.declared.name_error.NameError.{NameError}
 use Rattle.dist_secret.specs.declared.cookie_error.CookieError.{CookieError}
@@ -10,10 +10,8 @@ use Rattle.dist_setup.specs.declared.limits.Limits.{Limits}
 use Rattle.dist_setup.specs.Limits.{long_running_limits}
 use Rattle.dist_setup.specs.declared.version.Version.{Version}
 use Rattle.dist_setup.specs.declared.version.Version.TheVariants.{Five, Six}
-use Rattle.dist_secret.specs.Cookies.{is_full_for}
-use Rattle.dist_core.specs.declared.reply.Reply.{Reply}
-use Rattle.dist_core.specs.Runs.{opening}
-use Rattle.dist_guest.specs.Planning.{allowing, keyed}
+use Rattle.dist_guest.specs.Calls.{first_guest}
+use Rattle.dist_guest.specs.Reading.{plain}
 use Rattle.dist_guest.specs.declared.guest.Guest.{Guest}
 use Rattle.distnode_c.specs.declared.nodes.DnSetup.{DnSetup}
 use Rattle.distnode_c.specs.declared.nodes.DnPeer.{DnPeer}
@@ -21,9 +19,13 @@ use Rattle.distnode_c.specs.Codes.{name_code, cookie_code}
 use Rattle.distnode_c.specs.Told.{creation_number, is_known}
 use Rattle.distnode_c.specs.Steps.{Copies, CopiesIf, said}
 
--- there is a guest of a node without ends, or memory was wanted and there is none
-abbrev pub Makes : Setup → ℕ → Option Guest → Type 0
-Makes setup code new = ((code ≡ 0) × (new ≡ Some (record { node = opening setup; last = None }))) ⊎ ((code ≡ 3) × (new ≡ None))
+-- a guest of a node without ends, to which DFLAG_MANDATORY_25_DIGEST stands for these flags
+abbrev pub first_reader : Setup → ℕ → Guest
+first_reader setup mandatory = record (first_guest setup) { reading = record plain { mandatory = record { 0 = mandatory } } }
+
+-- there is such a guest, or memory was wanted and there is none
+abbrev pub Makes : Setup → ℕ → ℕ → Option Guest → Type 0
+Makes setup mandatory code new = ((code ≡ 0) × (new ≡ Some (first_reader setup mandatory))) ⊎ ((code ≡ 3) × (new ≡ None))
 
 -- the version of a number: 0 stands for 6
 abbrev pub version_of : ℕ → Option Version
@@ -60,30 +62,7 @@ News version name cookie u code (Some s) new = (code ≡ 2) × (new ≡ Some s)
 News None name cookie u code None new = (code ≡ 6) × (new ≡ None)
 News (Some v) (Err e) cookie u code None new = (code ≡ name_code e) × (new ≡ None)
 News (Some v) (Ok name) (Err e) u code None new = (code ≡ cookie_code e) × (new ≡ None)
-News (Some v) (Ok name) (Ok cookie) u code None new = Makes (setup_of name cookie v u) code new
-
--- the guest is a new one of this setup, or there is no room, or memory was wanted
-abbrev pub Plans : Bool → Setup → ℕ → Guest → Guest → Type 0
-Plans true setup code old new = (code ≡ 15) × (new ≡ old)
-Plans false setup code old new = ((code ≡ 0) × (new ≡ record { node = opening setup; last = None })) ⊎ ((code ≡ 3) × (new ≡ old))
-
--- a peer may connect from now on, at a guest that has made no step; else the first reason why nothing changed
-abbrev pub AllowsAt : Option Reply → Result (List ℕ) NameError → ℕ → Guest → Guest → Type 0
-AllowsAt (Some r) name code old new = (code ≡ 7) × (new ≡ old)
-AllowsAt None (Err e) code old new = (code ≡ name_code e) × (new ≡ old)
-AllowsAt None (Ok p) code old new = Plans false (allowing old.node.setup p) code old new
-
--- the same of a cookie for a peer; memory may be wanted also where there is no room
-abbrev pub KeysAt : Option Reply → Result (List ℕ) NameError → Result (List ℕ) CookieError → ℕ → Guest → Guest → Type 0
-KeysAt (Some r) name cookie code old new = (code ≡ 7) × (new ≡ old)
-KeysAt None (Err e) cookie code old new = (code ≡ name_code e) × (new ≡ old)
-KeysAt None (Ok p) (Err e) code old new = (code ≡ cookie_code e) × (new ≡ old)
-KeysAt None (Ok p) (Ok c) code old new = Plans (is_full_for old.node.setup.cookies p) (keyed old.node.setup p c) code old new ⊎ ((code ≡ 3) × (new ≡ old))
-
--- the same at a node that may hold no guest (1)
-abbrev pub AtGuest : (Guest → Guest → Type 0) → ℕ → Option Guest → Option Guest → Type 0
-AtGuest does code None new = (code ≡ 1) × (new ≡ None)
-AtGuest does code (Some old) new = (g : Guest) × (new ≡ Some g) × does old g
+News (Some v) (Ok name) (Ok cookie) u code None new = Makes (setup_of name cookie v u) u.mandatory_25 code new
 
 -- none is left
 abbrev pub Frees : {X : Type 0} → ℕ → Option X → Option X → Type 0

@@ -1,39 +1,46 @@
 -- What the exports do, in the words of the definition's step.
 use Rattle.std.specs.Prelude.{◌≡◌, ℕ, ◌+◌, ◌⊎◌, List, ◌++◌, length, drop, nat_le, ◌==◌, if◌then◌else◌, Bool, true, false, [], Option, Some, None, Result, Ok, Err}
 use Rattle.dist_peers.specs.declared.entry.EndId.{EndId}
+use Rattle.dist_core.specs.declared.event.Event.{Event}
 use Rattle.dist_core.specs.declared.event.Event.TheVariants as event
 use Rattle.dist_core.specs.declared.reply.Reply.{Reply}
 use Rattle.dist_core.specs.declared.step_error.StepError.{StepError}
 use Rattle.dist_core.specs.Node.{NodeState}
 use Rattle.dist_core.specs.Step.{step}
+use Rattle.dist_guest.specs.Calls.{answer_to, frame_to}
 use Rattle.dist_guest.specs.declared.guest.Guest.{Guest}
+use Rattle.dist_guest.specs.Statuses.{heard_in}
 use Rattle.distnode_c.specs.declared.told.DnReply.{DnReply}
 use Rattle.dist_messages.specs.declared.opening.Opening.{Opening}
 use Rattle.dist_messages.specs.declared.opening.Opening.TheVariants.{Old, New}
-use Rattle.dist_names.specs.declared.name_error.NameError.{NameError}
 use Rattle.dist_ends.specs.declared.why.Why.{Why}
-use Rattle.distnode_c.specs.Codes.{step_code, name_code, why_number}
+use Rattle.distnode_c.specs.Codes.{step_code, why_number}
 use Rattle.distnode_c.specs.Told.{told}
 
 -- nothing changed, and the call answered so
 abbrev pub Keeps : ℕ → ℕ → Option Guest → Option Guest → DnReply → DnReply → Type 0
 Keeps wanted code old new was is = (code ≡ wanted) × (new ≡ old) × (is ≡ was)
 
--- THE STEP, as C has it: the node and the reply are the definition's, or its refusal is; where it refuses nothing memory may be wanted (3)
-abbrev pub Makes : Result (Reply × NodeState) StepError → ℕ → ℕ → Guest → Option Guest → DnReply → DnReply → Type 0
-Makes (Ok x) taken code s new was is =
-    ((code ≡ 0) × (new ≡ Some (record { node = x.1; last = Some x.0 })) × (is ≡ told x.0 taken)) ⊎ Keeps 3 code (Some s) new was is
-Makes (Err e) taken code s new was is = Keeps (step_code e) code (Some s) new was is
+-- nothing is told but this code
+abbrev pub Silent : {X : Type 0} → ℕ → ℕ → X → X → Type 0
+Silent wanted code was is = (code ≡ wanted) × (is ≡ was)
+
+-- THE STEP OF AN EVENT, as C has it: the node and the reply are the definition's, and what status was heard is kept; or its
+-- refusal is told; where it refuses nothing memory may be wanted (3)
+abbrev pub Makes : Event → Result (Reply × NodeState) StepError → ℕ → ℕ → Guest → Option Guest → DnReply → DnReply → Type 0
+Makes v (Ok x) taken code s new was is =
+    ((code ≡ 0) × (new ≡ Some (record s { node = x.1; last = Some x.0; heard = heard_in v })) × (is ≡ told x.0 taken)) ⊎ Keeps 3 code (Some s) new was is
+Makes v (Err e) taken code s new was is = Keeps (step_code e) code (Some s) new was is
 
 -- the same at a node that may hold no guest (1)
-abbrev pub Steps : (NodeState → Result (Reply × NodeState) StepError) → ℕ → Option Guest → Option Guest → DnReply → DnReply → Type 0
-Steps f code None new was is = Keeps 1 code None new was is
-Steps f code (Some s) new was is = Makes (f s.node) 0 code s new was is
+abbrev pub Steps : Event → ℕ → ℕ → Option Guest → Option Guest → DnReply → DnReply → Type 0
+Steps v fresh code None new was is = Keeps 1 code None new was is
+Steps v fresh code (Some s) new was is = Makes v (step s.node v fresh) 0 code s new was is
 
--- the step of the frame at the front of bytes, or none where it has not come whole (5)
+-- the step of the frame at the front of bytes, as the guest reads it, or none where it has not come whole (5)
 abbrev pub Takes : Option (List ℕ) → EndId → ℕ → ℕ → Guest → Option Guest → DnReply → DnReply → Type 0
 Takes None id fresh code s new was is = Keeps 5 code (Some s) new was is
-Takes (Some body) id fresh code s new was is = Makes (step s.node (event.Frame id body) fresh) (2 + length body) code s new was is
+Takes (Some body) id fresh code s new was is = Makes (frame_to s id body) (answer_to s id body fresh) (2 + length body) code s new was is
 
 abbrev pub Receives : Option (List ℕ) → EndId → ℕ → ℕ → Option Guest → Option Guest → DnReply → DnReply → Type 0
 Receives front id fresh code None new was is = Keeps 1 code None new was is
@@ -57,12 +64,7 @@ said (Some r) = r.say
 abbrev pub opening_of : ℕ → Opening
 opening_of n = if n == 0 then Old else New
 
--- the step of a dial, or the reason why the bytes are no name
-abbrev pub Dials : Result (List ℕ) NameError → Opening → ℕ → Option Guest → Option Guest → DnReply → DnReply → Type 0
-Dials (Ok p) o code old new was is = Steps (λ n. step n (event.Dial p o) 0) code old new was is ⊎ Keeps 3 code old new was is
-Dials (Err e) o code old new was is = Keeps (name_code e) code old new was is
-
 -- the step of a loss with the cause of the number, or there is no such cause (6)
 abbrev pub Loses : EndId → ℕ → ℕ → Option Guest → Option Guest → DnReply → DnReply → Type 0
 Loses id number code old new was is =
-    ((w : Why) × (why_number w ≡ number) × Steps (λ n. step n (event.Lost id w) 0) code old new was is) ⊎ Keeps 6 code old new was is
+    ((w : Why) × (why_number w ≡ number) × Steps (event.Lost id w) 0 code old new was is) ⊎ Keeps 6 code old new was is

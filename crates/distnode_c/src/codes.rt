@@ -1,11 +1,10 @@
 //! The numbers by which C knows answers and causes.
 ghost use Rattle.std.specs.Prelude.{◌≡◌, IfSome, Some};
 ghost use Rattle.dist_ends.specs.declared.why.Why.{Why};
-ghost use Rattle.distnode_c.specs.Codes.{step_code, setup_code, name_code, cookie_code, epmd_code, why_number};
+ghost use Rattle.distnode_c.specs.Codes.{step_code, change_code, name_code, cookie_code, epmd_code, why_number};
 
-use dist_core::{StepError, Why};
+use dist_core::{ChangeError, StepError, Why};
 use dist_epmd::EpmdError;
-use dist_guest::SetupError;
 use dist_names::NameError;
 use dist_secret::CookieError;
 
@@ -30,8 +29,11 @@ pub const AWAITS: u32 = 5;
 /// A number or a place names nothing.
 pub const NO_SUCH: u32 = 6;
 
-/// A step was made, and the setup no longer changes.
-pub const STARTED: u32 = 7;
+/// No frame has so long a body.
+pub const TOO_LONG: u32 = 8;
+
+/// An end is open.
+pub const OPEN_ENDS: u32 = 16;
 
 /// Of a refused step.
 pub fn step_code(error: StepError) -> u32
@@ -50,13 +52,13 @@ pub fn step_code(error: StepError) -> u32
 }
 
 /// Of a setup that is not changed.
-pub fn setup_code(error: SetupError) -> u32
-    ensures { result ≡ setup_code error }
+pub fn change_code(error: ChangeError) -> u32
+    ensures { result ≡ change_code error }
 {
     match error {
-        SetupError::NoMemory => 3,
-        SetupError::Started => 7,
-        SetupError::Full => 15,
+        ChangeError::NoMemory => 3,
+        ChangeError::InUse => 9,
+        ChangeError::Full => 15,
     }
 }
 

@@ -7,11 +7,9 @@ ghost use Rattle.dist_names.specs.NodeName.{named};
 ghost use Rattle.dist_secret.specs.Cookie.{cookie_of};
 ghost use Rattle.dist_ends.specs.Ends.{up_from, up_ids, table_of, record_in};
 ghost use Rattle.distnode_c.specs.Steps.{Copies, said};
-ghost use Rattle.distnode_c.specs.Nodes.{Makes, News, ReadsBoth, AllowsAt, KeysAt, AtGuest, version_of, limit_of, limits_in, number_or, Frees, Says, Tells, TellsAt};
+ghost use Rattle.distnode_c.specs.Nodes.{Makes, News, ReadsBoth, version_of, limit_of, limits_in, number_or, Frees, Says, Tells, TellsAt};
 
-use crate::codes::{
-    IN_USE, NO_MEMORY, NO_SUCH, NOT_A_NODE, OK, STARTED, cookie_code, name_code, setup_code,
-};
+use crate::codes::{IN_USE, NO_MEMORY, NO_SUCH, NOT_A_NODE, OK, cookie_code, name_code};
 use crate::copies::copied;
 use crate::held::{DnNode, MARK};
 use crate::told::creation_parts;
@@ -23,7 +21,7 @@ use dist_secret::{Cookie, Cookies};
 use std::alloc::Global;
 use std::mem::size_of;
 
-const _: () = prove!(size_of::<DnSetup>() == 48 && size_of::<DnPeer>() == 32);
+const _: () = prove!(size_of::<DnSetup>() == 56 && size_of::<DnPeer>() == 32);
 
 /// What a node is set up with, but for its name and its cookie.
 #[repr(C)]
@@ -48,6 +46,8 @@ pub struct DnSetup {
     pub most_entries: u32,
     /// The most ends that are open at one time.
     pub most_open_ends: u32,
+    /// The flags that `DFLAG_MANDATORY_25_DIGEST` stands for in the flags of a peer, and 0 for none.
+    pub mandatory_25: u64,
 }
 
 /// A peer that is up.
@@ -67,11 +67,13 @@ pub struct DnPeer {
 }
 
 // Puts a new guest in where there is none.
-fn made(node: &mut DnNode, alloc: Global, setup: Setup) -> u32
+fn made(node: &mut DnNode, alloc: Global, setup: Setup, mandatory: Flags) -> u32
     requires { node.old.slot.guest ≡ None }
-    ensures { Makes setup result node.new.slot.guest }
+    ensures { Makes setup mandatory.0 result node.new.slot.guest }
 {
-    match Box::new(alloc, Guest::new(alloc, setup)) {
+    let mut guest = Guest::new(alloc, setup);
+    guest.reading.mandatory = mandatory;
+    match Box::new(alloc, guest) {
         Ok(guest) => {
             node.shut(guest);
             OK
@@ -126,8 +128,8 @@ fn limits_in(setup: &DnSetup) -> Limits
     }
 }
 
-// A name and a cookie. That memory is short for the name is told only where the text has a cookie.
-fn read_both(alloc: Global, name: &[u8], cookie: &[u8]) -> Result<(NodeName, Cookie), u32>
+/// A name and a cookie. That memory is short for the name is told only where the text has a cookie.
+pub fn read_both(alloc: Global, name: &[u8], cookie: &[u8]) -> Result<(NodeName, Cookie), u32>
     ensures { ReadsBoth result (named name.now) (cookie_of cookie.now) }
 {
     let name = match NodeName::new(alloc, name) {
@@ -163,6 +165,7 @@ pub extern "C" fn dn_node_new(
     };
     match read_both(alloc, name, cookie) {
         Ok((name, cookie)) => {
+            let mandatory = Flags(setup.mandatory_25);
             let setup = Setup {
                 name,
                 cookies: Cookies::new(alloc, cookie),
@@ -173,71 +176,10 @@ pub extern "C" fn dn_node_new(
                 allow: limit_of(alloc, setup.limited),
                 limits: limits_in(setup),
             };
-            made(node, alloc, setup)
+            made(node, alloc, setup, mandatory)
         }
         Err(code) => code,
     }
-}
-
-fn allowed(guest: &mut Guest, alloc: Global, peer: &[u8]) -> u32
-    ensures { AllowsAt guest.old.last (named peer.now) result guest.old guest.new }
-{
-    if guest.last.is_some() {
-        return STARTED;
-    }
-    match NodeName::new(alloc, peer) {
-        Ok(peer) => match guest.allow(alloc, peer) {
-            Ok(()) => OK,
-            Err(error) => setup_code(error),
-        },
-        Err(error) => name_code(error),
-    }
-}
-
-/// Lets this peer connect, before the first step. From the first such call on only peers that were named so may.
-#[unsafe(no_mangle)]
-pub extern "C" fn dn_node_allow(node: &mut DnNode, alloc: Global, peer: &[u8]) -> u32
-    ensures { AtGuest (λ old new. AllowsAt old.last (named peer.now) result old new) result node.old.slot.guest node.new.slot.guest }
-{
-    let Some(mut guest) = node.open(alloc) else {
-        return NOT_A_NODE;
-    };
-    let code = allowed(&mut guest, alloc, peer);
-    node.shut(guest);
-    code
-}
-
-fn keyed(guest: &mut Guest, alloc: Global, peer: &[u8], cookie: &[u8]) -> u32
-    ensures { KeysAt guest.old.last (named peer.now) (cookie_of cookie.now) result guest.old guest.new }
-{
-    if guest.last.is_some() {
-        return STARTED;
-    }
-    match read_both(alloc, peer, cookie) {
-        Ok((peer, cookie)) => match guest.set_cookie(alloc, peer, cookie) {
-            Ok(()) => OK,
-            Err(error) => setup_code(error),
-        },
-        Err(code) => code,
-    }
-}
-
-/// Keeps a cookie for this peer, before the first step; one that it has of its own is replaced.
-#[unsafe(no_mangle)]
-pub extern "C" fn dn_node_cookie(
-    node: &mut DnNode,
-    alloc: Global,
-    peer: &[u8],
-    cookie: &[u8],
-) -> u32
-    ensures { AtGuest (λ old new. KeysAt old.last (named peer.now) (cookie_of cookie.now) result old new) result node.old.slot.guest node.new.slot.guest }
-{
-    let Some(mut guest) = node.open(alloc) else {
-        return NOT_A_NODE;
-    };
-    let code = keyed(&mut guest, alloc, peer, cookie);
-    node.shut(guest);
-    code
 }
 
 /// Lets a node go, with all its memory.

@@ -14,6 +14,8 @@ const NET_TICKTIME: u16 = 60;
 pub enum Asked<'a> {
     /// How the program is called.
     Help,
+    /// Which version it is.
+    Version,
     /// To join a node.
     Joins(Wanted<'a>),
 }
@@ -55,6 +57,7 @@ const UNSAFE: &str = "cookie-unsafe";
 fn program<'a>(alloc: Global) -> Result<Command<'a>, AllocError> {
     let mut program = Command::new(alloc, "joining")
         .no_binary_name(true)
+        .version("0")
         .arg(Arg::new(alloc, "node").action(ArgAction::Set))?
         .arg(
             Arg::new(alloc, UNSAFE)
@@ -125,6 +128,7 @@ pub fn asked_of<'a>(
             None => Err(Fault::BadCommandLine),
         },
         Err(ErrorKind::DisplayHelp) => Ok(Asked::Help),
+        Err(ErrorKind::DisplayVersion) => Ok(Asked::Version),
         Err(ErrorKind::OutOfMemory) => Err(Fault::NoMemory),
         Err(_) => Err(Fault::BadCommandLine),
     }

@@ -36,7 +36,7 @@ const MAPPER_PORT: u16 = 4369;
 /// How the program is called.
 const HELP: &str = "usage: joining NODE [--name NAME] [--cookie-file FILE] [--cookie-unsafe]
                     [--epmd-port N] [--net-ticktime N]
-       joining --help
+       joining --help | --version
 
 Joins a live Erlang node as a hidden node, tells each packet that comes, and leaves at the end of its input.
 
@@ -49,6 +49,9 @@ Joins a live Erlang node as a hidden node, tells each packet that comes, and lea
 
 Status: 0 left, 1 a fault here, 2 a bad command line, 3 not joined, 4 the link is lost.
 ";
+
+/// The version of the program, and of what it speaks.
+const VERSION: &str = "joining 0.2.0, distribution handshake of version 6\n";
 
 /// A mark that threads share.
 type Mark = Arc<AtomicBool, Global>;
@@ -91,6 +94,7 @@ fn perform(rt: &HostRuntime, ended: &AtomicBool) -> Result<(), Fault> {
 fn follow(rt: &HostRuntime, asked: Asked<'_>, ended: &AtomicBool) -> Result<(), Fault> {
     match asked {
         Asked::Help => Ok(rt.stdout().write_all(HELP.as_bytes())?),
+        Asked::Version => Ok(rt.stdout().write_all(VERSION.as_bytes())?),
         Asked::Joins(wanted) => join_and_stay(rt, &wanted, ended),
     }
 }

@@ -1,14 +1,14 @@
-//! The ten happenings.
+//! The eleven happenings.
 ghost use Rattle.std.specs.Prelude.{◌≡◌, Ok, slice_get, IfOk, OnErr, MatchOption};
 ghost use Rattle.std.specs.Option.{option_map};
 ghost use Rattle.dist_agreement.specs.World.{running};
-ghost use Rattle.dist_agreement.specs.Happenings.{told, told_of, unclosed, begun, halted, reached, opened, accepted, deliver, take_next, applied, applied_at};
+ghost use Rattle.dist_agreement.specs.Happenings.{told, told_of, unclosed, begun, halted, reset, reached, opened, accepted, deliver, take_next, applied, applied_at};
 ghost use Rattle.dist_lives.specs.Telling.{HasTold, Declines};
 ghost use Rattle.dist_world.specs.Doing.{Did, Happened};
 
 use crate::scene::{Scene, setup_at};
 use dist_agreement::Happening;
-use dist_core::{Event, Opening, Why};
+use dist_core::{Change, Event, Opening, Why};
 use dist_laws::a_reply_is_of_its_end;
 use dist_lives::{Connections, Heard, Lives};
 use dist_names::{ByteString, Creation, NodeName};
@@ -121,6 +121,21 @@ impl Scene {
         }
         self.last_closed = None;
         true
+    }
+
+    // A running node changes its setup, by a copy of the change.
+    fn reset(&mut self, alloc: Global, node: usize, wanted: &Change) -> Result<bool, AllocError>
+        ensures { Did result (reset (unclosed self.old) (running self.old node) wanted.now) self.old self.new }
+    {
+        let Some(place) = self.running(node) else {
+            return Ok(false);
+        };
+        let wanted = wanted.try_clone(alloc)?;
+        if !self.lives.reset(place, wanted)? {
+            return Ok(false);
+        }
+        self.last_closed = None;
+        Ok(true)
     }
 
     // A dialled end gets a connection.
@@ -302,6 +317,7 @@ impl Scene {
                 };
                 self.tell_node(alloc, *node, event, 0)
             }
+            Happening::Reset { node, change } => self.reset(alloc, *node, change),
         }
     }
 

@@ -1,10 +1,12 @@
-// Command join is a hidden node in Go: it registers with the port mapper, dials one node, and keeps the link by ticks.
+// Command join is a hidden node in Go: it registers with the port mapper, dials one node, accepts others, and keeps its links
+// by ticks.
 //
 //	join NAME PEER SECONDS
 //
-// It prints a line when the peer comes up and when it goes down, and ends after so many seconds. The cookie is that of DISTNODE_COOKIE in
-// the environment, else of $HOME/.erlang.cookie. The port mapper is the one at ERL_EPMD_PORT, 4369 if unset. What Erlang's processes say to
-// it is dropped.
+// It prints a line when a peer comes up and when it goes down, and ends after so many seconds, or with the link to PEER. The
+// cookie is that of DISTNODE_COOKIE in the environment, else of $HOME/.erlang.cookie. The port mapper is the one at
+// ERL_EPMD_PORT, 4369 if unset. What Erlang's processes say to it is dropped. Each connection has a goroutine, and they use the
+// node in turn.
 package main
 
 import (
@@ -16,6 +18,7 @@ import (
 	"net"
 	"os"
 	"strings"
+	"sync"
 	"time"
 
 	"distnode"
@@ -25,12 +28,21 @@ const (
 	hiddenFlags = 0x403070f94      // as an Erlang node of OTP 25 announces them, but for DFLAG_PUBLISHED
 	tick        = 15 * time.Second // a quarter of the peer's net_ticktime
 	patience    = 8 * time.Second  // of a connect, of an answer and of a message of the handshake
+	mostOpen    = 512              // ends that are open at one time: a process has 1,024 descriptors by custom
+	forgetEach  = 65536            // ends, after which the node gives back what it kept of those that are closed
 )
 
-// link is a connection that carries the one end of the node.
+// joined is what the goroutines use in turn: the node, and the connections that carry its ends.
+type joined struct {
+	sync.Mutex
+	node  *distnode.Node
+	conns map[uint32]net.Conn
+}
+
+// link is a connection that carries one end of the node.
 type link struct {
 	net.Conn
-	node *distnode.Node
+	all  *joined
 	end  uint32
 	held []byte
 }
@@ -81,8 +93,8 @@ func register(alive string, port uint16) (net.Conn, uint32, error) {
 	return conn, creation, err
 }
 
-// dial asks the port mapper of a peer's host for its port, and connects.
-func dial(peer string) (net.Conn, error) {
+// connectTo asks the port mapper of a peer's host for its port, and connects.
+func connectTo(peer string) (net.Conn, error) {
 	alive, host, _ := strings.Cut(peer, "@")
 	asked, err := connect(host, mapperPort())
 	if err != nil {
@@ -110,18 +122,102 @@ func dial(peer string) (net.Conn, error) {
 	return connect(host, fmt.Sprint(info.Port))
 }
 
-// say does what a reply wants of the connection.
-func (l *link) say(reply distnode.Reply, err error) error {
+// newEnd is the end that Dial or Incoming gave out. Where another made room for it, that one's connection is closed, also where
+// the newcomer is refused. The caller holds the lock.
+func (j *joined) newEnd(reply distnode.Reply, err error) (uint32, error) {
+	j.close(reply)
+	if err == nil && reply.End%forgetEach == 0 {
+		err = j.node.Forget(reply.End)
+	}
+	return reply.End, err
+}
+
+// close closes the connection of an end that a reply tells as closed: the goroutine that reads from it sees that it ended. The
+// caller holds the lock.
+func (j *joined) close(reply distnode.Reply) {
+	if conn, is := j.conns[reply.Other]; is && reply.Closed != 0 {
+		conn.Close()
+		delete(j.conns, reply.Other)
+	}
+}
+
+// free lets the node go: a goroutine that still runs is refused as NotANode.
+func (j *joined) free() {
+	j.Lock()
+	defer j.Unlock()
+	_ = j.node.Free()
+}
+
+// newLink makes a link of an end that was given out. The caller holds the lock.
+func (j *joined) newLink(conn net.Conn, end uint32) *link {
+	j.conns[end] = conn
+	return &link{Conn: conn, all: j, end: end}
+}
+
+// dial dials a peer; others use the node while this goroutine connects.
+func (j *joined) dial(peer string) (*link, error) {
+	j.Lock()
+	end, err := j.newEnd(j.node.Dial([]byte(peer), true))
+	j.Unlock()
 	if err != nil {
-		return err
+		return nil, err
 	}
-	if _, err = l.Write(reply.Say); err != nil {
-		return err
+	conn, err := connectTo(peer)
+	j.Lock()
+	defer j.Unlock()
+	if err != nil {
+		// (it is refused where the end has made room for another)
+		_, _ = j.node.Lost(end, distnode.DialFailed)
+		return nil, err
 	}
+	return j.newLink(conn, end), nil
+}
+
+// accept takes a connection that was accepted.
+func (j *joined) accept(conn net.Conn) (*link, error) {
+	if err := conn.SetDeadline(time.Now().Add(patience)); err != nil {
+		conn.Close()
+		return nil, err
+	}
+	j.Lock()
+	defer j.Unlock()
+	end, err := j.newEnd(j.node.Incoming())
+	if err != nil {
+		conn.Close()
+		return nil, err
+	}
+	return j.newLink(conn, end), nil
+}
+
+// acceptAll accepts for as long as the listener is open. A peer that does not come up is none that a line is printed for.
+func (j *joined) acceptAll(listener net.Listener, until time.Time) {
+	for {
+		conn, err := listener.Accept()
+		if err != nil {
+			return
+		}
+		if l, err := j.accept(conn); err == nil {
+			go l.carry(until)
+		}
+	}
+}
+
+// step makes a step, and does what its reply wants: it writes, and closes.
+func (l *link) step(call func(node *distnode.Node) (distnode.Reply, error)) (distnode.Reply, error) {
+	l.all.Lock()
+	reply, err := call(l.all.node)
+	l.all.Unlock()
+	if err != nil {
+		return reply, err
+	}
+	_, err = l.Write(reply.Say)
+	l.all.Lock()
+	defer l.all.Unlock()
+	l.all.close(reply)
 	if reply.Closed != 0 && reply.Other == l.end {
-		return fmt.Errorf("closed: %v", reply.Closed)
+		return reply, fmt.Errorf("closed: %v", reply.Closed)
 	}
-	return nil
+	return reply, err
 }
 
 // read puts what comes behind what is held.
@@ -132,26 +228,30 @@ func (l *link) read() error {
 	return err
 }
 
-// comeUp drives the handshake until the end is up.
-func (l *link) comeUp() error {
+// comeUp drives the handshake until the end is up. What came behind its last frame is held.
+func (l *link) comeUp() (distnode.Peer, error) {
 	for {
 		var challenge [4]byte
 		if _, err := rand.Read(challenge[:]); err != nil {
-			return err
+			return distnode.Peer{}, err
 		}
-		reply, err := l.node.Received(l.end, l.held, binary.BigEndian.Uint32(challenge[:]))
+		reply, err := l.step(func(node *distnode.Node) (distnode.Reply, error) {
+			return node.Received(l.end, l.held, binary.BigEndian.Uint32(challenge[:]))
+		})
 		if err == distnode.Awaits {
 			if err = l.read(); err != nil {
-				return err
+				return distnode.Peer{}, err
 			}
 			continue
 		}
-		if err = l.say(reply, err); err != nil {
-			return err
+		if err != nil {
+			return distnode.Peer{}, err
 		}
 		l.held = l.held[reply.Taken:]
 		if reply.Up {
-			return nil
+			l.all.Lock()
+			defer l.all.Unlock()
+			return l.all.node.PeerOf(l.end)
 		}
 	}
 }
@@ -170,28 +270,55 @@ func (l *link) dropPackets() (isTick bool) {
 }
 
 // keep keeps the link until it ends or the time is over.
-func (l *link) keep(until time.Time) (distnode.Why, error) {
+func (l *link) keep(until time.Time) distnode.Why {
 	due := time.Now().Add(tick)
 	for time.Now().Before(until) {
 		if err := l.SetDeadline(time.Now().Add(100 * time.Millisecond)); err != nil {
-			return 0, err
+			return distnode.ReadFailed
 		}
 		err := l.read()
 		if err == io.EOF {
-			return distnode.Ended, nil
+			return distnode.Ended
 		}
 		if err != nil && !errors.Is(err, os.ErrDeadlineExceeded) {
-			return distnode.ReadFailed, nil
+			return distnode.ReadFailed
 		}
 		// (a tick is answered by one)
 		if l.dropPackets() || !time.Now().Before(due) {
 			due = time.Now().Add(tick)
-			if err = l.say(l.node.Tick(l.end)); err != nil {
-				return 0, err
+			_, err = l.step(func(node *distnode.Node) (distnode.Reply, error) { return node.Tick(l.end) })
+			if err != nil {
+				return distnode.WriteFailed
 			}
 		}
 	}
-	return distnode.GaveUp, nil
+	return distnode.GaveUp
+}
+
+// lose gives the end up, and tells why it is closed: another step may have closed it before.
+func (l *link) lose(why distnode.Why) distnode.Why {
+	l.all.Lock()
+	defer l.all.Unlock()
+	l.all.close(distnode.Reply{Closed: why, Other: l.end})
+	if _, err := l.all.node.Lost(l.end, why); err == nil {
+		return why
+	}
+	if end, err := l.all.node.End(l.end); err == nil && end.Phase == distnode.PhaseClosed {
+		return end.Why
+	}
+	return why
+}
+
+// carry carries the end: its handshake, and then its packets, until it is closed or the time is over.
+func (l *link) carry(until time.Time) error {
+	up, err := l.comeUp()
+	if err != nil {
+		l.lose(distnode.GaveUp)
+		return err
+	}
+	fmt.Printf("up %s %016x %d\n", up.Name, up.Common, up.Creation)
+	fmt.Printf("down %s %v\n", up.Name, l.lose(l.keep(until)))
+	return nil
 }
 
 func run(name, peer string, most time.Duration) error {
@@ -210,40 +337,24 @@ func run(name, peer string, most time.Duration) error {
 	if err != nil {
 		return err
 	}
-	node, err := distnode.NewNode([]byte(name), secret, distnode.Setup{Flags: hiddenFlags, Creation: creation})
+	setup := distnode.Setup{Flags: hiddenFlags, Creation: creation, MostOpenEnds: mostOpen}
+	node, err := distnode.NewNode([]byte(name), secret, setup)
 	if err != nil {
 		return err
 	}
-	defer node.Free()
+	all := &joined{node: node, conns: map[uint32]net.Conn{}}
+	defer all.free()
+	go all.acceptAll(listener, until)
 
-	reply, err := node.Dial([]byte(peer), true)
+	l, err := all.dial(peer)
 	if err != nil {
 		return err
 	}
-	conn, err := dial(peer)
+	_, err = l.step(func(node *distnode.Node) (distnode.Reply, error) { return node.Opened(l.end) })
 	if err != nil {
 		return err
 	}
-	defer conn.Close()
-	l := &link{Conn: conn, node: node, end: reply.End}
-	if err = l.say(node.Opened(l.end)); err != nil {
-		return err
-	}
-	if err = l.comeUp(); err != nil {
-		return err
-	}
-	up, err := node.PeerOf(l.end)
-	if err != nil {
-		return err
-	}
-	fmt.Printf("up %s %016x %d\n", up.Name, up.Common, up.Creation)
-	why, err := l.keep(until)
-	if err != nil {
-		return err
-	}
-	_, err = node.Lost(l.end, why)
-	fmt.Printf("down %s %v\n", up.Name, why)
-	return err
+	return l.carry(until)
 }
 
 func main() {

@@ -11,9 +11,88 @@ use core::mem::size_of;
 pub type dn_code = u32;
 
 pub const DN_OK: dn_code = 0;
+pub const DN_NOT_A_NODE: dn_code = 1;
+pub const DN_IN_USE: dn_code = 2;
+pub const DN_NO_MEMORY: dn_code = 3;
 pub const DN_NO_ROOM: dn_code = 4;
 pub const DN_AWAITS: dn_code = 5;
 pub const DN_NO_SUCH: dn_code = 6;
+pub const DN_TOO_LONG: dn_code = 8;
+pub const DN_PEER_IN_USE: dn_code = 9;
+pub const DN_NO_SUCH_END: dn_code = 10;
+pub const DN_GONE: dn_code = 11;
+pub const DN_WRONG_PHASE: dn_code = 12;
+pub const DN_BUSY: dn_code = 13;
+pub const DN_SPENT: dn_code = 14;
+pub const DN_FULL: dn_code = 15;
+pub const DN_OPEN_ENDS: dn_code = 16;
+pub const DN_NAME_TOO_SHORT: dn_code = 20;
+pub const DN_NAME_TOO_LONG: dn_code = 21;
+pub const DN_NAME_BAD_BYTE: dn_code = 22;
+pub const DN_NAME_BAD_AT: dn_code = 23;
+pub const DN_COOKIE_EMPTY: dn_code = 30;
+pub const DN_COOKIE_BAD_BYTE: dn_code = 31;
+pub const DN_COOKIE_TOO_LONG: dn_code = 32;
+pub const DN_EPMD_MALFORMED: dn_code = 40;
+pub const DN_EPMD_SHORT: dn_code = 41;
+pub const DN_EPMD_TRAILING: dn_code = 42;
+
+/// Why an end is closed.
+pub type dn_why = u32;
+
+pub const DN_WHY_ENDED: dn_why = 1;
+pub const DN_WHY_READ_FAILED: dn_why = 2;
+pub const DN_WHY_WRITE_FAILED: dn_why = 3;
+pub const DN_WHY_GAVE_UP: dn_why = 4;
+pub const DN_WHY_DIAL_FAILED: dn_why = 5;
+pub const DN_WHY_MALFORMED: dn_why = 6;
+pub const DN_WHY_UNEXPECTED: dn_why = 7;
+pub const DN_WHY_WRONG_NAME: dn_why = 8;
+pub const DN_WHY_WRONG_FLAGS: dn_why = 9;
+pub const DN_WHY_WRONG_DIGEST: dn_why = 10;
+pub const DN_WHY_STATUS_REFUSED: dn_why = 11;
+pub const DN_WHY_REFUSED: dn_why = 12;
+pub const DN_WHY_CROSSED: dn_why = 13;
+pub const DN_WHY_REPLACED: dn_why = 14;
+pub const DN_WHY_NO_MEMORY: dn_why = 15;
+
+/// A status of the handshake, as one side says it and the other hears it.
+pub type dn_status = u32;
+
+pub const DN_STATUS_NONE: dn_status = 0;
+pub const DN_STATUS_OK: dn_status = 1;
+pub const DN_STATUS_OK_SIMULTANEOUS: dn_status = 2;
+pub const DN_STATUS_NOK: dn_status = 3;
+pub const DN_STATUS_NOT_ALLOWED: dn_status = 4;
+pub const DN_STATUS_ALIVE: dn_status = 5;
+pub const DN_STATUS_TRUE: dn_status = 6;
+pub const DN_STATUS_FALSE: dn_status = 7;
+
+/// How an end stands: what it awaits of the other side, where it is open and not up.
+pub type dn_phase = u32;
+
+pub const DN_PHASE_NONE: dn_phase = 0;
+pub const DN_PHASE_CLOSED: dn_phase = 1;
+pub const DN_PHASE_CONNECTION: dn_phase = 2;
+pub const DN_PHASE_NAME: dn_phase = 3;
+pub const DN_PHASE_STATUS: dn_phase = 4;
+pub const DN_PHASE_CHALLENGE: dn_phase = 5;
+pub const DN_PHASE_ACK: dn_phase = 6;
+pub const DN_PHASE_TRUE_OR_FALSE: dn_phase = 7;
+pub const DN_PHASE_COMPLEMENT: dn_phase = 8;
+pub const DN_PHASE_REPLY: dn_phase = 9;
+pub const DN_PHASE_DOOMED_DIALING: dn_phase = 10;
+pub const DN_PHASE_DOOMED: dn_phase = 11;
+pub const DN_PHASE_UP: dn_phase = 12;
+
+/// Which ends hold a peer.
+pub type dn_state = u32;
+
+pub const DN_STATE_IDLE: dn_state = 0;
+pub const DN_STATE_OUT: dn_state = 1;
+pub const DN_STATE_IN: dn_state = 2;
+pub const DN_STATE_UP: dn_state = 3;
+pub const DN_STATE_CHALLENGED: dn_state = 4;
 
 /// A node, in the caller's memory. All zero before `dn_node_new`; from then on it is neither written nor copied.
 #[repr(C)]
@@ -35,7 +114,11 @@ pub struct dn_setup {
     pub most_steps: u64,
     pub most_entries: u32,
     pub most_open_ends: u32,
+    pub mandatory_25: u64,
 }
+
+/// The flags that `DFLAG_MANDATORY_25_DIGEST` stands for, as OTP 25 and later read it.
+pub const DN_MANDATORY_25: u64 = 0x1070f94;
 
 /// What a step did.
 #[repr(C)]
@@ -61,6 +144,24 @@ pub struct dn_peer {
     pub id: u32,
     pub creation: u32,
     pub has_creation: u32,
+}
+
+/// The ends that hold a peer.
+#[repr(C)]
+#[derive(Clone, Copy, Debug, Default)]
+pub struct dn_entry {
+    pub state: dn_state,
+    pub up: u32,
+    pub pending: u32,
+}
+
+/// An end.
+#[repr(C)]
+#[derive(Clone, Copy, Debug, Default)]
+pub struct dn_end {
+    pub peer: usize,
+    pub phase: dn_phase,
+    pub why: dn_why,
 }
 
 /// What the port mapper knows of a node.
@@ -93,9 +194,10 @@ pub struct dn_served {
 const _: () = assert!(
     size_of::<dn_node>() == 16 && size_of::<dn_registry>() == 16 && size_of::<dn_served>() == 16
 );
-const _: () = assert!(size_of::<dn_setup>() == 48 && size_of::<dn_reply>() == 48);
+const _: () = assert!(size_of::<dn_setup>() == 56 && size_of::<dn_reply>() == 48);
 const _: () =
-    assert!(size_of::<dn_peer>() == 32 && size_of::<dn_info>() == 8 && size_of::<usize>() == 8);
+    assert!(size_of::<dn_peer>() == 32 && size_of::<dn_entry>() == 12 && size_of::<dn_end>() == 16);
+const _: () = assert!(size_of::<dn_info>() == 8 && size_of::<usize>() == 8);
 
 extern "C" {
     pub fn dn_node_new(
@@ -106,11 +208,18 @@ extern "C" {
         cookie_len: usize,
         setup: *const dn_setup,
     ) -> dn_code;
+    pub fn dn_node_renew(node: *mut dn_node) -> dn_code;
     pub fn dn_node_allow(node: *mut dn_node, peer: *const u8, peer_len: usize) -> dn_code;
+    pub fn dn_node_disallow(node: *mut dn_node, peer: *const u8, peer_len: usize) -> dn_code;
     pub fn dn_node_cookie(
         node: *mut dn_node,
         peer: *const u8,
         peer_len: usize,
+        cookie: *const u8,
+        cookie_len: usize,
+    ) -> dn_code;
+    pub fn dn_node_usual_cookie(
+        node: *mut dn_node,
         cookie: *const u8,
         cookie_len: usize,
     ) -> dn_code;
@@ -132,14 +241,65 @@ extern "C" {
         challenge: u32,
         reply: *mut dn_reply,
     ) -> dn_code;
-    pub fn dn_node_lost(node: *mut dn_node, id: u32, why: u32, reply: *mut dn_reply) -> dn_code;
+    pub fn dn_node_body(
+        node: *mut dn_node,
+        id: u32,
+        body: *const u8,
+        len: usize,
+        challenge: u32,
+        reply: *mut dn_reply,
+    ) -> dn_code;
+    pub fn dn_node_lost(node: *mut dn_node, id: u32, why: dn_why, reply: *mut dn_reply) -> dn_code;
     pub fn dn_node_tick(node: *mut dn_node, id: u32, reply: *mut dn_reply) -> dn_code;
+    pub fn dn_node_forget(node: *mut dn_node, below: u32) -> dn_code;
     pub fn dn_node_say(
         node: *mut dn_node,
         room: *mut u8,
         room_len: usize,
         len: *mut usize,
     ) -> dn_code;
+    pub fn dn_node_say_body(
+        node: *mut dn_node,
+        place: usize,
+        room: *mut u8,
+        room_len: usize,
+        len: *mut usize,
+    ) -> dn_code;
+    pub fn dn_node_status(
+        node: *mut dn_node,
+        said: *mut dn_status,
+        heard: *mut dn_status,
+    ) -> dn_code;
+    pub fn dn_node_ready(
+        node: *mut dn_node,
+        id: u32,
+        bytes: *const u8,
+        len: usize,
+        challenge: u32,
+        reply: *mut dn_reply,
+    ) -> dn_code;
+    pub fn dn_node_ready_body(
+        node: *mut dn_node,
+        id: u32,
+        body: *const u8,
+        len: usize,
+        challenge: u32,
+        reply: *mut dn_reply,
+    ) -> dn_code;
+    pub fn dn_node_entry(
+        node: *mut dn_node,
+        peer: *const u8,
+        peer_len: usize,
+        entry: *mut dn_entry,
+    ) -> dn_code;
+    pub fn dn_node_end(
+        node: *mut dn_node,
+        id: u32,
+        end: *mut dn_end,
+        room: *mut u8,
+        room_len: usize,
+    ) -> dn_code;
+    pub fn dn_node_oldest(node: *mut dn_node, id: *mut u32) -> dn_code;
     pub fn dn_node_peer_at(
         node: *mut dn_node,
         place: usize,
@@ -205,5 +365,5 @@ extern "C" {
     ) -> dn_code;
     pub fn dn_registry_closed(registry: *mut dn_registry, connection: u64) -> dn_code;
     pub fn dn_code_name(code: u32, room: *mut u8, room_len: usize, len: *mut usize) -> dn_code;
-    pub fn dn_why_name(why: u32, room: *mut u8, room_len: usize, len: *mut usize) -> dn_code;
+    pub fn dn_why_name(why: dn_why, room: *mut u8, room_len: usize, len: *mut usize) -> dn_code;
 }

@@ -9,25 +9,29 @@ pub struct Error(u32);
 
 impl Error {
     /// The struct holds no node, or no registry.
-    pub const NOT_A_NODE: Self = Self(1);
+    pub const NOT_A_NODE: Self = Self(sys::DN_NOT_A_NODE);
     /// There is no memory. The same call does its work once there is some.
-    pub const NO_MEMORY: Self = Self(3);
+    pub const NO_MEMORY: Self = Self(sys::DN_NO_MEMORY);
     /// A cause, a place or a version names nothing.
     pub const NO_SUCH: Self = Self(sys::DN_NO_SUCH);
-    /// The node has made a step, and its setup no longer changes.
-    pub const STARTED: Self = Self(7);
+    /// A body has more than 65,535 bytes, and no frame can have it.
+    pub const TOO_LONG: Self = Self(sys::DN_TOO_LONG);
+    /// A peer whose cookie is to be changed is connected, or about to be.
+    pub const PEER_IN_USE: Self = Self(sys::DN_PEER_IN_USE);
     /// The number was never given out.
-    pub const NO_SUCH_END: Self = Self(10);
+    pub const NO_SUCH_END: Self = Self(sys::DN_NO_SUCH_END);
     /// The end is closed.
-    pub const GONE: Self = Self(11);
+    pub const GONE: Self = Self(sys::DN_GONE);
     /// The end is open, and takes no such event now.
-    pub const WRONG_PHASE: Self = Self(12);
+    pub const WRONG_PHASE: Self = Self(sys::DN_WRONG_PHASE);
     /// A dial to a peer that has an end.
-    pub const BUSY: Self = Self(13);
+    pub const BUSY: Self = Self(sys::DN_BUSY);
     /// The node has made its steps, or given out its ends.
-    pub const SPENT: Self = Self(14);
-    /// No entry, no end or no cookie is left.
-    pub const FULL: Self = Self(15);
+    pub const SPENT: Self = Self(sys::DN_SPENT);
+    /// The ends that may be open are up, or no entry or no cookie is left.
+    pub const FULL: Self = Self(sys::DN_FULL);
+    /// An end is open, and the node does not begin anew.
+    pub const OPEN_ENDS: Self = Self(sys::DN_OPEN_ENDS);
 
     /// The code's number in the header.
     pub fn number(self) -> u32 {
@@ -53,6 +57,22 @@ impl fmt::Debug for Error {
 }
 
 impl std::error::Error for Error {}
+
+/// A newcomer that `dial` or `incoming` refused.
+#[derive(Clone, Copy, Debug, PartialEq, Eq, Hash)]
+pub struct Refused {
+    pub error: Error,
+    /// The end that was given up to make room all the same, and why: its connection is to be closed, as where a reply tells it.
+    pub closed: Option<(u32, Why)>,
+}
+
+impl fmt::Display for Refused {
+    fn fmt(&self, f: &mut fmt::Formatter<'_>) -> fmt::Result {
+        self.error.fmt(f)
+    }
+}
+
+impl std::error::Error for Refused {}
 
 /// `Ok` where a call did its work.
 pub(crate) fn done(code: u32) -> Result<(), Error> {

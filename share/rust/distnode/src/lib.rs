@@ -8,10 +8,13 @@ mod code;
 mod epmd;
 mod node;
 mod registry;
+mod state;
 
-pub use code::{Error, Why};
+pub use code::{Error, Refused, Why};
+pub use distnode_sys::DN_MANDATORY_25 as MANDATORY_25;
 pub use epmd::{
     alive_answer, alive_request, names_request, port_answer, port_request, Info, HIDDEN, NORMAL,
 };
 pub use node::{cookie_digest, Node, Peer, Reply, Setup};
 pub use registry::{Registry, Served};
+pub use state::{End, Entry, Phase, Status};

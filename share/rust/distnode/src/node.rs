@@ -1,11 +1,14 @@
 //! A node: its setup, its steps, and who is up.
 
-use crate::code::{copied, done, Error, Why};
+use crate::code::{copied, done, Error, Refused, Why};
+use crate::state::{End, Entry, Phase, Status};
 use distnode_sys as sys;
 use std::ptr;
 
 /// A name has at most so many bytes.
 const LONGEST_NAME: usize = 255;
+/// The longest frame that a node says is shorter.
+const BODY_ROOM: usize = 1024;
 
 /// What a node is set up with, beside its name and its cookie. Fields that are 0 have their usual values.
 #[derive(Clone, Copy, Debug, Default)]
@@ -26,8 +29,11 @@ pub struct Setup {
     pub most_steps: u64,
     /// The most peers with which it has or makes a connection at one time; 0 stands for 65,536.
     pub most_entries: u32,
-    /// The most ends that are open at one time; 0 stands for 65,536.
+    /// The most ends that are open at one time; 0 stands for 65,536. Beyond them a newcomer finds room as long as one is not
+    /// up.
     pub most_open_ends: u32,
+    /// The flags that `DFLAG_MANDATORY_25_DIGEST` of a peer stands for: [`crate::MANDATORY_25`], or 0 for none.
+    pub mandatory_25: u64,
 }
 
 impl Setup {
@@ -42,11 +48,12 @@ impl Setup {
             most_steps: self.most_steps,
             most_entries: self.most_entries,
             most_open_ends: self.most_open_ends,
+            mandatory_25: self.mandatory_25,
         }
     }
 }
 
-/// What a step did.
+/// What a step did; of `ready` and `ready_body`, what it would do.
 #[derive(Clone, Debug)]
 pub struct Reply {
     /// The event's end, or the one that was given out.
@@ -59,6 +66,29 @@ pub struct Reply {
     pub closed: Option<(u32, Why)>,
     /// This end came up: what follows on its connection is the caller's.
     pub up: bool,
+    /// Where it came up: the flags that both announced.
+    pub common: u64,
+    /// Where it came up: the peer's creation, known of a peer of version 6.
+    pub creation: Option<u32>,
+}
+
+impl Reply {
+    fn of(it: &sys::dn_reply, say: Vec<u8>) -> Self {
+        Self {
+            end: it.id,
+            say,
+            taken: it.taken,
+            closed: closed_end(it),
+            up: it.up != 0,
+            common: it.common,
+            creation: (it.has_creation != 0).then_some(it.creation),
+        }
+    }
+}
+
+/// The end that a reply tells as closed, and why.
+fn closed_end(it: &sys::dn_reply) -> Option<(u32, Why)> {
+    Why::of(it.closed).map(|why| (it.closed_id, why))
 }
 
 /// A peer that is up.
@@ -102,13 +132,27 @@ impl Node {
         Ok(Self(node))
     }
 
-    /// Lets this peer connect, where the setup limits them. Before the first step.
+    /// Begins anew, with the setup, the cookies and the peers that may connect: ends get their numbers from 0 on again. Refused
+    /// as `OPEN_ENDS` while an end is open.
+    pub fn renew(&mut self) -> Result<(), Error> {
+        // SAFETY: the node was made.
+        done(unsafe { sys::dn_node_renew(&mut *self.0) })
+    }
+
+    /// Lets this peer connect, and from the first call on only peers that were named so. At any time; a peer that is connected
+    /// stays so.
     pub fn allow(&mut self, peer: &[u8]) -> Result<(), Error> {
         // SAFETY: as in `new`, of a node that was made.
         done(unsafe { sys::dn_node_allow(&mut *self.0, peer.as_ptr(), peer.len()) })
     }
 
-    /// Keeps a cookie for this peer alone. Before the first step.
+    /// Lets this peer connect no more, where the peers that may are named. One that is connected stays so.
+    pub fn disallow(&mut self, peer: &[u8]) -> Result<(), Error> {
+        // SAFETY: as in `allow`.
+        done(unsafe { sys::dn_node_disallow(&mut *self.0, peer.as_ptr(), peer.len()) })
+    }
+
+    /// Keeps a cookie for this peer alone. Refused as `PEER_IN_USE` while the peer is connected, or about to be.
     pub fn set_cookie(&mut self, peer: &[u8], cookie: &[u8]) -> Result<(), Error> {
         let cookie = cookie.to_vec();
         // SAFETY: as in `allow`.
@@ -123,12 +167,15 @@ impl Node {
         })
     }
 
-    fn step(
-        &mut self,
-        call: impl FnOnce(&mut sys::dn_node, &mut sys::dn_reply) -> u32,
-    ) -> Result<Reply, Error> {
-        let mut it = sys::dn_reply::default();
-        done(call(&mut self.0, &mut it))?;
+    /// Changes the cookie of each peer that has none of its own. Refused as `PEER_IN_USE` while one of those is connected, or
+    /// about to be.
+    pub fn set_usual_cookie(&mut self, cookie: &[u8]) -> Result<(), Error> {
+        // SAFETY: as in `allow`.
+        done(unsafe { sys::dn_node_usual_cookie(&mut *self.0, cookie.as_ptr(), cookie.len()) })
+    }
+
+    /// Reads the reply to a step that was made, with the bytes that it says.
+    fn reply(&mut self, it: &sys::dn_reply) -> Result<Reply, Error> {
         let node: *mut sys::dn_node = &mut *self.0;
         let say = match it.say {
             0 => Vec::new(),
@@ -137,20 +184,36 @@ impl Node {
                 sys::dn_node_say(node, room.as_mut_ptr(), room.len(), len)
             })?,
         };
-        let closed = Why::of(it.closed).map(|why| (it.closed_id, why));
-        Ok(Reply {
-            end: it.id,
-            say,
-            taken: it.taken,
-            closed,
-            up: it.up != 0,
-        })
+        Ok(Reply::of(it, say))
     }
 
-    /// The node is to connect to this peer: the reply has a new end. `is_new` opens by the name `N` of version 6, else by `n`.
-    pub fn dial(&mut self, peer: &[u8], is_new: bool) -> Result<Reply, Error> {
+    fn step(
+        &mut self,
+        call: impl FnOnce(&mut sys::dn_node, &mut sys::dn_reply) -> u32,
+    ) -> Result<Reply, Error> {
+        let mut it = sys::dn_reply::default();
+        done(call(&mut self.0, &mut it))?;
+        self.reply(&it)
+    }
+
+    /// A step that gives out an end, whose reply tells with every code which end made room.
+    fn newcomer(
+        &mut self,
+        call: impl FnOnce(&mut sys::dn_node, &mut sys::dn_reply) -> u32,
+    ) -> Result<Reply, Refused> {
+        let mut it = sys::dn_reply::default();
+        let code = call(&mut self.0, &mut it);
+        let closed = closed_end(&it);
+        done(code)
+            .and_then(|()| self.reply(&it))
+            .map_err(|error| Refused { error, closed })
+    }
+
+    /// The node is to connect to this peer: the reply has a new end, and may tell another that made room for it; so may the
+    /// refusal. `is_new` opens by the name `N` of version 6, else by `n`.
+    pub fn dial(&mut self, peer: &[u8], is_new: bool) -> Result<Reply, Refused> {
         // SAFETY: as in `allow`.
-        self.step(|node, reply| unsafe {
+        self.newcomer(|node, reply| unsafe {
             sys::dn_node_dial(node, peer.as_ptr(), peer.len(), is_new.into(), reply)
         })
     }
@@ -161,10 +224,10 @@ impl Node {
         self.step(|node, reply| unsafe { sys::dn_node_opened(node, end, reply) })
     }
 
-    /// A connection was accepted: the reply has a new end.
-    pub fn incoming(&mut self) -> Result<Reply, Error> {
+    /// A connection was accepted: the reply has a new end, and may tell another that made room for it; so may the refusal.
+    pub fn incoming(&mut self) -> Result<Reply, Refused> {
         // SAFETY: as in `allow`.
-        self.step(|node, reply| unsafe { sys::dn_node_incoming(node, reply) })
+        self.newcomer(|node, reply| unsafe { sys::dn_node_incoming(node, reply) })
     }
 
     /// Takes the frame at the front of what came; `None` where it has not come whole. `challenge` is a random number, drawn anew.
@@ -184,6 +247,47 @@ impl Node {
         }
     }
 
+    /// Takes one frame without its length, for a caller whose sockets take lengths off. `bodies` has what it says.
+    pub fn received_body(&mut self, end: u32, body: &[u8], challenge: u32) -> Result<Reply, Error> {
+        // SAFETY: as in `allow`.
+        self.step(|node, reply| unsafe {
+            sys::dn_node_body(node, end, body.as_ptr(), body.len(), challenge, reply)
+        })
+    }
+
+    /// What `received` would answer to these bytes and this challenge; nothing is done, and `say` of the reply is empty. Where
+    /// `up` is true, the caller looks by `end` which peer that is, and lets it in by `received` with the same bytes and the
+    /// same challenge, or refuses it by `lost` with `Why::GaveUp`.
+    pub fn ready(
+        &mut self,
+        end: u32,
+        bytes: &[u8],
+        challenge: u32,
+    ) -> Result<Option<Reply>, Error> {
+        let mut it = sys::dn_reply::default();
+        let node: *mut sys::dn_node = &mut *self.0;
+        // SAFETY: as in `allow`.
+        let code = unsafe {
+            sys::dn_node_ready(node, end, bytes.as_ptr(), bytes.len(), challenge, &mut it)
+        };
+        if code == sys::DN_AWAITS {
+            return Ok(None);
+        }
+        done(code)?;
+        Ok(Some(Reply::of(&it, Vec::new())))
+    }
+
+    /// What `received_body` would answer, as `ready` tells what `received` would.
+    pub fn ready_body(&mut self, end: u32, body: &[u8], challenge: u32) -> Result<Reply, Error> {
+        let mut it = sys::dn_reply::default();
+        let node: *mut sys::dn_node = &mut *self.0;
+        // SAFETY: as in `allow`.
+        done(unsafe {
+            sys::dn_node_ready_body(node, end, body.as_ptr(), body.len(), challenge, &mut it)
+        })?;
+        Ok(Reply::of(&it, Vec::new()))
+    }
+
     /// The connection of an end is lost or given up.
     pub fn lost(&mut self, end: u32, why: Why) -> Result<Reply, Error> {
         // SAFETY: as in `allow`.
@@ -194,6 +298,67 @@ impl Node {
     pub fn tick(&mut self, end: u32) -> Result<Reply, Error> {
         // SAFETY: as in `allow`.
         self.step(|node, reply| unsafe { sys::dn_node_tick(node, end, reply) })
+    }
+
+    /// Forgets why the ends below this number were closed, and gives back the memory that was kept of them. Open ends stay as
+    /// they are. A node that runs for long calls it now and then, as with the number of its newest end.
+    pub fn forget(&mut self, below: u32) -> Result<(), Error> {
+        // SAFETY: the node was made.
+        done(unsafe { sys::dn_node_forget(&mut *self.0, below) })
+    }
+
+    /// The frames that the newest step says, each without its length, and each to be written by itself. A tick is none of them:
+    /// there an empty packet is to be written.
+    pub fn bodies(&mut self) -> Result<Vec<Vec<u8>>, Error> {
+        let node: *mut sys::dn_node = &mut *self.0;
+        let mut bodies = Vec::new();
+        loop {
+            // SAFETY: as in `allow`, with a room for the bytes.
+            let body = copied(BODY_ROOM, |room, len| unsafe {
+                sys::dn_node_say_body(node, bodies.len(), room.as_mut_ptr(), room.len(), len)
+            });
+            match body {
+                Err(Error::NO_SUCH) => return Ok(bodies),
+                other => bodies.push(other?),
+            }
+        }
+    }
+
+    /// The status that the newest step said, and the one that it heard: so it is known why a peer said no.
+    pub fn status(&mut self) -> Result<(Option<Status>, Option<Status>), Error> {
+        let (mut said, mut heard) = (0, 0);
+        // SAFETY: the node was made.
+        done(unsafe { sys::dn_node_status(&mut *self.0, &mut said, &mut heard) })?;
+        Ok((Status::of(said), Status::of(heard)))
+    }
+
+    /// The ends that hold a peer.
+    pub fn entry(&mut self, peer: &[u8]) -> Result<Entry, Error> {
+        let mut it = sys::dn_entry::default();
+        // SAFETY: as in `allow`.
+        done(unsafe { sys::dn_node_entry(&mut *self.0, peer.as_ptr(), peer.len(), &mut it) })?;
+        Ok(Entry::of(&it))
+    }
+
+    /// How an end stands, and who its peer is, also before it is up; `None` where the number was never given out.
+    pub fn end(&mut self, end: u32) -> Result<Option<End>, Error> {
+        let (mut it, mut room) = (sys::dn_end::default(), [0; LONGEST_NAME]);
+        // SAFETY: as in `peer_of`.
+        done(unsafe {
+            sys::dn_node_end(&mut *self.0, end, &mut it, room.as_mut_ptr(), room.len())
+        })?;
+        let peer = (it.peer != 0).then(|| room[..it.peer].to_vec());
+        Ok(Phase::of(&it).map(|phase| End { phase, peer }))
+    }
+
+    /// The end that has been open and not up for the longest: the next to make room. `None` where each open end is up.
+    pub fn oldest(&mut self) -> Result<Option<u32>, Error> {
+        let mut end = 0;
+        // SAFETY: the node was made.
+        match done(unsafe { sys::dn_node_oldest(&mut *self.0, &mut end) }) {
+            Err(Error::NO_SUCH) => Ok(None),
+            other => other.map(|()| Some(end)),
+        }
     }
 
     /// The peer that is up on an end.

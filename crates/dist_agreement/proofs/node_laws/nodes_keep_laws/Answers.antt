@@ -27,5 +27,8 @@ returns c = record {
   own_end = c.a_reply_is_of_its_end.ensures.heard;
   other = c.another_end_is_replaced.ensures;
   places = c.two_ends_change_at_most.ensures.places;
+  right_opening = c.records_stay_right.ensures.first;
+  right_step = c.records_stay_right.ensures.step;
+  right_change = c.records_stay_right.ensures.change;
   after = λ es f. c.ends_after_a_change.ensures es f.reply.end_ f.this f.other;
 }

@@ -1,11 +1,30 @@
-use Rattle.std.proofs.Common.{length, ap, arith}
+use Rattle.std.proofs.Common.{◌≡◌, ◌∙◌, true, Option, Some, Ok, refl, sym, length, ap, arith, slice_get}
 use Rattle.std.proofs.lemmas.Option.{slice_get_within}
+use Rattle.dist_ends.specs.declared.known.End.{End}
 use Rattle.dist_ends.specs.declared.known.End.TheVariants as ends
+use Rattle.dist_ends.specs.Ends.{is_open}
+use Rattle.dist_core.specs.declared.effect.Effect.{Effect}
+use Rattle.dist_core.specs.Step.{at_end}
+use Rattle.dist_core.specs.Effects.{closes}
+use Rattle.dist_ends.proofs.Fitting.{stays-closing}
 use Rattle.dist_core.proofs.Counts.{length-within}
 use Rattle.dist_core.proofs.node.Node.lose.Goals as goal
 
-pub close-requires : goal.close-requires
-close-requires c = slice_get_within c.self.inside.ends c.args.id.0 c.in_ok-_end._end.now c.in_ok-_end.ensures.0
+pub close-requires-clause-there : goal.close-requires-clause-there
+close-requires-clause-there c = slice_get_within c.self.inside.ends c.args.id.0 c.in_ok-_end._end.now c.in_ok-_end.ensures.0
+
+-- an end of which it is asked what is to be done is open
+opened : (o : Option End) (e : End) (f : Effect) → o ≡ Some e → at_end o (λ _. Ok f) ≡ Ok f → is_open e ≡ true
+opened o ends.Unnamed f is h = refl
+opened o (ends.Attempt b) f is h = refl
+opened o (ends.Up r) f is h = refl
+opened o (ends.Closed w) f is h = let bad : at_end (Some (ends.Closed w)) (λ _. Ok f) ≡ Ok f = ap (λ (o : Option End). at_end o (λ _. Ok f)) (sym is) ∙ h in absurd cc
+
+pub close-requires-clause-stays : goal.close-requires-clause-stays
+close-requires-clause-stays c =
+    let e = c.in_ok-_end._end.now in
+    let f = closes c.args.id c.args.why in
+    stays-closing (slice_get c.self.inside.ends c.args.id.0) e c.args.why c.in_ok-_end.ensures.0 (opened (slice_get c.self.inside.ends c.args.id.0) e f c.in_ok-_end.ensures.0 (c.in_ok-_end.ensures.1 (λ _. Ok f)))
 
 pub invariant_of-self : goal.invariant_of-self
 invariant_of-self c =

@@ -1,0 +1,12 @@
+-- What no entry before this one has is left to be found.
+use Rattle.std.proofs.Common.{◌≡◌, drop}
+use Rattle.std.specs.List.{list_any}
+use Rattle.std.specs.FinMap as map
+use Rattle.dist_ends.specs.Ends.{table_of}
+use Rattle.dist_core.specs.Changing.{has_usual}
+use Rattle.dist_core.proofs.node.Node.is_usual_in_use.Given as goal
+
+abbrev pub invariant-loop-i : goal.invariant-loop-i
+invariant-loop-i l =
+    let rows = map.entries (table_of l.self.ends) in
+    list_any (has_usual l.self.setup) (drop l.i rows) ≡ list_any (has_usual l.self.setup) rows

@@ -1,0 +1,35 @@
+-- Runs of a node that is told events, whose setup is changed, and that forgets: all that is ever done to a node.
+use Rattle.std.specs.Prelude.{ℕ, List, [], ◌∷◌, Result, Ok, Err}
+use Rattle.dist_ends.specs.Forgetting.{forgotten}
+use Rattle.dist_core.specs.declared.changing.ChangeError.{ChangeError}
+use Rattle.dist_core.specs.declared.event.Event.{Event}
+use Rattle.dist_core.specs.declared.changing.Change.{Change}
+use Rattle.dist_core.specs.Changing.{change}
+use Rattle.dist_core.specs.Node.{NodeState}
+use Rattle.dist_core.specs.Runs.{settled}
+use Rattle.dist_core.specs.Step.{step}
+
+-- what is done to a node
+pub data Act : Type 0 where
+  -- a step, of an event and the challenge that was drawn for it
+  Steps : (event : Event) → (fresh : ℕ) → Act
+  -- a change of its setup
+  Changes : (changed : Change) → Act
+  -- it is forgotten why the ends below a number were closed
+  Forgets : (below : ℕ) → Act
+
+-- a change that is refused leaves the node
+abbrev pub changed_or : NodeState → Result NodeState ChangeError → NodeState
+changed_or n (Ok m) = m
+changed_or n (Err e) = n
+
+-- the node after one act
+abbrev pub act : NodeState → Act → NodeState
+act n (Steps v fresh) = settled n (step n v fresh)
+act n (Changes v) = changed_or n (change n v)
+act n (Forgets below) = record n { ends = forgotten below n.ends }
+
+-- THE NODE AFTER THESE ACTS, one after another
+abbrev pub run_acts : List Act → NodeState → NodeState
+run_acts [] n = n
+run_acts (x ∷ xs) n = run_acts xs (act n x)

@@ -1,0 +1,151 @@
+//! Changes of a node's setup, between two steps: its cookies, and which peers may connect.
+//!
+//! An Erlang node makes them at any time (`erlang:set_cookie/1,2`, `net_kernel:allow/1`), also of the cookie of a node that is
+//! connected, whose connection it keeps. Here such a cookie isn't changed while the peer has an entry (our own choice): so each
+//! handshake goes on under the cookie under which it began, and the record of each end that is up holds the digest of the cookie
+//! that the node has for that peer now, over all steps and changes.
+//!
+//! A change is no event of a step. An event has a reply, of one of the ends, counts as a step, and stands in books and in what is
+//! told to auditors; a change has no reply, concerns no end that is there, and counts for nothing.
+ghost use Rattle.std.specs.Prelude.{◌≡◌, IfErr, IfOk, slice_get};
+ghost use Rattle.std.specs.FinMap as map;
+ghost use Rattle.dist_ends.specs.Ends.{table_of};
+ghost use Rattle.dist_core.specs.Changing.{IsChange, after_change, change, is_usual_in_use, is_usual_row};
+
+use crate::node::Node;
+use dist_names::NodeName;
+use dist_setup::{Cookie, NameList};
+use std::alloc::{AllocError, Global};
+use std::mem::replace;
+use thiserror::Error;
+
+/// Why a setup is not changed: the first that holds, in this order. Each leaves the node unchanged.
+#[derive(Clone, Copy, Debug, PartialEq, Eq, Error)]
+pub enum ChangeError {
+    /// A peer that the change concerns has an entry: its end is up, or in a handshake, under the cookie that it has now. Once
+    /// that end is lost, the change can be made.
+    #[error("a peer whose cookie is to be changed is connected, or about to be")]
+    InUse,
+    /// 1,024 other names have cookies of their own, and this one has none yet. Our own limit.
+    #[error("no room for the cookie of a further name")]
+    Full,
+    /// Nothing else refuses the change, and no memory was left for it.
+    #[error("out of memory")]
+    NoMemory,
+}
+
+/// What is changed of a node's setup.
+#[derive(Drop)]
+pub enum Change {
+    /// The cookie of this peer, which is its own from then on.
+    Cookie { peer: NodeName, cookie: Cookie },
+    /// The cookie of every peer that has none of its own.
+    UsualCookie { cookie: Cookie },
+    /// Which peers may connect: these, or all where there is no list.
+    Allow { allow: Option<NameList> },
+}
+
+impl Change {
+    /// An equal change.
+    pub fn try_clone(&self, alloc: Global) -> Result<Change, AllocError>
+        ensures { IfOk result (λ copy. copy ≡ self.now) }
+    {
+        Ok(match self {
+            Change::Cookie { peer, cookie } => Change::Cookie {
+                peer: peer.try_clone(alloc)?,
+                cookie: cookie.try_clone(alloc)?,
+            },
+            Change::UsualCookie { cookie } => Change::UsualCookie {
+                cookie: cookie.try_clone(alloc)?,
+            },
+            Change::Allow { allow } => Change::Allow {
+                allow: match allow {
+                    None => None,
+                    Some(names) => Some(names.try_clone(alloc)?),
+                },
+            },
+        })
+    }
+}
+
+impl Node {
+    /// Changes the setup by `set_cookie`, `set_usual_cookie` or `set_allow`, and is refused as they are.
+    pub fn change(&mut self, wanted: Change) -> Result<(), ChangeError>
+        ensures { IsChange result (change self.old wanted) self.old self.new }
+    {
+        match wanted {
+            Change::Cookie { peer, cookie } => self.set_cookie(peer, cookie),
+            Change::UsualCookie { cookie } => self.set_usual_cookie(cookie),
+            Change::Allow { allow } => {
+                let _before = self.set_allow(allow);
+                Ok(())
+            }
+        }
+    }
+
+    /// Keeps a cookie for this peer, in place of one that it has of its own. No other peer's cookie changes.
+    ///
+    /// Refused as `InUse` where the peer has an entry, then `Full`, then `NoMemory`.
+    pub fn set_cookie(&mut self, peer: NodeName, cookie: Cookie) -> Result<(), ChangeError>
+        ensures { IsChange result (change self.old (Change.Cookie peer cookie)) self.old self.new }
+    {
+        if self.entry_of(&peer).is_some() {
+            return Err(ChangeError::InUse);
+        }
+        if self.setup.cookies.is_full_for(&peer) {
+            return Err(ChangeError::Full);
+        }
+        match self.setup.cookies.set(peer, cookie) {
+            Ok(()) => Ok(()),
+            Err(_) => Err(ChangeError::NoMemory),
+        }
+    }
+
+    /// Changes the cookie of every peer that has none of its own. It takes no memory, and walks all entries.
+    ///
+    /// Refused as `InUse` alone: where a peer has an entry and no cookie of its own.
+    pub fn set_usual_cookie(&mut self, cookie: Cookie) -> Result<(), ChangeError>
+        ensures change { IsChange result (change self.old (Change.UsualCookie cookie)) self.old self.new }
+        ensures alone { IfErr result (λ error. error ≡ ChangeError.InUse) }
+    {
+        if self.is_usual_in_use() {
+            return Err(ChangeError::InUse);
+        }
+        self.setup.cookies.set_usual(cookie);
+        Ok(())
+    }
+
+    /// Changes which peers may connect: these, or all where there is no list; and gives back the list that stood before. It takes
+    /// no memory, and is never refused.
+    ///
+    /// It concerns the names that come later alone: a peer that is connected stays so, and one whose name came goes on. Whoever
+    /// wants it gone tells its end as lost. A dial is not bound by the list.
+    pub fn set_allow(&mut self, allow: Option<NameList>) -> Option<NameList>
+        ensures changed { self.new ≡ after_change self.old (Change.Allow allow) }
+        ensures before { result ≡ self.old.setup.allow }
+    {
+        replace(&mut self.setup.allow, allow)
+    }
+
+    // Whether a peer that has an entry has no cookie of its own.
+    fn is_usual_in_use(&self) -> bool
+        ensures { result ≡ is_usual_in_use self.now }
+    {
+        for i in 0..self.entries() {
+            if self.is_usual_at(i) {
+                return true;
+            }
+        }
+        false
+    }
+
+    // The same of the entry at this place.
+    fn is_usual_at(&self, i: usize) -> bool
+        ensures { result ≡ is_usual_row self.now.setup (slice_get (map.entries (table_of self.now.ends)) i) }
+    {
+        match self.entry_at(i) {
+            Some((peer, _)) => !self.setup.cookies.owns(peer),
+            None => false,
+        }
+    }
+}

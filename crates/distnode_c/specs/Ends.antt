@@ -1,0 +1,88 @@
+-- What is told of an end, and of the oldest one that is not up.
+use Rattle.std.specs.Prelude.{◌≡◌, ℕ, zero, suc, List, [], length, nat_le, Option, Some, None, slice_get, count_by}
+use Rattle.dist_names.specs.Order.{Name}
+use Rattle.dist_peers.specs.declared.entry.EndId.{EndId}
+use Rattle.dist_ends.specs.declared.phase.Phase.{Phase}
+use Rattle.dist_ends.specs.declared.phase.Phase.TheVariants as phase
+use Rattle.dist_ends.specs.declared.known.End.{End}
+use Rattle.dist_ends.specs.declared.known.End.TheVariants as ends
+use Rattle.dist_ends.specs.Ends.{is_open, oldest_pending}
+use Rattle.dist_ends.specs.Forgetting.{forgotten}
+use Rattle.dist_guest.specs.Calls.{renewed}
+use Rattle.dist_guest.specs.declared.guest.Guest.{Guest}
+use Rattle.distnode_c.specs.declared.ends.DnEnd.{DnEnd}
+use Rattle.distnode_c.specs.Codes.{why_number}
+use Rattle.distnode_c.specs.Steps.{CopiesIf, Silent}
+
+-- the number of the phase of an end that knows its peer and is not up
+abbrev pub phase_number : Phase → ℕ
+phase_number phase.Dialing = 2
+phase_number phase.AwaitStatus = 4
+phase_number phase.AwaitChallenge = 5
+phase_number phase.AwaitAck = 6
+phase_number phase.AwaitTrue = 7
+phase_number phase.AwaitComplement = 8
+phase_number phase.AwaitReply = 9
+phase_number phase.DoomedDialing = 10
+phase_number phase.Doomed = 11
+
+-- the number of how an end stands: 0 where it was never given out
+abbrev pub end_number : Option End → ℕ
+end_number None = 0
+end_number (Some (ends.Closed w)) = 1
+end_number (Some ends.Unnamed) = 3
+end_number (Some (ends.Attempt a)) = phase_number a.phase
+end_number (Some (ends.Up r)) = 12
+
+-- the number of the cause for which an end was closed, and 0 where it is not
+abbrev pub end_why : Option End → ℕ
+end_why (Some (ends.Closed w)) = why_number w
+end_why _ = 0
+
+-- the peer of an end, and no bytes where none is known
+abbrev pub end_peer : Option End → Name
+end_peer (Some (ends.Attempt a)) = a.peer
+end_peer (Some (ends.Up r)) = r.peer
+end_peer _ = []
+
+-- how an end stands
+abbrev pub end_told : Option End → DnEnd
+end_told o = record { peer = length (end_peer o); phase = end_number o; why = end_why o }
+
+-- an end is told, and the name of its peer copied
+abbrev pub TellsEnd : Option End → ℕ → DnEnd → DnEnd → List ℕ → List ℕ → Type 0
+TellsEnd o code was is old new = (is ≡ end_told o) × CopiesIf (nat_le (length (end_peer o)) (length old)) (end_peer o) code old new
+
+-- the same at a node that may hold no guest (1)
+abbrev pub TellsEndAt : ℕ → Option Guest → ℕ → DnEnd → DnEnd → List ℕ → List ℕ → Type 0
+TellsEndAt id None code was is old new = (code ≡ 1) × (is ≡ was) × (new ≡ old)
+TellsEndAt id (Some s) code was is old new = TellsEnd (slice_get s.node.ends id) code was is old new
+
+-- the number of an end is told, or there is none (6)
+abbrev pub TellsId : Option EndId → ℕ → ℕ → ℕ → Type 0
+TellsId None code was is = Silent 6 code was is
+TellsId (Some x) code was is = (code ≡ 0) × (is ≡ x.0)
+
+-- the oldest pending end is told, where there is a guest (1)
+abbrev pub TellsOldest : Option Guest → ℕ → ℕ → ℕ → Type 0
+TellsOldest None code was is = Silent 1 code was is
+TellsOldest (Some s) code was is = TellsId (oldest_pending s.node.ends) code was is
+
+-- the guest, once its node has forgotten why the ends below a number were closed
+abbrev pub forgetful : ℕ → Guest → Guest
+forgetful below s = record s { node = record s.node { ends = forgotten below s.node.ends } }
+
+-- a guest begins anew, or is left as it is while ends are open (16), of which there are so many
+abbrev pub RenewsWith : ℕ → ℕ → Guest → Option Guest → Type 0
+RenewsWith zero code s new = (code ≡ 0) × (new ≡ Some (renewed s))
+RenewsWith (suc open_ends) code s new = (code ≡ 16) × (new ≡ Some s)
+
+-- the same, where there is a guest (1)
+abbrev pub Renews : ℕ → Option Guest → Option Guest → Type 0
+Renews code None new = (code ≡ 1) × (new ≡ None)
+Renews code (Some s) new = RenewsWith (count_by is_open s.node.ends) code s new
+
+-- the node forgets, where there is a guest (1)
+abbrev pub Forgets : ℕ → ℕ → Option Guest → Option Guest → Type 0
+Forgets below code None new = (code ≡ 1) × (new ≡ None)
+Forgets below code (Some s) new = (code ≡ 0) × (new ≡ Some (forgetful below s))

@@ -1,0 +1,171 @@
+//! Which peers may connect, and under which cookie: changes of a node's setup, at any time between two steps.
+ghost use Rattle.std.specs.Prelude.{◌≡◌};
+ghost use Rattle.dist_names.specs.NodeName.{named};
+ghost use Rattle.dist_secret.specs.Cookie.{cookie_of};
+ghost use Rattle.dist_core.specs.declared.changing.Change.{Change};
+ghost use Rattle.dist_core.specs.declared.changing.Change.TheVariants.{UsualCookie};
+ghost use Rattle.dist_core.specs.Changing.{change};
+ghost use Rattle.dist_guest.specs.Forms.{formed, has_form};
+ghost use Rattle.dist_guest.specs.Planning.{Changes};
+ghost use Rattle.dist_guest.specs.declared.guest.Guest.{Guest};
+ghost use Rattle.distnode_c.specs.Changes.{Allows, AllowsForm, AllowsText, Amends, AtGuest, Disallows, DisallowsForm, DisallowsText, Keys, KeysUsually};
+
+use crate::codes::{NO_MEMORY, NOT_A_NODE, OK, change_code, cookie_code, name_code};
+use crate::held::DnNode;
+use crate::nodes::read_both;
+use dist_core::ChangeError;
+use dist_guest::{Guest, form_of, has_form};
+use dist_names::NodeName;
+use dist_secret::Cookie;
+use std::alloc::Global;
+
+// The code of what a change answered.
+fn amended(answer: Result<(), ChangeError>) -> u32
+    ensures { (v : Change) (old new : Guest) → Changes answer v old new → Amends (change old.node v) result old new }
+{
+    match answer {
+        Ok(()) => OK,
+        Err(error) => change_code(error),
+    }
+}
+
+fn allow(guest: &mut Guest, alloc: Global, peer: &[u8]) -> u32
+    ensures { Allows (named peer.now) result guest.old guest.new }
+{
+    match NodeName::new(alloc, peer) {
+        Ok(peer) => amended(guest.allow(alloc, peer)),
+        Err(error) => name_code(error),
+    }
+}
+
+fn allow_form(guest: &mut Guest, alloc: Global, text: &[u8]) -> u32
+    ensures { AllowsForm (formed text.now) result guest.old guest.new }
+{
+    match form_of(alloc, text) {
+        Ok(form) => match guest.allow_form(alloc, form) {
+            Ok(()) => OK,
+            Err(_) => NO_MEMORY,
+        },
+        Err(error) => name_code(error),
+    }
+}
+
+fn allow_text(guest: &mut Guest, alloc: Global, text: &[u8]) -> u32
+    ensures { AllowsText (has_form text.now) text.now result guest.old guest.new }
+{
+    if has_form(text) {
+        allow_form(guest, alloc, text)
+    } else {
+        allow(guest, alloc, text)
+    }
+}
+
+/// Lets this peer connect, or all of a host, or all of a name before the `@`. From the first such call on only peers that were
+/// named so may.
+#[unsafe(no_mangle)]
+pub extern "C" fn dn_node_allow(node: &mut DnNode, alloc: Global, peer: &[u8]) -> u32
+    ensures { AtGuest (AllowsText (has_form peer.now) peer.now result) result node.old.slot.guest node.new.slot.guest }
+{
+    let Some(mut guest) = node.open(alloc) else {
+        return NOT_A_NODE;
+    };
+    let code = allow_text(&mut guest, alloc, peer);
+    node.shut(guest);
+    code
+}
+
+fn disallow(guest: &mut Guest, alloc: Global, peer: &[u8]) -> u32
+    ensures { Disallows (named peer.now) result guest.old guest.new }
+{
+    match NodeName::new(alloc, peer) {
+        Ok(peer) => {
+            guest.disallow(&peer);
+            OK
+        }
+        Err(error) => name_code(error),
+    }
+}
+
+fn disallow_form(guest: &mut Guest, alloc: Global, text: &[u8]) -> u32
+    ensures { DisallowsForm (formed text.now) result guest.old guest.new }
+{
+    match form_of(alloc, text) {
+        Ok(form) => {
+            guest.disallow_form(form.as_slice());
+            OK
+        }
+        Err(error) => name_code(error),
+    }
+}
+
+fn disallow_text(guest: &mut Guest, alloc: Global, text: &[u8]) -> u32
+    ensures { DisallowsText (has_form text.now) text.now result guest.old guest.new }
+{
+    if has_form(text) {
+        disallow_form(guest, alloc, text)
+    } else {
+        disallow(guest, alloc, text)
+    }
+}
+
+/// Lets this peer, or a form, connect no more, where the peers that may are listed.
+#[unsafe(no_mangle)]
+pub extern "C" fn dn_node_disallow(node: &mut DnNode, alloc: Global, peer: &[u8]) -> u32
+    ensures { AtGuest (DisallowsText (has_form peer.now) peer.now result) result node.old.slot.guest node.new.slot.guest }
+{
+    let Some(mut guest) = node.open(alloc) else {
+        return NOT_A_NODE;
+    };
+    let code = disallow_text(&mut guest, alloc, peer);
+    node.shut(guest);
+    code
+}
+
+fn set_cookie(guest: &mut Guest, alloc: Global, peer: &[u8], cookie: &[u8]) -> u32
+    ensures { Keys (named peer.now) (cookie_of cookie.now) result guest.old guest.new }
+{
+    match read_both(alloc, peer, cookie) {
+        Ok((peer, cookie)) => amended(guest.set_cookie(peer, cookie)),
+        Err(code) => code,
+    }
+}
+
+/// Keeps a cookie for this peer; one that it has of its own is replaced.
+#[unsafe(no_mangle)]
+pub extern "C" fn dn_node_cookie(
+    node: &mut DnNode,
+    alloc: Global,
+    peer: &[u8],
+    cookie: &[u8],
+) -> u32
+    ensures { AtGuest (Keys (named peer.now) (cookie_of cookie.now) result) result node.old.slot.guest node.new.slot.guest }
+{
+    let Some(mut guest) = node.open(alloc) else {
+        return NOT_A_NODE;
+    };
+    let code = set_cookie(&mut guest, alloc, peer, cookie);
+    node.shut(guest);
+    code
+}
+
+fn set_usual_cookie(guest: &mut Guest, alloc: Global, cookie: &[u8]) -> u32
+    ensures { KeysUsually (cookie_of cookie.now) result guest.old guest.new }
+{
+    match Cookie::from_bytes(alloc, cookie) {
+        Ok(cookie) => amended(guest.set_usual_cookie(cookie)),
+        Err(error) => cookie_code(error),
+    }
+}
+
+/// Changes the cookie of every peer that has none of its own.
+#[unsafe(no_mangle)]
+pub extern "C" fn dn_node_usual_cookie(node: &mut DnNode, alloc: Global, cookie: &[u8]) -> u32
+    ensures { AtGuest (KeysUsually (cookie_of cookie.now) result) result node.old.slot.guest node.new.slot.guest }
+{
+    let Some(mut guest) = node.open(alloc) else {
+        return NOT_A_NODE;
+    };
+    let code = set_usual_cookie(&mut guest, alloc, cookie);
+    node.shut(guest);
+    code
+}

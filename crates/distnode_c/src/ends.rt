@@ -1,0 +1,168 @@
+//! How ends stand, as C sees it.
+ghost use Rattle.std.specs.Prelude.{◌≡◌, Some, slice_get, count_by};
+ghost use Rattle.dist_ends.specs.Ends.{is_open, oldest_pending};
+ghost use Rattle.dist_ends.specs.declared.known.End.{End};
+ghost use Rattle.distnode_c.specs.Ends.{TellsEnd, TellsEndAt, TellsId, TellsOldest, Forgets, Renews, RenewsWith, phase_number, end_told};
+ghost use Rattle.distnode_c.specs.Steps.{CopiesIf};
+ghost use Rattle.std.specs.Prelude.{length, nat_le};
+
+use crate::codes::{NO_SUCH, NOT_A_NODE, OK, OPEN_ENDS, why_number};
+use crate::copies::copied;
+use crate::held::DnNode;
+use dist_core::{Absent, End, Phase};
+use dist_guest::Guest;
+use dist_peers::EndId;
+use std::alloc::Global;
+use std::mem::size_of;
+
+const _: () = prove!(size_of::<DnEnd>() == 16);
+
+/// How an end stands.
+#[repr(C)]
+#[derive(Drop)]
+pub struct DnEnd {
+    /// How many bytes the name of its peer has, and 0 where none is known.
+    pub peer: usize,
+    /// What it awaits, 0 where it was never given out, 1 where it is closed, 12 where it is up.
+    pub phase: u32,
+    /// Why it is closed, and 0 where it is not.
+    pub why: u32,
+}
+
+fn phase_number(phase: Phase) -> u32
+    ensures { result ≡ phase_number phase }
+{
+    match phase {
+        Phase::Dialing => 2,
+        Phase::AwaitStatus => 4,
+        Phase::AwaitChallenge => 5,
+        Phase::AwaitAck => 6,
+        Phase::AwaitTrue => 7,
+        Phase::AwaitComplement => 8,
+        Phase::AwaitReply => 9,
+        Phase::DoomedDialing => 10,
+        Phase::Doomed => 11,
+    }
+}
+
+// Tells this of an end, and copies the name of its peer.
+fn tell(phase: u32, why: u32, peer: &[u8], end: &mut DnEnd, room: &mut [u8]) -> u32
+    ensures told { end.new ≡ record { peer = length peer.now; phase = phase; why = why } }
+    ensures copied { CopiesIf (nat_le (length peer.now) (length room.old)) peer.now result room.old room.new }
+{
+    let mut len = 0;
+    let code = copied(peer, room, &mut len);
+    *end = DnEnd {
+        peer: len,
+        phase,
+        why,
+    };
+    code
+}
+
+// An end that is open.
+fn tell_open(open: &End, end: &mut DnEnd, room: &mut [u8]) -> u32
+    ensures { TellsEnd (Some open.now) result end.old end.new room.old room.new }
+{
+    match open {
+        End::Unnamed => tell(3, 0, &[], end, room),
+        End::Attempt(attempt) => tell(
+            phase_number(attempt.phase),
+            0,
+            attempt.peer.bytes(),
+            end,
+            room,
+        ),
+        End::Up(kept) => tell(12, 0, kept.peer.bytes(), end, room),
+        End::Closed(why) => tell(1, why_number(*why), &[], end, room),
+    }
+}
+
+fn tell_end(guest: &Guest, id: u32, end: &mut DnEnd, room: &mut [u8]) -> u32
+    ensures { TellsEnd (slice_get guest.now.node.ends id) result end.old end.new room.old room.new }
+{
+    match guest.node.open_end(EndId(id)) {
+        Ok(open) => tell_open(open, end, room),
+        Err(Absent::NoSuchEnd) => tell(0, 0, &[], end, room),
+        Err(Absent::Gone(why)) => tell(1, why_number(why), &[], end, room),
+    }
+}
+
+/// How an end stands, and the name of its peer.
+#[unsafe(no_mangle)]
+pub extern "C" fn dn_node_end(
+    node: &mut DnNode,
+    alloc: Global,
+    id: u32,
+    end: &mut DnEnd,
+    room: &mut [u8],
+) -> u32
+    ensures tells { TellsEndAt id node.old.slot.guest result end.old end.new room.old room.new }
+    ensures same { node.new.slot.guest ≡ node.old.slot.guest }
+{
+    let Some(guest) = node.open(alloc) else {
+        return NOT_A_NODE;
+    };
+    let code = tell_end(&guest, id, end, room);
+    node.shut(guest);
+    code
+}
+
+fn tell_oldest(guest: &mut Guest, id: &mut u32) -> u32
+    ensures tells { TellsId (oldest_pending guest.old.node.ends) result id.old id.new }
+    ensures same { guest.new ≡ guest.old }
+{
+    match guest.node.oldest_pending() {
+        Some(oldest) => {
+            *id = oldest.0;
+            OK
+        }
+        None => NO_SUCH,
+    }
+}
+
+/// The end that has been open and not up for the longest.
+#[unsafe(no_mangle)]
+pub extern "C" fn dn_node_oldest(node: &mut DnNode, alloc: Global, id: &mut u32) -> u32
+    ensures tells { TellsOldest node.old.slot.guest result id.old id.new }
+    ensures same { node.new.slot.guest ≡ node.old.slot.guest }
+{
+    let Some(mut guest) = node.open(alloc) else {
+        return NOT_A_NODE;
+    };
+    let code = tell_oldest(&mut guest, id);
+    node.shut(guest);
+    code
+}
+
+fn renew(guest: &mut Guest, alloc: Global) -> u32
+    ensures { RenewsWith (count_by is_open guest.old.node.ends) result guest.old (Some guest.new) }
+{
+    if guest.renew(alloc) { OK } else { OPEN_ENDS }
+}
+
+/// Begins anew, where no end is open.
+#[unsafe(no_mangle)]
+pub extern "C" fn dn_node_renew(node: &mut DnNode, alloc: Global) -> u32
+    ensures { Renews result node.old.slot.guest node.new.slot.guest }
+{
+    let Some(mut guest) = node.open(alloc) else {
+        return NOT_A_NODE;
+    };
+    let code = renew(&mut guest, alloc);
+    node.shut(guest);
+    code
+}
+
+/// Forgets why the ends below a number were closed.
+#[unsafe(no_mangle)]
+pub extern "C" fn dn_node_forget(node: &mut DnNode, alloc: Global, below: u32) -> u32
+    ensures { Forgets below result node.old.slot.guest node.new.slot.guest }
+{
+    let Some(mut guest) = node.open(alloc) else {
+        return NOT_A_NODE;
+    };
+    guest.node.forget(EndId(below));
+    node.shut(guest);
+    OK
+}

@@ -1,0 +1,75 @@
+//! A peer's entry, as C sees it.
+ghost use Rattle.std.specs.Prelude.{◌≡◌, Some};
+ghost use Rattle.dist_names.specs.NodeName.{named};
+ghost use Rattle.distnode_c.specs.Entries.{TellsEntry, entry_told, row};
+
+use crate::codes::{NOT_A_NODE, OK, name_code};
+use crate::held::DnNode;
+use dist_guest::Guest;
+use dist_names::NodeName;
+use dist_peers::Entry;
+use std::alloc::Global;
+use std::mem::size_of;
+
+const _: () = prove!(size_of::<DnEntry>() == 12);
+
+/// Which ends hold a peer.
+#[repr(C)]
+#[derive(Drop)]
+pub struct DnEntry {
+    /// 0 for a peer that no end holds, 1 dialled, 2 accepted, 3 up, 4 up and challenged by another end.
+    pub state: u32,
+    /// The end that is up, and 0 where none is.
+    pub up: u32,
+    /// The end that is not up, and 0 where there is none.
+    pub pending: u32,
+}
+
+fn row(state: u32, up: u32, pending: u32) -> DnEntry
+    ensures { result ≡ row state up pending }
+{
+    DnEntry { state, up, pending }
+}
+
+fn entry_told(entry: Option<Entry>) -> DnEntry
+    ensures { result ≡ entry_told entry }
+{
+    match entry {
+        None => row(0, 0, 0),
+        Some(Entry::Out(id)) => row(1, 0, id.0),
+        Some(Entry::In(id)) => row(2, 0, id.0),
+        Some(Entry::Up(id)) => row(3, id.0, 0),
+        Some(Entry::Challenged { up, by_ }) => row(4, up.0, by_.0),
+    }
+}
+
+fn entry_of(guest: &Guest, alloc: Global, peer: &[u8], entry: &mut DnEntry) -> u32
+    ensures { TellsEntry (named peer.now) result (Some guest.now) entry.old entry.new }
+{
+    match NodeName::new(alloc, peer) {
+        Ok(peer) => {
+            *entry = entry_told(guest.node.entry_of(&peer));
+            OK
+        }
+        Err(error) => name_code(error),
+    }
+}
+
+/// The entry of a peer.
+#[unsafe(no_mangle)]
+pub extern "C" fn dn_node_entry(
+    node: &mut DnNode,
+    alloc: Global,
+    peer: &[u8],
+    entry: &mut DnEntry,
+) -> u32
+    ensures tells { TellsEntry (named peer.now) result node.old.slot.guest entry.old entry.new }
+    ensures same { node.new.slot.guest ≡ node.old.slot.guest }
+{
+    let Some(guest) = node.open(alloc) else {
+        return NOT_A_NODE;
+    };
+    let code = entry_of(&guest, alloc, peer, entry);
+    node.shut(guest);
+    code
+}

@@ -1,0 +1,95 @@
+//! A connection that came, and a dial: the oldest end that is not up makes room for them.
+ghost use Rattle.std.specs.Prelude.{◌≡◌, Some};
+ghost use Rattle.dist_names.specs.NodeName.{named};
+ghost use Rattle.dist_guest.specs.Room.{room_for};
+ghost use Rattle.distnode_c.specs.Steps.{Steps, opening_of};
+ghost use Rattle.distnode_c.specs.Newcomers.{ComesAt, Comes, Dials, beside};
+
+use crate::codes::{NOT_A_NODE, OK, name_code, step_code, why_number};
+use crate::exports::stepped_at;
+use crate::held::DnNode;
+use crate::told::DnReply;
+use dist_core::{Event, Opening, Why};
+use dist_guest::Guest;
+use dist_names::NodeName;
+use dist_peers::EndId;
+use std::alloc::Global;
+
+fn opening_of(number: u32) -> Opening
+    ensures { result ≡ opening_of number }
+{
+    if number == 0 {
+        Opening::Old
+    } else {
+        Opening::New
+    }
+}
+
+// Tells which end made room, also where the newcomer was refused.
+fn tell_beside(lost: Option<EndId>, reply: &mut DnReply)
+    ensures { reply.new ≡ beside lost reply.old }
+{
+    match lost {
+        Some(id) => {
+            reply.closed = why_number(Why::GaveUp);
+            reply.closed_id = id.0;
+        }
+        None => {
+            reply.closed = 0;
+            reply.closed_id = 0;
+        }
+    }
+}
+
+// The step of a newcomer at a guest.
+fn come_at(guest: &mut Guest, alloc: Global, event: &Event, reply: &mut DnReply) -> u32
+    ensures { ComesAt (room_for event.now guest.old.node) event.now result guest.old (Some guest.new) reply.old reply.new }
+{
+    let lost = guest.make_room(alloc, event);
+    let code = stepped_at(guest, alloc, event, 0, reply);
+    tell_beside(lost, reply);
+    code
+}
+
+fn come(node: &mut DnNode, alloc: Global, event: &Event, reply: &mut DnReply) -> u32
+    ensures { Comes event.now result node.old.slot.guest node.new.slot.guest reply.old reply.new }
+{
+    let Some(mut guest) = node.open(alloc) else {
+        tell_beside(None, reply);
+        return NOT_A_NODE;
+    };
+    let code = come_at(&mut guest, alloc, event, reply);
+    node.shut(guest);
+    code
+}
+
+/// A connection came.
+#[unsafe(no_mangle)]
+pub extern "C" fn dn_node_incoming(node: &mut DnNode, alloc: Global, reply: &mut DnReply) -> u32
+    ensures { Comes (Event.Incoming 0) result node.old.slot.guest node.new.slot.guest reply.old reply.new }
+{
+    come(node, alloc, &Event::Incoming { link: 0 }, reply)
+}
+
+/// The node is to connect to this peer: a new end is given out. The opening is 0 for the old form of name, else the new.
+#[unsafe(no_mangle)]
+pub extern "C" fn dn_node_dial(
+    node: &mut DnNode,
+    alloc: Global,
+    peer: &[u8],
+    opening: u32,
+    reply: &mut DnReply,
+) -> u32
+    ensures { Dials (named peer.now) (opening_of opening) result node.old.slot.guest node.new.slot.guest reply.old reply.new }
+{
+    match NodeName::new(alloc, peer) {
+        Ok(peer) => {
+            let opening = opening_of(opening);
+            come(node, alloc, &Event::Dial { peer, opening }, reply)
+        }
+        Err(error) => {
+            tell_beside(None, reply);
+            name_code(error)
+        }
+    }
+}

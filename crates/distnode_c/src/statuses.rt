@@ -1,0 +1,54 @@
+//! The statuses of the newest step, as C sees them.
+ghost use Rattle.std.specs.Prelude.{◌≡◌, option_and_then};
+ghost use Rattle.dist_guest.specs.Statuses.{said_in};
+ghost use Rattle.distnode_c.specs.Statuses.{TellsStatuses, status_number};
+
+use crate::codes::{NOT_A_NODE, OK};
+use crate::held::DnNode;
+use dist_guest::{Guest, said_in};
+use dist_messages::Status;
+use std::alloc::Global;
+
+fn status_number(status: Option<Status>) -> u32
+    ensures { result ≡ status_number status }
+{
+    match status {
+        None => 0,
+        Some(Status::Ok) => 1,
+        Some(Status::OkSimultaneous) => 2,
+        Some(Status::Nok) => 3,
+        Some(Status::NotAllowed) => 4,
+        Some(Status::Alive) => 5,
+        Some(Status::True) => 6,
+        Some(Status::False) => 7,
+    }
+}
+
+fn said_by(guest: &Guest, alloc: Global) -> Option<Status>
+    ensures { result ≡ option_and_then said_in guest.now.last }
+{
+    match &guest.last {
+        Some(reply) => said_in(alloc, reply),
+        None => None,
+    }
+}
+
+/// The status that the newest step said, and the one that it heard.
+#[unsafe(no_mangle)]
+pub extern "C" fn dn_node_status(
+    node: &mut DnNode,
+    alloc: Global,
+    said: &mut u32,
+    heard: &mut u32,
+) -> u32
+    ensures tells { TellsStatuses node.old.slot.guest result said.old said.new heard.old heard.new }
+    ensures same { node.new.slot.guest ≡ node.old.slot.guest }
+{
+    let Some(guest) = node.open(alloc) else {
+        return NOT_A_NODE;
+    };
+    *said = status_number(said_by(&guest, alloc));
+    *heard = status_number(guest.heard);
+    node.shut(guest);
+    OK
+}
