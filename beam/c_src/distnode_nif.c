@@ -1,0 +1,365 @@
+/* SPDX-License-Identifier: Apache-2.0 */
+/* A node of the C library, for Erlang: each function is one call of distnode.h on one node, under that node's lock, with the
+ * questions that belong to it, so that no other step comes between. It answers terms and never ends the emulator.
+ *
+ * The library's three demands are met here: a node lives in a resource that is zero before dn_node_new and is let go once;
+ * the lock gives it to one call at a time; no pointer is null, and none leads to another's bytes. */
+#define _GNU_SOURCE
+#include <distnode.h>
+#include <erl_nif.h>
+#include <string.h>
+#include <sys/random.h>
+
+typedef struct {
+    dn_node node;
+    ErlNifMutex *lock;
+} kept;
+
+static ErlNifResourceType *kept_type;
+static ERL_NIF_TERM a_ok, a_error, a_none, a_unknown;
+
+static void kept_drop(ErlNifEnv *env, void *it) {
+    kept *k = it;
+    (void)env;
+    (void)dn_node_free(&k->node);
+    if (k->lock) enif_mutex_destroy(k->lock);
+}
+
+static int kept_of(ErlNifEnv *env, ERL_NIF_TERM term, kept **k) {
+    return enif_get_resource(env, term, kept_type, (void **)k);
+}
+
+/* Erlang may answer a null pointer for an empty binary. */
+static int bytes_of(ErlNifEnv *env, ERL_NIF_TERM term, ErlNifBinary *bin) {
+    static unsigned char nothing[1];
+    if (!enif_inspect_binary(env, term, bin)) return 0;
+    if (!bin->data) bin->data = nothing;
+    return 1;
+}
+
+static ERL_NIF_TERM binary_of(ErlNifEnv *env, const uint8_t *bytes, size_t len) {
+    ERL_NIF_TERM term;
+    unsigned char *room = enif_make_new_binary(env, len, &term);
+    if (len) memcpy(room, bytes, len);
+    return term;
+}
+
+static ERL_NIF_TERM code_word(ErlNifEnv *env, uint32_t code) {
+    uint8_t room[16];
+    size_t len = 0;
+    if (dn_code_name(code, room, sizeof room, &len)) return a_unknown;
+    return enif_make_atom_len(env, (const char *)room, len);
+}
+
+static ERL_NIF_TERM why_word(ErlNifEnv *env, uint32_t why) {
+    uint8_t room[16];
+    size_t len = 0;
+    if (dn_why_name(why, room, sizeof room, &len)) return a_unknown;
+    return enif_make_atom_len(env, (const char *)room, len);
+}
+
+static ERL_NIF_TERM fault(ErlNifEnv *env, uint32_t code) {
+    return enif_make_tuple2(env, a_error, code_word(env, code));
+}
+
+static ERL_NIF_TERM code_term(ErlNifEnv *env, uint32_t code) {
+    return code ? fault(env, code) : a_ok;
+}
+
+/* ---- what a step did */
+
+static ERL_NIF_TERM closed_term(ErlNifEnv *env, const dn_reply *reply) {
+    if (!reply->closed) return a_none;
+    return enif_make_tuple2(env, enif_make_uint(env, reply->closed_id), why_word(env, reply->closed));
+}
+
+static ERL_NIF_TERM status_word(ErlNifEnv *env, uint32_t status) {
+    static const char *const words[] = {"none", "ok", "ok_simultaneous", "nok", "not_allowed", "alive", "true", "false"};
+    return enif_make_atom(env, words[status < sizeof words / sizeof *words ? status : 0]);
+}
+
+/* The frames that the newest step says, as a list of bodies. A body has at most the 1,024 bytes of a step. */
+static ERL_NIF_TERM bodies_term(ErlNifEnv *env, kept *k) {
+    ERL_NIF_TERM said[8];
+    uint8_t room[1024];
+    unsigned count = 0;
+    size_t len = 0;
+    while (count < sizeof said / sizeof *said && !dn_node_say_body(&k->node, count, room, sizeof room, &len))
+        said[count++] = binary_of(env, room, len);
+    return enif_make_list_from_array(env, said, count);
+}
+
+/* The peer that an end holds: a name, or none. */
+static ERL_NIF_TERM peer_term(ErlNifEnv *env, kept *k, uint32_t id) {
+    uint8_t room[255];
+    dn_end end = {0, 0, 0};
+    if (dn_node_end(&k->node, id, &end, room, sizeof room) || !end.peer) return a_none;
+    return binary_of(env, room, end.peer);
+}
+
+static ERL_NIF_TERM up_term(ErlNifEnv *env, kept *k, const dn_reply *reply) {
+    if (!reply->up) return a_none;
+    return enif_make_tuple3(env, peer_term(env, k, reply->id), enif_make_uint64(env, reply->common),
+                            reply->has_creation ? enif_make_uint(env, reply->creation) : a_unknown);
+}
+
+/* {step, Id, Bodies, Peer, Closed, Heard, Up}, or {error, Code, Closed}: an end that made room is told beside any code. */
+static ERL_NIF_TERM step_term(ErlNifEnv *env, kept *k, uint32_t code, const dn_reply *reply) {
+    uint32_t said = 0, heard = 0;
+    if (code) return enif_make_tuple3(env, a_error, code_word(env, code), closed_term(env, reply));
+    (void)dn_node_status(&k->node, &said, &heard);
+    return enif_make_tuple7(env, enif_make_atom(env, "step"), enif_make_uint(env, reply->id),
+                            reply->say ? bodies_term(env, k) : enif_make_list(env, 0), peer_term(env, k, reply->id),
+                            closed_term(env, reply), status_word(env, heard), up_term(env, k, reply));
+}
+
+/* ---- the node, its cookies and its allow list */
+
+static kept *kept_new(void) {
+    kept *k = enif_alloc_resource(kept_type, sizeof *k);
+    if (!k) return NULL;
+    memset(k, 0, sizeof *k);
+    k->lock = enif_mutex_create("distnode");
+    if (k->lock) return k;
+    enif_release_resource(k);
+    return NULL;
+}
+
+/* new(Name, Cookie, Flags, Required, Creation, MostEnds) */
+static ERL_NIF_TERM nif_new(ErlNifEnv *env, int argc, const ERL_NIF_TERM argv[]) {
+    ErlNifBinary name, cookie;
+    ErlNifUInt64 flags, required;
+    unsigned creation, most_ends;
+    (void)argc;
+    if (!bytes_of(env, argv[0], &name) || !bytes_of(env, argv[1], &cookie) || !enif_get_uint64(env, argv[2], &flags) ||
+        !enif_get_uint64(env, argv[3], &required) || !enif_get_uint(env, argv[4], &creation) ||
+        !enif_get_uint(env, argv[5], &most_ends))
+        return enif_make_badarg(env);
+    kept *k = kept_new();
+    if (!k) return fault(env, DN_NO_MEMORY);
+    dn_setup setup = {.flags = flags, .required = required, .creation = creation, .version = 6, .most_ends = most_ends};
+    uint32_t code = dn_node_new(&k->node, name.data, name.size, cookie.data, cookie.size, &setup);
+    ERL_NIF_TERM node = enif_make_resource(env, k);
+    enif_release_resource(k);
+    return code ? fault(env, code) : enif_make_tuple2(env, a_ok, node);
+}
+
+/* cookie(Node, Peer, Cookie) */
+static ERL_NIF_TERM nif_cookie(ErlNifEnv *env, int argc, const ERL_NIF_TERM argv[]) {
+    kept *k;
+    ErlNifBinary peer, cookie;
+    (void)argc;
+    if (!kept_of(env, argv[0], &k) || !bytes_of(env, argv[1], &peer) || !bytes_of(env, argv[2], &cookie))
+        return enif_make_badarg(env);
+    enif_mutex_lock(k->lock);
+    uint32_t code = dn_node_cookie(&k->node, peer.data, peer.size, cookie.data, cookie.size);
+    enif_mutex_unlock(k->lock);
+    return code_term(env, code);
+}
+
+/* usual_cookie(Node, Cookie) */
+static ERL_NIF_TERM nif_usual_cookie(ErlNifEnv *env, int argc, const ERL_NIF_TERM argv[]) {
+    kept *k;
+    ErlNifBinary cookie;
+    (void)argc;
+    if (!kept_of(env, argv[0], &k) || !bytes_of(env, argv[1], &cookie)) return enif_make_badarg(env);
+    enif_mutex_lock(k->lock);
+    uint32_t code = dn_node_usual_cookie(&k->node, cookie.data, cookie.size);
+    enif_mutex_unlock(k->lock);
+    return code_term(env, code);
+}
+
+static ERL_NIF_TERM listed(ErlNifEnv *env, const ERL_NIF_TERM argv[],
+                           uint32_t (*call)(dn_node *, const uint8_t *, size_t)) {
+    kept *k;
+    ErlNifBinary peer;
+    if (!kept_of(env, argv[0], &k) || !bytes_of(env, argv[1], &peer)) return enif_make_badarg(env);
+    enif_mutex_lock(k->lock);
+    uint32_t code = call(&k->node, peer.data, peer.size);
+    enif_mutex_unlock(k->lock);
+    return code_term(env, code);
+}
+
+/* allow(Node, Peer) */
+static ERL_NIF_TERM nif_allow(ErlNifEnv *env, int argc, const ERL_NIF_TERM argv[]) {
+    (void)argc;
+    return listed(env, argv, dn_node_allow);
+}
+
+/* disallow(Node, Peer) */
+static ERL_NIF_TERM nif_disallow(ErlNifEnv *env, int argc, const ERL_NIF_TERM argv[]) {
+    (void)argc;
+    return listed(env, argv, dn_node_disallow);
+}
+
+/* forget(Node, Below) */
+static ERL_NIF_TERM nif_forget(ErlNifEnv *env, int argc, const ERL_NIF_TERM argv[]) {
+    kept *k;
+    unsigned below;
+    (void)argc;
+    if (!kept_of(env, argv[0], &k) || !enif_get_uint(env, argv[1], &below)) return enif_make_badarg(env);
+    enif_mutex_lock(k->lock);
+    uint32_t code = dn_node_forget(&k->node, below);
+    enif_mutex_unlock(k->lock);
+    return code_term(env, code);
+}
+
+/* ---- steps */
+
+/* dial(Node, Peer) */
+static ERL_NIF_TERM nif_dial(ErlNifEnv *env, int argc, const ERL_NIF_TERM argv[]) {
+    kept *k;
+    ErlNifBinary peer;
+    dn_reply reply = {0};
+    (void)argc;
+    if (!kept_of(env, argv[0], &k) || !bytes_of(env, argv[1], &peer)) return enif_make_badarg(env);
+    enif_mutex_lock(k->lock);
+    uint32_t code = dn_node_dial(&k->node, peer.data, peer.size, 1, &reply);
+    ERL_NIF_TERM term = step_term(env, k, code, &reply);
+    enif_mutex_unlock(k->lock);
+    return term;
+}
+
+/* incoming(Node) */
+static ERL_NIF_TERM nif_incoming(ErlNifEnv *env, int argc, const ERL_NIF_TERM argv[]) {
+    kept *k;
+    dn_reply reply = {0};
+    (void)argc;
+    if (!kept_of(env, argv[0], &k)) return enif_make_badarg(env);
+    enif_mutex_lock(k->lock);
+    uint32_t code = dn_node_incoming(&k->node, &reply);
+    ERL_NIF_TERM term = step_term(env, k, code, &reply);
+    enif_mutex_unlock(k->lock);
+    return term;
+}
+
+/* opened(Node, Id) */
+static ERL_NIF_TERM nif_opened(ErlNifEnv *env, int argc, const ERL_NIF_TERM argv[]) {
+    kept *k;
+    unsigned id;
+    dn_reply reply = {0};
+    (void)argc;
+    if (!kept_of(env, argv[0], &k) || !enif_get_uint(env, argv[1], &id)) return enif_make_badarg(env);
+    enif_mutex_lock(k->lock);
+    uint32_t code = dn_node_opened(&k->node, id, &reply);
+    ERL_NIF_TERM term = step_term(env, k, code, &reply);
+    enif_mutex_unlock(k->lock);
+    return term;
+}
+
+typedef struct {
+    kept *k;
+    unsigned id, challenge;
+    ErlNifBinary body;
+} frame;
+
+static int frame_of(ErlNifEnv *env, const ERL_NIF_TERM argv[], frame *f) {
+    return kept_of(env, argv[0], &f->k) && enif_get_uint(env, argv[1], &f->id) && bytes_of(env, argv[2], &f->body) &&
+           enif_get_uint(env, argv[3], &f->challenge);
+}
+
+/* ready(Node, Id, Body, Challenge): the peer that body/4 would bring up, as {Peer, Common, Creation}; else none */
+static ERL_NIF_TERM nif_ready(ErlNifEnv *env, int argc, const ERL_NIF_TERM argv[]) {
+    frame f;
+    dn_reply reply = {0};
+    ERL_NIF_TERM term = a_none;
+    (void)argc;
+    if (!frame_of(env, argv, &f)) return enif_make_badarg(env);
+    enif_mutex_lock(f.k->lock);
+    if (!dn_node_ready_body(&f.k->node, f.id, f.body.data, f.body.size, f.challenge, &reply))
+        term = up_term(env, f.k, &reply);
+    enif_mutex_unlock(f.k->lock);
+    return term;
+}
+
+/* body(Node, Id, Body, Challenge) */
+static ERL_NIF_TERM nif_body(ErlNifEnv *env, int argc, const ERL_NIF_TERM argv[]) {
+    frame f;
+    dn_reply reply = {0};
+    (void)argc;
+    if (!frame_of(env, argv, &f)) return enif_make_badarg(env);
+    enif_mutex_lock(f.k->lock);
+    uint32_t code = dn_node_body(&f.k->node, f.id, f.body.data, f.body.size, f.challenge, &reply);
+    ERL_NIF_TERM term = step_term(env, f.k, code, &reply);
+    enif_mutex_unlock(f.k->lock);
+    return term;
+}
+
+/* lost(Node, Id, Why) with Why a number of dn_why */
+static ERL_NIF_TERM nif_lost(ErlNifEnv *env, int argc, const ERL_NIF_TERM argv[]) {
+    kept *k;
+    unsigned id, why;
+    dn_reply reply = {0};
+    (void)argc;
+    if (!kept_of(env, argv[0], &k) || !enif_get_uint(env, argv[1], &id) || !enif_get_uint(env, argv[2], &why))
+        return enif_make_badarg(env);
+    enif_mutex_lock(k->lock);
+    uint32_t code = dn_node_lost(&k->node, id, why, &reply);
+    ERL_NIF_TERM term = step_term(env, k, code, &reply);
+    enif_mutex_unlock(k->lock);
+    return term;
+}
+
+/* ---- questions */
+
+/* up_end(Node, Peer): the end that is up with this peer, or none */
+static ERL_NIF_TERM nif_up_end(ErlNifEnv *env, int argc, const ERL_NIF_TERM argv[]) {
+    kept *k;
+    ErlNifBinary peer;
+    dn_entry entry = {0, 0, 0};
+    (void)argc;
+    if (!kept_of(env, argv[0], &k) || !bytes_of(env, argv[1], &peer)) return enif_make_badarg(env);
+    enif_mutex_lock(k->lock);
+    uint32_t code = dn_node_entry(&k->node, peer.data, peer.size, &entry);
+    enif_mutex_unlock(k->lock);
+    if (code || (entry.state != DN_STATE_UP && entry.state != DN_STATE_CHALLENGED)) return a_none;
+    return enif_make_uint(env, entry.up);
+}
+
+/* peers(Node): [{Peer, Id, Common, Creation}], the peers that are up */
+static ERL_NIF_TERM nif_peers(ErlNifEnv *env, int argc, const ERL_NIF_TERM argv[]) {
+    kept *k;
+    uint8_t name[255];
+    dn_peer peer;
+    (void)argc;
+    if (!kept_of(env, argv[0], &k)) return enif_make_badarg(env);
+    ERL_NIF_TERM list = enif_make_list(env, 0);
+    enif_mutex_lock(k->lock);
+    for (size_t place = 0; !dn_node_peer_at(&k->node, place, &peer, name, sizeof name); place++) {
+        ERL_NIF_TERM row =
+            enif_make_tuple4(env, binary_of(env, name, peer.name), enif_make_uint(env, peer.id),
+                             enif_make_uint64(env, peer.common),
+                             peer.has_creation ? enif_make_uint(env, peer.creation) : a_unknown);
+        list = enif_make_list_cell(env, row, list);
+    }
+    enif_mutex_unlock(k->lock);
+    return list;
+}
+
+/* challenge(): a number that nobody can foretell */
+static ERL_NIF_TERM nif_challenge(ErlNifEnv *env, int argc, const ERL_NIF_TERM argv[]) {
+    uint32_t drawn;
+    (void)argc, (void)argv;
+    if (getrandom(&drawn, sizeof drawn, 0) != (ssize_t)sizeof drawn) return enif_raise_exception(env, a_none);
+    return enif_make_uint(env, drawn);
+}
+
+static int load(ErlNifEnv *env, void **priv, ERL_NIF_TERM info) {
+    (void)priv, (void)info;
+    kept_type = enif_open_resource_type(env, NULL, "distnode", kept_drop, ERL_NIF_RT_CREATE, NULL);
+    a_ok = enif_make_atom(env, "ok");
+    a_error = enif_make_atom(env, "error");
+    a_none = enif_make_atom(env, "none");
+    a_unknown = enif_make_atom(env, "unknown");
+    return kept_type ? 0 : 1;
+}
+
+static ErlNifFunc functions[] = {
+    {"new", 6, nif_new, 0},           {"cookie", 3, nif_cookie, 0},     {"usual_cookie", 2, nif_usual_cookie, 0},
+    {"allow", 2, nif_allow, 0},       {"disallow", 2, nif_disallow, 0}, {"forget", 2, nif_forget, 0},
+    {"dial", 2, nif_dial, 0},         {"incoming", 1, nif_incoming, 0}, {"opened", 2, nif_opened, 0},
+    {"ready", 4, nif_ready, 0},       {"body", 4, nif_body, 0},         {"lost", 3, nif_lost, 0},
+    {"up_end", 2, nif_up_end, 0},     {"peers", 1, nif_peers, 0},       {"challenge", 0, nif_challenge, 0},
+};
+
+ERL_NIF_INIT(distnode_nif, functions, load, NULL, NULL, NULL)

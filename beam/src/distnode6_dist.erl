@@ -1,0 +1,33 @@
+%% SPDX-License-Identifier: Apache-2.0
+%% The carrier distnode_dist over IPv6: erl -proto_dist distnode6. On the wire it is
+%% what inet6_tcp_dist is.
+-module(distnode6_dist).
+-export([childspecs/0, listen/2, accept/1, accept_connection/5, setup/5, close/1, select/1, address/0,
+         is_node_name/1, setopts/2, getopts/2]).
+
+childspecs() -> distnode_carrier:childspecs().
+
+listen(Name, Host) -> distnode_carrier:renamed(inet6_tcp_dist:listen(Name, Host)).
+
+accept(Listen) -> distnode_carrier:accept(inet6_tcp, Listen).
+
+accept_connection(Acceptor, Socket, MyNode, Allowed, SetupTime) ->
+    distnode_accept:start(inet6_tcp, Acceptor, Socket, MyNode, Allowed, SetupTime).
+
+setup(Node, Type, MyNode, LongOrShort, SetupTime) when node() =:= nonode@nohost ->
+    %% A node gets its name from the first one that it dials, and net_kernel alone gives names.
+    inet6_tcp_dist:setup(Node, Type, MyNode, LongOrShort, SetupTime);
+setup(Node, Type, MyNode, LongOrShort, SetupTime) ->
+    distnode_setup:start(inet6_tcp, Node, Type, MyNode, LongOrShort, SetupTime).
+
+close(Socket) -> inet6_tcp:close(Socket).
+
+select(Node) -> inet6_tcp_dist:select(Node).
+
+address() -> distnode_carrier:renamed(inet6_tcp_dist:address()).
+
+is_node_name(Node) -> inet6_tcp_dist:is_node_name(Node).
+
+setopts(Socket, Options) -> distnode_tcp:setopts(Socket, Options).
+
+getopts(Socket, Options) -> distnode_tcp:getopts(Socket, Options).

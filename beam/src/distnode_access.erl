@@ -1,0 +1,59 @@
+%% SPDX-License-Identifier: Apache-2.0
+%% What this emulator says of a peer before a step is made: the cookie for it, the cookie for all others, and whether the
+%% allow list names it. It is asked by the process of a connection, since auth and net_kernel are asked for it.
+-module(distnode_access).
+-export([of_peer/2, usual/0, named_in/1, report/2]).
+-export_type([access/0, cookie/0]).
+
+-type cookie() :: {ok, binary()} | {error, atom()}.
+-type access() :: #{peer := binary(), cookie := cookie(), usual := cookie(), allowed := all | boolean()}.
+
+%% Allowed is the list that net_kernel hands to a carrier with each accepted connection; empty, it lets everybody in.
+-spec of_peer(binary(), [term()]) -> access().
+of_peer(Peer, Allowed) ->
+    #{peer => Peer, cookie => cookie_for(Peer), usual => usual(), allowed => is_allowed(Peer, Allowed)}.
+
+-spec usual() -> cookie().
+usual() -> text(erlang:get_cookie()).
+
+%% A name that is no atom here has no cookie of its own: strangers make no atoms.
+cookie_for(Peer) ->
+    try binary_to_existing_atom(Peer, latin1) of
+        Node -> text(erlang:get_cookie(Node))
+    catch
+        error:_ -> usual()
+    end.
+
+%% The library reads a cookie as the file .erlang.cookie has it, where spaces at the end belong to none; OTP takes any atom.
+text(Cookie) ->
+    case unicode:characters_to_list(atom_to_binary(Cookie, utf8)) of
+        [] -> {error, 'CookieEmpty'};
+        Text ->
+            case {lists:all(fun(C) -> C >= 16#20 andalso C =< 16#7E end, Text), lists:last(Text)} of
+                {true, Last} when Last =/= $\s -> {ok, list_to_binary(Text)};
+                _ -> {error, 'CookieBadByte'}
+            end
+    end.
+
+is_allowed(_, []) -> all;
+is_allowed(Peer, Allowed) -> dist_util:is_allowed(binary_to_list(Peer), Allowed).
+
+%% The name in a first frame, in the form of version 6 or of version 5; none where it is no such frame, which the node refuses.
+-spec named_in(binary()) -> binary() | none.
+named_in(<<$N, _Flags:64, _Creation:32, Size:16, Name:Size/binary, _/binary>>) -> Name;
+named_in(<<$n, _Version:16, _Flags:32, Name/binary>>) -> Name;
+named_in(_) -> none.
+
+%% Says why an attempt was refused, where nobody else does: the library has no use for the name or the cookie.
+-spec report(binary() | none, atom()) -> ok.
+report(Peer, Code) ->
+    case atom_to_list(Code) of
+        "Cookie" ++ _ -> say("the cookie for node ~ts can't be used: ~s", [name(Peer), Code]);
+        "Name" ++ _ -> say("the name of node ~ts or of this node can't be used: ~s", [name(Peer), Code]);
+        _ -> say("node ~ts: ~s", [name(Peer), Code])
+    end.
+
+say(Text, Arguments) -> error_logger:error_msg("** Connection attempt refused, " ++ Text ++ " **~n", Arguments).
+
+name(none) -> "(unknown)";
+name(Peer) -> Peer.

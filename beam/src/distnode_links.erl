@@ -1,0 +1,305 @@
+%% SPDX-License-Identifier: Apache-2.0
+%% Which process has which end, which setup waits for which peer, and whose acknowledgement is held back: a pure machine. An
+%% event leads to an answer for the process that told it, to actions, and to the next state. It knows no socket, no clock and
+%% no process dictionary; distnode_core tells it what happened and does what it says.
+%%
+%% An end goes through these stages, and has one owner, the process that holds its socket:
+%%
+%%   shaking    its owner reads the handshake, frame by frame
+%%   ready      the next step brings it up, and isn't made yet: net_kernel is being asked, and the acknowledgement is held back
+%%   admitted   that step was made, and its owner brings the emulator up
+%%   up         net_kernel counts its peer as up
+%%
+%% A setup is a process of net_kernel that wants a peer. It gets whichever end becomes ready with that peer, whoever dialled
+%% it: net_kernel's row and the end that comes up need not have begun together. Until then it dials, or it waits for an end
+%% that somebody else has with that peer.
+-module(distnode_links).
+-export([new/0, event/2, owner/2, stage/2, peer/2, ends/1, wanted/1, invariant/1]).
+-export_type([links/0, event/0, action/0, answer/0]).
+
+-type id() :: distnode_nif:id().
+-type peer() :: distnode_nif:peer().
+-type stage() :: shaking | ready | admitted | up.
+
+-record(link, {owner :: pid(), peer = none :: peer() | none, stage = shaking :: stage(), giver = none :: pid() | none}).
+-record(want, {setup :: pid(), how = asking :: asking | {dialling, id()} | waiting}).
+%% held: what a process has, so that its end is dealt with without a look at all ends.
+-record(links, {ends = #{} :: #{id() => #link{}},
+                wants = #{} :: #{peer() => #want{}},
+                held = #{} :: #{pid() => [{end_of | given_by, id()} | {want, peer()}]}}).
+-opaque links() :: #links{}.
+
+-type event() ::
+    {want, peer(), Setup :: pid()} |          % net_kernel wants this peer; or a setup asks again
+    {dialled, peer(), id()} |                 % what became of the action {dial, Peer}: a new end,
+    {busy, peer(), Up :: id() | none} |       % no end, since the peer has one, and which one is up,
+    {refused, peer(), Code :: atom()} |       % or no end, for another reason
+    {accepted, id(), pid()} |                 % a connection came, and got this end
+    {opened, id(), Setup :: pid(), pid()} |   % a dialler has made the connection of its setup's end
+    {named, id(), peer()} |                   % the end holds this peer now
+    {ready, id(), peer()} |                   % the next step brings this end up with this peer
+    {vetoed, id(), pid()} |                   % net_kernel wouldn't take this end from its owner: it has a setup of its own
+    {handed, id(), pid()} |                   % the giver of this end has handed its socket to the owner
+    {admit, id(), pid()} |                    % net_kernel has agreed: may the step be made?
+    {admitted, id()} |                        % it was made
+    {done, id(), pid()} |                     % net_kernel counts the peer as up
+    {closed, id(), Why :: atom(), pid() | none} | % the node has closed this end, in a step of this process
+    {given_up, id(), pid()} |                 % its owner gives it up
+    {down, pid()} |                           % a process has ended
+    spent.                                    % the node has no numbers left and begins anew
+-type action() ::
+    {tell, pid(), term()} |                   % a message {distnode, Term}: {dial, Id}, {closed, Id, Why}, {failed, Code}, again
+    {kill, pid()} |                           % its end is over, and net_kernel holds it: its socket goes with it
+    {lose, id(), Why :: atom()} |             % tell the node
+    {dial, peer()}.                           % have the node dial, and tell what became of it
+-type answer() :: ok | keep | {give, Setup :: pid()} | retry | gone.
+
+-spec new() -> links().
+new() -> #links{}.
+
+-spec event(event(), links()) -> {answer(), [action()], links()}.
+event({want, Peer, Setup}, L) -> want(Peer, Setup, L);
+event({dialled, Peer, Id}, L) -> dialled(Peer, Id, L);
+event({busy, Peer, Up}, L) -> busy(Peer, Up, L);
+event({refused, Peer, Code}, L) -> refused(Peer, Code, L);
+event({accepted, Id, Pid}, L) -> {ok, [], put_link(Id, #link{owner = Pid}, L)};
+event({opened, Id, Setup, Dialler}, L) -> opened(Id, Setup, Dialler, L);
+event({named, Id, Peer}, L) -> named(Id, Peer, L);
+event({ready, Id, Peer}, L) -> ready(Id, Peer, L);
+event({vetoed, Id, Pid}, L) -> vetoed(Id, Pid, L);
+event({handed, Id, Giver}, L) -> handed(Id, Giver, L);
+event({admit, Id, Pid}, L) -> admit(Id, Pid, L);
+event({admitted, Id}, L) -> {ok, [], move(Id, ready, admitted, L)};
+event({done, Id, Pid}, L) -> done(Id, Pid, L);
+event({closed, Id, Why, By}, L) -> closed(Id, Why, By, L);
+event({given_up, Id, Pid}, L) -> given_up(Id, Pid, L);
+event({down, Pid}, L) -> down(Pid, L);
+event(spent, L) -> spent(L).
+
+%% ---- questions
+
+-spec owner(id(), links()) -> pid() | none.
+owner(Id, L) -> case link_of(Id, L) of #link{owner = Pid} -> Pid; none -> none end.
+
+-spec stage(id(), links()) -> stage() | none.
+stage(Id, L) -> case link_of(Id, L) of #link{stage = Stage} -> Stage; none -> none end.
+
+-spec peer(id(), links()) -> peer() | none.
+peer(Id, L) -> case link_of(Id, L) of #link{peer = Peer} -> Peer; none -> none end.
+
+-spec ends(links()) -> [id()].
+ends(#links{ends = Ends}) -> maps:keys(Ends).
+
+-spec wanted(links()) -> [{peer(), pid(), asking | {dialling, id()} | waiting}].
+wanted(#links{wants = Wants}) -> [{Peer, Setup, How} || {Peer, #want{setup = Setup, how = How}} <- maps:to_list(Wants)].
+
+%% ---- a setup wants a peer
+
+%% A setup that was given an end while it asked wants nothing more. One that another has replaced is over at net_kernel.
+want(Peer, Setup, L) ->
+    case [Id || {end_of, Id} <- holdings(Setup, L), peer(Id, L) =:= Peer, stage(Id, L) =/= shaking] of
+        [] -> {ok, [{dial, Peer}], put_want(Peer, #want{setup = Setup}, L)};
+        [_ | _] -> {ok, [], L}
+    end.
+
+dialled(Peer, Id, L) ->
+    case want_of(Peer, L) of
+        #want{setup = Setup} = Want ->
+            L1 = put_want(Peer, Want#want{how = {dialling, Id}}, L),
+            {ok, [{tell, Setup, {dial, Id}}], put_link(Id, #link{owner = Setup, peer = Peer}, L1)};
+        none -> {ok, [{lose, Id, gave_up}], L}
+    end.
+
+%% net_kernel starts a setup only where it counts the peer as down. So an end that it had counted as up is over there, and the
+%% end of its process hasn't been told here yet. Any other end with that peer is one to wait for.
+busy(Peer, Up, L) ->
+    case {want_of(Peer, L), link_of(Up, L)} of
+        {none, _} -> {ok, [], L};
+        {#want{}, #link{stage = up, owner = Old}} ->
+            {ok, [{kill, Old}, {lose, Up, ended}, {dial, Peer}], drop_link(Up, L)};
+        {Want, _} -> {ok, [], put_want(Peer, Want#want{how = waiting}, L)}
+    end.
+
+refused(Peer, Code, L) ->
+    case want_of(Peer, L) of
+        #want{setup = Setup} -> {ok, [{tell, Setup, {failed, Code}}], drop_want(Peer, L)};
+        none -> {ok, [], L}
+    end.
+
+%% ---- a handshake goes on
+
+opened(Id, Setup, Dialler, L) ->
+    case link_of(Id, L) of
+        #link{owner = Setup, stage = shaking} = Link -> {ok, [], put_link(Id, Link#link{owner = Dialler}, L)};
+        _ -> {gone, [], L}
+    end.
+
+named(Id, Peer, L) ->
+    case link_of(Id, L) of
+        #link{} = Link -> {ok, [], put_link(Id, Link#link{peer = Peer}, L)};
+        none -> {ok, [], L}
+    end.
+
+ready(Id, Peer, L) ->
+    #link{stage = shaking} = Link = link_of(Id, L),
+    L1 = put_link(Id, Link#link{peer = Peer, stage = ready}, L),
+    case want_of(Peer, L1) of
+        #want{} = Want -> give(Id, Want, L1);
+        none -> {keep, [], L1}
+    end.
+
+%% The setup may have been killed since, and then its end is told before long, or net_kernel may not have started it yet.
+vetoed(Id, Pid, L) ->
+    case link_of(Id, L) of
+        #link{owner = Pid, stage = ready, peer = Peer} ->
+            case want_of(Peer, L) of
+                #want{} = Want -> give(Id, Want, L);
+                none -> {retry, [], L}
+            end;
+        _ -> {gone, [], L}
+    end.
+
+%% The setup's own dial, where it has one beside this end, is given up.
+give(Id, #want{setup = Setup, how = How}, L) ->
+    #link{owner = Giver, peer = Peer} = Link = link_of(Id, L),
+    L1 = put_link(Id, Link#link{owner = Setup, giver = Giver}, drop_want(Peer, L)),
+    Dials = [Dial || {dialling, Dial} <- [How], Dial =/= Id] ++
+        [Dial || {end_of, Dial} <- holdings(Setup, L1), stage(Dial, L1) =:= shaking],
+    {Actions, L2} = lists:foldl(fun(Dial, {Done, Now}) ->
+                                        {More, Next} = lose_dial(Dial, Setup, Now),
+                                        {Done ++ More, Next}
+                                end, {[], L1}, lists:usort(Dials)),
+    {{give, Setup}, Actions, L2}.
+
+lose_dial(Dial, Setup, L) ->
+    {Actions, L1} = lose(Dial, gave_up, L),
+    case owner(Dial, L) of
+        Dialler when Dialler =/= none, Dialler =/= Setup -> {Actions ++ [{tell, Dialler, {closed, Dial, 'Crossed'}}], L1};
+        _ -> {Actions, L1}
+    end.
+
+handed(Id, Giver, L) ->
+    case link_of(Id, L) of
+        #link{giver = Giver} = Link -> {ok, [], put_link(Id, Link#link{giver = none}, L)};
+        _ -> {ok, [], L}
+    end.
+
+admit(Id, Pid, L) ->
+    case link_of(Id, L) of
+        #link{owner = Pid, stage = ready} -> {ok, [], L};
+        _ -> {gone, [], L}
+    end.
+
+done(Id, Pid, L) ->
+    case link_of(Id, L) of
+        #link{owner = Pid, stage = admitted} -> {ok, [], move(Id, admitted, up, L)};
+        _ -> {gone, [], L}
+    end.
+
+%% ---- an end is over
+
+%% The process of an end that net_kernel may count as up is killed, and its socket and its row go with it. One that shakes
+%% hands is told, but for the one whose step it was, which has the answer.
+closed(Id, Why, By, L) ->
+    case link_of(Id, L) of
+        none -> {ok, [], L};
+        #link{owner = By, peer = Peer, stage = Stage} when Stage =:= shaking; Stage =:= ready ->
+            {ok, again(Peer, drop_link(Id, L)), drop_link(Id, L)};
+        #link{owner = Owner, peer = Peer, stage = Stage} ->
+            L1 = drop_link(Id, L),
+            {ok, [over(Stage, Id, Why, Owner) | again(Peer, L1)], L1}
+    end.
+
+over(Stage, Id, Why, Owner) when Stage =:= shaking; Stage =:= ready -> {tell, Owner, {closed, Id, Why}};
+over(_, _, _, Owner) -> {kill, Owner}.
+
+given_up(Id, Pid, L) ->
+    case link_of(Id, L) of
+        #link{owner = Pid} ->
+            {Actions, L1} = lose(Id, gave_up, L),
+            {ok, Actions, L1};
+        _ -> {gone, [], L}
+    end.
+
+%% An end whose giver has ended without handing it over has no socket any more, and its new owner asks anew.
+down(Pid, L) ->
+    {Actions, L1} = lists:foldl(fun(Held, {Done, Now}) ->
+                                        {More, Next} = left(Held, Pid, Now),
+                                        {Done ++ More, Next}
+                                end, {[], L}, holdings(Pid, L)),
+    {ok, Actions, L1}.
+
+left({want, Peer}, _, L) -> {[], drop_want(Peer, L)};
+left({end_of, Id}, _, L) -> lose(Id, ended, L);
+left({given_by, Id}, _, L) ->
+    #link{owner = Owner} = link_of(Id, L),
+    {Actions, L1} = lose(Id, ended, L),
+    {[{tell, Owner, again} | Actions], L1}.
+
+lose(Id, Why, L) ->
+    case link_of(Id, L) of
+        none -> {[], L};
+        #link{peer = Peer} ->
+            L1 = drop_link(Id, L),
+            {[{lose, Id, Why} | again(Peer, L1)], L1}
+    end.
+
+%% An end with this peer is over: a setup that waits for it may dial now.
+again(Peer, L) ->
+    case want_of(Peer, L) of
+        #want{how = waiting} -> [{dial, Peer}];
+        _ -> []
+    end.
+
+spent(#links{held = Held}) ->
+    {ok, [{kill, Pid} || Pid <- maps:keys(Held)], new()}.
+
+%% ---- the state: each change of an end or a want keeps what its processes hold
+
+link_of(Id, #links{ends = Ends}) -> maps:get(Id, Ends, none).
+want_of(Peer, #links{wants = Wants}) -> maps:get(Peer, Wants, none).
+holdings(Pid, #links{held = Held}) -> maps:get(Pid, Held, []).
+
+move(Id, From, To, L) ->
+    #link{stage = From} = Link = link_of(Id, L),
+    put_link(Id, Link#link{stage = To}, L).
+
+put_link(Id, Link, L) ->
+    #links{ends = Ends} = L1 = drop_link(Id, L),
+    hold(Link#link.owner, {end_of, Id}, hold(Link#link.giver, {given_by, Id}, L1#links{ends = Ends#{Id => Link}})).
+
+drop_link(Id, #links{ends = Ends} = L) ->
+    case link_of(Id, L) of
+        none -> L;
+        #link{owner = Owner, giver = Giver} ->
+            release(Owner, {end_of, Id}, release(Giver, {given_by, Id}, L#links{ends = maps:remove(Id, Ends)}))
+    end.
+
+put_want(Peer, Want, L) ->
+    #links{wants = Wants} = L1 = drop_want(Peer, L),
+    hold(Want#want.setup, {want, Peer}, L1#links{wants = Wants#{Peer => Want}}).
+
+drop_want(Peer, #links{wants = Wants} = L) ->
+    case want_of(Peer, L) of
+        none -> L;
+        #want{setup = Setup} -> release(Setup, {want, Peer}, L#links{wants = maps:remove(Peer, Wants)})
+    end.
+
+hold(none, _, L) -> L;
+hold(Pid, What, #links{held = Held} = L) -> L#links{held = Held#{Pid => [What | holdings(Pid, L)]}}.
+
+release(none, _, L) -> L;
+release(Pid, What, #links{held = Held} = L) ->
+    case lists:delete(What, holdings(Pid, L)) of
+        [] -> L#links{held = maps:remove(Pid, Held)};
+        Rest -> L#links{held = Held#{Pid => Rest}}
+    end.
+
+%% What holds of every state, for tests: `held` is what ends and wants say.
+-spec invariant(links()) -> boolean().
+invariant(#links{ends = Ends, wants = Wants, held = Held}) ->
+    Said = [{Pid, {end_of, Id}} || {Id, #link{owner = Pid}} <- maps:to_list(Ends)] ++
+        [{Pid, {given_by, Id}} || {Id, #link{giver = Pid}} <- maps:to_list(Ends), Pid =/= none] ++
+        [{Pid, {want, Peer}} || {Peer, #want{setup = Pid}} <- maps:to_list(Wants)],
+    Kept = [{Pid, What} || {Pid, Whats} <- maps:to_list(Held), What <- Whats],
+    lists:sort(Said) =:= lists:sort(Kept).

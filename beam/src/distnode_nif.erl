@@ -1,0 +1,87 @@
+%% SPDX-License-Identifier: Apache-2.0
+%% A node of the C library as functions of Erlang: c_src/distnode_nif.c.
+-module(distnode_nif).
+-export([load/0, new/6, cookie/3, usual_cookie/2, allow/2, disallow/2, forget/2]).
+-export([dial/2, incoming/1, opened/2, ready/4, body/4, lost/3]).
+-export([up_end/2, peers/1, challenge/0]).
+-export_type([id/0, peer/0, closed/0, step/0]).
+
+-type id() :: non_neg_integer().
+-type peer() :: binary().
+-type why() :: atom().
+-type closed() :: none | {id(), why()}.
+-type status() :: none | ok | ok_simultaneous | nok | not_allowed | alive | true | false.
+-type up() :: none | {peer(), Common :: non_neg_integer(), Creation :: non_neg_integer() | unknown}.
+%% What a step did: the frames that it says, the peer that its end holds, the end that it closed, the status that it heard,
+%% and who came up. An end that made room for a newcomer is told beside an error, too.
+-type step() ::
+    {step, id(), Bodies :: [binary()], peer() | none, closed(), Heard :: status(), up()} | {error, atom(), closed()}.
+
+%% Loads the library: from beside ebin, else from where the code server knows this application to be. It is called where the
+%% distribution starts. That is before the server of files is there, and in a release before init runs what -on_load names, so
+%% this module has no such function.
+-spec load() -> ok | {error, string()}.
+load() ->
+    Near = filename:join([filename:dirname(code:which(?MODULE)), "..", "priv"]),
+    case {load_from(Near), code:priv_dir(distnode)} of
+        {ok, _} -> ok;
+        {{error, {reload, _}}, _} -> ok;
+        {_, Known} when is_list(Known) -> told(load_from(Known));
+        {Error, _} -> told(Error)
+    end.
+
+told({error, {_, Text}}) -> {error, Text};
+told(ok) -> ok.
+
+load_from(Folder) -> erlang:load_nif(filename:join(Folder, "distnode_nif"), 0).
+
+-define(STUB, erlang:nif_error(not_loaded)).
+
+%% Most ends that the node ever gives out: 0 stands for 4,294,967,295.
+-spec new(peer(), binary(), Flags :: non_neg_integer(), Required :: non_neg_integer(), Creation :: non_neg_integer(),
+          MostEnds :: non_neg_integer()) -> {ok, reference()} | {error, atom()}.
+new(_Name, _Cookie, _Flags, _Required, _Creation, _MostEnds) -> ?STUB.
+
+-spec cookie(reference(), peer(), binary()) -> ok | {error, atom()}.
+cookie(_Node, _Peer, _Cookie) -> ?STUB.
+
+-spec usual_cookie(reference(), binary()) -> ok | {error, atom()}.
+usual_cookie(_Node, _Cookie) -> ?STUB.
+
+-spec allow(reference(), peer()) -> ok | {error, atom()}.
+allow(_Node, _Peer) -> ?STUB.
+
+-spec disallow(reference(), peer()) -> ok | {error, atom()}.
+disallow(_Node, _Peer) -> ?STUB.
+
+-spec forget(reference(), id()) -> ok | {error, atom()}.
+forget(_Node, _Below) -> ?STUB.
+
+-spec dial(reference(), peer()) -> step().
+dial(_Node, _Peer) -> ?STUB.
+
+-spec incoming(reference()) -> step().
+incoming(_Node) -> ?STUB.
+
+-spec opened(reference(), id()) -> step().
+opened(_Node, _Id) -> ?STUB.
+
+%% Whom body/4 would bring up; nothing is done.
+-spec ready(reference(), id(), binary(), Challenge :: non_neg_integer()) -> up().
+ready(_Node, _Id, _Body, _Challenge) -> ?STUB.
+
+-spec body(reference(), id(), binary(), Challenge :: non_neg_integer()) -> step().
+body(_Node, _Id, _Body, _Challenge) -> ?STUB.
+
+%% Why is a number of dn_why.
+-spec lost(reference(), id(), Why :: 1..15) -> step().
+lost(_Node, _Id, _Why) -> ?STUB.
+
+-spec up_end(reference(), peer()) -> id() | none.
+up_end(_Node, _Peer) -> ?STUB.
+
+-spec peers(reference()) -> [{peer(), id(), non_neg_integer(), non_neg_integer() | unknown}].
+peers(_Node) -> ?STUB.
+
+-spec challenge() -> non_neg_integer().
+challenge() -> ?STUB.

@@ -1,0 +1,480 @@
+%% SPDX-License-Identifier: Apache-2.0
+%% The carrier on the installed OTP: nodes of its own and ordinary ones, over 127.0.0.1. Nothing sleeps to wait: each condition
+%% has a deadline.
+-module(cases).
+-export([main/0, main/1]).
+
+-define(FLAGS, 16#d07df7fbd).   % those that OTP 25 announces, DFLAG_PUBLISHED among them
+
+%% global's own links would connect again what a case has disconnected.
+-define(QUIET, ["-connect_all", "false", "-kernel", "prevent_overlapping_partitions", "false"]).
+
+main() -> main([]).
+
+main(Words) ->
+    {Mapper, OsPid} = test_nodes:port_mapper(),
+    Cases = [Case || {Name, _} = Case <- cases(Mapper), Words =:= [] orelse lists:member(Name, Words)],
+    Failed = length([Name || {Name, Body} <- Cases, not passes(Name, Body)]),
+    os:cmd("kill " ++ integer_to_list(OsPid)),
+    io:format("~b passed, ~b failed~n", [length(Cases) - Failed, Failed]),
+    halt(case Failed of 0 -> 0; _ -> 1 end).
+
+passes(Name, Body) ->
+    Begin = erlang:monotonic_time(millisecond),
+    {Outcome, Text} = try Body() of
+                          Said -> {true, said(Said)}
+                      catch
+                          Class:Reason:Stack -> {false, io_lib:format("~n  ~p", [{Class, Reason, Stack}])}
+                      end,
+    io:format("~s ~s (~b ms)~ts~n", [case Outcome of true -> "passed"; false -> "FAILED" end, Name,
+                                     erlang:monotonic_time(millisecond) - Begin, Text]),
+    Outcome.
+
+said({said, Format, Arguments}) -> [": ", io_lib:format(Format, Arguments)];
+said(_) -> "".
+
+cases(Mapper) ->
+    [{"links_walk", fun links_walk:run/0},
+     {"ping_and_calls", fun ping_and_calls/0},
+     {"many_messages", fun many_messages/0},
+     {"crossing_dials", fun() -> crossing(ours, ours, 60) end},
+     {"crossing_dials_ordinary_lesser", fun() -> crossing(otp, ours, 40) end},
+     {"crossing_dials_ordinary_greater", fun() -> crossing(ours, otp, 40) end},
+     {"random_connects_and_kills", fun random_traffic/0},
+     {"kill_and_restart", fun kill_and_restart/0},
+     {"frozen_connection_is_replaced", fun() -> [frozen(A, B, Mapper) || {A, B} <- [{ours, ours}, {otp, ours}, {ours, otp}]] end},
+     {"wrong_cookie", fun wrong_cookie/0},
+     {"cookies_at_run_time", fun cookies_at_run_time/0},
+     {"cookies_without_use", fun without_use/0},
+     {"allow_list_at_run_time", fun allow_list/0},
+     {"veto_before_acknowledgement", fun() -> veto(Mapper) end},
+     {"hidden", fun hidden/0},
+     {"nodes_without_a_name", fun nameless/0},
+     {"global", fun global_names/0},
+     {"ticks", fun ticks/0},
+     {"strangers", fun() -> strangers(Mapper) end},
+     {"impostor", fun() -> impostor(Mapper) end},
+     {"numbers_run_out", fun numbers_run_out/0},
+     {"embedded_release", fun embedded_release/0},
+     {"killed_core", fun killed_core/0},
+     {"missing_library", fun missing_library/0}].
+
+%% ---- what the cases stand on
+
+n(Node) -> test_nodes:name(Node).
+c(Node, M, F, A) -> test_nodes:call(Node, M, F, A).
+connect(A, B) -> c(A, net_kernel, connect_node, [n(B)]).
+
+with(Specs, Body) ->
+    Nodes = test_nodes:start(Specs),
+    try Body(Nodes)
+    after [test_nodes:stop(Node) || Node <- Nodes]
+    end.
+
+%% Both count each other as up on one connection, or neither does.
+pair(A, B) ->
+    case {c(A, test_agent, row, [n(B)]), c(B, test_agent, row, [n(A)])} of
+        {{up, {{ok, X}, {ok, Y}}}, {up, {{ok, Y}, {ok, X}}}} -> {up, X, Y};
+        {none, none} -> none;
+        Other -> {apart, Other}
+    end.
+
+settled(A, B) ->
+    true = test_nodes:wait(fun() -> case pair(A, B) of {apart, _} = Apart -> Apart; _ -> true end end, 10000),
+    pair(A, B).
+
+both_up(A, B) -> {up, _, _} = settled(A, B).
+
+agreed(Nodes) -> [true = test_nodes:wait(fun() -> c(Node, test_agent, is_agreed, []) end, 10000) || Node <- Nodes].
+
+apart(A, B) ->
+    true = test_nodes:wait(fun() -> c(A, erlang, disconnect_node, [n(B)]), pair(A, B) =:= none end, 10000).
+
+%% ---- the cases
+
+ping_and_calls() ->
+    with([{"a", ours, ?QUIET}, {"b", ours, ?QUIET}, {"o", otp, ?QUIET}],
+         fun([A, B, O]) ->
+                 [pong = c(X, net_adm, ping, [n(Y)]) || {X, Y} <- [{A, B}, {B, A}, {O, A}, {B, O}]],
+                 [both_up(X, Y) || {X, Y} <- [{A, B}, {A, O}, {B, O}]],
+                 [begin
+                      Name = n(Y),
+                      Name = c(X, rpc, call, [Name, erlang, node, []]),
+                      Name = c(X, erpc, call, [Name, erlang, node, []])
+                  end || X <- [A, B, O], Y <- [A, B, O], X =/= Y],
+                 agreed([A, B]),
+                 pang = c(A, net_adm, ping, ['nobody@127.0.0.1']),
+                 agreed([A])
+         end).
+
+many_messages() ->
+    with([{"a", ours, ?QUIET}, {"b", ours, ?QUIET}, {"o", otp, ?QUIET}],
+         fun([A, B, O]) ->
+                 [true = c(X, test_agent, sink, []) || X <- [A, B, O]],
+                 [50000 = c(X, test_agent, flood, [n(Y), 50000]) || {X, Y} <- [{A, B}, {B, A}, {A, O}, {O, A}]],
+                 agreed([A, B])
+         end).
+
+%% Both sides connect at one moment, give or take 0.2 milliseconds: both answer true, and both hold the same connection.
+crossing(KindA, KindB, Rounds) ->
+    with([{"a", KindA, ?QUIET}, {"b", KindB, ?QUIET}],
+         fun([A, B]) ->
+                 Ours = [Node || {Node, ours} <- [{A, KindA}, {B, KindB}]],
+                 [cross(A, B, Ours) || _ <- lists:seq(1, Rounds)],
+                 Counts = [c(Node, distnode_core, counts, []) || Node <- Ours],
+                 {said, "~b of ~b rounds with both up, nok heard or said at ~p ends", [Rounds, Rounds, noks(Counts)]}
+         end).
+
+cross(A, B, Ours) ->
+    Moment = erlang:system_time(nanosecond) + 10000000,
+    Skew = (rand:uniform(9) - 5) * 50000,
+    Self = self(),
+    [spawn_link(fun() -> Self ! {X, c(X, test_agent, connect_at, [n(Y), At])} end) || {X, Y, At} <- [{A, B, Moment}, {B, A, Moment + Skew}]],
+    [receive {X, true} -> ok after 30000 -> error({no_answer, n(X)}) end || X <- [A, B]],
+    both_up(A, B),
+    agreed(Ours),
+    apart(A, B).
+
+noks(Counts) ->
+    lists:sum([maps:get(What, Map, 0) || Map <- Counts, What <- [{closed, 'StatusRefused'}, {closed, 'Crossed'}]]).
+
+%% Four nodes connect and disconnect at random, and one of them is killed and comes back. When they rest, each pair agrees, the
+%% tables of the node and of net_kernel are the same, and all can connect.
+random_traffic() ->
+    with([{"a", ours, ?QUIET}, {"b", ours, ?QUIET}, {"o", otp, ?QUIET}],
+         fun([A, B, _] = Three) ->
+                 Names = [n(X) || X <- Three] ++ ['d@127.0.0.1'],
+                 Until = erlang:system_time(millisecond) + 8000,
+                 Self = self(),
+                 [spawn_link(fun() -> Self ! {X, c(X, test_agent, traffic, [Names -- [n(X)], Until])} end) || X <- Three],
+                 {D, Kills} = killed_in_traffic([n(X) || X <- Three], Until, 0),
+                 try
+                     Actions = [receive {X, N} -> N after 30000 -> error({busy, n(X)}) end || X <- Three],
+                     Four = Three ++ [D],
+                     Pairs = [{X, Y} || X <- Four, Y <- Four, n(X) < n(Y)],
+                     [settled(X, Y) || {X, Y} <- Pairs],
+                     agreed([A, B, D]),
+                     [begin true = connect(X, Y), both_up(X, Y) end || {X, Y} <- Pairs],
+                     agreed([A, B, D]),
+                     {said, "~b actions, ~b kills, given after a no of net_kernel or asked again: ~p",
+                      [lists:sum(Actions), Kills, [maps:get(vetoed, c(X, distnode_core, counts, []), 0) || X <- [A, B]]]}
+                 after test_nodes:stop(D)
+                 end
+         end).
+
+killed_in_traffic(Names, Until, Kills) ->
+    D = test_nodes:start("d", ours, ?QUIET),
+    _ = c(D, test_agent, traffic, [Names, min(Until, erlang:system_time(millisecond) + 2000)]),
+    case erlang:system_time(millisecond) >= Until of
+        true -> {D, Kills};
+        false ->
+            test_nodes:kill(D),
+            killed_in_traffic(Names, Until, Kills + 1)
+    end.
+
+kill_and_restart() ->
+    with([{"a", ours, ?QUIET}],
+         fun([A]) ->
+                 First = restarted(A, test_nodes:start("b", ours, ?QUIET)),
+                 Second = restarted(A, test_nodes:start("b", ours, ?QUIET)),
+                 true = First =/= Second
+         end).
+
+%% The creation of a node that is killed; the other notices, and a process of it is void.
+restarted(A, B) ->
+    pong = c(A, net_adm, ping, [n(B)]),
+    Creation = c(B, erts_internal, get_creation, []),
+    [{_, _, _, Creation, up, _}] = maps:get(up, c(A, distnode_core, table, [])),
+    ok = c(A, test_agent, watch, [n(B)]),
+    test_nodes:kill(B),
+    true = c(A, test_agent, is_down, [n(B)]),
+    agreed([A]),
+    Creation.
+
+%% The old connection of a peer dies without a word, and the peer comes back: it connects at once, and the old one is over.
+frozen(KindA, KindB, Mapper) ->
+    with([{"a", KindA, ["-epmd_module", "relay_epmd" | ?QUIET]}, {"b", KindB, ?QUIET}],
+         fun([A, B]) ->
+                 {Relay, Port} = other_side:relay(other_side:port_of("b", Mapper)),
+                 ok = c(A, relay_epmd, instead, ["b", Port]),
+                 true = connect(A, B),
+                 true = test_nodes:wait(fun() -> c(B, erlang, nodes, []) =:= [n(A)] end, 5000),
+                 ok = other_side:freeze(Relay),
+                 test_nodes:kill(B),
+                 again(A, KindA, test_nodes:start("b", KindB, ?QUIET)),
+                 exit(Relay, kill)
+         end).
+
+again(A, KindA, B) ->
+    try
+        true = test_nodes:wait(fun() -> connect(B, A) end, 20000),
+        both_up(A, B),
+        [agreed([A]) || KindA =:= ours]
+    after test_nodes:stop(B)
+    end.
+
+wrong_cookie() ->
+    with([{"a", ours, ["-setcookie", "one" | ?QUIET]}, {"b", ours, ["-setcookie", "two" | ?QUIET]},
+          {"o", otp, ["-setcookie", "two" | ?QUIET]}],
+         fun([A, B, O] = All) ->
+                 [false = connect(X, Y) || {X, Y} <- [{A, B}, {B, A}, {A, O}, {O, A}]],
+                 [[] = c(X, erlang, nodes, []) || X <- All],
+                 agreed([A, B]),
+                 true = test_nodes:has_logged(A, "Connection attempt from node b@127.0.0.1 rejected. Invalid challenge reply"),
+                 true = connect(B, O)
+         end).
+
+%% A cookie for one peer, and the one for all, while others are connected.
+cookies_at_run_time() ->
+    with([{"a", ours, ["-setcookie", "one" | ?QUIET]}, {"b", ours, ["-setcookie", "two" | ?QUIET]},
+          {"o", otp, ["-setcookie", "three" | ?QUIET]}, {"p", otp, ["-setcookie", "one" | ?QUIET]}],
+         fun([A, B, O, P]) ->
+                 true = connect(P, A),
+                 true = c(A, erlang, set_cookie, [n(B), two]),
+                 true = connect(A, B),
+                 apart(A, B),
+                 true = connect(B, A),
+                 %% p is connected under the cookie that a had for all
+                 true = c(A, erlang, set_cookie, [three]),
+                 true = connect(O, A),
+                 apart(A, O),
+                 true = connect(A, O),
+                 [both_up(A, X) || X <- [B, O, P]],
+                 apart(A, P),
+                 false = connect(P, A),
+                 false = connect(A, P),
+                 true = c(P, erlang, set_cookie, [three]),
+                 true = connect(A, P),
+                 agreed([A, B])
+         end).
+
+%% What OTP takes and the library refuses ends the attempt with a report, and nothing else.
+without_use() ->
+    with([{"a", ours, ?QUIET}, {"b", ours, ?QUIET}, {"o", otp, ?QUIET}],
+         fun([A, B, O]) ->
+                 [begin
+                      true = c(A, erlang, set_cookie, [n(O), Cookie]),
+                      true = c(O, erlang, set_cookie, [n(A), Cookie]),
+                      false = connect(A, O),
+                      false = connect(O, A)
+                  end || Cookie <- ['', 'a\nb', 'end ', list_to_atom([233])]],
+                 true = test_nodes:has_logged(A, "the cookie for node o@127.0.0.1 can't be used: CookieEmpty"),
+                 true = test_nodes:has_logged(A, "the cookie for node o@127.0.0.1 can't be used: CookieBadByte"),
+                 [false = c(A, net_kernel, connect_node, [Name]) || Name <- ['a b@127.0.0.1', list_to_atom([233 | "@127.0.0.1"])]],
+                 %% its own cookie, too: peers that have another connect
+                 true = c(A, erlang, set_cookie, ['']),
+                 true = c(A, erlang, set_cookie, [n(B), test]),
+                 true = connect(A, B),
+                 agreed([A, B])
+         end).
+
+allow_list() ->
+    with([{"a", ours, ?QUIET}, {"b", ours, ?QUIET}, {"c", ours, ?QUIET}, {"o", otp, ?QUIET}],
+         fun([A, B, C, O]) ->
+                 true = connect(O, A),
+                 ok = c(A, net_kernel, allow, [[n(B)]]),
+                 true = connect(B, A),
+                 false = connect(C, A),
+                 true = test_nodes:has_logged(A, "disallowed node c@127.0.0.1"),
+                 both_up(A, O),
+                 apart(A, O),
+                 false = connect(O, A),
+                 %% a part of a name, as dist_util has it
+                 ok = c(A, net_kernel, allow, [['c@', n(O)]]),
+                 true = connect(C, A),
+                 true = connect(O, A),
+                 agreed([A, B, C])
+         end).
+
+%% While net_kernel says nothing, a peer that has shown the cookie hears no acknowledgement and is not up in the node.
+veto(Mapper) ->
+    with([{"a", ours, ?QUIET}],
+         fun([A]) ->
+                 Socket = other_side:connect(other_side:port_of("a", Mapper)),
+                 ok = other_side:say_name(Socket, ?FLAGS, <<"x@127.0.0.1">>),
+                 <<"ok">> = other_side:status(Socket),
+                 Challenge = other_side:challenge(Socket),
+                 ok = c(A, sys, suspend, [net_kernel]),
+                 ok = other_side:reply(Socket, "test", Challenge),
+                 true = test_nodes:wait(fun() -> maps:get(kept, c(A, distnode_core, counts, []), 0) =:= 1 end, 5000),
+                 #{up := [], open := 1} = c(A, distnode_core, table, []),
+                 true = other_side:is_silent(Socket, 200),
+                 ok = c(A, sys, resume, [net_kernel]),
+                 ok = other_side:ack(Socket, "test"),
+                 true = test_nodes:wait(fun() -> c(A, erlang, nodes, []) =:= ['x@127.0.0.1'] end, 5000),
+                 agreed([A]),
+                 gen_tcp:close(Socket),
+                 true = test_nodes:wait(fun() -> c(A, erlang, nodes, []) =:= [] end, 5000),
+                 agreed([A])
+         end).
+
+hidden() ->
+    with([{"h", ours, ["-hidden" | ?QUIET]}, {"a", ours, ?QUIET}, {"o", otp, ?QUIET}, {"g", otp, ["-hidden" | ?QUIET]}],
+         fun([H, A, O, G]) ->
+                 [true = connect(X, Y) || {X, Y} <- [{H, A}, {O, H}, {A, G}, {A, O}]],
+                 [both_up(X, Y) || {X, Y} <- [{H, A}, {O, H}, {A, G}, {A, O}]],
+                 Seen = fun(X) -> {lists:sort(c(X, erlang, nodes, [])), lists:sort(c(X, erlang, nodes, [hidden]))} end,
+                 {[], [_, _]} = Seen(H),
+                 {['o@127.0.0.1'], ['g@127.0.0.1', 'h@127.0.0.1']} = Seen(A),
+                 {['a@127.0.0.1'], ['h@127.0.0.1']} = Seen(O),
+                 apart(A, O),
+                 false = c(A, net_kernel, hidden_connect_node, [n(O)]),
+                 agreed([H, A])
+         end).
+
+%% Nodes that are given their names by the first one that they dial, as erl -remsh starts them.
+nameless() ->
+    with([{"a", ours, ?QUIET}, {"o", otp, ?QUIET}, {"undefined", ours, ?QUIET}, {"undefined", otp, ?QUIET}],
+         fun([A, O, D, E]) ->
+                 [begin
+                      true = connect(X, First),
+                      Given = c(X, erlang, node, []),
+                      Given = c(First, rpc, call, [Given, erlang, node, []]),
+                      true = connect(X, Second),
+                      Given = c(Second, rpc, call, [Given, erlang, node, []])
+                  end || {X, First, Second} <- [{D, A, O}, {E, A, O}]],
+                 true = connect(A, O),
+                 agreed([A])
+         end).
+
+global_names() ->
+    with([{"a", ours, []}, {"b", ours, []}, {"o", otp, []}],
+         fun([A, B, O] = All) ->
+                 pong = c(A, net_adm, ping, [n(B)]),
+                 pong = c(B, net_adm, ping, [n(O)]),
+                 %% global makes the third connection
+                 true = test_nodes:wait(fun() -> [length(c(X, erlang, nodes, [])) || X <- All] =:= [2, 2, 2] end, 10000),
+                 Pid = c(A, erlang, whereis, [net_kernel]),
+                 yes = c(A, global, register_name, [thing, Pid]),
+                 [true = test_nodes:wait(fun() -> c(X, global, whereis_name, [thing]) =:= Pid end, 10000) || X <- [B, O]],
+                 agreed([A, B]),
+                 test_nodes:kill(O),
+                 true = test_nodes:wait(fun() -> length(c(A, erlang, nodes, [])) =:= 1 end, 10000),
+                 agreed([A, B])
+         end).
+
+%% Without a message the connections stay up by ticks, and a node that stands still is noticed.
+ticks() ->
+    Tick = ["-kernel", "net_ticktime", "2" | ?QUIET],
+    with([{"a", ours, Tick}, {"b", ours, Tick}, {"o", otp, Tick}],
+         fun([A, B, O]) ->
+                 true = connect(A, B),
+                 true = connect(O, A),
+                 [true = c(X, test_agent, stay_up, [n(Y), 4]) || {X, Y} <- [{A, B}, {B, A}, {A, O}]],
+                 ok = test_nodes:signal(B, "STOP"),
+                 try true = test_nodes:wait(fun() -> c(A, erlang, nodes, []) =:= [n(O)] end, 10000)
+                 after test_nodes:signal(B, "CONT")
+                 end,
+                 true = test_nodes:wait(fun() -> connect(B, A) end, 10000),
+                 both_up(A, B),
+                 agreed([A, B])
+         end).
+
+%% Connections without a byte, and others that say names and know no cookie, all of them held.
+strangers(Mapper) ->
+    with([{"a", ours, ?QUIET}, {"b", ours, ?QUIET}, {"o", otp, ?QUIET}],
+         fun([A, B, O]) ->
+                 Port = other_side:port_of("a", Mapper),
+                 Silent = [other_side:connect(Port) || _ <- lists:seq(1, 200)],
+                 Named = [stranger(Port, integer_to_binary(I)) || I <- lists:seq(1, 200)],
+                 [<<"ok">> = other_side:status(Socket) || Socket <- Named],
+                 #{open := 400} = c(A, distnode_core, table, []),
+                 Atoms = c(A, erlang, system_info, [atom_count]),
+                 true = connect(O, A),
+                 true = connect(A, B),
+                 [gen_tcp:close(Socket) || Socket <- Silent ++ Named],
+                 agreed([A, B]),
+                 true = c(A, erlang, system_info, [atom_count]) - Atoms < 200
+         end).
+
+stranger(Port, Name) ->
+    Socket = other_side:connect(Port),
+    ok = other_side:say_name(Socket, ?FLAGS, <<"stranger", Name/binary, "@127.0.0.1">>),
+    Socket.
+
+%% Somebody without the cookie holds a handshake in a peer's name; the peer connects all the same.
+impostor(Mapper) ->
+    with([{"a", ours, ?QUIET}, {"b", ours, ?QUIET}, {"o", otp, ?QUIET}],
+         fun([A, B, O]) ->
+                 Port = other_side:port_of("a", Mapper),
+                 [begin
+                      Socket = other_side:connect(Port),
+                      ok = other_side:say_name(Socket, ?FLAGS, atom_to_binary(n(X))),
+                      <<"ok">> = other_side:status(Socket),
+                      true = connect(X, A),
+                      both_up(A, X)
+                  end || X <- [B, O]],
+                 agreed([A, B])
+         end).
+
+%% A node whose numbers are used up closes its connections and begins anew.
+numbers_run_out() ->
+    with([{"a", ours, ["-kernel", "distnode_most_ends", "6" | ?QUIET]}, {"b", ours, ?QUIET}, {"o", otp, ?QUIET}],
+         fun([A, B, O]) ->
+                 Answers = [begin
+                                Answer = connect(X, Y),
+                                [apart(X, Y) || Answer],
+                                Answer
+                            end || _ <- lists:seq(1, 6), {X, Y} <- [{A, B}, {B, A}, {A, O}, {O, A}]],
+                 Times = maps:get(spent, c(A, distnode_core, counts, [])),
+                 true = Times >= 2,
+                 true = length([no || false <- Answers]) =< Times,
+                 agreed([B]),
+                 true = test_nodes:wait(fun() -> connect(A, B) end, 5000),
+                 agreed([A, B]),
+                 {said, "begun anew ~b times in ~b attempts", [Times, length(Answers)]}
+         end).
+
+%% The application in a boot script, and code in embedded mode: the distribution starts before init runs what -on_load names.
+embedded_release() ->
+    Folder = filename:join(os:getenv("LOGS"), "release"),
+    Lib = filename:join([Folder, "lib", "distnode-0.2.0"]),
+    [ok = copy(filename:join([os:getenv("EBIN"), "..", Part]), filename:join(Lib, Part)) || Part <- ["ebin", "priv"]],
+    Applications = [{App, version(App)} || App <- [kernel, stdlib]] ++ [{distnode, "0.2.0"}],
+    Release = {release, {"test", "1"}, {erts, erlang:system_info(version)}, Applications},
+    ok = file:write_file(filename:join(Folder, "test.rel"), io_lib:format("~p.~n", [Release])),
+    ok = systools:make_script(filename:join(Folder, "test"), [no_warn_sasl, {path, [filename:join(Lib, "ebin")]}, {outdir, Folder}, local]),
+    Boot = ["-boot", filename:join(Folder, "test"), "-mode", "embedded" | ?QUIET],
+    with([{"a", release, Boot}, {"b", release, Boot}, {"o", otp, ?QUIET}],
+         fun([A, B, O]) ->
+                 embedded = c(A, code, get_mode, []),
+                 [true = connect(X, Y) || {X, Y} <- [{A, B}, {O, A}, {B, O}]],
+                 [both_up(X, Y) || {X, Y} <- [{A, B}, {A, O}, {B, O}]],
+                 true = lists:prefix(Lib, c(A, code, which, [distnode_nif])),
+                 agreed([A, B])
+         end).
+
+version(App) ->
+    _ = application:load(App),
+    {ok, Version} = application:get_key(App, vsn),
+    Version.
+
+copy(From, To) ->
+    ok = filelib:ensure_dir(filename:join(To, "x")),
+    [{ok, _} = file:copy(File, filename:join(To, filename:basename(File))) || File <- filelib:wildcard(filename:join(From, "*"))],
+    ok.
+
+%% The distribution ends with the node's owner, and the emulator with the distribution, as where net_kernel is killed.
+killed_core() ->
+    with([{"b", ours, ?QUIET}],
+         fun([B]) ->
+                 [begin
+                      A = test_nodes:start("a", Kind, ?QUIET),
+                      true = connect(A, B),
+                      Pid = c(A, erlang, whereis, [Victim]),
+                      _ = (catch c(A, erlang, exit, [Pid, kill])),
+                      Status = test_nodes:ended(A, 20000),
+                      true = is_integer(Status),
+                      true = test_nodes:wait(fun() -> c(B, erlang, nodes, []) =:= [] end, 5000)
+                  end || {Kind, Victim} <- [{ours, distnode_core}, {otp, net_kernel}]],
+                 agreed([B])
+         end).
+
+missing_library() ->
+    Alone = filename:join([os:getenv("LOGS"), "alone", "ebin"]),
+    ok = copy(os:getenv("EBIN"), Alone),
+    Node = test_nodes:start_bare("a", Alone, []),
+    Status = test_nodes:ended(Node, 30000),
+    true = is_integer(Status) andalso Status =/= 0,
+    true = test_nodes:has_logged(Node, "distnode: the library distnode_nif can't be loaded"),
+    ok.

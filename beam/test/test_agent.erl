@@ -1,0 +1,123 @@
+%% SPDX-License-Identifier: Apache-2.0
+%% In a node under test: does what the test asks, over a connection of its own beside the distribution. It connects to the
+%% test's port, and ends the node with that connection.
+-module(test_agent).
+-export([main/1, row/1, connect_at/2, is_agreed/0, sink/0, flood/2, watch/1, is_down/1, stay_up/2, traffic/2]).
+
+main([Port]) ->
+    spawn(fun() ->
+                  {ok, Socket} = gen_tcp:connect({127, 0, 0, 1}, list_to_integer(Port), [binary, {packet, 4}, {active, false}]),
+                  serve(Socket)
+          end).
+
+serve(Socket) ->
+    case gen_tcp:recv(Socket, 0) of
+        {ok, Bin} ->
+            {Ref, {M, F, A}} = binary_to_term(Bin),
+            spawn(fun() -> gen_tcp:send(Socket, term_to_binary({Ref, answer(M, F, A)})) end),
+            serve(Socket);
+        {error, _} -> halt(0)
+    end.
+
+answer(M, F, A) ->
+    try {ok, apply(M, F, A)}
+    catch Class:Reason:Stack -> {Class, Reason, Stack}
+    end.
+
+%% How net_kernel sees a node: {State, {OwnAddress, PeerAddress}}, or none. The places of its rows are those of OTP 25 to 29.
+row(Node) ->
+    case ets:lookup(sys_dist, Node) of
+        [Row] when is_port(element(6, Row)) ->
+            {element(4, Row), {inet:sockname(element(6, Row)), inet:peername(element(6, Row))}};
+        [Row] -> {element(4, Row), none};
+        [] -> none
+    end.
+
+%% connect_node at a moment of the system's clock, in nanoseconds: it is busy for the last milliseconds.
+connect_at(Node, Moment) ->
+    receive after max(0, (Moment - erlang:system_time(nanosecond)) div 1000000 - 2) -> ok end,
+    busy_until(Moment),
+    net_kernel:connect_node(Node).
+
+busy_until(Moment) ->
+    case erlang:system_time(nanosecond) < Moment of
+        true -> busy_until(Moment);
+        false -> ok
+    end.
+
+%% Is each peer that net_kernel counts as up also up in the node, on the end whose process is net_kernel's owner, and the other
+%% way round; and is no other end open, and does nobody wait?
+is_agreed() ->
+    #{up := Up, open := Open, wants := Wants} = distnode_core:table(),
+    Node = lists:sort([{binary_to_atom(Peer), Owner} || {Peer, _, _, _, up, Owner} <- Up]),
+    Kernel = lists:sort([{element(2, Row), element(5, Row)} || Row <- ets:tab2list(sys_dist),
+                                                               element(4, Row) =:= up, element(11, Row) =:= static]),
+    case Node =:= Kernel andalso length(Up) =:= length(Node) andalso Open =:= length(Up) andalso Wants =:= [] of
+        true -> true;
+        false -> {differ, Up, Open, Wants, Kernel}
+    end.
+
+%% Connects to and disconnects from these nodes at random until a moment of the system's clock: how many times.
+traffic(Nodes, Until) -> traffic(Nodes, Until, 0).
+
+traffic(Nodes, Until, N) ->
+    case erlang:system_time(millisecond) >= Until of
+        true -> N;
+        false ->
+            Node = lists:nth(rand:uniform(length(Nodes)), Nodes),
+            case rand:uniform(9) of
+                X when X < 7 -> spawn(fun() -> net_kernel:connect_node(Node) end);
+                X when X < 9 -> erlang:disconnect_node(Node);
+                9 -> {nobody, Node} ! hello
+            end,
+            receive after rand:uniform(8) - 1 -> traffic(Nodes, Until, N + 1) end
+    end.
+
+sink() ->
+    Pid = spawn(fun() -> count(0) end),
+    _ = (catch unregister(sink)),
+    register(sink, Pid).
+
+count(N) ->
+    receive
+        {last, From} -> From ! {counted, N}, count(0);
+        _ -> count(N + 1)
+    end.
+
+%% Sends so many messages to the sink of a node: how many it counted.
+flood(Node, N) ->
+    _ = [{sink, Node} ! {a, <<"sixteen bytes ok">>} || _ <- lists:seq(1, N)],
+    {sink, Node} ! {last, self()},
+    receive {counted, Counted} -> Counted after 60000 -> timeout end.
+
+%% Monitors a node, and answers later whether it was noticed that the node is down.
+watch(Node) ->
+    Self = self(),
+    Pid = spawn(fun() ->
+                        true = monitor_node(Node, true),
+                        Self ! {self(), watching},
+                        receive {nodedown, Node} -> ok end,
+                        receive {is_down, From} -> From ! {down, Node} end
+                end),
+    register(watch, Pid),
+    receive {Pid, watching} -> ok end.
+
+is_down(Node) ->
+    watch ! {is_down, self()},
+    receive {down, Node} -> true after 20000 -> timeout end.
+
+%% Waits until so many packets without a message have come from a node: true where it was up the whole time.
+stay_up(Node, Ticks) ->
+    true = monitor_node(Node, true),
+    stay_up(Node, received(Node) + Ticks, erlang:monotonic_time(millisecond) + 20000).
+
+stay_up(Node, Target, Deadline) ->
+    case {received(Node) >= Target, erlang:monotonic_time(millisecond) > Deadline} of
+        {true, _} -> monitor_node(Node, false);
+        {false, true} -> timeout;
+        {false, false} -> receive {nodedown, Node} -> down after 100 -> stay_up(Node, Target, Deadline) end
+    end.
+
+received(Node) ->
+    {ok, Info} = net_kernel:node_info(Node),
+    proplists:get_value(in, Info).

@@ -1,0 +1,136 @@
+%% SPDX-License-Identifier: Apache-2.0
+%% Starts emulators as processes of the system, for a test that has no distribution of its own, and asks their agents. It ends
+%% what it has started and nothing else.
+-module(test_nodes).
+-export([port_mapper/0, start/1, start/3, start_bare/3, call/4, name/1, stop/1, kill/1, signal/2, is_alive/1, log/1, has_logged/2, ended/2, wait/2]).
+
+-record(node, {name, port, os_pid, socket = none, log}).
+
+%% A port mapper at a port that nobody has: the port. It ends with the test.
+port_mapper() ->
+    {ok, Free} = gen_tcp:listen(0, [{ip, {127, 0, 0, 1}}]),
+    {ok, Port} = inet:port(Free),
+    ok = gen_tcp:close(Free),
+    Text = integer_to_list(Port),
+    Mapper = open_port({spawn_executable, os:find_executable("sh")},
+                       [{args, ["-c", "exec epmd -port " ++ Text ++ " -address 127.0.0.1 2>/dev/null"]}, exit_status]),
+    os:putenv("ERL_EPMD_PORT", Text),
+    os:putenv("ERL_EPMD_ADDRESS", "127.0.0.1"),
+    true = wait(fun() -> element(1, gen_tcp:connect({127, 0, 0, 1}, Port, [])) =:= ok end, 10000),
+    {os_pid, OsPid} = erlang:port_info(Mapper, os_pid),
+    {Port, OsPid}.
+
+%% Several at once: [{Short, ours | otp, Arguments}]
+start(Specs) ->
+    Begun = [begin_one(Spec) || Spec <- Specs],
+    try [join(One) || One <- Begun]
+    catch
+        Class:Reason:Stack ->
+            [kill(Node) || {_, Node} <- Begun],
+            erlang:raise(Class, Reason, Stack)
+    end.
+
+start(Short, Kind, Arguments) ->
+    [Node] = start([{Short, Kind, Arguments}]),
+    Node.
+
+begin_one({Short, Kind, Arguments}) ->
+    {ok, Listen} = gen_tcp:listen(0, [binary, {packet, 4}, {active, false}, {ip, {127, 0, 0, 1}}]),
+    {ok, Port} = inet:port(Listen),
+    {Listen, start_bare(Short, Kind, Arguments ++ agent(Kind, integer_to_list(Port)))}.
+
+%% Code in embedded mode isn't looked for, so it is loaded by hand there.
+agent(release, Port) ->
+    Agent = filename:join(os:getenv("TESTS"), "test_agent"),
+    ["-eval", lists:flatten(io_lib:format("{module, test_agent} = code:load_abs(~p), test_agent:main([~p]).", [Agent, Port]))];
+agent(_, Port) -> ["-run", "test_agent", "main", Port].
+
+join({Listen, Node}) -> join(Listen, Node, 300).
+
+%% It is looked after now and then, in case it does not start.
+join(Listen, Node, Left) ->
+    case {gen_tcp:accept(Listen, 100), is_alive(Node)} of
+        {{ok, Socket}, _} ->
+            ok = gen_tcp:close(Listen),
+            Node#node{socket = Socket};
+        {_, true} when Left > 0 -> join(Listen, Node, Left - 1);
+        _ -> error({not_started, Node#node.name, log(Node)})
+    end.
+
+%% One without an agent, which may not start.
+start_bare(Short, Kind, Arguments) ->
+    Name = Short ++ "@127.0.0.1",
+    Log = filename:join(os:getenv("LOGS"), Short ++ "." ++ integer_to_list(erlang:unique_integer([positive])) ++ ".log"),
+    Command = [os:find_executable("erl"), "-noinput", "-pa", os:getenv("TESTS"), "-start_epmd", "false",
+               "-kernel", "inet_dist_use_interface", "{127,0,0,1}"] ++ carrier(Kind) ++ ["-name", Name] ++
+        cookie(Arguments) ++ Arguments,
+    Port = open_port({spawn_executable, os:find_executable("sh")},
+                     [{args, ["-c", "exec \"$@\" >" ++ Log ++ " 2>&1", "sh" | Command]}, exit_status]),
+    {os_pid, OsPid} = erlang:port_info(Port, os_pid),
+    #node{name = list_to_atom(Name), port = Port, os_pid = OsPid, log = Log}.
+
+carrier(ours) -> carrier(os:getenv("EBIN"));
+carrier(otp) -> [];
+carrier(release) -> ["-proto_dist", "distnode"];
+carrier(Ebin) -> ["-proto_dist", "distnode", "-pa", Ebin].
+
+
+cookie(Arguments) -> case lists:member("-setcookie", Arguments) of true -> []; false -> ["-setcookie", "test"] end.
+
+name(#node{name = Name}) -> Name.
+
+call(#node{socket = Socket, name = Name}, M, F, A) ->
+    Ref = erlang:unique_integer(),
+    ok = gen_tcp:send(Socket, term_to_binary({Ref, {M, F, A}})),
+    case gen_tcp:recv(Socket, 0, 60000) of
+        {ok, Bin} ->
+            case binary_to_term(Bin) of
+                {Ref, {ok, Value}} -> Value;
+                {Ref, Other} -> error({Name, M, F, A, Other})
+            end;
+        {error, Why} -> error({Name, M, F, A, Why})
+    end.
+
+signal(#node{os_pid = OsPid}, Signal) ->
+    os:cmd("kill -" ++ Signal ++ " " ++ integer_to_list(OsPid)),
+    ok.
+
+kill(Node) ->
+    signal(Node, "KILL"),
+    ended(Node, 20000).
+
+stop(#node{socket = none} = Node) -> kill(Node);
+stop(#node{socket = Socket} = Node) ->
+    gen_tcp:close(Socket),
+    case is_alive(Node) andalso ended(Node, 10000) of
+        timeout -> kill(Node);
+        Status -> Status
+    end.
+
+%% The status with which it ends, or timeout.
+ended(#node{port = Port} = Node, Wait) ->
+    receive {Port, {exit_status, Status}} -> Status
+    after Wait -> case is_alive(Node) of true -> timeout; false -> gone end
+    end.
+
+is_alive(#node{port = Port}) -> erlang:port_info(Port) =/= undefined.
+
+%% Has it logged this, or does it within 5 seconds?
+has_logged(Node, Text) -> wait(fun() -> re:run(log(Node), Text) =/= nomatch end, 5000).
+
+log(#node{log = Log}) ->
+    {ok, Text} = file:read_file(Log),
+    Text.
+
+%% Until a condition holds: true, or {timeout, What} with what it told last.
+wait(Condition, Wait) -> wait_until(Condition, erlang:monotonic_time(millisecond) + Wait).
+
+wait_until(Condition, Deadline) ->
+    case Condition() of
+        true -> true;
+        Other ->
+            case erlang:monotonic_time(millisecond) > Deadline of
+                true -> {timeout, Other};
+                false -> receive after 5 -> wait_until(Condition, Deadline) end
+            end
+    end.
