@@ -92,8 +92,8 @@ start_setup(Peer, W0) ->
     want(Pid, Peer, W#w{rows = (W#w.rows)#{Peer => Pid}}).
 
 start_accept(W0) ->
-    {Id, W1} = fresh(make_room(W0)),
-    {Pid, W} = spawned({accept, Id, shaking}, W1),
+    {Id, Later} = fresh(make_room(W0)),
+    {Pid, W} = spawned({accept, Id, shaking}, Later),
     told_({accepted, Id, Pid}, W#w{node = (W#w.node)#{Id => {unnamed, none}}, socks = (W#w.socks)#{Id => Pid}}).
 
 act(Pid, #w{procs = Procs} = W) when not is_map_key(Pid, Procs) -> W;
@@ -102,8 +102,8 @@ act(Pid, #w{procs = Procs} = W) -> act(maps:get(Pid, Procs), Pid, W).
 act({setup, Peer, {await, Dial}}, Pid, W) -> await(pop(Pid, W), Peer, Dial, Pid);
 act({setup, Peer, {bring, Id}}, Pid, W) ->
     case admit(Id, Pid, W) of
-        {ok, W1} -> put_proc(Pid, {setup, Peer, {admitted, Id}}, W1);
-        {gone, W1} -> want(Pid, Peer, put_proc(Pid, {setup, Peer, {await, none}}, unsocket(Id, W1)))
+        {ok, Later} -> put_proc(Pid, {setup, Peer, {admitted, Id}}, Later);
+        {gone, Later} -> want(Pid, Peer, put_proc(Pid, {setup, Peer, {await, none}}, unsocket(Id, Later)))
     end;
 act({setup, Peer, {admitted, Id}}, Pid, W) -> cast(Pid, {done, Id, Pid}, put_proc(Pid, {setup, Peer, {up, Id}}, W));
 act({dialler, Setup, Id, connecting}, Pid, W) ->
@@ -113,19 +113,19 @@ act({dialler, Setup, Id, connecting}, Pid, W) ->
     end;
 act({dialler, Setup, Id, shaking}, Pid, W) ->
     case pop(Pid, W) of
-        {{closed, Id, Why}, W1} -> over(Setup, Why, Pid, unsocket(Id, W1));
-        {none, W1} -> frame(Id, Pid, W1)
+        {{closed, Id, Why}, Later} -> over(Setup, Why, Pid, unsocket(Id, Later));
+        {none, Later} -> frame(Id, Pid, Later)
     end;
 act({accept, Id, shaking}, Pid, W) ->
     case pop(Pid, W) of
-        {{closed, Id, _}, W1} -> die(Pid, W1);
-        {none, W1} -> frame(Id, Pid, W1)
+        {{closed, Id, _}, Later} -> die(Pid, Later);
+        {none, Later} -> frame(Id, Pid, Later)
     end;
 act({accept, Id, {ready, Peer}}, Pid, W) -> ask_kernel(maps:get(Peer, W#w.rows, none), Peer, Id, Pid, W);
 act({accept, Id, {asked, Peer}}, Pid, W) ->
     case admit(Id, Pid, W) of
-        {ok, W1} -> put_proc(Pid, {accept, Id, {admitted, Peer}}, W1);
-        {gone, W1} -> die(Pid, W1)
+        {ok, Later} -> put_proc(Pid, {accept, Id, {admitted, Peer}}, Later);
+        {gone, Later} -> die(Pid, Later)
     end;
 act({accept, Id, {admitted, Peer}}, Pid, W) -> cast(Pid, {done, Id, Pid}, put_proc(Pid, {accept, Id, {up, Peer}}, W));
 act(_, _, W) -> W.
@@ -234,8 +234,8 @@ give(Id, Pid, Setup, W) ->
     case is_alive(Setup, W) andalso rand:uniform(8) of
         1 -> crash(Pid, W);
         N when is_integer(N) ->
-            W1 = send(Setup, {ready, Id, Pid}, W#w{socks = (W#w.socks)#{Id => Setup}}),
-            die(Pid, cast(Pid, {handed, Id, Pid}, W1));
+            Later = send(Setup, {ready, Id, Pid}, W#w{socks = (W#w.socks)#{Id => Setup}}),
+            die(Pid, cast(Pid, {handed, Id, Pid}, Later));
         false -> crash(Pid, W)
     end.
 
@@ -261,8 +261,8 @@ frame({_, Peer}, Id, Pid, W) ->
         1 -> shaken(closed, Id, Pid, close(Id, Pid, W));
         N when N < 5 -> W;
         _ ->
-            {Answer, W1} = told({ready, Id, Peer}, W),
-            shaken({Answer, Peer}, Id, Pid, W1)
+            {Answer, Later} = told({ready, Id, Peer}, W),
+            shaken({Answer, Peer}, Id, Pid, Later)
     end.
 
 named(Id, Peer, W) -> told_({named, Id, Peer}, set(Id, {in, Peer}, W)).
@@ -284,8 +284,8 @@ admit(Id, Pid, W0) ->
         {ok, #w{node = #{Id := {_, Peer}}, admitted = Admitted} = W} ->
             false = is_map_key(Id, Admitted),
             true = maps:get(Id, W#w.socks) =:= Pid,
-            W1 = lists:foldl(fun(Old, Now) -> close(Old, Pid, Now) end, W, [Old || {Old, {up, P}} <- maps:to_list(W#w.node), P =:= Peer]),
-            {ok, told_({admitted, Id}, set(Id, {up, Peer}, W1#w{admitted = Admitted#{Id => true}}))};
+            Later = lists:foldl(fun(Old, Now) -> close(Old, Pid, Now) end, W, [Old || {Old, {up, P}} <- maps:to_list(W#w.node), P =:= Peer]),
+            {ok, told_({admitted, Id}, set(Id, {up, Peer}, Later#w{admitted = Admitted#{Id => true}}))};
         {gone, W} -> {gone, W}
     end.
 
