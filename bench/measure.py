@@ -13,7 +13,7 @@ def on_one_core():
 def once(program, script):
     """Seconds of processor time of `enact` on a script, and its peak of memory in KiB; None where its status is not 0.
 
-    The peak is told by `time`, which is small: a process started by Python itself has at least the peak of Python."""
+    The peak is reported by `time`, which is small: a process started by Python itself has at least the peak of Python."""
     with tempfile.NamedTemporaryFile() as peak, open(script, "rb") as source:
         words = ["time", "-q", "-f", "%M", "-o", peak.name, program, "enact"]
         process = subprocess.Popen(words, stdin=source, stdout=subprocess.DEVNULL, stderr=subprocess.DEVNULL)

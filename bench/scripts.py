@@ -2,10 +2,13 @@
 
 Each script of a world comes in three sizes, so that the growth of the time shows."""
 
-import hashlib
 import os
 import struct
 import sys
+
+sys.dont_write_bytecode = True
+sys.path.insert(0, os.path.join(os.path.dirname(os.path.abspath(__file__)), "..", "bin"))
+import playing
 
 LIMIT = 1_048_576
 COOKIE = "secret"
@@ -14,7 +17,7 @@ CHALLENGE = 123456789
 
 
 def frame(body: bytes) -> str:
-    return (struct.pack(">H", len(body)) + body).hex()
+    return playing.frame(body).hex()
 
 
 def new_name(name: str, creation: int = 5) -> str:
@@ -23,8 +26,7 @@ def new_name(name: str, creation: int = 5) -> str:
 
 
 def reply(challenge: int) -> str:
-    digest = hashlib.md5(f"{COOKIE}{challenge}".encode()).digest()
-    return frame(b"r" + struct.pack(">I", 7) + digest)
+    return frame(b"r" + struct.pack(">I", 7) + playing.digest(COOKIE.encode(), challenge))
 
 
 def fill(path: str, pieces, head: str = NODE, limit: int = LIMIT) -> None:

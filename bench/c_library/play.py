@@ -1,6 +1,6 @@
 """Plays the scripts of examples/ that are of one node through the library for C, their bytes in pieces of every size from 1 to
 the longest line, and compares what it answers with the outputs beside them: what each end says, which is closed and why, who
-comes up, what is refused, and who is up at the end. `waiting` and `skipped` tell of pieces, and are left out.
+comes up, what is refused, and who is up at the end. `waiting` and `skipped` are about pieces, and are left out.
 
 usage: play.py FOLDER-OF-EXAMPLES
 """

@@ -8,13 +8,17 @@ usage: with_erlang.py SECONDS JOIN-PROGRAM
 """
 
 import os
-import socket
+import signal
 import subprocess
 import sys
 import tempfile
-import time
 
-EXAMPLES = os.path.join(os.path.dirname(os.path.realpath(__file__)), "../../examples/python")
+HERE = os.path.dirname(os.path.realpath(__file__))
+sys.dont_write_bytecode = True
+sys.path.insert(0, os.path.join(HERE, "../../bin"))
+import playing
+
+EXAMPLES = os.path.join(HERE, "../../examples/python")
 PYTHON, MAPPER = (os.path.join(EXAMPLES, it) for it in ("join.py", "mapper.py"))
 COOKIE = "secretCookie"
 ERL = """true = net_kernel:connect_node('c@127.0.0.1'),
@@ -23,56 +27,48 @@ ERL = """true = net_kernel:connect_node('c@127.0.0.1'),
     timer:sleep(SECONDS * 1000), io:format("~p~n", [lists:sort(nodes(hidden))]), halt()."""
 
 
-def free_port():
-    with socket.socket() as it:
-        it.bind(("127.0.0.1", 0))
-        return it.getsockname()[1]
-
-
 class Pair:
     """A port mapper, an Erlang node x, a node c that it dials, and a node d that dials it."""
 
     def __init__(self, home, seconds, mapper, accepting, dialling):
-        self.port, self.running = free_port(), []
+        self.port, self.most, self.running = playing.free_port(), seconds + 60, []
         self.env = dict(os.environ, HOME=home, DISTNODE_COOKIE=COOKIE, ERL_EPMD_PORT=str(self.port), ERL_EPMD_ADDRESS="127.0.0.1")
         self.start(*mapper(str(self.port)))
-        for _ in range(100):
-            with socket.socket() as it:
-                if it.connect_ex(("127.0.0.1", self.port)) == 0:
-                    break
-            time.sleep(0.05)
-        self.c = self.start(*accepting("c@127.0.0.1", seconds + 60, None))
-        assert self.c.stdout.readline() == "ready\n"
+        playing.wait_until(lambda: playing.is_open(self.port), 5, 0.05)
+        self.c = self.start(*accepting("c@127.0.0.1", self.most, None))
+        assert self.line(self.c) == "ready"
         text = ERL.replace("SECONDS", str(seconds))
         self.x = self.start("erl", "-noinput", "-name", "x@127.0.0.1", "-kernel", "net_ticktime", "4",
                             "inet_dist_use_interface", "{127,0,0,1}", "-eval", text)
-        assert self.c.stdout.readline().startswith("up x@127.0.0.1 ")
-        self.d = self.start(*dialling("d@127.0.0.1", seconds + 60, "x@127.0.0.1"))
-        assert self.d.stdout.readline() == "ready\n"
-        assert self.d.stdout.readline().startswith("up x@127.0.0.1 ")
+        assert self.line(self.c).startswith("up x@127.0.0.1 ")
+        self.d = self.start(*dialling("d@127.0.0.1", self.most, "x@127.0.0.1"))
+        assert self.line(self.d) == "ready"
+        assert self.line(self.d).startswith("up x@127.0.0.1 ")
         listed = subprocess.run(["epmd", "-names"], env=self.env, capture_output=True, text=True, check=True).stdout.splitlines()
         assert sorted(it.split()[1] for it in listed if it.startswith("name ")) == ["c", "d", "x"], listed
 
     def start(self, *words):
-        # (the port mapper tells of the connection that looks whether it is there)
+        # (the port mapper reports the connection that looks whether it is there)
         said = subprocess.DEVNULL if words[0] == "epmd" else None
         it = subprocess.Popen(words, env=self.env, stdout=subprocess.PIPE, stderr=said, text=True)
         self.running.append(it)
         return it
 
+    def line(self, it):
+        return playing.line_of(it, self.most)
+
     def end(self):
         both = "['c@127.0.0.1','d@127.0.0.1']"
-        said = [self.x.stdout.readline().strip(), self.x.stdout.readline().strip()]
+        said = [self.line(self.x).strip(), self.line(self.x).strip()]
         assert said == [both + " []", both], said
         self.x.wait(30)
         for it in (self.c, self.d):
-            line = it.stdout.readline()
+            line = self.line(it)
             assert line.lower().startswith("down x@127.0.0.1 ended"), line
 
     def stop(self):
         for it in self.running:
-            it.terminate()
-            it.wait()
+            playing.end(it, signal.SIGTERM)
 
 
 def join(home, seconds, program):

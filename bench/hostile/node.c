@@ -134,7 +134,7 @@ static int take(struct link *it) {
         }
         if (failed) { lose(it, DN_WHY_WRITE_FAILED); return 0; }
     }
-    it->held = 0; /* what the node's processes would be told */
+    it->held = 0; /* what the node's processes would receive */
     return 1;
 }
 

@@ -1,5 +1,6 @@
 complete -c distmapd -f
 complete -c distmapd -o port -x -d 'the port of the port mapper'
+complete -c distmapd -l epmd-port -x -d 'the same'
 complete -c distmapd -o address -x -d 'the addresses at which it listens'
 complete -c distmapd -o packet_timeout -x -d 'after how many seconds a client is closed that has not asked'
 complete -c distmapd -o max_clients -x -d 'the most clients at once'

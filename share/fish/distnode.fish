@@ -6,3 +6,4 @@ complete -c distnode -n __fish_use_subcommand -a run -d 'run the nodes of a node
 complete -c distnode -n '__fish_seen_subcommand_from cookie run' -F
 complete -c distnode -n '__fish_seen_subcommand_from cookie' -l challenge -x -d 'digest of the cookie and this number'
 complete -c distnode -n '__fish_seen_subcommand_from names' -l port -x -d 'the port of the port mapper'
+complete -c distnode -n '__fish_seen_subcommand_from names' -l epmd-port -x -d 'the same'

@@ -1,14 +1,15 @@
 -- All nodes begin.
-use Rattle.std.proofs.Common.{◌≡◌, ℕ, suc, ◌+◌, ◌<◌, ◌≤◌, cond, ◌&&◌, List, [], ◌∷◌, ◌++◌, length, Option, Some, None, slice_get, refl, sym, ap, subst, ◌∙◌, arith, append_assoc, length-append}
+use Rattle.std.proofs.Common.{◌≡◌, ℕ, suc, ◌+◌, ◌<◌, ◌≤◌, cond, ltb, is_none, ◌&&◌, List, [], ◌∷◌, ◌++◌, length, Option, Some, None, slice_get, refl, sym, ap, subst, ◌∙◌, arith, append_assoc, length-append}
 use Rattle.std.specs.Option.{option_map}
 use Rattle.std.proofs.lemmas.Bool.{lt-ltb}
-use Rattle.dist_setup.specs.declared.setup.Setup.{Setup}
-use Rattle.dist_agreement.specs.declared.happening.Happening.{Happening}
-use Rattle.dist_agreement.specs.declared.happening.Happening.TheVariants as happening
-use Rattle.dist_agreement.specs.Lists.{first_where}
-use Rattle.dist_agreement.specs.World.{World, Life, empty, runs, runs_for, running}
-use Rattle.dist_agreement.specs.Happenings.{begun, new_life, unclosed, applied_at, happens, ticked_on}
-use Rattle.dist_agreement.specs.Run.{one_where}
+use Rattle.dist_core_setup.specs.declared.setup.Setup.{Setup}
+use Rattle.dist_world_model.specs.declared.happening.Happening.{Happening}
+use Rattle.dist_world_model.specs.declared.happening.Happening.TheVariants as happening
+use Rattle.dist_world_model.specs.Lists.{first_where}
+use Rattle.dist_world_model.specs.World.{World, Life, empty, runs, runs_for, running}
+use Rattle.dist_world_model.specs.Happenings.{begin, new_life, unclosed, applied_at, happens, ticked_on}
+use Rattle.dist_world_model.proofs.Conditions.{there, holds}
+use Rattle.dist_world_model.specs.Run.{one_where}
 use Rattle.dist_audit.proofs.Numbers.{eqb-not}
 use Rattle.dist_audit.specs.Happenings.{begins}
 use Rattle.dist_audit.specs.Audit.{AllApply}
@@ -32,7 +33,7 @@ at-end : (pre ss : List Setup) (s : Setup) → slice_get (pre ++ s ∷ ss) (leng
 at-end [] ss s = refl
 at-end (x ∷ pre) ss s = at-end pre ss s
 
--- so many nodes began
+-- this many nodes began
 record HaveBegun (w : World) (pre ss : List Setup) : Type 0 where
   setups : w.setups ≡ pre ++ ss
   count : length w.lives ≡ length pre
@@ -48,10 +49,10 @@ module _ (w : World) (pre ss : List Setup) (s : Setup) (h : HaveBegun w pre (s �
 
   begin-applies : applied_at w (happening.Begin (length pre) s.creation) ≡ Some next
   begin-applies =
-      ap (λ b. cond b (begun (unclosed w) (length pre) s.creation (slice_get w.setups (length pre)) (running w (length pre))) None) (lt-ltb w.clock 4611686018427387904 (omega (arith, few, h.clock)))
-      ∙ (ap (λ o. begun (unclosed w) (length pre) s.creation o (running w (length pre))) (ap (λ (xs : List Setup). slice_get xs (length pre)) h.setups ∙ at-end pre ss s)
-      ∙ (ap (λ o. begun (unclosed w) (length pre) s.creation (Some s) o) (none-runs (length pre) w.lives h.below)
-      ∙ ap (λ b. cond b (Some next) None) (lt-ltb (length w.lives) 1048576 (omega (arith, few, h.count)))))
+      ap (λ b. cond b (begin (unclosed w) (length pre) s.creation) None) (lt-ltb w.clock 4611686018427387904 (omega (arith, few, h.clock)))
+      ∙ (there (slice_get w.setups (length pre)) s _ (ap (λ (xs : List Setup). slice_get xs (length pre)) h.setups ∙ at-end pre ss s)
+      ∙ (holds (is_none (running w (length pre))) _ (ap (λ (o : Option ℕ). is_none o) (none-runs (length pre) w.lives h.below))
+      ∙ holds (ltb (length w.lives) 1048576) _ (lt-ltb (length w.lives) 1048576 (omega (arith, few, h.count)))))
 
   more : length (pre ++ s ∷ []) ≡ suc (length pre)
   more = length-append pre (s ∷ []) ∙ omega arith

@@ -1,5 +1,5 @@
 -- A link comes to the node of its line: the connection of its number leads to the incarnation of that node.
-use Rattle.std.proofs.Common.{◌≡◌, ℕ, zero, suc, ◌+◌, Bool, true, false, cond, ltb, eqb, not, ◌&&◌, ◌||◌, List, [], ◌∷◌, ◌++◌, length, Option, Some, None, IfSome, Result, Ok, Err, slice_get, is_some, option_to_list, refl, sym, ap, subst, ◌∙◌, arith, append_assoc}
+use Rattle.std.proofs.Common.{◌≡◌, ℕ, zero, suc, ◌+◌, Bool, true, false, cond, ltb, eqb, not, ◌&&◌, ◌||◌, List, [], ◌∷◌, ◌++◌, length, Option, Some, None, IfSome, slice_get, is_none, option_to_list, refl, sym, ap, subst, ◌∙◌, arith, append_assoc}
 use Rattle.std.specs.Option.{option_map}
 use Rattle.std.specs.Int.{w16}
 use Rattle.std.specs.List.{list_any}
@@ -8,28 +8,26 @@ use Rattle.dist_frames.specs.Stream.{first_body}
 use Rattle.dist_messages.specs.declared.message.Side.{Side}
 use Rattle.dist_messages.specs.declared.message.Side.TheVariants.{Dialler, Acceptor}
 use Rattle.dist_peers.specs.declared.entry.EndId.{EndId}
-use Rattle.dist_ends.specs.Ends.{is_dialing}
-use Rattle.dist_setup.specs.declared.setup.Setup.{Setup}
+use Rattle.dist_core_ends.specs.Ends.{is_dialing}
+use Rattle.dist_core_setup.specs.declared.setup.Setup.{Setup}
 use Rattle.dist_names.specs.declared.creation.Creation.{Creation}
-use Rattle.dist_books.specs.declared.closing.Closed.{Closed}
+use Rattle.dist_locked_book.specs.declared.closing.Closed.{Closed}
 use Rattle.dist_core.specs.declared.event.Event.{Event}
 use Rattle.dist_core.specs.declared.event.Event.TheVariants as event
-use Rattle.dist_core.specs.declared.reply.Reply.{Reply}
-use Rattle.dist_core.specs.declared.step_error.StepError.{StepError}
-use Rattle.dist_core.specs.Node.{NodeState}
 use Rattle.dist_core.specs.Step.{step}
-use Rattle.dist_agreement.specs.declared.happening.Happening.{Happening}
-use Rattle.dist_agreement.specs.declared.happening.Happening.TheVariants as happening
-use Rattle.dist_agreement.specs.Lists.{at_place, first_where}
-use Rattle.dist_agreement.specs.Rows.{EndRow}
-use Rattle.dist_agreement.specs.World.{World, Life, Conn, Text, empty, runs, runs_for, running, row_at, end_at}
-use Rattle.dist_agreement.specs.Delivery.{says, spoken, spoken_on, text_to, change_to, delivered, body_taken}
-use Rattle.dist_agreement.specs.Happenings.{answered, lived, begun, new_life, told_in, told, told_of, new_conn, reached, reached_life, conn_of as wire_number, opened, opened_on, accepted, accepted_by, next_end, is_open_end, is_nonempty, came, came_on, came_to, deliver, taken_body, taken_from, taken_on, taken_by, take_next, applied, unclosed, ticked_on, applied_at, happens}
-use Rattle.dist_agreement.specs.Run.{run, one_where}
+use Rattle.dist_world_model.specs.declared.happening.Happening.{Happening}
+use Rattle.dist_world_model.specs.declared.happening.Happening.TheVariants as happening
+use Rattle.dist_world_model.specs.Lists.{at_place, first_where}
+use Rattle.dist_world_model.specs.Rows.{EndRow}
+use Rattle.dist_world_model.specs.World.{World, Life, Conn, Text, empty, runs, runs_for, running, row_at, end_at}
+use Rattle.dist_world_model.specs.Delivery.{says, spoken, spoken_on, text_to, change_to, delivered, body_taken}
+use Rattle.dist_world_model.specs.Happenings.{lived, begin, tell, tell_node, new_conn, reach as happening_reach, reached_life, conn_of as wire_number, tell_opened, accept, accepted_by, next_end, is_open_end, is_nonempty, deliver, take_frame, applied, unclosed, ticked_on, applied_at, happens}
+use Rattle.dist_world_model.proofs.Conditions.{if_there, if_ok, if_holds}
+use Rattle.dist_world_model.specs.Run.{run, one_where}
 use Rattle.dist_audit.proofs.Numbers.{eqb-self}
 use Rattle.dist_audit.specs.Audit as audit
 use Rattle.dist_audit.specs.Audit.{AllApply, AreFollowed, AreOfOneWorld, after, ComesHere, ComeHome, EachLinkComesHome}
-use Rattle.dist_audit.specs.Lines.{Told, lines_of}
+use Rattle.dist_audit.specs.Lines.{Told}
 use Rattle.dist_audit.specs.Links.{link_in, opens, opens_in, comes, comes_in, dialled, dialled_in, or_else, is_among, dialler_of, acceptor_of, target_of, conn_of, mention}
 use Rattle.dist_audit.specs.Happenings.{setups_of, begins, mentioned, reach, reach_first, before, own}
 use Rattle.dist_audit.specs.Faults.{repeats, links_repeat, unopened, comes_unopened, links_unpaired}
@@ -91,99 +89,58 @@ same-refl : (w : World) → SameFrame w w
 same-refl w = record { run_same = λ j. refl; lead_same = refl }
 
 module _ (w : World) where
-  frame-answered : (i : ℕ) (l : Life) (v : Event) → slice_get w.lives i ≡ Some l → (s : Result (Reply × NodeState) StepError) → IfSome (answered w i l v s) (SameFrame w)
-  frame-answered i l v at (Err e) = tt
-  frame-answered i l v at (Ok x) = record {
-    run_same = λ j. first-at (runs_for j) i (λ old. lived w.clock v x.0 x.1 l) w.lives l at refl;
-    lead_same = targets-spoken w.conns _ (let r = x.0 in r.say);
-  }
+  frame-told : (i : ℕ) (v : Event) (fresh : ℕ) → IfSome (tell w i v fresh) (SameFrame w)
+  frame-told i v fresh =
+      if_there (SameFrame w) (slice_get w.lives i) _ (λ l at.
+      if_holds (SameFrame w) (runs l) _ (λ live.
+      if_ok (SameFrame w) (step l.node v fresh) _ (λ x is.
+      record {
+        run_same = λ j. first-at (runs_for j) i (λ old. lived w.clock v x.0 x.1 l) w.lives l at refl;
+        lead_same = targets-spoken w.conns _ (let r = x.0 in r.say);
+      })))
 
-  frame-told : (i : ℕ) (v : Event) (fresh : ℕ) → IfSome (told w i v fresh) (SameFrame w)
-  frame-told i v fresh = by (slice_get w.lives i) refl
-    where
-      by : (o : Option Life) → slice_get w.lives i ≡ o → IfSome (told_in w i o v fresh) (SameFrame w)
-      by None e = tt
-      by (Some l) e = if-runs (runs l)
-        where
-          if-runs : (b : Bool) → IfSome (cond b (answered w i l v (step l.node v fresh)) None) (SameFrame w)
-          if-runs true = frame-answered i l v e (step l.node v fresh)
-          if-runs false = tt
+  frame-node : (node : ℕ) (v : Event) → IfSome (tell_node w node v) (SameFrame w)
+  frame-node node v = if_there (SameFrame w) (running w node) _ (λ i at. frame-told i v 0)
 
-  frame-told-of : (o : Option ℕ) (v : Event) (fresh : ℕ) → IfSome (told_of w o v fresh) (SameFrame w)
-  frame-told-of None v fresh = tt
-  frame-told-of (Some i) v fresh = frame-told i v fresh
+  frame-opened : (node : ℕ) (id : EndId) → IfSome (tell_opened w node id) (SameFrame w)
+  frame-opened node id =
+      if_there (SameFrame w) (running w node) _ (λ i at.
+      if_there (SameFrame w) (wire_number (row_at w i id.0)) _ (λ c on.
+      frame-told i (event.Opened id c) 0))
 
-  frame-opened : (id : EndId) (o : Option ℕ) → IfSome (opened w id o) (SameFrame w)
-  frame-opened id None = tt
-  frame-opened id (Some i) = by (wire_number (row_at w i id.0))
-    where
-      by : (o : Option ℕ) → IfSome (opened_on w i id o) (SameFrame w)
-      by None = tt
-      by (Some c) = frame-told i (event.Opened id c) 0
-
--- told in a world whose connections lead to the same
+-- an event given in a world whose connections lead to the same
 frame-by : (w v : World) → ((j : ℕ) → running v j ≡ running w j) → targets v.conns ≡ targets w.conns → (o : Option World) → IfSome o (SameFrame v) → IfSome o (SameFrame w)
 frame-by w v r t None q = tt
 frame-by w v r t (Some x) q = record { run_same = λ j. q.run_same j ∙ r j; lead_same = q.lead_same ∙ t }
 
 module _ (w : World) where
-  frame-accepted : (c : ℕ) (o : Option Conn) → IfSome (accepted w c o) (SameFrame w)
-  frame-accepted c None = tt
-  frame-accepted c (Some x) = by (is_some x.accepted)
-    where
-      v : World
-      v = record w { conns = at_place c (accepted_by (next_end (slice_get w.lives x.target))) w.conns }
+  frame-accepted : (c : ℕ) → IfSome (accept w c) (SameFrame w)
+  frame-accepted c =
+      if_there (SameFrame w) (slice_get w.conns c) _ (λ x at.
+      if_holds (SameFrame w) (is_none x.accepted) _ (λ free.
+      let first = next_end (slice_get w.lives x.target) in
+      let v : World = record w { conns = at_place c (accepted_by first) w.conns } in
+      frame-by w v (λ j. refl) (targets-at c (accepted_by first) (λ k. refl) w.conns) (tell v x.target (event.Incoming c) 0) (frame-told v x.target (event.Incoming c) 0)))
 
-      by : (b : Bool) → IfSome (cond b None (told v x.target (event.Incoming c) 0)) (SameFrame w)
-      by true = tt
-      by false = frame-by w v (λ j. refl) (targets-at c (accepted_by (next_end (slice_get w.lives x.target))) (λ k. refl) w.conns) (told v x.target (event.Incoming c) 0) (frame-told v x.target (event.Incoming c) 0)
+  frame-deliver : (node : ℕ) (id : EndId) (n : ℕ) → IfSome (deliver w node id n) (SameFrame w)
+  frame-deliver node id n =
+      if_there (SameFrame w) (running w node) _ (λ i at.
+      if_holds (SameFrame w) (is_open_end (end_at w i id.0)) _ (λ open_.
+      if_there (SameFrame w) (row_at w i id.0) _ (λ row beside.
+      if_there (SameFrame w) row.conn _ (λ c on.
+      if_there (SameFrame w) (slice_get w.conns c) _ (λ x there.
+      if_holds (SameFrame w) (ltb 0 n && is_nonempty (let t = text_to row.side x in t.said)) _ (λ some.
+      record { run_same = λ j. refl; lead_same = targets-at c (change_to row.side (delivered n)) (change-target row.side (delivered n)) w.conns }))))))
 
-  frame-came : (c : ℕ) (side : Side) (n : ℕ) (o : Option Conn) → IfSome (came w c side n o) (SameFrame w)
-  frame-came c side n None = tt
-  frame-came c side n (Some x) = by (ltb 0 n && is_nonempty (let t = text_to side x in t.said))
-    where
-      by : (b : Bool) → IfSome (cond b (Some (record w { conns = at_place c (change_to side (delivered n)) w.conns })) None) (SameFrame w)
-      by true = record { run_same = λ j. refl; lead_same = targets-at c (change_to side (delivered n)) (change-target side (delivered n)) w.conns }
-      by false = tt
-
-  frame-came-on : (side : Side) (n : ℕ) (o : Option ℕ) → IfSome (came_on w side n o) (SameFrame w)
-  frame-came-on side n None = tt
-  frame-came-on side n (Some c) = frame-came c side n (slice_get w.conns c)
-
-  frame-came-to : (o : Option EndRow) (n : ℕ) → IfSome (came_to w o n) (SameFrame w)
-  frame-came-to None n = tt
-  frame-came-to (Some row) n = frame-came-on row.side n row.conn
-
-  frame-deliver : (id n : ℕ) (o : Option ℕ) → IfSome (deliver w id n o) (SameFrame w)
-  frame-deliver id n None = tt
-  frame-deliver id n (Some i) = by (is_open_end (end_at w i id))
-    where
-      by : (b : Bool) → IfSome (cond b (came_to w (row_at w i id) n) None) (SameFrame w)
-      by true = frame-came-to (row_at w i id) n
-      by false = tt
-
-  frame-body : (i : ℕ) (id : EndId) (fresh : ℕ) (side : Side) (c : ℕ) (o : Option (List ℕ)) → IfSome (taken_body w i id fresh side c o) (SameFrame w)
-  frame-body i id fresh side c None = tt
-  frame-body i id fresh side c (Some body) = frame-by w v (λ j. refl) (targets-at c (change_to side body_taken) (change-target side body_taken) w.conns) (told v i (event.Frame id body) fresh) (frame-told v i (event.Frame id body) fresh)
-    where
-      v : World
-      v = record w { conns = at_place c (change_to side body_taken) w.conns }
-
-  frame-from : (i : ℕ) (id : EndId) (fresh : ℕ) (side : Side) (c : ℕ) (o : Option Conn) → IfSome (taken_from w i id fresh side c o) (SameFrame w)
-  frame-from i id fresh side c None = tt
-  frame-from i id fresh side c (Some x) = frame-body i id fresh side c (let t = text_to side x in first_body w16 t.come)
-
-  frame-on : (i : ℕ) (id : EndId) (fresh : ℕ) (side : Side) (o : Option ℕ) → IfSome (taken_on w i id fresh side o) (SameFrame w)
-  frame-on i id fresh side None = tt
-  frame-on i id fresh side (Some c) = frame-from i id fresh side c (slice_get w.conns c)
-
-  frame-taken-by : (i : ℕ) (id : EndId) (fresh : ℕ) (o : Option EndRow) → IfSome (taken_by w i id fresh o) (SameFrame w)
-  frame-taken-by i id fresh None = tt
-  frame-taken-by i id fresh (Some row) = frame-on i id fresh row.side row.conn
-
-  frame-take : (id : EndId) (fresh : ℕ) (o : Option ℕ) → IfSome (take_next w id fresh o) (SameFrame w)
-  frame-take id fresh None = tt
-  frame-take id fresh (Some i) = frame-taken-by i id fresh (row_at w i id.0)
+  frame-take : (node : ℕ) (id : EndId) (fresh : ℕ) → IfSome (take_frame w node id fresh) (SameFrame w)
+  frame-take node id fresh =
+      if_there (SameFrame w) (running w node) _ (λ i at.
+      if_there (SameFrame w) (row_at w i id.0) _ (λ row beside.
+      if_there (SameFrame w) row.conn _ (λ c on.
+      if_there (SameFrame w) (slice_get w.conns c) _ (λ x there.
+      if_there (SameFrame w) (let t = text_to row.side x in first_body w16 t.come) _ (λ body first.
+      let v : World = record w { conns = at_place c (change_to row.side body_taken) w.conns } in
+      frame-by w v (λ j. refl) (targets-at c (change_to row.side body_taken) (change-target row.side body_taken) w.conns) (tell v i (event.Frame id body) fresh) (frame-told v i (event.Frame id body) fresh))))))
 
 -- ---- happenings
 
@@ -209,20 +166,17 @@ record Leads (w x : World) (j : ℕ) : Type 0 where
   run_same : (k : ℕ) → running x k ≡ running w k
   lead_more : targets x.conns ≡ targets w.conns ++ place ∷ []
 
-leads-reached : (w : World) (id j : ℕ) (a b : Option ℕ) → running w j ≡ b → IfSome (reached w id a b) (λ x. Leads w x j)
-leads-reached w id j None None e = tt
-leads-reached w id j None (Some q) e = tt
-leads-reached w id j (Some p) None e = tt
-leads-reached w id j (Some p) (Some q) e = by (is_dialing (end_at w p id) && not (is_some (wire_number (row_at w p id))) && ltb (length w.conns) 1048576)
-  where
-    by : (b : Bool) → IfSome (cond b (Some (record w { lives = at_place p (reached_life id (length w.conns)) w.lives; conns = w.conns ++ new_conn p id q ∷ [] })) None) (λ x. Leads w x j)
-    by true = record {
+leads-reached : (w : World) (node : ℕ) (id : EndId) (j : ℕ) → IfSome (happening_reach w node id j) (λ x. Leads w x j)
+leads-reached w node id j = let P : World → Type 0 = λ x. Leads w x j in
+    if_there P (running w node) _ (λ p at.
+    if_there P (running w j) _ (λ q far.
+    if_holds P (is_dialing (end_at w p id.0) && is_none (wire_number (row_at w p id.0)) && ltb (length w.conns) 1048576) _ (λ free.
+    record {
       place = q;
-      runs_there = e;
-      run_same = λ k. first-all (runs_for k) p (reached_life id (length w.conns)) (λ l. refl) w.lives;
-      lead_more = targets-more w.conns (new_conn p id q);
-    }
-    by false = tt
+      runs_there = far;
+      run_same = λ k. first-all (runs_for k) p (reached_life id.0 (length w.conns)) (λ l. refl) w.lives;
+      lead_more = targets-more w.conns (new_conn p id.0 q);
+    })))
 
 leads-settled : (w : World) (j : ℕ) (o : Option World) → IfSome o (λ x. Leads w x j) → one_where o + 0 ≡ 1 → Leads w (ticked_on w o) j
 leads-settled w j None q e = absurd (omega (arith, e))
@@ -236,7 +190,7 @@ leads-happens w i id j a = leads-settled w j (applied_at w (happening.Reach i id
     off (Some x) k = record { place = k.place; runs_there = k.runs_there; run_same = k.run_same; lead_more = k.lead_more }
 
     by : (b : Bool) → IfSome (cond b (applied (unclosed w) (happening.Reach i id j)) None) (λ x. Leads w x j)
-    by true = off (applied (unclosed w) (happening.Reach i id j)) (leads-reached (unclosed w) id.0 j (running w i) (running w j) refl)
+    by true = off (applied (unclosed w) (happening.Reach i id j)) (leads-reached (unclosed w) i id j)
     by false = tt
 
 -- ---- links and connections
@@ -400,11 +354,11 @@ goes-first all count w ks k d g = subst (λ o. AllApply (option_to_list (cond (i
 
 line-goes : (all : List Told) (count : ℕ) (w : World) (ks : List ℕ) (i : ℕ) (e : Event) (fresh : ℕ) → Fine all i e → Goes all count w ks → AllApply (option_to_list (before all count ks i e)) w
     → ComesHere (run (option_to_list (before all count ks i e)) w) (mention ks (link_in e)) i e × Goes all count (run (own (mention ks (link_in e)) i e fresh ∷ []) (run (option_to_list (before all count ks i e)) w)) (mention ks (link_in e))
-line-goes all count w ks i (event.Dial p o) fresh f g a = (tt, goes-frame all count w _ ks (frame-happens w (happening.Dial i p o) (frame-told-of (unclosed w) (running w i) (event.Dial p o) 0)) g)
+line-goes all count w ks i (event.Dial p o) fresh f g a = (tt, goes-frame all count w _ ks (frame-happens w (happening.Dial i p o) (frame-node (unclosed w) i (event.Dial p o))) g)
 line-goes all count w ks i (event.Opened id k) fresh f g a =
     let x = run (option_to_list (reach_first all count ks k)) w in
     let q : Goes all count x (mention ks (Some k)) = goes-first all count w ks k f g a in
-    (tt, goes-frame all count x _ (mention ks (Some k)) (frame-happens x (happening.Opened i id) (frame-opened (unclosed x) id (running x i))) q)
+    (tt, goes-frame all count x _ (mention ks (Some k)) (frame-happens x (happening.Opened i id) (frame-opened (unclosed x) i id)) q)
 line-goes all count w ks i (event.Incoming k) fresh f g a =
     let x = run (option_to_list (reach_first all count ks k)) w in
     let js = mention ks (Some k) in
@@ -412,14 +366,14 @@ line-goes all count w ks i (event.Incoming k) fresh f g a =
     let d = f.0 in
     let mine : home all count k ≡ i = ap (home_of all count k) d.1 ∙ ap (target_of count (let y = d.0 in y.0)) f.1 in (
       targets-get x.conns (conn_of k js) ∙ (matches-at (running x) (home all count) k js (targets x.conns) (among-mention k ks) q ∙ ap (running x) mine),
-      goes-frame all count x _ js (frame-happens x (happening.Accept (conn_of k js)) (frame-accepted (unclosed x) (conn_of k js) (slice_get x.conns (conn_of k js)))) q,
+      goes-frame all count x _ js (frame-happens x (happening.Accept (conn_of k js)) (frame-accepted (unclosed x) (conn_of k js))) q,
     )
 line-goes all count w ks i (event.Frame id body) fresh f g a =
     let x = happens w (happening.Deliver i id (2 + length body)) in
-    let s : SameFrame w x = frame-happens w (happening.Deliver i id (2 + length body)) (frame-deliver (unclosed w) id.0 (2 + length body) (running w i)) in
-    (tt, goes-frame all count x _ ks (frame-happens x (happening.Take i id fresh) (frame-take (unclosed x) id fresh (running x i))) (goes-frame all count w x ks s g))
-line-goes all count w ks i (event.Lost id y) fresh f g a = (tt, goes-frame all count w _ ks (frame-happens w (happening.Lose i id y) (frame-told-of (unclosed w) (running w i) (event.Lost id y) 0)) g)
-line-goes all count w ks i (event.Tick id) fresh f g a = (tt, goes-frame all count w _ ks (frame-happens w (happening.Tick i id) (frame-told-of (unclosed w) (running w i) (event.Tick id) 0)) g)
+    let s : SameFrame w x = frame-happens w (happening.Deliver i id (2 + length body)) (frame-deliver (unclosed w) i id (2 + length body)) in
+    (tt, goes-frame all count x _ ks (frame-happens x (happening.Take i id fresh) (frame-take (unclosed x) i id fresh)) (goes-frame all count w x ks s g))
+line-goes all count w ks i (event.Lost id y) fresh f g a = (tt, goes-frame all count w _ ks (frame-happens w (happening.Lose i id y) (frame-node (unclosed w) i (event.Lost id y))) g)
+line-goes all count w ks i (event.Tick id) fresh f g a = (tt, goes-frame all count w _ ks (frame-happens w (happening.Tick i id) (frame-node (unclosed w) i (event.Tick id))) g)
 
 -- ---- ALL LINES
 
@@ -431,15 +385,12 @@ come-home all count ks w pre (t ∷ ts) is paired g f =
     let x = line-goes all count w ks t.node l.event l.fresh (fine all pre ts t is paired l.event refl) g h.before in
     (x.0, come-home all count (mentioned ks t) (after all count ks w t) (pre ++ t ∷ []) ts (is ∙ sym (append_assoc pre (t ∷ []) ts)) paired x.1 f.1)
 
-same-conns : (w : World) (i : ℕ) (c : Creation) (a : Option Setup) (b : Option ℕ) → IfSome (begun w i c a b) (λ x. x.conns ≡ w.conns)
-same-conns w i c None None = tt
-same-conns w i c None (Some j) = tt
-same-conns w i c (Some s) (Some j) = tt
-same-conns w i c (Some s) None = by (ltb (length w.lives) 1048576)
-  where
-    by : (b : Bool) → IfSome (cond b (Some (record w { lives = w.lives ++ new_life i w.clock s c ∷ [] })) None) (λ x. x.conns ≡ w.conns)
-    by true = refl
-    by false = tt
+same-conns : (w : World) (i : ℕ) (c : Creation) → IfSome (begin w i c) (λ x. x.conns ≡ w.conns)
+same-conns w i c = let P : World → Type 0 = λ x. x.conns ≡ w.conns in
+    if_there P (slice_get w.setups i) _ (λ s at.
+    if_holds P (is_none (running w i)) _ (λ free.
+    if_holds P (ltb (length w.lives) 1048576) _ (λ few.
+    refl)))
 
 conns-settled : (w : World) (o : Option World) → IfSome o (λ x. x.conns ≡ w.conns) → (let y = ticked_on w o in y.conns) ≡ w.conns
 conns-settled w None q = refl
@@ -453,12 +404,11 @@ conns-begins w i (s ∷ ss) =
     conns-begins (happens w (happening.Begin i s.creation)) (suc i) ss ∙ one
   where
     by : (b : Bool) → IfSome (cond b (applied (unclosed w) (happening.Begin i s.creation)) None) (λ x. x.conns ≡ w.conns)
-    by true = same-conns (unclosed w) i s.creation (slice_get w.setups i) (running w i)
+    by true = same-conns (unclosed w) i s.creation
     by false = tt
 
 -- in histories of one world each link comes to the node of its line
-pub all-come-home : (cs : List Closed) → links_unpaired (lines_of cs) ≡ false → AreOfOneWorld cs → EachLinkComesHome cs
-all-come-home cs paired f =
-    let all = lines_of cs in
+pub all-come-home : (cs : List Closed) (all : List Told) → links_unpaired all ≡ false → AreOfOneWorld cs all → EachLinkComesHome cs all
+all-come-home cs all paired f =
     let none : targets (let x = audit.begun cs in x.conns) ≡ [] = ap targets (conns-begins (empty (setups_of cs)) 0 (setups_of cs)) in
     come-home all (length cs) [] (audit.begun cs) [] all refl paired (subst (λ ps. Matches (running (audit.begun cs)) (home all (length cs)) [] ps) (sym none) tt) f.followed

@@ -1,6 +1,7 @@
 pub mod Numbers
 pub mod Either
-pub mod Putting
+pub mod Sorting
+pub mod Pairs
 pub mod Tickets
 pub mod Linking
 pub mod Mentioning

@@ -1,4 +1,4 @@
--- What lines tell of links.
+-- What lines say of links.
 use Rattle.std.proofs.Common.{◌≡◌, ℕ, zero, suc, ◌-◌, ◌<◌, ◌≤◌, Bool, true, false, cond, not, ◌||◌, eqb, List, [], ◌∷◌, Option, Some, None, is_some, refl, ap, sym, subst, ◌∙◌, length, get_or, drop, drop-cons, arith}
 use Rattle.std.specs.Ordering.{nat_cmp}
 use Rattle.std.specs.List.{list_any}
@@ -12,7 +12,7 @@ use Rattle.dist_audit.specs.Faults.{repeats, links_repeat, unopened, comes_unope
 use Rattle.dist_audit.specs.Kept.{Knows, is_again, is_unknown}
 use Rattle.dist_audit.proofs.Either.{or-true, or-false, any-same}
 
--- a dialler is told of by a line that opens
+-- a line that opens names a dialler
 opened-is : (k : ℕ) (e : Event) → is_some (dialled k e) ≡ opens k e
 opened-is k (event.Dial p o) = refl
 opened-is k (event.Opened id j) = elim (eqb j k) as (λ b. is_some (cond b (Some id) None) ≡ b) [ true ↦ refl | false ↦ refl ]
@@ -64,7 +64,7 @@ repeat-drop zero ts e = e
 repeat-drop (suc i) [] e = e
 repeat-drop (suc i) (t ∷ ts) e = ap (λ b. repeats (let l = t.line in l.event) ts || b) (repeat-drop i ts e) ∙ or-true (repeats (let l = t.line in l.event) ts)
 
--- what the lines from number j on tell is known, and no link of them stands twice
+-- what the lines from number j on say is known, and no link of them stands twice
 module _ (all : List Told) (j : ℕ) (t : Told) (d : BTreeMap ℕ (ℕ × EndId)) (a : BTreeMap ℕ ℕ) (pos : 0 < j) (few : j ≤ length all) (is : t ≡ get_or all (j - 1) t) (h : Knows d a (drop j all)) where
   split : drop (j - 1) all ≡ t ∷ drop j all
   split =

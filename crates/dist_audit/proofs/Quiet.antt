@@ -1,5 +1,5 @@
 -- Of what came to an end nothing is left once a line has happened, so that each line takes its very body.
-use Rattle.std.proofs.Common.{◌≡◌, ℕ, zero, suc, ◌+◌, ◌^◌, ◌<◌, Bool, true, false, cond, ltb, not, ◌&&◌, List, [], ◌∷◌, ◌++◌, length, take, Option, Some, None, IfSome, Result, Ok, Err, slice_get, is_some, option_to_list, refl, sym, ap, subst, ◌∙◌, arith, length-append}
+use Rattle.std.proofs.Common.{◌≡◌, ℕ, zero, suc, ◌+◌, ◌^◌, ◌<◌, Bool, true, false, cond, ltb, ◌&&◌, List, [], ◌∷◌, ◌++◌, length, take, Option, Some, None, IfSome, slice_get, is_none, option_to_list, refl, sym, ap, subst, ◌∙◌, arith, length-append}
 use Rattle.std.proofs.lemmas.List.{take_at}
 use Rattle.std.specs.Int.{w16, to_be_bytes}
 use Rattle.std.specs.Option.{option_map, option_and_then}
@@ -7,29 +7,27 @@ use Rattle.dist_frames.specs.Stream.{framed, first_body, after_first}
 use Rattle.dist_messages.specs.declared.message.Side.{Side}
 use Rattle.dist_messages.specs.declared.message.Side.TheVariants.{Dialler, Acceptor}
 use Rattle.dist_peers.specs.declared.entry.EndId.{EndId}
-use Rattle.dist_ends.specs.Ends.{is_dialing}
+use Rattle.dist_core_ends.specs.Ends.{is_dialing}
 use Rattle.dist_core.specs.declared.event.Event.{Event}
 use Rattle.dist_core.specs.declared.event.Event.TheVariants as event
-use Rattle.dist_core.specs.declared.reply.Reply.{Reply}
-use Rattle.dist_setup.specs.declared.setup.Setup.{Setup}
-use Rattle.dist_core.specs.declared.step_error.StepError.{StepError}
-use Rattle.dist_core.specs.Node.{NodeState}
+use Rattle.dist_core_setup.specs.declared.setup.Setup.{Setup}
 use Rattle.dist_core.specs.Step.{step}
 use Rattle.dist_names.specs.declared.creation.Creation.{Creation}
-use Rattle.dist_books.specs.declared.closing.Closed.{Closed}
-use Rattle.dist_agreement.specs.declared.happening.Happening.{Happening}
-use Rattle.dist_agreement.specs.declared.happening.Happening.TheVariants as happening
-use Rattle.dist_agreement.specs.Lists.{at_place}
-use Rattle.dist_agreement.specs.Rows.{EndRow}
-use Rattle.dist_agreement.specs.World.{World, Life, Conn, Text, empty, runs, running, row_at, end_at}
-use Rattle.dist_agreement.specs.Delivery.{says, spoken, spoken_on, text_to, change_to, delivered, body_taken}
-use Rattle.dist_lives.specs.Hearing.{wire_of}
+use Rattle.dist_locked_book.specs.declared.closing.Closed.{Closed}
+use Rattle.dist_world_model.specs.declared.happening.Happening.{Happening}
+use Rattle.dist_world_model.specs.declared.happening.Happening.TheVariants as happening
+use Rattle.dist_world_model.specs.Lists.{at_place}
+use Rattle.dist_world_model.specs.Rows.{EndRow}
+use Rattle.dist_world_model.specs.World.{World, Conn, Text, empty, runs, running, row_at, end_at}
+use Rattle.dist_world_model.specs.Delivery.{says, spoken, spoken_on, text_to, change_to, delivered, body_taken}
+use Rattle.dist_world_lives.specs.Hearing.{wire_of}
 use Rattle.dist_world.specs.Asking.{said_to, undelivered}
-use Rattle.dist_agreement.specs.Happenings.{answered, told_in, told, told_of, new_life, new_conn, reached, reached_life, conn_of, opened, opened_on, accepted, accepted_by, next_end, begun, is_open_end, is_nonempty, came, came_on, came_to, deliver, taken_body, taken_from, taken_on, taken_by, take_next, applied, unclosed, ticked_on, applied_at, happens}
-use Rattle.dist_agreement.specs.Run.{run, one_where}
+use Rattle.dist_world_model.specs.Happenings.{◌>>◌, tell, tell_node, new_conn, reach as happening_reach, conn_of, tell_opened, accept, accepted_by, next_end, begin, is_open_end, is_nonempty, applied, unclosed, ticked_on, applied_at, happens}
+use Rattle.dist_world_model.proofs.Conditions.{if_there, if_ok, if_holds, there}
+use Rattle.dist_world_model.specs.Run.{run, one_where}
 use Rattle.dist_audit.specs.Audit as audit
 use Rattle.dist_audit.specs.Audit.{AllApply, BeginsWith, Says, IsNext, come_of, IsFront, TakeTheirs, AreFollowed, AreOfOneWorld, after}
-use Rattle.dist_audit.specs.Lines.{Told, lines_of}
+use Rattle.dist_audit.specs.Lines.{Told}
 use Rattle.dist_audit.specs.Happenings.{setups_of, begins, mentioned, reach, reach_first, before, own}
 use Rattle.dist_audit.specs.Links.{is_among, dialler_of, acceptor_of, target_of, conn_of as number_of}
 
@@ -70,7 +68,7 @@ get-at [] c f k at = absurd cc
 get-at (x ∷ ks) zero f k at = let z : x ≡ k = cc in ap (λ (y : Conn). Some (f y)) z
 get-at (x ∷ ks) (suc c) f k at = get-at ks c f k at
 
--- ---- what is said
+-- ---- what is sent
 
 quiet-says : (side : Side) (s : List ℕ) (k : Conn) → IsQuiet k → IsQuiet (says side s k)
 quiet-says Dialler s k h = h
@@ -85,56 +83,35 @@ quiet-spoken ks None s h = h
 quiet-spoken ks (Some row) s h = quiet-on ks row.conn row.side s h
 
 module _ (w : World) (h : QuietIn w) where
-  quiet-answered : (i : ℕ) (l : Life) (v : Event) (s : Result (Reply × NodeState) StepError) → IfSome (answered w i l v s) QuietIn
-  quiet-answered i l v (Err e) = tt
-  quiet-answered i l v (Ok x) = quiet-spoken w.conns _ (let r = x.0 in r.say) h
+  quiet-told : (i : ℕ) (v : Event) (fresh : ℕ) → IfSome (tell w i v fresh) QuietIn
+  quiet-told i v fresh =
+      if_there QuietIn (slice_get w.lives i) _ (λ l at.
+      if_holds QuietIn (runs l) _ (λ live.
+      if_ok QuietIn (step l.node v fresh) _ (λ x is.
+      quiet-spoken w.conns _ (let r = x.0 in r.say) h)))
 
-  quiet-told : (i : ℕ) (v : Event) (fresh : ℕ) → IfSome (told w i v fresh) QuietIn
-  quiet-told i v fresh = by (slice_get w.lives i)
-    where
-      by : (o : Option Life) → IfSome (told_in w i o v fresh) QuietIn
-      by None = tt
-      by (Some l) = if-runs (runs l)
-        where
-          if-runs : (b : Bool) → IfSome (cond b (answered w i l v (step l.node v fresh)) None) QuietIn
-          if-runs true = quiet-answered i l v (step l.node v fresh)
-          if-runs false = tt
+  quiet-node : (node : ℕ) (v : Event) → IfSome (tell_node w node v) QuietIn
+  quiet-node node v = if_there QuietIn (running w node) _ (λ i at. quiet-told i v 0)
 
-  quiet-told-of : (o : Option ℕ) (v : Event) (fresh : ℕ) → IfSome (told_of w o v fresh) QuietIn
-  quiet-told-of None v fresh = tt
-  quiet-told-of (Some i) v fresh = quiet-told i v fresh
+  quiet-reached : (node : ℕ) (id : EndId) (target : ℕ) → IfSome (happening_reach w node id target) QuietIn
+  quiet-reached node id target =
+      if_there QuietIn (running w node) _ (λ i at.
+      if_there QuietIn (running w target) _ (λ j far.
+      if_holds QuietIn (is_dialing (end_at w i id.0) && is_none (conn_of (row_at w i id.0)) && ltb (length w.conns) 1048576) _ (λ free.
+      quiet-more w.conns (new_conn i id.0 j) h (refl, refl))))
 
-  quiet-reached : (id : ℕ) (a b : Option ℕ) → IfSome (reached w id a b) QuietIn
-  quiet-reached id None None = tt
-  quiet-reached id None (Some j) = tt
-  quiet-reached id (Some i) None = tt
-  quiet-reached id (Some i) (Some j) = by (is_dialing (end_at w i id) && not (is_some (conn_of (row_at w i id))) && ltb (length w.conns) 1048576)
-    where
-      R : Option World
-      R = Some (record w { lives = at_place i (reached_life id (length w.conns)) w.lives; conns = w.conns ++ new_conn i id j ∷ [] })
+  quiet-opened : (node : ℕ) (id : EndId) → IfSome (tell_opened w node id) QuietIn
+  quiet-opened node id =
+      if_there QuietIn (running w node) _ (λ i at.
+      if_there QuietIn (conn_of (row_at w i id.0)) _ (λ c on.
+      quiet-told i (event.Opened id c) 0))
 
-      by : (b : Bool) → IfSome (cond b R None) QuietIn
-      by true = quiet-more w.conns (new_conn i id j) h (refl, refl)
-      by false = tt
-
-  quiet-opened : (id : EndId) (o : Option ℕ) → IfSome (opened w id o) QuietIn
-  quiet-opened id None = tt
-  quiet-opened id (Some i) = by (conn_of (row_at w i id.0))
-    where
-      by : (o : Option ℕ) → IfSome (opened_on w i id o) QuietIn
-      by None = tt
-      by (Some c) = quiet-told i (event.Opened id c) 0
-
-quiet-accepted : (w : World) → QuietIn w → (c : ℕ) (o : Option Conn) → IfSome (accepted w c o) QuietIn
-quiet-accepted w h c None = tt
-quiet-accepted w h c (Some x) = by (is_some x.accepted)
-  where
-    v : World
-    v = record w { conns = at_place c (accepted_by (next_end (slice_get w.lives x.target))) w.conns }
-
-    by : (b : Bool) → IfSome (cond b None (told v x.target (event.Incoming c) 0)) QuietIn
-    by true = tt
-    by false = quiet-told v (quiet-at c (accepted_by (next_end (slice_get w.lives x.target))) (λ k q. q) w.conns h) x.target (event.Incoming c) 0
+quiet-accepted : (w : World) → QuietIn w → (c : ℕ) → IfSome (accept w c) QuietIn
+quiet-accepted w h c =
+    if_there QuietIn (slice_get w.conns c) _ (λ x at.
+    if_holds QuietIn (is_none x.accepted) _ (λ free.
+    let first = next_end (slice_get w.lives x.target) in
+    quiet-told (record w { conns = at_place c (accepted_by first) w.conns }) (quiet-at c (accepted_by first) (λ k q. q) w.conns h) x.target (event.Incoming c) 0))
 
 -- ---- happenings that apply
 
@@ -229,10 +206,11 @@ module _ (alone : FramesAlone) (w : World) (i : ℕ) (id : EndId) (body : List �
 
   delivers : applied (unclosed w) (happening.Deliver i id (2 + length body)) ≡ cond (is_open_end (end_at w s.place id.0)) (cond (ltb 0 (2 + length body) && is_nonempty (let r = s.row in let t = text_to r.side s.there in t.said)) (Some y) None) None
   delivers =
-      ap (λ o. deliver (unclosed w) id.0 (2 + length body) o) s.runs_at
-      ∙ (ap (λ o. cond (is_open_end (end_at w s.place id.0)) (came_to (unclosed w) o (2 + length body)) None) s.beside
-      ∙ (ap (λ o. cond (is_open_end (end_at w s.place id.0)) (came_on (unclosed w) (let r = s.row in r.side) (2 + length body) o) None) s.on
-      ∙ ap (λ o. cond (is_open_end (end_at w s.place id.0)) (came (unclosed w) s.conn (let r = s.row in r.side) (2 + length body) o) None) s.at))
+      there (running w i) s.place _ s.runs_at
+      ∙ ap (λ o. is_open_end (end_at w s.place id.0) >> o)
+      (there (row_at w s.place id.0) s.row _ s.beside
+      ∙ (there (let r = s.row in r.conn) s.conn _ s.on
+      ∙ there (slice_get w.conns s.conn) s.there _ s.at))
 
   has-come : AllApply (happening.Deliver i id (2 + length body) ∷ []) w → happens w (happening.Deliver i id (2 + length body)) ≡ z
   has-come a = ap (ticked_on w) (one-left (applied_at w (happening.Deliver i id (2 + length body))) y (ltb w.clock 4611686018427387904) (is_open_end (end_at w s.place id.0)) (ltb 0 (2 + length body) && is_nonempty (let r = s.row in let t = text_to r.side s.there in t.said))
@@ -260,17 +238,17 @@ module _ (alone : FramesAlone) (w : World) (i : ℕ) (id : EndId) (body : List �
       ∙ (ap (λ o. option_and_then (first_body w16) (option_map (λ c. (let t = text_to (let r = s.row in r.side) c in t.come)) o)) stands-there
       ∙ front-there)))
 
-  -- the world before the frame is told
+  -- the world before the frame is given
   abbrev v : World
   v = record (unclosed z) { conns = at_place s.conn (change_to (let r = s.row in r.side) body_taken) z.conns }
 
-  takes : (fresh : ℕ) → applied (unclosed z) (happening.Take i id fresh) ≡ told v s.place (event.Frame id body) fresh
+  takes : (fresh : ℕ) → applied (unclosed z) (happening.Take i id fresh) ≡ tell v s.place (event.Frame id body) fresh
   takes fresh =
-      ap (λ o. take_next (unclosed z) id fresh o) s.runs_at
-      ∙ (ap (λ o. taken_by (unclosed z) s.place id fresh o) s.beside
-      ∙ (ap (λ o. taken_on (unclosed z) s.place id fresh (let r = s.row in r.side) o) s.on
-      ∙ (ap (λ o. taken_from (unclosed z) s.place id fresh (let r = s.row in r.side) s.conn o) stands-there
-      ∙ ap (λ o. taken_body (unclosed z) s.place id fresh (let r = s.row in r.side) s.conn o) front-there)))
+      there (running w i) s.place _ s.runs_at
+      ∙ (there (row_at w s.place id.0) s.row _ s.beside
+      ∙ (there (let r = s.row in r.conn) s.conn _ s.on
+      ∙ (there (slice_get z.conns s.conn) came-there _ stands-there
+      ∙ there (first_body w16 (let t = text_to (let r = s.row in r.side) came-there in t.come)) body _ front-there)))
 
   quiet-v : QuietIn v
   quiet-v = quiet-twice w.conns s.conn (change_to (let r = s.row in r.side) body_taken) (change_to (let r = s.row in r.side) (delivered (2 + length body))) s.there s.at
@@ -289,7 +267,7 @@ quiet-reach : (w : World) → QuietIn w → (all : List Told) (count k : ℕ) (o
 quiet-reach w h all count k None a = h
 quiet-reach w h all count k (Some x) a =
     let t = target_of count x.0 (acceptor_of k all) in
-    quiet-happens w (happening.Reach x.0 x.1 t) (quiet-reached (unclosed w) h (let y = x.1 in y.0) (running w x.0) (running w t)) a
+    quiet-happens w (happening.Reach x.0 x.1 t) (quiet-reached (unclosed w) h x.0 x.1 t) a
 
 quiet-first : (w : World) → QuietIn w → (all : List Told) (count k : ℕ) (b : Bool) → AllApply (option_to_list (cond b None (reach all count k (dialler_of k all)))) w → QuietIn (run (option_to_list (cond b None (reach all count k (dialler_of k all)))) w)
 quiet-first w h all count k true a = h
@@ -298,33 +276,30 @@ quiet-first w h all count k false a = quiet-reach w h all count k (dialler_of k 
 pub line-leaves : FramesAlone → (w : World) → QuietIn w → (all : List Told) (count : ℕ) (ks js : List ℕ) (i : ℕ) (e : Event) (fresh : ℕ)
     → IsNext w i e → AllApply (option_to_list (before all count ks i e)) w → AllApply (own js i e fresh ∷ []) (run (option_to_list (before all count ks i e)) w)
     → Leaves (run (option_to_list (before all count ks i e)) w) i e (run (own js i e fresh ∷ []) (run (option_to_list (before all count ks i e)) w))
-line-leaves alone w h all count ks js i (event.Dial p o) fresh n a b = (tt, quiet-happens w (happening.Dial i p o) (quiet-told-of (unclosed w) h (running w i) (event.Dial p o) 0) b)
+line-leaves alone w h all count ks js i (event.Dial p o) fresh n a b = (tt, quiet-happens w (happening.Dial i p o) (quiet-node (unclosed w) h i (event.Dial p o)) b)
 line-leaves alone w h all count ks js i (event.Opened id k) fresh n a b =
     let x = run (option_to_list (reach_first all count ks k)) w in
     let q : QuietIn x = quiet-first w h all count k (is_among k ks) a in
-    (tt, quiet-happens x (happening.Opened i id) (quiet-opened (unclosed x) q id (running x i)) b)
+    (tt, quiet-happens x (happening.Opened i id) (quiet-opened (unclosed x) q i id) b)
 line-leaves alone w h all count ks js i (event.Incoming k) fresh n a b =
     let x = run (option_to_list (reach_first all count ks k)) w in
     let q : QuietIn x = quiet-first w h all count k (is_among k ks) a in
-    (tt, quiet-happens x (happening.Accept (number_of k js)) (quiet-accepted (unclosed x) q (number_of k js) (slice_get x.conns (number_of k js))) b)
+    (tt, quiet-happens x (happening.Accept (number_of k js)) (quiet-accepted (unclosed x) q (number_of k js)) b)
 line-leaves alone w h all count ks js i (event.Frame id body) fresh n a b =
     let s = stands w i id body n.1 in
     let e = has-come alone w i id body n.0 s h a in
     subst (λ (x : World). AllApply (happening.Take i id fresh ∷ []) x → Leaves x i (event.Frame id body) (happens x (happening.Take i id fresh))) (sym e) (λ c. (is-front alone w i id body n.0 s h, quiet-takes alone w i id body n.0 s h fresh c)) b
-line-leaves alone w h all count ks js i (event.Lost id y) fresh n a b = (tt, quiet-happens w (happening.Lose i id y) (quiet-told-of (unclosed w) h (running w i) (event.Lost id y) 0) b)
-line-leaves alone w h all count ks js i (event.Tick id) fresh n a b = (tt, quiet-happens w (happening.Tick i id) (quiet-told-of (unclosed w) h (running w i) (event.Tick id) 0) b)
+line-leaves alone w h all count ks js i (event.Lost id y) fresh n a b = (tt, quiet-happens w (happening.Lose i id y) (quiet-node (unclosed w) h i (event.Lost id y)) b)
+line-leaves alone w h all count ks js i (event.Tick id) fresh n a b = (tt, quiet-happens w (happening.Tick i id) (quiet-node (unclosed w) h i (event.Tick id)) b)
 
 -- ---- ALL LINES
 
-quiet-begun : (w : World) (i : ℕ) (c : Creation) → QuietIn w → (a : Option Setup) (b : Option ℕ) → IfSome (begun w i c a b) QuietIn
-quiet-begun w i c h None None = tt
-quiet-begun w i c h None (Some j) = tt
-quiet-begun w i c h (Some s) (Some j) = tt
-quiet-begun w i c h (Some s) None = by (ltb (length w.lives) 1048576)
-  where
-    by : (b : Bool) → IfSome (cond b (Some (record w { lives = w.lives ++ new_life i w.clock s c ∷ [] })) None) QuietIn
-    by true = h
-    by false = tt
+quiet-begun : (w : World) (i : ℕ) (c : Creation) → QuietIn w → IfSome (begin w i c) QuietIn
+quiet-begun w i c h =
+    if_there QuietIn (slice_get w.setups i) _ (λ s at.
+    if_holds QuietIn (is_none (running w i)) _ (λ free.
+    if_holds QuietIn (ltb (length w.lives) 1048576) _ (λ few.
+    h)))
 
 stays-quiet : (w : World) → QuietIn w → (o : Option World) → IfSome o QuietIn → QuietIn (ticked_on w o)
 stays-quiet w h None q = h
@@ -334,7 +309,7 @@ quiet-begins : (w : World) (i : ℕ) (ss : List Setup) → QuietIn w → QuietIn
 quiet-begins w i [] h = h
 quiet-begins w i (s ∷ ss) h =
     let e = happening.Begin i s.creation in
-    let q = at-clock w e QuietIn (quiet-begun (unclosed w) i s.creation h (slice_get w.setups i) (running w i)) in
+    let q = at-clock w e QuietIn (quiet-begun (unclosed w) i s.creation h) in
     quiet-begins (happens w e) (suc i) ss (stays-quiet w h (applied_at w e) q)
 
 take-theirs : FramesAlone → (all : List Told) (count : ℕ) (ks : List ℕ) (w : World) (ts : List Told) → QuietIn w → AreFollowed all count ks w ts → TakeTheirs all count ks w ts
@@ -346,5 +321,5 @@ take-theirs alone all count ks w (t ∷ ts) h f =
     (x.0, take-theirs alone all count (mentioned ks t) (after all count ks w t) ts x.1 f.1)
 
 -- in histories of one world each line takes its very body
-pub all-take-theirs : FramesAlone → (cs : List Closed) → AreOfOneWorld cs → TakeTheirs (lines_of cs) (length cs) [] (audit.begun cs) (lines_of cs)
-all-take-theirs alone cs f = take-theirs alone (lines_of cs) (length cs) [] (audit.begun cs) (lines_of cs) (quiet-begins (empty (setups_of cs)) 0 (setups_of cs) tt) f.followed
+pub all-take-theirs : FramesAlone → (cs : List Closed) (ts : List Told) → AreOfOneWorld cs ts → TakeTheirs ts (length cs) [] (audit.begun cs) ts
+all-take-theirs alone cs ts f = take-theirs alone ts (length cs) [] (audit.begun cs) ts (quiet-begins (empty (setups_of cs)) 0 (setups_of cs) tt) f.followed

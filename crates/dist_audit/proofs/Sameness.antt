@@ -4,7 +4,7 @@ use Rattle.std.proofs.lemmas.Bool.{cases_lt}
 use Rattle.std.proofs.lemmas.Option.{slice_get_past}
 use Rattle.std.specs.FinMap as map
 use Rattle.std.specs.FinMap.{len-entries}
-use Rattle.dist_ends.specs.Ends.{table_of}
+use Rattle.dist_core_ends.specs.Ends.{table_of}
 use Rattle.dist_core.specs.Node.{NodeState}
 use Rattle.dist_audit.specs.Audit.{entry_at}
 

@@ -3,8 +3,8 @@ use Rattle.std.proofs.Common.{◌≡◌, ℕ, zero, suc, ◌-◌, ◌<◌, ◌�
 use Rattle.std.specs.Ordering.{nat_cmp}
 use Rattle.std.specs.List.{list_any}
 use Rattle.std.specs.BTreeSet.{BTreeSet, contains}
-use Rattle.dist_books.specs.declared.line.Line.{Line}
-use Rattle.dist_books.specs.declared.closing.Closed.{Closed}
+use Rattle.dist_locked_book.specs.declared.line.Line.{Line}
+use Rattle.dist_locked_book.specs.declared.closing.Closed.{Closed}
 use Rattle.dist_audit.proofs.Either.{or-true, or-false, any-same}
 use Rattle.dist_audit.specs.Faults.{has_ticket, has_ticket_in, twice}
 

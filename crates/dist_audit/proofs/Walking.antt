@@ -1,13 +1,13 @@
 -- Lines that are followed, one on.
 use Rattle.std.proofs.Common.{◌≡◌, ℕ, suc, ◌+◌, ◌<◌, List, [], ◌∷◌, ◌++◌, option_to_list, refl, ap, sym, subst, inl, inr, ◌∙◌, length, get_or, drop, drop-cons, add-one, add_assoc, length-append, arith}
-use Rattle.dist_agreement.specs.declared.happening.Happening.{Happening}
-use Rattle.dist_books.specs.declared.closing.Closed.{Closed}
-use Rattle.dist_agreement.specs.World.{World, empty}
-use Rattle.dist_agreement.specs.Run.{run, count_applied, one_where}
-use Rattle.dist_agreement.specs.Happenings.{happens, applied_at}
+use Rattle.dist_world_model.specs.declared.happening.Happening.{Happening}
+use Rattle.dist_locked_book.specs.declared.closing.Closed.{Closed}
+use Rattle.dist_world_model.specs.World.{World, empty}
+use Rattle.dist_world_model.specs.Run.{run, count_applied, one_where}
+use Rattle.dist_world_model.specs.Happenings.{happens, applied_at}
 use Rattle.dist_audit.specs.declared.audit_error.AuditError.{AuditError}
 use Rattle.dist_audit.specs.declared.audit_error.AuditError.TheVariants as error
-use Rattle.dist_audit.specs.Lines.{Told, lines_of}
+use Rattle.dist_audit.specs.Lines.{Told}
 use Rattle.dist_audit.specs.Happenings.{setups_of, begins, happenings, of_lines, ahead, itself, mentioned}
 use Rattle.dist_audit.specs.Audit.{AllApply, IsFollowed, AreFollowed, AreOfOneWorld, after, begun, Refutes, RefusesLine, StopsAt, UnlessShort}
 
@@ -81,5 +81,5 @@ all-followed all count ks w (t ∷ ts) f =
     all-append (option_to_list x) (itself ks t ∷ of_lines all count (mentioned ks t) ts) w (let g = f.0 in g.before) (all-append (itself ks t ∷ []) (of_lines all count (mentioned ks t) ts) (run (option_to_list x) w) (let g = f.0 in g.applies) later)
 
 -- all the happenings of histories of one world apply
-pub all-apply : (cs : List Closed) → AllApply (begins 0 (setups_of cs)) (empty (setups_of cs)) → AreOfOneWorld cs → AllApply (happenings cs) (empty (setups_of cs))
-all-apply cs b f = all-append (begins 0 (setups_of cs)) (of_lines (lines_of cs) (length cs) [] (lines_of cs)) (empty (setups_of cs)) b (all-followed (lines_of cs) (length cs) [] (begun cs) (lines_of cs) f.followed)
+pub all-apply : (cs : List Closed) (ts : List Told) → AllApply (begins 0 (setups_of cs)) (empty (setups_of cs)) → AreOfOneWorld cs ts → AllApply (happenings cs ts) (empty (setups_of cs))
+all-apply cs ts b f = all-append (begins 0 (setups_of cs)) (of_lines ts (length cs) [] ts) (empty (setups_of cs)) b (all-followed ts (length cs) [] (begun cs) ts f.followed)

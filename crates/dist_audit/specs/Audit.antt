@@ -1,5 +1,6 @@
 -- HISTORIES THAT ARE THOSE OF ONE WORLD.
-use Rattle.std.specs.Prelude.{◌≡◌, ◌⊎◌, ℕ, ◌<◌, ◌^◌, List, [], ◌∷◌, ◌++◌, length, Option, Some, None, Ok, slice_get, option_to_list}
+use Rattle.std.specs.Prelude.{◌≡◌, ◌⊎◌, ℕ, ◌<◌, ◌^◌, List, [], ◌∷◌, ◌++◌}
+use Rattle.std.specs.Prelude.{length, Option, Some, None, Ok, slice_get, option_to_list}
 use Rattle.std.specs.Option.{option_map, option_and_then}
 use Rattle.std.specs.Int.{w16}
 use Rattle.std.specs.FinMap as map
@@ -8,24 +9,24 @@ use Rattle.dist_messages.specs.declared.message.Side.{Side}
 use Rattle.dist_frames.specs.Stream.{framed, first_body}
 use Rattle.dist_peers.specs.declared.entry.EndId.{EndId}
 use Rattle.dist_peers.specs.declared.entry.Entry.{Entry}
-use Rattle.dist_ends.specs.declared.known.UpRecord.{UpRecord}
+use Rattle.dist_core_ends.specs.declared.known.UpRecord.{UpRecord}
 use Rattle.dist_core.specs.declared.event.Event.{Event}
 use Rattle.dist_core.specs.declared.event.Event.TheVariants as event
-use Rattle.dist_ends.specs.Ends.{table_of, up_ids, up_from}
+use Rattle.dist_core_ends.specs.Ends.{table_of, up_ids, up_from}
 use Rattle.dist_core.specs.Node.{NodeState}
 use Rattle.dist_core.specs.Step.{step}
 use Rattle.dist_core.specs.Answers.{reply_of}
-use Rattle.dist_books.specs.declared.line.Line.{Line}
-use Rattle.dist_books.specs.declared.closing.Closed.{Closed}
-use Rattle.dist_agreement.specs.declared.happening.Happening.{Happening}
-use Rattle.dist_agreement.specs.World.{World, empty, running, row_at}
-use Rattle.dist_agreement.specs.Delivery.{text_to}
-use Rattle.dist_lives.specs.Hearing.{wire_of}
+use Rattle.dist_locked_book.specs.declared.line.Line.{Line}
+use Rattle.dist_locked_book.specs.declared.closing.Closed.{Closed}
+use Rattle.dist_world_model.specs.declared.happening.Happening.{Happening}
+use Rattle.dist_world_model.specs.World.{World, empty, running, row_at}
+use Rattle.dist_world_model.specs.Delivery.{text_to}
+use Rattle.dist_world_lives.specs.Hearing.{wire_of}
 use Rattle.dist_world.specs.Asking.{node_of, said_to}
-use Rattle.dist_agreement.specs.Run.{run, count_applied}
+use Rattle.dist_world_model.specs.Run.{run, count_applied}
 use Rattle.dist_audit.specs.declared.audit_error.AuditError.{AuditError}
 use Rattle.dist_audit.specs.declared.audit_error.AuditError.TheVariants as error
-use Rattle.dist_audit.specs.Lines.{Told, lines_of}
+use Rattle.dist_audit.specs.Lines.{Told, AreLinesOf}
 use Rattle.dist_audit.specs.Links.{conn_of}
 use Rattle.dist_audit.specs.Faults.{fault_of}
 use Rattle.dist_audit.specs.Happenings.{setups_of, begins, ahead, itself, mentioned, happenings}
@@ -35,11 +36,11 @@ abbrev pub BeginsWith : Option (List ℕ) → List ℕ → Type 0
 BeginsWith None body = ⊥
 BeginsWith (Some text) body = (rest : List ℕ) × (framed w16 body ++ rest ≡ text)
 
--- the body is the next that was said to this end of node i and is undelivered
+-- the body is the next that was sent to this end of node i and is undelivered
 abbrev pub Says : World → ℕ → EndId → List ℕ → Type 0
 Says w i id body = (length body < 2 ^ 16) × BeginsWith (said_to w i id) body
 
--- the body of a frame is the next that the other end had said by then
+-- the body of a frame is the next that the other end had sent by then
 abbrev pub IsNext : World → ℕ → Event → Type 0
 IsNext w i (event.Frame id body) = Says w i id body
 IsNext w i _ = Unit {0}
@@ -57,7 +58,7 @@ Replies (Some n) l = Gives n l
 abbrev pub AllApply : List Happening → World → Type 0
 AllApply hs w = count_applied hs w ≡ length hs
 
--- A LINE IS FOLLOWED from world w on: a frame's body is the next one said; what is to happen before it applies; the node
+-- A LINE IS FOLLOWED from world w on: a frame's body is the next one sent; what is to happen before it applies; the node
 -- gives that very reply; and the line itself applies
 pub record IsFollowed (all : List Told) (count : ℕ) (ks : List ℕ) (w : World) (t : Told) : Type 0 where
   pub next : IsNext w t.node (let l = t.line in l.event)
@@ -101,41 +102,45 @@ HasTables w cs = (k : ℕ) (c : Closed) → slice_get cs k ≡ Some c → IsAlik
 abbrev pub begun : List Closed → World
 begun cs = run (begins 0 (setups_of cs)) (empty (setups_of cs))
 
--- THE WORLD OF THESE HISTORIES
-abbrev pub world_of : List Closed → World
-world_of cs = run (happenings cs) (empty (setups_of cs))
+-- what the happenings of these lines leave
+abbrev pub world_of : List Closed → List Told → World
+world_of cs ts = run (happenings cs ts) (empty (setups_of cs))
 
--- THE HISTORIES ARE THOSE OF ONE WORLD: each line is followed, and each closed node has the entries and the records of its
--- node in that world
-pub record AreOfOneWorld (cs : List Closed) : Type 0 where
-  pub followed : AreFollowed (lines_of cs) (length cs) [] (begun cs) (lines_of cs)
-  pub tables : HasTables (world_of cs) cs
+-- THE HISTORIES ARE THOSE OF ONE WORLD, by their lines in this order: each line is followed, and each closed node has the entries
+-- and the records of its node in that world
+pub record AreOfOneWorld (cs : List Closed) (ts : List Told) : Type 0 where
+  pub followed : AreFollowed ts (length cs) [] (begun cs) ts
+  pub tables : HasTables (world_of cs ts) cs
 
 -- ---- refusals
 
--- a refusal says that this is not so, and nothing where memory was short
+-- a refusal says that this is not so, and nothing where memory ran out
 abbrev pub Refutes : AuditError → Type 0 → Type 0
 Refutes error.NoMemory P = Unit {0}
 Refutes error.NotSent P = P → ⊥
 Refutes error.OtherReply P = P → ⊥
 Refutes e P = ⊥
 
+-- they are not, by their lines in the order of their tickets
+abbrev pub AreOfNoWorld : List Closed → Type 0
+AreOfNoWorld cs = (ts : List Told) × AreLinesOf cs ts × (AreOfOneWorld cs ts → ⊥)
+
 -- WHAT A REFUSAL TELLS: the first fault of the histories by themselves; where there is none, that they are not those of
 -- one world; and nothing where memory was short
 abbrev pub Tells : AuditError → List Closed → Type 0
 Tells error.NoMemory cs = Unit {0}
-Tells error.NotSent cs = (fault_of cs ≡ None) × (AreOfOneWorld cs → ⊥)
-Tells error.OtherReply cs = (fault_of cs ≡ None) × (AreOfOneWorld cs → ⊥)
+Tells error.NotSent cs = (fault_of cs ≡ None) × AreOfNoWorld cs
+Tells error.OtherReply cs = (fault_of cs ≡ None) × AreOfNoWorld cs
 Tells e cs = fault_of cs ≡ Some e
 
 -- ---- which refusal
 
--- this is so, unless memory was short
+-- this is so, unless memory ran out
 abbrev pub UnlessShort : AuditError → Type 0 → Type 0
 UnlessShort error.NoMemory P = Unit {0}
 UnlessShort e P = P
 
--- A line is refused so: NotSent, where a frame's body is not the next one said; OtherReply, where nothing is wrong with a
+-- A line is refused so: NotSent, where a frame's body is not the next one sent; OtherReply, where nothing is wrong with a
 -- frame's body, and the line is not followed all the same.
 abbrev pub RefusesLine : AuditError → List Told → ℕ → List ℕ → World → Told → Type 0
 RefusesLine error.NotSent all count ks w t = IsNext w t.node (let l = t.line in l.event) → ⊥
@@ -145,21 +150,23 @@ RefusesLine e all count ks w t = ⊥
 -- THE FIRST OF THESE LINES THAT IS NOT FOLLOWED is refused so
 abbrev pub StopsAt : AuditError → List Told → ℕ → List ℕ → World → List Told → Type 0
 StopsAt e all count ks w [] = ⊥
-StopsAt e all count ks w (t ∷ ts) = RefusesLine e all count ks w t ⊎ (IsFollowed all count ks w t × StopsAt e all count (mentioned ks t) (after all count ks w t) ts)
+StopsAt e all count ks w (t ∷ ts) =
+    RefusesLine e all count ks w t
+    ⊎ (IsFollowed all count ks w t × StopsAt e all count (mentioned ks t) (after all count ks w t) ts)
 
 -- each line is followed, and a closed node has other entries or records than its node in the world
-abbrev pub HasOtherTables : AuditError → List Closed → Type 0
-HasOtherTables error.OtherReply cs = AreFollowed (lines_of cs) (length cs) [] (begun cs) (lines_of cs) × (HasTables (world_of cs) cs → ⊥)
-HasOtherTables e cs = ⊥
+abbrev pub HasOtherTables : AuditError → List Closed → List Told → Type 0
+HasOtherTables error.OtherReply cs ts = AreFollowed ts (length cs) [] (begun cs) ts × (HasTables (world_of cs ts) cs → ⊥)
+HasOtherTables e cs ts = ⊥
 
--- the first line that is not followed is refused so, or all are followed and the tables are
-abbrev pub IsRefused : AuditError → List Closed → Type 0
-IsRefused e cs = StopsAt e (lines_of cs) (length cs) [] (begun cs) (lines_of cs) ⊎ HasOtherTables e cs
+-- the first of these lines that is not followed is refused so, or all are followed and the tables are
+abbrev pub IsRefused : AuditError → List Closed → List Told → Type 0
+IsRefused e cs ts = StopsAt e ts (length cs) [] (begun cs) ts ⊎ HasOtherTables e cs ts
 
--- WHICH OF THE TWO IT IS where the histories have no fault by themselves
+-- WHICH OF THE TWO IT IS where the histories have no fault by themselves, by their lines in the order of their tickets
 abbrev pub TellsFirst : AuditError → List Closed → Type 0
-TellsFirst error.NotSent cs = IsRefused error.NotSent cs
-TellsFirst error.OtherReply cs = IsRefused error.OtherReply cs
+TellsFirst error.NotSent cs = (ts : List Told) × AreLinesOf cs ts × IsRefused error.NotSent cs ts
+TellsFirst error.OtherReply cs = (ts : List Told) × AreLinesOf cs ts × IsRefused error.OtherReply cs ts
 TellsFirst e cs = Unit {0}
 
 -- ---- what each line takes
@@ -181,11 +188,13 @@ IsFront w i _ = Unit {0}
 -- THESE LINES TAKE THEIR VERY BODIES, each once what is to happen before it has happened
 abbrev pub TakeTheirs : List Told → ℕ → List ℕ → World → List Told → Type 0
 TakeTheirs all count ks w [] = Unit {0}
-TakeTheirs all count ks w (t ∷ ts) = IsFront (run (option_to_list (ahead all count ks t)) w) t.node (let l = t.line in l.event) × TakeTheirs all count (mentioned ks t) (after all count ks w t) ts
+TakeTheirs all count ks w (t ∷ ts) =
+    IsFront (run (option_to_list (ahead all count ks t)) w) t.node (let l = t.line in l.event)
+    × TakeTheirs all count (mentioned ks t) (after all count ks w t) ts
 
--- each line of histories takes its very body
-abbrev pub EachTakesItsBody : List Closed → Type 0
-EachTakesItsBody cs = TakeTheirs (lines_of cs) (length cs) [] (begun cs) (lines_of cs)
+-- each of these lines of histories takes its very body
+abbrev pub EachTakesItsBody : List Closed → List Told → Type 0
+EachTakesItsBody cs ts = TakeTheirs ts (length cs) [] (begun cs) ts
 
 -- ---- where each link leads
 
@@ -197,8 +206,31 @@ ComesHere w ks i _ = Unit {0}
 -- these lines come to the nodes to which their links lead
 abbrev pub ComeHome : List Told → ℕ → List ℕ → World → List Told → Type 0
 ComeHome all count ks w [] = Unit {0}
-ComeHome all count ks w (t ∷ ts) = ComesHere (run (option_to_list (ahead all count ks t)) w) (mentioned ks t) t.node (let l = t.line in l.event) × ComeHome all count (mentioned ks t) (after all count ks w t) ts
+ComeHome all count ks w (t ∷ ts) =
+    ComesHere (run (option_to_list (ahead all count ks t)) w) (mentioned ks t) t.node (let l = t.line in l.event)
+    × ComeHome all count (mentioned ks t) (after all count ks w t) ts
 
--- each link that comes to a node leads to that node
-abbrev pub EachLinkComesHome : List Closed → Type 0
-EachLinkComesHome cs = ComeHome (lines_of cs) (length cs) [] (begun cs) (lines_of cs)
+-- each link that comes to a node in these lines of histories leads to that node
+abbrev pub EachLinkComesHome : List Closed → List Told → Type 0
+EachLinkComesHome cs ts = ComeHome ts (length cs) [] (begun cs) ts
+
+-- ---- the whole
+
+-- THESE LINES OF CLOSED NODES PLAY UP TO WORLD w
+pub record PlayUpTo (cs : List Closed) (w : World) (ts : List Told) : Type 0 where
+  -- they are all lines, in the order of their tickets
+  pub lines : AreLinesOf cs ts
+  -- the world is what their happenings leave
+  pub world : w ≡ world_of cs ts
+  -- and each of those applies
+  pub applied : AllApply (happenings cs ts) (empty (setups_of cs))
+  -- each line is followed, and each closed node has the entries and the records of its node in the world
+  pub one_world : AreOfOneWorld cs ts
+  -- each link that comes to a node leads to that node
+  pub links : EachLinkComesHome cs ts
+  -- each line of a frame takes its very body
+  pub bodies : EachTakesItsBody cs ts
+
+-- w IS THE WORLD OF THESE HISTORIES
+abbrev pub IsWorldOf : List Closed → World → Type 0
+IsWorldOf cs w = (ts : List Told) × PlayUpTo cs w ts

@@ -1,14 +1,15 @@
 -- WHAT IS WRONG WITH HISTORIES by themselves.
-use Rattle.std.specs.Prelude.{◌≡◌, ℕ, ◌==◌, Bool, true, false, not, ◌&&◌, ◌||◌, nat_lt, if◌then◌else◌, List, [], ◌∷◌, length, Option, Some, None}
+use Rattle.std.specs.Prelude.{◌≡◌, ℕ, ◌==◌, Bool, true, false, not, ◌&&◌, ◌||◌, nat_lt}
+use Rattle.std.specs.Prelude.{if◌then◌else◌, List, [], ◌∷◌, length, Option, Some, None}
 use Rattle.std.specs.List.{list_any}
 use Rattle.dist_world.specs.Setups.{names_repeat}
 use Rattle.dist_core.specs.declared.event.Event.{Event}
 use Rattle.dist_core.specs.declared.event.Event.TheVariants as event
-use Rattle.dist_books.specs.declared.line.Line.{Line}
-use Rattle.dist_books.specs.declared.closing.Closed.{Closed}
+use Rattle.dist_locked_book.specs.declared.line.Line.{Line}
+use Rattle.dist_locked_book.specs.declared.closing.Closed.{Closed}
 use Rattle.dist_audit.specs.declared.audit_error.AuditError.{AuditError}
 use Rattle.dist_audit.specs.declared.audit_error.AuditError.TheVariants as error
-use Rattle.dist_audit.specs.Lines.{Told, lines_of}
+use Rattle.dist_audit.specs.Lines.{Told, lines_by_node}
 use Rattle.dist_audit.specs.Links.{opens_in, comes_in}
 use Rattle.dist_audit.specs.Happenings.{setups_of}
 
@@ -54,12 +55,12 @@ abbrev pub links_repeat : List Told → Bool
 links_repeat [] = false
 links_repeat (t ∷ ts) = repeats (let l = t.line in l.event) ts || links_repeat ts
 
--- it is of a link that came, of which no node was told when it had dialled
+-- it is of a link that came, and that no node learned of when it had dialled
 abbrev pub unopened : List Told → Event → Bool
 unopened all (event.Incoming k) = not (list_any (opens_in k) all)
 unopened all _ = false
 
--- a link came that no node was told of when it had dialled
+-- a link came that no node learned of when it had dialled
 abbrev pub comes_unopened : List Told → Bool
 comes_unopened all = list_any (λ t. unopened all (let l = t.line in l.event)) all
 
@@ -73,7 +74,7 @@ links_unpaired all = links_repeat all || comes_unopened all
 
 -- NODES OR LINKS ARE NOT IN PAIRS
 abbrev pub is_unpaired : List Closed → Bool
-is_unpaired cs = nodes_unpaired cs || links_unpaired (lines_of cs)
+is_unpaired cs = nodes_unpaired cs || links_unpaired (lines_by_node cs)
 
 -- THE FIRST FAULT, in this order
 abbrev pub fault_of : List Closed → Option AuditError
@@ -82,14 +83,14 @@ fault_of cs =
     else (if twice cs then Some error.TicketTwice
     else (if is_unpaired cs then Some error.Unpaired else None))
 
--- a refusal tells the first fault, and nothing where memory was short
+-- a refusal names the first fault, and nothing where memory ran out
 abbrev pub IsFault : AuditError → List Closed → Type 0
 IsFault error.NoMemory cs = Unit {0}
 IsFault error.NotSent cs = ⊥
 IsFault error.OtherReply cs = ⊥
 IsFault e cs = fault_of cs ≡ Some e
 
--- a refusal tells that this is so, and nothing where memory was short
+-- a refusal says that this is so, and nothing where memory ran out
 abbrev pub Unpairs : AuditError → Bool → Type 0
 Unpairs error.NoMemory b = Unit {0}
 Unpairs error.Unpaired b = b ≡ true

@@ -1,14 +1,14 @@
 -- THE HAPPENINGS OF HISTORIES.
 use Rattle.std.specs.Prelude.{ℕ, ◌+◌, suc, List, [], ◌∷◌, ◌++◌, length, Option, Some, None, if◌then◌else◌, option_to_list}
 use Rattle.dist_peers.specs.declared.entry.EndId.{EndId}
-use Rattle.dist_setup.specs.declared.setup.Setup.{Setup}
+use Rattle.dist_core_setup.specs.declared.setup.Setup.{Setup}
 use Rattle.dist_core.specs.declared.event.Event.{Event}
 use Rattle.dist_core.specs.declared.event.Event.TheVariants as event
-use Rattle.dist_books.specs.declared.line.Line.{Line}
-use Rattle.dist_books.specs.declared.closing.Closed.{Closed}
-use Rattle.dist_agreement.specs.declared.happening.Happening.{Happening}
-use Rattle.dist_agreement.specs.declared.happening.Happening.TheVariants as happening
-use Rattle.dist_audit.specs.Lines.{Told, lines_of}
+use Rattle.dist_locked_book.specs.declared.line.Line.{Line}
+use Rattle.dist_locked_book.specs.declared.closing.Closed.{Closed}
+use Rattle.dist_world_model.specs.declared.happening.Happening.{Happening}
+use Rattle.dist_world_model.specs.declared.happening.Happening.TheVariants as happening
+use Rattle.dist_audit.specs.Lines.{Told}
 use Rattle.dist_audit.specs.Links.{link_in, dialler_of, acceptor_of, target_of, is_among, mention, conn_of}
 
 -- what all nodes were set up with
@@ -30,7 +30,7 @@ reach all count k (Some x) = Some (happening.Reach x.0 x.1 (target_of count x.0 
 abbrev pub reach_first : List Told → ℕ → List ℕ → ℕ → Option Happening
 reach_first all count ks k = if is_among k ks then None else reach all count k (dialler_of k all)
 
--- WHAT HAPPENS BEFORE A LINE: of all these lines, with so many nodes, where these links were mentioned before
+-- WHAT HAPPENS BEFORE A LINE: of all these lines, with this many nodes, where these links were mentioned before
 abbrev pub before : List Told → ℕ → List ℕ → ℕ → Event → Option Happening
 before all count ks i (event.Dial p o) = None
 before all count ks i (event.Opened id k) = reach_first all count ks k
@@ -69,6 +69,6 @@ abbrev pub of_lines : List Told → ℕ → List ℕ → List Told → List Happ
 of_lines all count ks [] = []
 of_lines all count ks (t ∷ ts) = option_to_list (ahead all count ks t) ++ (itself ks t ∷ of_lines all count (mentioned ks t) ts)
 
--- THE HAPPENINGS OF THESE HISTORIES: each node begins, and then each line happens, in the order of tickets
-abbrev pub happenings : List Closed → List Happening
-happenings cs = begins 0 (setups_of cs) ++ of_lines (lines_of cs) (length cs) [] (lines_of cs)
+-- THE HAPPENINGS OF HISTORIES that have these lines, in this order: each node begins, and then each line happens
+abbrev pub happenings : List Closed → List Told → List Happening
+happenings cs ts = begins 0 (setups_of cs) ++ of_lines ts (length cs) [] ts

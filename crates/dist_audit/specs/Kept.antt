@@ -1,18 +1,13 @@
 -- WHAT THE CODE KEEPS BESIDE THE LINES, so that no line is looked for twice.
-use Rattle.std.specs.Prelude.{◌≡◌, ℕ, suc, ◌<◌, ◌==◌, Bool, false, not, if◌then◌else◌, is_some, List, [], ◌∷◌, Option, Some, None}
+use Rattle.std.specs.Prelude.{◌≡◌, ℕ, suc, ◌==◌, Bool, false, not, if◌then◌else◌, is_some, List, [], ◌∷◌, Option, Some, None}
 use Rattle.std.specs.Option.{option_map}
 use Rattle.std.specs.Ordering.{nat_cmp}
 use Rattle.std.specs.BTreeMap.{BTreeMap, get}
 use Rattle.dist_peers.specs.declared.entry.EndId.{EndId}
 use Rattle.dist_core.specs.declared.event.Event.{Event}
 use Rattle.dist_core.specs.declared.event.Event.TheVariants as event
-use Rattle.dist_audit.specs.Lines.{Told, ticket_of}
+use Rattle.dist_audit.specs.Lines.{Told}
 use Rattle.dist_audit.specs.Links.{dialler_of, acceptor_of}
-
--- each line stands under its ticket, and under a number that is less than n
-abbrev pub AreInTurn : ℕ → List ((ℕ × ℕ) × Told) → Type 0
-AreInTurn n [] = Unit {0}
-AreInTurn n (e ∷ es) = ((let k = e.0 in k.0) ≡ ticket_of e.1) × ((let k = e.0 in k.1) < n) × AreInTurn n es
 
 -- these maps have, for each link, who was told of it when it had dialled, and to whom it came
 pub record Knows (diallers : BTreeMap ℕ (ℕ × EndId)) (acceptors : BTreeMap ℕ ℕ) (ts : List Told) : Type 0 where

@@ -12,7 +12,7 @@ link_in (event.Opened id k) = Some k
 link_in (event.Incoming k) = Some k
 link_in _ = None
 
--- the dialling end is told of this link
+-- the dialling end learns of this link
 abbrev pub opens : ℕ → Event → Bool
 opens k (event.Opened id j) = j == k
 opens k _ = false
@@ -22,7 +22,7 @@ abbrev pub comes : ℕ → Event → Bool
 comes k (event.Incoming j) = j == k
 comes k _ = false
 
--- the line tells the dialling end of this link
+-- in the line the dialling end learns of this link
 abbrev pub opens_in : ℕ → Told → Bool
 opens_in k t = let l = t.line in opens k l.event
 
@@ -30,12 +30,12 @@ opens_in k t = let l = t.line in opens k l.event
 abbrev pub comes_in : ℕ → Told → Bool
 comes_in k t = let l = t.line in comes k l.event
 
--- the dialled end that is told of this link
+-- the dialled end that learns of this link
 abbrev pub dialled : ℕ → Event → Option EndId
 dialled k (event.Opened id j) = if j == k then Some id else None
 dialled k _ = None
 
--- the dialled end that the line tells of this link
+-- the dialled end that learns of this link in the line
 abbrev pub dialled_in : ℕ → Told → Option EndId
 dialled_in k t = let l = t.line in dialled k l.event
 
@@ -44,7 +44,7 @@ abbrev pub or_else : ℕ → Option EndId → Option (ℕ × EndId) → Option (
 or_else i None other = other
 or_else i (Some id) other = Some (i, id)
 
--- the node and the end that were told of the link when they had dialled
+-- the node and the end that learned of the link when they had dialled
 abbrev pub dialler_of : ℕ → List Told → Option (ℕ × EndId)
 dialler_of k [] = None
 dialler_of k (t ∷ ts) = or_else t.node (dialled_in k t) (dialler_of k ts)
@@ -54,7 +54,7 @@ abbrev pub acceptor_of : ℕ → List Told → Option ℕ
 acceptor_of k [] = None
 acceptor_of k (t ∷ ts) = if comes_in k t then Some t.node else acceptor_of k ts
 
--- of so many nodes the first other than node i, or node i where there is no other
+-- of this many nodes the first other than node i, or node i where there is no other
 abbrev pub first_other : ℕ → ℕ → ℕ
 first_other count i = if i == 0 then (if nat_lt 1 count then 1 else 0) else 0
 

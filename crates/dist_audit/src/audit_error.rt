@@ -8,7 +8,7 @@ use std::alloc::{AllocError, AllocFailed};
 use std::error::Error;
 use std::fmt;
 
-/// Why histories make no world. Of the first three the first that holds is told, in this order.
+/// Why histories make no world. Of the first three the first that holds is returned, in this order.
 #[derive(Clone, Copy, Debug, PartialEq, Eq)]
 pub enum AuditError {
     /// In one history a ticket is not greater than the one before. The fault of whoever kept it.
@@ -18,7 +18,7 @@ pub enum AuditError {
     /// There are more than 1,048,576 nodes, or two of one name; or a link was dialled twice, or came twice, or came and was
     /// not dialled.
     Unpaired,
-    /// A frame is not the next one that the other end had said by then.
+    /// A frame is not the next one that the other end had sent by then.
     NotSent,
     /// A line does not happen, or is answered otherwise, or a node ends with other entries or records.
     OtherReply,
@@ -56,7 +56,7 @@ impl AuditError {
     }
 }
 
-// The sentence that tells it.
+// The sentence for it.
 fn sentence(error: AuditError) -> &'static str {
     match error {
         AuditError::TicketFalls => "the tickets of a node do not rise",

@@ -1,11 +1,11 @@
 //! The audit.
-ghost use Rattle.std.specs.Prelude.{◌≡◌, ◌↔◌, None, Some, IsTrue, true, false, IfOk, IfErr, OnOk};
-ghost use Rattle.dist_agreement.specs.World.{empty};
-ghost use Rattle.dist_agreement.specs.Run.{run};
-ghost use Rattle.dist_audit.specs.Lines.{lines_of};
-ghost use Rattle.dist_audit.specs.Happenings.{setups_of, begins, happenings};
+ghost use Rattle.std.specs.Prelude.{◌≡◌, ◌↔◌, List, None, Some, IsTrue, true, false, IfOk, IfErr, OnOk};
+ghost use Rattle.dist_world_model.specs.World.{empty};
+ghost use Rattle.dist_world_model.specs.Run.{run};
+ghost use Rattle.dist_audit.specs.Lines.{Told, AreLinesOf};
+ghost use Rattle.dist_audit.specs.Happenings.{setups_of, begins};
 ghost use Rattle.dist_audit.specs.Faults.{falls, twice, fault_of, nodes_unpaired, Unpairs, IsFault};
-ghost use Rattle.dist_audit.specs.Audit.{AllApply, AreOfOneWorld, EachLinkComesHome, EachTakesItsBody, IsRefused, Refutes, Tells, TellsFirst, UnlessShort, world_of};
+ghost use Rattle.dist_audit.specs.Audit.{AllApply, AreOfOneWorld, IsRefused, IsWorldOf, Refutes, Tells, TellsFirst, UnlessShort, world_of};
 
 use crate::audit_error::AuditError;
 use crate::checks::{falls, twice};
@@ -13,8 +13,8 @@ use crate::happenings::{begins, setups_of};
 use crate::pairing::{Lines, paired_lines};
 use crate::tables::has_tables;
 use crate::walk::{follow_all, happen};
-use dist_books::Closed;
 use dist_frames::frame_in_front;
+use dist_locked_book::Closed;
 use dist_world::{World, WorldError};
 use std::alloc::{AllocError, Global};
 
@@ -69,12 +69,12 @@ fn play(
     lines: &Lines,
     closed: &[Closed],
 ) -> Result<(), AuditError>
-    requires opening { (world.old ≡ empty (setups_of closed.now)) × (lines.now ≡ lines_of closed.now) }
+    requires opening { world.old ≡ empty (setups_of closed.now) }
     requires faultless { fault_of closed.now ≡ None }
-    ensures world { OnOk result (world.new ≡ world_of closed.now) }
-    ensures one_world { OnOk result (AreOfOneWorld closed.now) }
-    ensures err { IfErr result (λ e. Refutes e (AreOfOneWorld closed.now)) }
-    ensures first { IfErr result (λ e. UnlessShort e (IsRefused e closed.now)) }
+    ensures world { OnOk result (world.new ≡ world_of closed.now lines.now) }
+    ensures one_world { OnOk result (AreOfOneWorld closed.now lines.now) }
+    ensures err { IfErr result (λ e. Refutes e (AreOfOneWorld closed.now lines.now)) }
+    ensures first { IfErr result (λ e. UnlessShort e (IsRefused e closed.now lines.now)) }
 {
     if !begin(alloc, world)? {
         return Err(AuditError::OtherReply);
@@ -91,8 +91,7 @@ fn play_in_order(alloc: Global, world: &mut World, closed: &[Closed]) -> Result<
     requires opening { world.old ≡ empty (setups_of closed.now) }
     requires tickets { (falls closed.now ≡ false) × (twice closed.now ≡ false) }
     requires nodes { nodes_unpaired closed.now ≡ false }
-    ensures world { OnOk result (world.new ≡ world_of closed.now) }
-    ensures one_world { OnOk result (AreOfOneWorld closed.now) }
+    ensures played { OnOk result ((ts : List Told) × AreLinesOf closed.now ts × (world.new ≡ world_of closed.now ts) × AreOfOneWorld closed.now ts) }
     ensures faultless { OnOk result (fault_of closed.now ≡ None) }
     ensures err { IfErr result (λ e. Tells e closed.now) }
     ensures first { IfErr result (λ e. TellsFirst e closed.now) }
@@ -106,21 +105,17 @@ fn play_in_order(alloc: Global, world: &mut World, closed: &[Closed]) -> Result<
 /// closed node `i`. Our own choice: the standard knows no such check.
 ///
 /// At most 1,048,576 nodes. The histories are looked at first, for `TicketFalls`, then `TicketTwice`, then `Unpaired`; then
-/// the lines are followed in the order of their tickets, and the first that does not fit is told; then the tables are
+/// the lines are followed in the order of their tickets, and the first that does not fit is refused; then the tables are
 /// compared. `NoMemory` may come at any point but the first, and says nothing of the histories. The cost grows as the lines
 /// and the bytes of their frames do, times a logarithm of the number of lines.
 pub fn audit(alloc: Global, closed: &[Closed]) -> Result<World, AuditError>
-    ensures world { IfOk result (λ w. w ≡ world_of closed.now) }
-    ensures applied { OnOk result (AllApply (happenings closed.now) (empty (setups_of closed.now))) }
-    ensures one_world { OnOk result (AreOfOneWorld closed.now) }
-    ensures links { OnOk result (EachLinkComesHome closed.now) }
-    ensures bodies { OnOk result (EachTakesItsBody closed.now) }
+    ensures world { IfOk result (λ w. IsWorldOf closed.now w) }
     ensures faultless { OnOk result (fault_of closed.now ≡ None) }
 
-    // A refusal tells the first fault, or that the histories are not those of one world.
+    // A refusal names the first fault, or says that the histories are not those of one world.
     ensures err { IfErr result (λ e. Tells e closed.now) }
 
-    // NotSent and OtherReply are told of the first line that is not followed, and OtherReply of tables where all are.
+    // NotSent and OtherReply are returned for the first line that is not followed, and OtherReply of tables where all are.
     ensures first { IfErr result (λ e. TellsFirst e closed.now) }
 {
     frame_in_front();

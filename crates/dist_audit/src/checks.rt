@@ -5,7 +5,7 @@ ghost use Rattle.std.specs.Ordering.{nat_cmp};
 ghost use Rattle.std.specs.BTreeSet.{contains};
 ghost use Rattle.dist_audit.specs.Faults.{starts_above, rises, falls, has_ticket, twice};
 
-use dist_books::{Closed, Line};
+use dist_locked_book::{Closed, Line};
 use std::alloc::{AllocError, Global};
 use std::collections::BTreeSet;
 

@@ -5,8 +5,8 @@ ghost use Rattle.dist_audit.specs.Happenings.{setups_of, begins, reach_first, be
 use crate::links::target_of;
 use crate::mentions::Mentioned;
 use crate::pairing::Lines;
-use dist_books::Closed;
 use dist_core::{Event, Setup};
+use dist_locked_book::Closed;
 use dist_world::Happening;
 use std::alloc::{AllocError, Global};
 

@@ -8,6 +8,7 @@ mod audit_error;
 mod auditing;
 mod checks;
 mod happenings;
+mod laws;
 mod lines;
 mod links;
 mod mentions;
@@ -17,3 +18,4 @@ mod walk;
 
 pub use audit_error::AuditError;
 pub use auditing::audit;
+pub use laws::lines_have_one_order;

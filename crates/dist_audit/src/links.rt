@@ -36,7 +36,7 @@ pub fn target_of(count: usize, node: usize, acceptor: Option<usize>) -> usize
     }
 }
 
-/// For each link the node and the end that were told of it when they had dialled, and the node to which it came.
+/// For each link the node and the end that learned of it when they had dialled, and the node to which it came.
 #[derive(Drop)]
 pub struct LinkTable {
     pub diallers: BTreeMap<u64, (usize, EndId)>,
@@ -53,10 +53,12 @@ impl LinkTable {
         }
     }
 
-    // Learns what a line tells, and says whether its link was known from another of its kind.
+    // Learns what a line says, and returns whether its link was known from another of its kind.
     fn learn(&mut self, told: &Told) -> Result<bool, AllocError>
-        ensures diallers { OnOk result ((k : ℕ) → get nat_cmp self.new.diallers k ≡ or_else told.now.node (dialled_in k told.now) (get nat_cmp self.old.diallers k)) }
-        ensures acceptors { OnOk result ((k : ℕ) → get nat_cmp self.new.acceptors k ≡ (if comes_in k told.now then Some told.now.node else get nat_cmp self.old.acceptors k)) }
+        ensures diallers { OnOk result ((k : ℕ) → get nat_cmp self.new.diallers k
+            ≡ or_else told.now.node (dialled_in k told.now) (get nat_cmp self.old.diallers k)) }
+        ensures acceptors { OnOk result ((k : ℕ) → get nat_cmp self.new.acceptors k
+            ≡ (if comes_in k told.now then Some told.now.node else get nat_cmp self.old.acceptors k)) }
         ensures again { IfOk result (λ b. b ≡ is_again self.old.diallers self.old.acceptors (let l = told.now.line in l.event)) }
     {
         match &told.line().event {
@@ -93,7 +95,7 @@ impl LinkTable {
         false
     }
 
-    /// A link came that no node was told of when it had dialled.
+    /// A link came that no node learned of when it had dialled.
     pub fn comes_unopened(&self, lines: &[Told]) -> bool
         requires { Knows self.now.diallers self.now.acceptors lines.now }
         ensures { result ≡ comes_unopened lines.now }
@@ -102,7 +104,7 @@ impl LinkTable {
     }
 }
 
-/// What these lines tell of each link, where no link stands in two lines of one kind.
+/// What these lines say of each link, where no link stands in two lines of one kind.
 pub fn link_table(alloc: Global, lines: &[Told]) -> Result<LinkTable, AuditError>
     ensures known { IfOk result (λ t. Knows t.diallers t.acceptors lines.now) }
     ensures once { OnOk result (links_repeat lines.now ≡ false) }

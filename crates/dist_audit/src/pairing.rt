@@ -1,18 +1,18 @@
 //! All lines, whose links are in pairs.
 ghost use Rattle.std.specs.Prelude.{◌≡◌, false, IfOk, IfErr, OnOk};
-ghost use Rattle.dist_audit.specs.Lines.{lines_of};
+ghost use Rattle.dist_audit.specs.Lines.{lines_by_node, AreLinesOf};
 ghost use Rattle.dist_audit.specs.Links.{dialler_of, acceptor_of};
 ghost use Rattle.dist_audit.specs.Faults.{links_unpaired, Unpairs};
 
 use crate::audit_error::AuditError;
 use crate::lines::{Told, lines_of};
 use crate::links::{LinkTable, link_table};
-use dist_books::Closed;
+use dist_locked_book::Closed;
 use dist_peers::EndId;
 use std::alloc::Global;
 use std::marker::Model;
 
-/// All lines in the order of their tickets, and what they tell of each link.
+/// All lines in the order of their tickets, and what they say of each link.
 #[derive(Drop)]
 pub struct Lines<'a> {
     told: Vec<Told<'a>>,
@@ -38,7 +38,7 @@ impl<'a> Lines<'a> {
         &self.told
     }
 
-    /// The node and the end that were told of the link when they had dialled.
+    /// The node and the end that learned of the link when they had dialled.
     pub fn dialler_of(&self, link: u64) -> Option<(usize, EndId)>
         ensures { result ≡ dialler_of link self.now }
     {
@@ -53,16 +53,25 @@ impl<'a> Lines<'a> {
     }
 }
 
-/// All lines of these nodes, whose links are in pairs.
-pub fn paired_lines(alloc: Global, closed: &[Closed]) -> Result<Lines, AuditError>
-    ensures ok { IfOk result (λ lines. lines ≡ lines_of closed.now) }
-    ensures paired { OnOk result (links_unpaired (lines_of closed.now) ≡ false) }
-    ensures err { IfErr result (λ e. Unpairs e (links_unpaired (lines_of closed.now))) }
+// These lines, whose links are in pairs.
+fn pair(alloc: Global, told: Vec<Told>) -> Result<Lines, AuditError>
+    ensures ok { IfOk result (λ lines. lines ≡ told.entry.items) }
+    ensures paired { OnOk result (links_unpaired told.entry.items ≡ false) }
+    ensures err { IfErr result (λ e. Unpairs e (links_unpaired told.entry.items)) }
 {
-    let told = lines_of(alloc, closed)?;
     let links = link_table(alloc, &told)?;
     if links.comes_unopened(&told) {
         return Err(AuditError::Unpaired);
     }
     Ok(Lines { told, links })
+}
+
+/// All lines of these nodes, in the order of their tickets, whose links are in pairs.
+pub fn paired_lines(alloc: Global, closed: &[Closed]) -> Result<Lines, AuditError>
+    ensures ok { IfOk result (λ lines. AreLinesOf closed.now lines) }
+    ensures paired { OnOk result (links_unpaired (lines_by_node closed.now) ≡ false) }
+    ensures err { IfErr result (λ e. Unpairs e (links_unpaired (lines_by_node closed.now))) }
+{
+    let told = lines_of(alloc, closed)?;
+    pair(alloc, told)
 }

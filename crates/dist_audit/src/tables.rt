@@ -3,8 +3,8 @@ ghost use Rattle.std.specs.Prelude.{◌≡◌, ◌↔◌, ℕ, IsTrue};
 ghost use Rattle.dist_world.specs.Asking.{node_of};
 ghost use Rattle.dist_audit.specs.Audit.{entry_at, record_at, IsAlike, HasTables};
 
-use dist_books::Closed;
 use dist_core::Node;
+use dist_locked_book::Closed;
 use dist_world::World;
 
 fn same_entry_at(ours: &Node, theirs: &Node, k: usize) -> bool

@@ -1,6 +1,6 @@
 //! The walk along the lines, in a world.
 ghost use Rattle.std.specs.Prelude.{◌≡◌, ◌↔◌, ◌∷◌, [], length, IsTrue, IfOk, IfErr, OnOk, OnErr, option_to_list};
-ghost use Rattle.dist_agreement.specs.Run.{run};
+ghost use Rattle.dist_world_model.specs.Run.{run};
 ghost use Rattle.dist_world.specs.Asking.{node_of};
 ghost use Rattle.dist_audit.specs.Happenings.{mentioned, own_of, of_lines};
 ghost use Rattle.dist_audit.specs.Links.{mention, link_in};
@@ -11,15 +11,15 @@ use crate::happenings::{before, own};
 use crate::lines::Told;
 use crate::mentions::Mentioned;
 use crate::pairing::Lines;
-use dist_books::Line;
 use dist_core::{Event, StepError};
 use dist_frames::{FrameError, write_short};
+use dist_locked_book::Line;
 use dist_peers::EndId;
 use dist_world::{Happening, World};
 use std::alloc::{AllocError, Global};
 use std::slice;
 
-/// Lets these happenings happen, and says whether all applied.
+/// Lets these happenings happen, and returns whether all applied.
 pub fn happen(
     world: &mut World,
     alloc: Global,
@@ -49,7 +49,7 @@ fn happen_before(
     }
 }
 
-// The frame of this body is the next that was said to an end.
+// The frame of this body is the next that was sent to an end.
 fn is_said_next(
     alloc: Global,
     world: &World,
@@ -66,7 +66,7 @@ fn is_said_next(
     }
 }
 
-// The body of a frame is the next that the other end had said by then.
+// The body of a frame is the next that the other end had sent by then.
 fn is_next(alloc: Global, world: &World, node: usize, event: &Event) -> Result<bool, AllocError>
     ensures { IfOk result (λ b. IsTrue b ↔ IsNext world.now node event.now) }
 {

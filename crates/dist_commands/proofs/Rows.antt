@@ -10,7 +10,7 @@ use Rattle.dist_commands.specs.declared.order_of_words.Order.{Order}
 use Rattle.dist_commands.specs.declared.order_of_words.Order.TheVariants.{Enact, Cookie, Names, Run}
 use Rattle.dist_commands.specs.declared.order_of_words.OrderError.{OrderError}
 use Rattle.dist_commands.specs.declared.order_of_words.OrderError.TheVariants.{Bad, NoMemory}
-use Rattle.dist_commands.specs.CommandLine.{Asks, FoundBy, HasNumber, IsOrderOf, program_app}
+use Rattle.dist_commands.specs.CommandLine.{AsksWith, FoundBy, HasNumber, IsOrderOf, program_app}
 
 -- what a getter gives is what the rows have
 pub matched : {B : Type 0} (now : B → Text) (f : Found) (id : Text) (r o : Option B) → option_map now r ≡ first_value f id → r ≡ o → first_of id (rows_of f) ≡ option_map now o
@@ -35,32 +35,32 @@ third_off true true true d e = absurd cc
 third_off true false c d e = absurd cc
 third_off false b c d e = absurd cc
 
--- the words are refused for want of memory
+-- the words are refused since memory ran out
 pub not_bad : (why : OrderError) → why ≡ NoMemory → why ≡ Bad → ⊥
 not_bad why a b = absurd cc
 
 -- the order that is found in what the parser matched is the order that the words ask for
-pub order_given : (words : List Text) (m : Option (Text × List Row)) (r : Option Order) → FoundBy (λ order. IsSomeAnd m (IsOrderOf order)) r → fault_of program_app words ≡ [] → m ≡ subcommand_of program_app words → IfOk (ok_or r Bad) (Asks words)
-order_given words m None h taken same = tt
-order_given words m (Some order) h taken same = (taken, subst (λ o. IsSomeAnd o (IsOrderOf order)) same h)
+pub order_given : (usual : ℕ) (words : List Text) (m : Option (Text × List Row)) (r : Option Order) → FoundBy (λ order. IsSomeAnd m (IsOrderOf usual order)) r → fault_of program_app words ≡ [] → m ≡ subcommand_of program_app words → IfOk (ok_or r Bad) (AsksWith usual words)
+order_given usual words m None h taken same = tt
+order_given usual words m (Some order) h taken same = (taken, subst (λ o. IsSomeAnd o (IsOrderOf usual order)) same h)
 
 -- and where none is found they ask for none
-pub no_order : (words : List Text) (m : Option (Text × List Row)) (r : Option Order) → FoundBy (λ order. IsSomeAnd m (IsOrderOf order)) r → m ≡ subcommand_of program_app words → ok_or r Bad ≡ Err Bad → (order : Order) → Asks words order → ⊥
-no_order words m None h same e order asks = h order (subst (λ o. IsSomeAnd o (IsOrderOf order)) (sym same) asks.1)
-no_order words m (Some found) h same e order asks = absurd cc
+pub no_order : (usual : ℕ) (words : List Text) (m : Option (Text × List Row)) (r : Option Order) → FoundBy (λ order. IsSomeAnd m (IsOrderOf usual order)) r → m ≡ subcommand_of program_app words → ok_or r Bad ≡ Err Bad → (order : Order) → AsksWith usual words order → ⊥
+no_order usual words m None h same e order asks = h order (subst (λ o. IsSomeAnd o (IsOrderOf usual order)) (sym same) asks.1)
+no_order usual words m (Some found) h same e order asks = absurd cc
 
 apart : {T : Type 0} (o : Option T) (t : T) → o ≡ None → o ≡ Some t → ⊥
 apart o t a b = absurd cc
 
 -- without a file no order is that of the command `cookie`, and none is that of `run`
-pub no_cookie : (rows : List Row) → first_of (codes "file") rows ≡ None → (order : Order) → IsOrderOf order (codes "cookie", rows) → ⊥
-no_cookie rows none Enact p = absurd cc
-no_cookie rows none (Cookie file challenge) p = apart _ _ none p.1
-no_cookie rows none (Names port) p = absurd cc
-no_cookie rows none (Run file) p = absurd cc
+pub no_cookie : (usual : ℕ) (rows : List Row) → first_of (codes "file") rows ≡ None → (order : Order) → IsOrderOf usual order (codes "cookie", rows) → ⊥
+no_cookie usual rows none Enact p = absurd cc
+no_cookie usual rows none (Cookie file challenge) p = apart _ _ none p.1
+no_cookie usual rows none (Names port) p = absurd cc
+no_cookie usual rows none (Run file) p = absurd cc
 
-pub no_run : (rows : List Row) → first_of (codes "file") rows ≡ None → (order : Order) → IsOrderOf order (codes "run", rows) → ⊥
-no_run rows none Enact p = absurd cc
-no_run rows none (Cookie file challenge) p = absurd cc
-no_run rows none (Names port) p = absurd cc
-no_run rows none (Run file) p = apart _ _ none p.1
+pub no_run : (usual : ℕ) (rows : List Row) → first_of (codes "file") rows ≡ None → (order : Order) → IsOrderOf usual order (codes "run", rows) → ⊥
+no_run usual rows none Enact p = absurd cc
+no_run usual rows none (Cookie file challenge) p = absurd cc
+no_run usual rows none (Names port) p = absurd cc
+no_run usual rows none (Run file) p = apart _ _ none p.1

@@ -6,4 +6,4 @@ mod matched;
 mod order_of_words;
 mod program;
 
-pub use order_of_words::{Order, OrderError, order_of};
+pub use order_of_words::{Order, OrderError, order_of, order_with};

@@ -4,13 +4,16 @@ ghost use Rattle.std.specs.Prelude.{◌≡◌, IfOk, map};
 ghost use Rattle.clap.specs.Words.{kind_of};
 ghost use Rattle.dist_commands.specs.declared.order_of_words.OrderError.TheVariants.{NoMemory};
 ghost use Rattle.dist_commands.specs.declared.order_of_words.Order.{Order};
-ghost use Rattle.dist_commands.specs.CommandLine.{Asks};
+ghost use Rattle.dist_commands.specs.CommandLine.{Asks, AsksWith};
 
 use crate::matched::order_in;
 use crate::program::program;
 use clap::Error;
 use clap::error::ErrorKind;
 use std::alloc::{AllocError, Global};
+
+// Where a port mapper listens, unless the environment or the command line says otherwise. Source: ERTS User's Guide, epmd.
+const MAPPER_PORT: u16 = 4369;
 
 /// What the program is asked to do.
 #[derive(Clone, Copy)]
@@ -53,13 +56,26 @@ fn refusal(error: &Error) -> OrderError
 }
 
 /// The order that the words after the program's name give: that of the command which the parser of command lines matches
-/// in them, with the file and the number that it matches. They are `Bad` where it matches none.
+/// in them, with the file and the number that it matches, and with this port of the port mapper where they name none. They are
+/// `Bad` where it matches none.
+pub fn order_with<'a>(
+    alloc: Global,
+    words: &'a [&'a str],
+    mapper_port: u16,
+) -> Result<Order<'a>, OrderError>
+    ensures ok { IfOk result (AsksWith mapper_port (map (λ word. word.now) words.now)) }
+    ensures bad { result ≡ Err OrderError.Bad → (order : Order) → AsksWith mapper_port (map (λ word. word.now) words.now) order → ⊥ }
+{
+    match program(alloc)?.try_get_matches_from(words) {
+        Ok(matches) => order_in(&matches, mapper_port).ok_or(OrderError::Bad),
+        Err(error) => Err(refusal(&error)),
+    }
+}
+
+/// The same, with port 4369 where they name none.
 pub fn order_of<'a>(alloc: Global, words: &'a [&'a str]) -> Result<Order<'a>, OrderError>
     ensures ok { IfOk result (Asks (map (λ word. word.now) words.now)) }
     ensures bad { result ≡ Err OrderError.Bad → (order : Order) → Asks (map (λ word. word.now) words.now) order → ⊥ }
 {
-    match program(alloc)?.try_get_matches_from(words) {
-        Ok(matches) => order_in(&matches).ok_or(OrderError::Bad),
-        Err(error) => Err(refusal(&error)),
-    }
+    order_with(alloc, words, MAPPER_PORT)
 }

@@ -1,8 +1,8 @@
-//! The program, as the parser of command lines is told of it.
+//! The program, as it is described to the parser of command lines.
 
-ghost use Rattle.std.specs.Prelude.{◌≡◌, IfOk, codes, true};
-ghost use Rattle.clap.specs.Words.{App, app_of, new_app, with_subcommand};
-ghost use Rattle.dist_commands.specs.CommandLine.{bare_app, cookie_app, names_app, program_app, run_app};
+ghost use Rattle.std.specs.Prelude.{◌≡◌, IfOk, codes, false, true};
+ghost use Rattle.clap.specs.Words.{App, app_of, new_app, rule_of, with_subcommand};
+ghost use Rattle.dist_commands.specs.CommandLine.{bare_app, cookie_app, names_app, program_app, run_app, value, value_or};
 
 use clap::{Arg, ArgAction, Command};
 use std::alloc::{AllocError, Global};
@@ -20,10 +20,26 @@ fn cookie_command<'a>(alloc: Global) -> Result<Command<'a>, AllocError>
     command.arg(challenge)
 }
 
+// The port of the port mapper, by its first name.
+fn port<'a>(alloc: Global) -> Arg<'a>
+    ensures rule { rule_of result ≡ value (codes "port") }
+    ensures local { result.global ≡ false }
+{
+    Arg::new(alloc, "port").long("port").action(ArgAction::Set)
+}
+
+// The same, by both names.
+fn port_or_epmd_port<'a>(alloc: Global) -> Result<Arg<'a>, AllocError>
+    ensures rule { IfOk result (λ a. rule_of a ≡ value_or (codes "port") (codes "epmd-port")) }
+    ensures local { IfOk result (λ a. a.global ≡ false) }
+{
+    port(alloc).alias("epmd-port")
+}
+
 fn names_command<'a>(alloc: Global) -> Result<Command<'a>, AllocError>
     ensures { IfOk result (λ c. app_of c ≡ names_app) }
 {
-    let port = Arg::new(alloc, "port").long("port").action(ArgAction::Set);
+    let port = port_or_epmd_port(alloc)?;
     Command::new(alloc, "names").arg(port)
 }
 
@@ -46,7 +62,7 @@ fn bare<'a>(alloc: Global) -> Command<'a>
         .subcommand_required(true)
 }
 
-// The program with one more command, where there was memory to tell of it.
+// The program with one more command, where there was memory for it.
 fn with_command<'a>(
     program: Command<'a>,
     command: Result<Command<'a>, AllocError>,

@@ -1,16 +1,16 @@
 -- What follows from the definition of the step for a call that gives what it gives.
 use Rattle.std.proofs.Common.{◌≡◌, ◌≢◌, ℕ, true, Option, Some, None, Result, Ok, Err, IfOk, IsOk, refl, sym, ap, ◌∙◌, subst, slice_get}
 use Rattle.dist_peers.specs.declared.entry.EndId.{EndId}
-use Rattle.dist_ends.specs.declared.why.Why.{Why}
-use Rattle.dist_ends.specs.declared.known.End.{End}
-use Rattle.dist_ends.specs.declared.known.End.TheVariants as ends
+use Rattle.dist_core_ends.specs.declared.why.Why.{Why}
+use Rattle.dist_core_ends.specs.declared.known.End.{End}
+use Rattle.dist_core_ends.specs.declared.known.End.TheVariants as ends
 use Rattle.dist_core.specs.declared.event.Event.{Event}
 use Rattle.dist_core.specs.declared.event.Event.TheVariants as event
 use Rattle.dist_core.specs.declared.reply.Reply.{Reply}
 use Rattle.dist_core.specs.declared.effect.Effect.{Effect}
 use Rattle.dist_core.specs.declared.step_error.StepError.{StepError}
 use Rattle.dist_core.specs.declared.step_error.StepError.TheVariants as error
-use Rattle.dist_ends.specs.Ends.{AreLegal, is_open}
+use Rattle.dist_core_ends.specs.Ends.{AreLegal, is_open}
 use Rattle.dist_core.specs.Node.{NodeState}
 use Rattle.dist_core.specs.Effects.{closes}
 use Rattle.dist_core.specs.Step.{effect_of, at_end, opened, framed_from, sender_to, ticked, step, stepped}
@@ -18,7 +18,7 @@ use Rattle.dist_core.specs.Answers.{IsStep, GivesReply, Refuses, reply_of, IsLos
 use Rattle.dist_core.specs.Clauses.{end_of, loss_reply, ClosesOnReply}
 use Rattle.dist_core.proofs.Closings.{closes_on_reply}
 
--- a call of step answers
+-- what a call of step returns
 pub told : (r : Result Reply StepError) (s : Result (Reply × NodeState) StepError) (old new : NodeState) → IsStep r s old new → GivesReply r s
 told (Ok r) s old new h = ap reply_of h
 told (Err e) s old new h = h.0

@@ -1,8 +1,8 @@
 -- Forgetting takes away no end.
 use Rattle.std.proofs.Common.{◌≡◌, ℕ, List, map, take, drop, length, ap, arith}
 use Rattle.std.proofs.lemmas.List.{length-map, length-append, take-append-drop}
-use Rattle.dist_ends.specs.declared.known.End.{End}
-use Rattle.dist_ends.specs.Forgetting.{forgotten, without_cause}
+use Rattle.dist_core_ends.specs.declared.known.End.{End}
+use Rattle.dist_core_ends.specs.Forgetting.{forgotten, without_cause}
 
 -- there are as many ends as before
 pub length_forgotten : (below : ℕ) (es : List End) → length (forgotten below es) ≡ length es

@@ -10,3 +10,4 @@ pub mod Losses
 pub mod Numbers
 pub mod UsualCookies
 pub mod Forgetting
+pub mod Prepares

@@ -1,17 +1,17 @@
--- What a call answers to a loss.
+-- What a call returns for a loss.
 use Rattle.std.proofs.Common.{◌≡◌, true, Option, Some, None, Result, Ok, Err, slice_get, List, refl, ap, subst}
 use Rattle.std.specs.Prelude.{IsOk, IfOk, IfErr}
 use Rattle.dist_peers.specs.declared.entry.EndId.{EndId}
-use Rattle.dist_ends.specs.declared.why.Why.{Why}
-use Rattle.dist_ends.specs.declared.known.End.{End}
-use Rattle.dist_ends.specs.declared.known.End.TheVariants as ends
+use Rattle.dist_core_ends.specs.declared.why.Why.{Why}
+use Rattle.dist_core_ends.specs.declared.known.End.{End}
+use Rattle.dist_core_ends.specs.declared.known.End.TheVariants as ends
 use Rattle.dist_core.specs.declared.event.Event.{Event}
 use Rattle.dist_core.specs.declared.event.Event.TheVariants as event
 use Rattle.dist_core.specs.declared.reply.Reply.{Reply}
 use Rattle.dist_core.specs.declared.step_error.StepError.{StepError}
 use Rattle.dist_core.specs.declared.step_error.StepError.TheVariants as error
 use Rattle.dist_core.specs.Answers.{IsLoss}
-use Rattle.dist_ends.specs.Ends.{is_open}
+use Rattle.dist_core_ends.specs.Ends.{is_open}
 use Rattle.dist_core.specs.Clauses.{end_of, loss_reply}
 use Rattle.dist_core.specs.Losses.{IsGone, IsSilent}
 

@@ -3,11 +3,11 @@ use Rattle.std.proofs.Common.{◌≡◌, ℕ, ◌<◌, ◌≤◌, Bool, true, fa
 use Rattle.std.proofs.lemmas.Option.{slice_get_within}
 use Rattle.std.proofs.lemmas.Bool.Decides.{nat_tests}
 use Rattle.dist_peers.specs.declared.entry.EndId.{EndId}
-use Rattle.dist_ends.specs.declared.known.End.{End}
-use Rattle.dist_ends.specs.declared.known.End.TheVariants as ends
+use Rattle.dist_core_ends.specs.declared.known.End.{End}
+use Rattle.dist_core_ends.specs.declared.known.End.TheVariants as ends
 use Rattle.dist_core.specs.declared.effect.Effect.{Effect}
 use Rattle.dist_core.specs.declared.event.Event.{Event}
-use Rattle.dist_ends.specs.Change.{put_end}
+use Rattle.dist_core_ends.specs.Change.{put_end}
 use Rattle.dist_core.specs.Node.{NodeState, limits_of, is_spent, is_given_out, ends_after}
 use Rattle.dist_core.specs.Rows.{Row, Dials, Comes_in, Begins, Ceases, Loses, Ticks, Fails, Hears}
 use Rattle.dist_core.proofs.Counts.{length-other, length-within, length-after}

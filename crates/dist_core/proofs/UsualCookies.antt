@@ -3,7 +3,7 @@ use Rattle.std.proofs.Common.{◌≡◌, ℕ, zero, suc, ◌+◌, true, false, �
 use Rattle.std.specs.List.{list_any}
 use Rattle.dist_names.specs.Order.{Name}
 use Rattle.dist_peers.specs.declared.entry.Entry.{Entry}
-use Rattle.dist_setup.specs.declared.setup.Setup.{Setup}
+use Rattle.dist_core_setup.specs.declared.setup.Setup.{Setup}
 use Rattle.dist_core.specs.Changing.{has_usual, is_usual_row}
 
 abbrev Row : Type 0

@@ -1,6 +1,6 @@
--- Runs of a node that is told events, whose setup is changed, and that forgets: all that is ever done to a node.
+-- Runs of a node that is given events, whose setup is changed, and that forgets: all that is ever done to a node.
 use Rattle.std.specs.Prelude.{ℕ, List, [], ◌∷◌, Result, Ok, Err}
-use Rattle.dist_ends.specs.Forgetting.{forgotten}
+use Rattle.dist_core_ends.specs.Forgetting.{forgotten}
 use Rattle.dist_core.specs.declared.changing.ChangeError.{ChangeError}
 use Rattle.dist_core.specs.declared.event.Event.{Event}
 use Rattle.dist_core.specs.declared.changing.Change.{Change}

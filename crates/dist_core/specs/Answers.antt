@@ -1,7 +1,7 @@
--- What the calls of a node answer.
+-- What the calls of a node return.
 use Rattle.std.specs.Prelude.{◌≡◌, ◌≢◌, Option, Some, Result, Ok, Err, IsOk}
 use Rattle.std.specs.Borrow.{Bor}
-use Rattle.dist_ends.specs.declared.known.End.{End}
+use Rattle.dist_core_ends.specs.declared.known.End.{End}
 use Rattle.dist_core.specs.declared.event.Event.{Event}
 use Rattle.dist_core.specs.declared.event.Event.TheVariants as event
 use Rattle.dist_core.specs.declared.reply.Reply.{Reply}
@@ -11,7 +11,7 @@ use Rattle.dist_core.specs.declared.step_error.StepError.TheVariants as error
 use Rattle.dist_core.specs.Node.{NodeState}
 use Rattle.dist_core.specs.Step.{at_end}
 
--- a refusal is the definition's; want of memory comes only where the definition refuses nothing
+-- a refusal is the definition's; memory runs out only where the definition refuses nothing
 abbrev pub Refuses : {X : Type 0} → StepError → Result X StepError → Type 0
 Refuses error.NoMemory s = IsOk s
 Refuses e s = s ≡ Err e
@@ -31,7 +31,7 @@ abbrev pub Gives : Result Effect StepError → Result Effect StepError → Type 
 Gives (Ok f) s = s ≡ Ok f
 Gives (Err e) s = Refuses e s
 
--- an event that tells a loss
+-- an event that reports a loss
 abbrev pub IsLoss : Event → Type 0
 IsLoss (event.Lost id w) = Unit {0}
 IsLoss e = ⊥

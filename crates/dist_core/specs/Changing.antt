@@ -4,9 +4,9 @@ use Rattle.std.specs.List.{list_any}
 use Rattle.std.specs.FinMap as map
 use Rattle.dist_names.specs.Order.{Name}
 use Rattle.dist_peers.specs.declared.entry.Entry.{Entry}
-use Rattle.dist_ends.specs.Ends.{entry_in, table_of}
-use Rattle.dist_setup.specs.declared.setup.Setup.{Setup}
-use Rattle.dist_setup.specs.Changing.{has_own_cookie, lacks_room, keyed, keyed_usually, letting_in}
+use Rattle.dist_core_ends.specs.Ends.{entry_in, table_of}
+use Rattle.dist_core_setup.specs.declared.setup.Setup.{Setup}
+use Rattle.dist_core_setup.specs.Changing.{has_own_cookie, lacks_room, keyed, keyed_usually, letting_in}
 use Rattle.dist_core.specs.declared.changing.Change.{Change}
 use Rattle.dist_core.specs.declared.changing.Change.TheVariants.{Cookie, UsualCookie, Allow}
 use Rattle.dist_core.specs.declared.changing.ChangeError.{ChangeError}
@@ -55,7 +55,7 @@ finds_no_room n (Allow names) = false
 abbrev pub change : NodeState → Change → Result NodeState ChangeError
 change n v = if is_in_use n v then Err error.InUse else (if finds_no_room n v then Err error.Full else Ok (after_change n v))
 
--- A call made the definition's change, or refused as it does, or lacked memory where it refuses nothing. A refusal changed
+-- A call made the definition's change, or refused as it does, or ran out of memory where it refuses nothing. A refusal changed
 -- nothing.
 abbrev pub IsChange : {T : Type 0} → Result T ChangeError → Result NodeState ChangeError → NodeState → NodeState → Type 0
 IsChange (Ok x) s old new = s ≡ Ok new

@@ -1,21 +1,21 @@
--- What the clauses of a step say: which end an event names, what a loss is told, and what may close an end that is up.
+-- What the clauses of a step say: which end an event names, what is returned for a loss, and what may close an end that is up.
 use Rattle.std.specs.Prelude.{◌≡◌, ℕ, true, List, Some, Ok, slice_get, Option, None, []}
 use Rattle.dist_messages.specs.Reading.{read}
 use Rattle.dist_messages.specs.declared.message.Side.TheVariants.{Dialler}
 use Rattle.dist_messages.specs.declared.message.Message.TheVariants as message
 use Rattle.dist_peers.specs.declared.entry.EndId.{EndId}
-use Rattle.dist_ends.specs.declared.why.Why.{Why}
-use Rattle.dist_ends.specs.declared.known.Attempt.{Attempt}
-use Rattle.dist_ends.specs.declared.known.UpRecord.{UpRecord}
-use Rattle.dist_ends.specs.declared.known.End.TheVariants as ends
-use Rattle.dist_setup.specs.Rules.{own_digest, same_bytes}
+use Rattle.dist_core_ends.specs.declared.why.Why.{Why}
+use Rattle.dist_core_ends.specs.declared.known.Attempt.{Attempt}
+use Rattle.dist_core_ends.specs.declared.known.UpRecord.{UpRecord}
+use Rattle.dist_core_ends.specs.declared.known.End.TheVariants as ends
+use Rattle.dist_core_setup.specs.Rules.{own_digest, same_bytes}
 use Rattle.dist_core.specs.declared.event.Event.{Event}
 use Rattle.dist_core.specs.declared.event.Event.TheVariants as event
 use Rattle.dist_core.specs.declared.reply.Reply.{Reply}
 use Rattle.dist_core.specs.declared.reply.Note.TheVariants as note
 use Rattle.dist_core.specs.Node.{NodeState}
 
--- the event is a reply that bears the digest of the own cookie and the challenge of the end on which it came
+-- the event is a reply that carries the digest of the own cookie and the challenge of the end on which it came
 pub record IsRightReply (n : NodeState) (v : Event) : Type 0 where
   pub id : EndId
   pub body : List ℕ
@@ -32,7 +32,7 @@ abbrev pub IsFrame : Event → Type 0
 IsFrame (event.Frame id body) = Unit {0}
 IsFrame v = ⊥
 
--- where the event is a frame, the reply tells an end that was up as closed only if it is a right reply
+-- where the event is a frame, the reply reports an end that was up as closed only if it is a right reply
 abbrev pub ClosesOnReply : NodeState → Event → Reply → Type 0
 ClosesOnReply n v r = (x : EndId) (w : Why) (kept : UpRecord) → IsFrame v → r.closed ≡ Some (x, w) → slice_get n.ends x.0 ≡ Some (ends.Up kept) → IsRightReply n v
 
@@ -45,6 +45,6 @@ end_of (event.Frame x body) = Some x
 end_of (event.Lost x w) = Some x
 end_of (event.Tick x) = Some x
 
--- what is answered to a loss
+-- what is returned for a loss
 abbrev pub loss_reply : EndId → Why → Reply
 loss_reply x w = record { end_ = x; say = []; closed = Some (x, w); up = None; note = note.Nothing }

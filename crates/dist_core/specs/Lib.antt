@@ -12,3 +12,4 @@ pub mod Losses
 pub mod Words
 pub mod Changing
 pub mod Acts
+pub mod Preparing

@@ -1,6 +1,6 @@
--- Events that tell a loss.
+-- Events that report a loss.
 use Rattle.std.specs.Prelude.{◌≡◌, Bool, true, false, [], Option, Some, None}
-use Rattle.dist_ends.specs.declared.why.Why.{Why}
+use Rattle.dist_core_ends.specs.declared.why.Why.{Why}
 use Rattle.dist_core.specs.declared.event.Event.{Event}
 use Rattle.dist_core.specs.declared.event.Event.TheVariants as event
 use Rattle.dist_core.specs.declared.reply.Reply.{Reply}
@@ -8,7 +8,7 @@ use Rattle.dist_core.specs.declared.reply.Note.TheVariants as note
 use Rattle.dist_core.specs.declared.step_error.StepError.{StepError}
 use Rattle.dist_core.specs.declared.step_error.StepError.TheVariants as error
 
--- the test whether an event tells a loss
+-- the test whether an event reports a loss
 abbrev pub is_loss : Event → Bool
 is_loss (event.Lost id w) = true
 is_loss (event.Dial p o) = false
@@ -17,12 +17,12 @@ is_loss (event.Incoming link) = false
 is_loss (event.Frame id body) = false
 is_loss (event.Tick id) = false
 
--- the cause that a loss tells
+-- the cause that a loss reports
 abbrev pub loss_of : Event → Option Why
 loss_of (event.Lost id w) = Some w
 loss_of e = None
 
--- The reply says nothing, brings nothing up and notes nothing, as every reply to a loss.
+-- The reply sends nothing, brings nothing up and notes nothing, as every reply to a loss.
 abbrev pub IsSilent : Reply → Type 0
 IsSilent r = (r.say ≡ []) × (r.up ≡ None) × (r.note ≡ note.Nothing)
 

@@ -1,4 +1,4 @@
--- The words by which refusals are told.
+-- The words for refusals, as programs print them.
 use Rattle.std.specs.Prelude.{ℕ, List, codes}
 use Rattle.dist_core.specs.declared.step_error.StepError.{StepError}
 use Rattle.dist_core.specs.declared.step_error.StepError.TheVariants as error

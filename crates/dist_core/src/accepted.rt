@@ -7,17 +7,17 @@ use crate::effect::{
     Effect, attempt_in, came_up, closes, goes_on, reply_phase, shuts, shuts_other,
 };
 use crate::reply::Note;
-use dist_ends::{Attempt, End, Ends, Phase, Why};
+use dist_core_ends::{Attempt, End, Ends, Phase, Why};
+use dist_core_setup::{
+    Setup, ack_frame, challenge_frame, greeting, own_digest, required_of, status_frame,
+};
 use dist_messages::{Form, Message, Status};
 use dist_names::{ByteString, Flags, NodeName};
 use dist_peers::{EndId, Entry, Verdict};
-use dist_setup::{
-    Setup, ack_frame, challenge_frame, greeting, own_digest, required_of, status_frame,
-};
 use std::alloc::{AllocError, Global};
 
 // What stands for an end that a crossing name supersedes.
-fn superseded(alloc: Global, end: &End) -> Result<End, AllocError>
+fn superseded_end(alloc: Global, end: &End) -> Result<End, AllocError>
     ensures { IfOk result (λ e. e ≡ superseded (Some end.now)) }
 {
     let End::Attempt(attempt) = end else {
@@ -31,11 +31,11 @@ fn superseded(alloc: Global, end: &End) -> Result<End, AllocError>
 }
 
 // The same, of the end of this number.
-fn superseded_at(alloc: Global, ends: &Ends, id: EndId) -> Result<End, AllocError>
+fn superseded_end_of(alloc: Global, ends: &Ends, id: EndId) -> Result<End, AllocError>
     ensures { IfOk result (λ e. e ≡ superseded (slice_get ends.now id.0)) }
 {
     match ends.open_end(id) {
-        Ok(end) => superseded(alloc, end),
+        Ok(end) => superseded_end(alloc, end),
         Err(_) => Ok(End::Closed(Why::Crossed)),
     }
 }
@@ -53,7 +53,7 @@ fn supersedes(
 {
     let this = End::Attempt(attempt);
     match crossed {
-        End::Closed(why) => shuts_other(id, say, this, x, why, taken(peer)),
+        End::Closed(why) => shuts_other(id, say, this, x, why, note_of_name(peer)),
         doomed => {
             let dooms = Some(x);
             let mut effect = goes_on(id, say, this, Note::NameTaken { peer, dooms });
@@ -75,12 +75,12 @@ fn crosses(
 ) -> Result<Effect, AllocError>
     ensures { peer ≡ attempt.peer → IfOk result (λ f. f ≡ supersedes id say attempt x (superseded (slice_get ends.now x.0))) }
 {
-    let crossed = superseded_at(alloc, ends, x)?;
+    let crossed = superseded_end_of(alloc, ends, x)?;
     Ok(supersedes(id, say, attempt, peer, x, crossed))
 }
 
-// The attempt waits for `true` before the challenge is said.
-fn held_back(attempt: Attempt) -> Attempt
+// The attempt waits for `true` before the challenge is sent.
+fn wait_for_true(attempt: Attempt) -> Attempt
     ensures { result ≡ held_back attempt }
 {
     Attempt {
@@ -91,14 +91,14 @@ fn held_back(attempt: Attempt) -> Attempt
 }
 
 // What is noted of a name that passed all checks and dooms no end.
-fn taken(peer: NodeName) -> Note
+fn note_of_name(peer: NodeName) -> Note
     ensures { result ≡ Note.NameTaken peer None }
 {
     Note::NameTaken { peer, dooms: None }
 }
 
-// What is said to a name that passed all checks.
-fn said(
+// What is sent to a name that passed all checks.
+fn answer_to_name(
     alloc: Global,
     setup: &Setup,
     attempt: &Attempt,
@@ -126,7 +126,7 @@ fn said(
 }
 
 // The effect of a verdict.
-pub fn name_taken(
+pub fn effect_of_verdict(
     alloc: Global,
     setup: &Setup,
     ends: &Ends,
@@ -136,16 +136,25 @@ pub fn name_taken(
 ) -> Result<Effect, AllocError>
     ensures { IfOk result (λ f. f ≡ name_taken setup.now ends.now id attempt verdict) }
 {
-    let say = said(alloc, setup, &attempt, verdict)?;
+    let say = answer_to_name(alloc, setup, &attempt, verdict)?;
     let peer = attempt.peer.try_clone(alloc)?;
     match verdict {
-        Verdict::Ok => Ok(goes_on(id, say, End::Attempt(attempt), taken(peer))),
+        Verdict::Ok => Ok(goes_on(id, say, End::Attempt(attempt), note_of_name(peer))),
         Verdict::OkSimultaneous { drops } => { crosses(alloc, ends, id, say, attempt, peer, drops) }
-        Verdict::Nok => Ok(shuts(id, say, Why::Crossed, taken(peer))),
-        Verdict::Alive => Ok(goes_on(id, say, End::Attempt(held_back(attempt)), taken(peer))),
+        Verdict::Nok => Ok(shuts(id, say, Why::Crossed, note_of_name(peer))),
+        Verdict::Alive => Ok(goes_on(
+            id,
+            say,
+            End::Attempt(wait_for_true(attempt)),
+            note_of_name(peer),
+        )),
         Verdict::Replaces { drops, alive } => {
-            let this = End::Attempt(if alive { held_back(attempt) } else { attempt });
-            Ok(shuts_other(id, say, this, drops, Why::Replaced, taken(peer)))
+            let this = End::Attempt(if alive {
+                wait_for_true(attempt)
+            } else {
+                attempt
+            });
+            Ok(shuts_other(id, say, this, drops, Why::Replaced, note_of_name(peer)))
         }
     }
 }

@@ -5,16 +5,16 @@
 //! handshake goes on under the cookie under which it began, and the record of each end that is up holds the digest of the cookie
 //! that the node has for that peer now, over all steps and changes.
 //!
-//! A change is no event of a step. An event has a reply, of one of the ends, counts as a step, and stands in books and in what is
-//! told to auditors; a change has no reply, concerns no end that is there, and counts for nothing.
+//! A change is no event of a step. An event has a reply, concerns one of the ends, counts as a step, and stands in books and in
+//! what auditors are given; a change has no reply, concerns no end that is there, and isn't counted.
 ghost use Rattle.std.specs.Prelude.{◌≡◌, IfErr, IfOk, slice_get};
 ghost use Rattle.std.specs.FinMap as map;
-ghost use Rattle.dist_ends.specs.Ends.{table_of};
+ghost use Rattle.dist_core_ends.specs.Ends.{table_of};
 ghost use Rattle.dist_core.specs.Changing.{IsChange, after_change, change, is_usual_in_use, is_usual_row};
 
 use crate::node::Node;
+use dist_core_setup::{Cookie, NameList};
 use dist_names::NodeName;
-use dist_setup::{Cookie, NameList};
 use std::alloc::{AllocError, Global};
 use std::mem::replace;
 use thiserror::Error;
@@ -119,7 +119,7 @@ impl Node {
     /// no memory, and is never refused.
     ///
     /// It concerns the names that come later alone: a peer that is connected stays so, and one whose name came goes on. Whoever
-    /// wants it gone tells its end as lost. A dial is not bound by the list.
+    /// wants it gone reports its end as lost. A dial is not bound by the list.
     pub fn set_allow(&mut self, allow: Option<NameList>) -> Option<NameList>
         ensures changed { self.new ≡ after_change self.old (Change.Allow allow) }
         ensures before { result ≡ self.old.setup.allow }

@@ -5,7 +5,7 @@ ghost use Rattle.dist_core.specs.Losses.{IsSilent};
 
 use crate::event::Event;
 use crate::reply::{Note, Reply};
-use dist_ends::UpRecord;
+use dist_core_ends::UpRecord;
 use std::alloc::{AllocError, Global};
 
 impl Note {

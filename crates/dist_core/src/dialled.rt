@@ -1,16 +1,18 @@
 //! What each message does to a dialled end.
 ghost use Rattle.std.specs.Prelude.{◌≡◌, IfOk, Ok, Err, Some, None};
-ghost use Rattle.dist_setup.specs.Saying.{reply_text};
+ghost use Rattle.dist_core_setup.specs.Saying.{reply_text};
 ghost use Rattle.dist_core.specs.Effects.{goes_on};
 ghost use Rattle.dist_core.specs.Dialled.{in_await_status, in_doomed, challenged, in_await_challenge, in_await_ack};
 
 use crate::effect::{Effect, came_up, closes, goes_on, moves, shuts};
 use crate::reply::Note;
-use dist_ends::{Attempt, End, Phase, Why};
+use dist_core_ends::{Attempt, End, Phase, Why};
+use dist_core_setup::{
+    Setup, knows_six, opens_new, own_digest, reply_frame, required_of, status_frame,
+};
 use dist_messages::{Form, Message, Status};
 use dist_names::{ByteString, Creation, Flags};
 use dist_peers::{EndId, Entry};
-use dist_setup::{Setup, knows_six, opens_new, own_digest, reply_frame, required_of, status_frame};
 use std::alloc::{AllocError, Global};
 
 pub fn in_await_status(
@@ -50,7 +52,7 @@ pub fn in_doomed(alloc: Global, id: EndId, message: &Message) -> Result<Effect, 
     }
 }
 
-// What a challenge says that is understood, in which form it is answered, and which flags are asked for.
+// What a challenge that is understood says, in which form it is answered, and which flags are asked for.
 #[derive(Clone, Copy)]
 struct Challenge {
     form: Form,
@@ -61,7 +63,7 @@ struct Challenge {
 }
 
 // A challenge is answered.
-fn answers(
+fn send_reply(
     alloc: Global,
     setup: &Setup,
     id: EndId,
@@ -91,7 +93,7 @@ fn answers(
 }
 
 // A challenge is answered, where it is of the name that was dialled and has the flags that are asked for.
-fn challenged(
+fn answer_challenge(
     alloc: Global,
     setup: &Setup,
     id: EndId,
@@ -108,7 +110,7 @@ fn challenged(
     if !came.flags.has(came.required) {
         return Ok(closes(alloc, id, Why::WrongFlags));
     }
-    answers(alloc, setup, id, fresh, attempt, came)
+    send_reply(alloc, setup, id, fresh, attempt, came)
 }
 
 // The end awaits the challenge.
@@ -154,7 +156,7 @@ pub fn in_await_challenge(
         }
         _ => return Ok(closes(alloc, id, Why::Unexpected)),
     };
-    challenged(alloc, setup, id, fresh, attempt, came, name)
+    answer_challenge(alloc, setup, id, fresh, attempt, came, name)
 }
 
 // The end awaits the acknowledgement.

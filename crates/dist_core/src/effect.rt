@@ -4,32 +4,22 @@ ghost use Rattle.dist_peers.specs.Table.{replaced_by};
 ghost use Rattle.dist_core.specs.Effects.{form_of, reply_phase, goes_on, shuts, shuts_other, comes_up, closes, moves, record_of};
 
 use crate::reply::{Note, Reply};
-use dist_ends::{Attempt, End, Phase, UpRecord, Why};
+use dist_core_ends::{Attempt, End, Phase, UpRecord, Why};
+use dist_core_setup::{Setup, announced_by};
 use dist_messages::{Form, Opening};
 use dist_names::ByteString;
 use dist_peers::{EndId, Entry, replaced};
-use dist_setup::{Setup, announced_by};
 use std::alloc::{AllocError, Global};
 
 /// What a step does. A word of the contracts: no public call takes or gives it.
 #[derive(Drop)]
 pub struct Effect {
-    /// What is answered.
+    /// What is returned.
     pub reply: Reply,
     /// What the event's end is afterwards.
     pub this: End,
     /// Another end that changes, and what it is afterwards.
     pub other: Option<(EndId, End)>,
-}
-
-impl Effect {
-    /// Its reply alone.
-    pub fn into_reply(self) -> Reply
-        ensures { result ≡ self.reply }
-    {
-        let Effect { reply, .. } = self;
-        reply
-    }
 }
 
 pub fn goes_on(id: EndId, say: ByteString, this: End, note: Note) -> Effect

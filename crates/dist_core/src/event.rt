@@ -1,16 +1,16 @@
-//! What a node is told.
+//! The events that a node is given.
 ghost use Rattle.std.specs.Prelude.{◌≡◌, ◌↔◌, IsTrue};
 ghost use Rattle.dist_core.specs.Answers.{IsLoss};
 ghost use Rattle.dist_core.specs.Clauses.{end_of};
 ghost use Rattle.dist_core.specs.Losses.{is_loss, loss_of};
 
-use dist_ends::Why;
+use dist_core_ends::Why;
 use dist_messages::Opening;
 use dist_names::{ByteString, NodeName};
 use dist_peers::EndId;
 
-/// What a node is told. A `link` is a number by which whoever carries a connection knows it; the node keeps none. Our own
-/// choice: an Erlang node has a process for each connection, and messages between them, in place of events.
+/// An event that a node is given. A `link` is a number by which whoever carries a connection knows it; the node keeps none. Our
+/// own choice: an Erlang node has a process for each connection, and messages between them, in place of events.
 #[derive(Debug, Drop, PartialEq, Eq)]
 pub enum Event {
     /// The node is to connect to this peer. A new end is given out.
@@ -28,7 +28,7 @@ pub enum Event {
 }
 
 impl Event {
-    /// Whether it tells a loss.
+    /// Whether it reports a loss.
     pub fn is_lost(&self) -> bool
         ensures test { result ≡ is_loss self.now }
         ensures loss { IsTrue result ↔ IsLoss self.now }
@@ -36,7 +36,7 @@ impl Event {
         matches!(self, Event::Lost { .. })
     }
 
-    /// The cause that a loss tells.
+    /// The cause that a loss reports.
     pub fn lost_why(&self) -> Option<Why>
         ensures { result ≡ loss_of self.now }
     {

@@ -1,5 +1,5 @@
-//! A node's handshakes, as a machine that is told events and answers replies: which ends it has, who is connected to whom,
-//! and what is said on each. `Node::step` takes one event and one number that was drawn, and gives one reply.
+//! A node's handshakes, as a machine that is given events and returns replies: which ends it has, who is connected to whom, and
+//! what is sent on each. `Node::step` takes one event and one number that was drawn, and returns one reply.
 //!
 //! No input or output, no clock, no randomness, no threads: whoever reads a socket or draws a challenge hands it in.
 //! Once an end is up, the packets on its connection are nobody's concern here. Of an end that was closed the node keeps the
@@ -15,20 +15,23 @@ mod comparing;
 mod copying;
 mod dialled;
 mod effect;
+mod end_change;
 mod event;
 mod events;
 mod finding;
 mod frames;
 mod node;
+mod preparing;
 mod renewing;
 mod reply;
 mod step_error;
 
 pub use changing::{Change, ChangeError};
-pub use dist_ends::{Absent, Attempt, Awaited, End, Phase, Still, UpRecord, Why};
+pub use dist_core_ends::{Absent, Attempt, Awaited, End, Phase, Still, UpRecord, Why};
+pub use dist_core_setup::{Limits, NameList, Setup, Version};
 pub use dist_messages::{Form, Opening};
-pub use dist_setup::{Limits, NameList, Setup, Version};
 pub use event::Event;
 pub use node::Node;
+pub use preparing::Prepared;
 pub use reply::{Note, Reply};
 pub use step_error::StepError;

@@ -2,29 +2,29 @@
 ghost use Rattle.std.specs.Prelude.{◌≡◌, ◌≤◌, ◌<◌, ◌+◌, ◌^◌, ◌||◌, List, [], ◌∷◌, ℕ, length, IfOk, IfErr, ◌≢◌, IsTrue, IsOk, OnOk, OnErr, true, false, Ok, Err, Some, None, slice_get, count_by};
 ghost use Rattle.std.specs.Option.{option_map};
 ghost use Rattle.std.specs.FinMap as map;
-ghost use Rattle.dist_ends.specs.Ends.{AreLegal, Finds, FindsUp, oldest_pending, record_in, up_from, up_pair, up_ids, claim_of, is_open, is_dialing, entry_in, table_of, still_of, awaited_of};
-ghost use Rattle.dist_ends.specs.Forgetting.{forgotten};
+ghost use Rattle.dist_core_ends.specs.Ends.{AreLegal, Finds, FindsUp, oldest_pending, record_in, up_from, up_pair, up_ids, claim_of, is_open, is_dialing, entry_in, table_of, still_of, awaited_of};
+ghost use Rattle.dist_core_ends.specs.Forgetting.{forgotten};
 ghost use Rattle.dist_core.specs.Node.{NodeState, ends_after, is_crowded, is_full_for, is_given_out, is_spent, limits_of, new_id};
 ghost use Rattle.dist_core.specs.Clauses.{ClosesOnReply, end_of, loss_reply};
 ghost use Rattle.dist_core.specs.Losses.{IsGone, IsSilent};
 ghost use Rattle.dist_core.specs.Fitting.{Fits};
-ghost use Rattle.dist_setup.specs.Saying.{name_text, tick_text};
+ghost use Rattle.dist_core_setup.specs.Saying.{name_text, tick_text};
 ghost use Rattle.dist_core.specs.Effects.{moves, goes_on, closes};
 ghost use Rattle.dist_core.specs.Accepted.{verdict_in, name_taken};
 ghost use Rattle.dist_core.specs.Step.{effect_of, step, stepped, at_end, opened, ticked, dialled, came_in, cost_of};
 ghost use Rattle.dist_core.specs.Answers.{IsStep, Gives, IsLoss, GivesReply};
 
-use crate::accepted::name_taken;
+use crate::accepted::effect_of_verdict;
 use crate::effect::{Effect, closes};
 use crate::event::Event;
 use crate::finding::{cost, open_end};
 use crate::reply::{Note, Reply};
 use crate::step_error::StepError;
-use dist_ends::{Absent, Attempt, Awaited, End, Ends, Still, UpRecord, Why};
+use dist_core_ends::{Absent, Attempt, Awaited, End, Ends, Still, UpRecord, Why};
+use dist_core_setup::Setup;
 use dist_frames::tick;
 use dist_names::{ByteString, Creation, NodeName};
 use dist_peers::{EndId, Entry, Verdict};
-use dist_setup::Setup;
 use std::alloc::{AllocError, Global};
 use std::marker::Model;
 
@@ -33,7 +33,7 @@ use std::marker::Model;
 pub struct Node {
     pub(crate) setup: Setup,
     pub(crate) ends: Ends,
-    /// How many steps were made that told no loss.
+    /// How many steps were made that reported no loss.
     pub(crate) steps: u64,
 }
 
@@ -73,8 +73,8 @@ impl Node {
         self.ends.still(id)
     }
 
-    /// What an end awaits, where it is open: a number that was never given out and a closed end await nothing, and one that
-    /// is up is told as such. A caller whose connection ends asks this before it tells the loss.
+    /// What an end awaits, where it is open: `Nothing` for one that is up. `None` for a closed end, and for a number that was
+    /// never given out. A caller whose connection ends asks this before it reports the loss.
     pub fn awaits(&self, id: EndId) -> Option<Awaited>
         ensures { result ≡ awaited_of (slice_get self.now.ends id.0) }
     {
@@ -160,7 +160,7 @@ impl Node {
         self.ends.entries()
     }
 
-    /// The end of this number, where it is open, or why there is none. Ask this for what no reply tells: which peer an end holds
+    /// The end of this number, where it is open, or why there is none. Ask this for what no reply says: which peer an end holds
     /// before it is up, and where its handshake stands.
     pub fn open_end(&self, id: EndId) -> Result<&End, Absent>
         ensures { Finds result (slice_get self.now.ends id.0) }
@@ -170,7 +170,7 @@ impl Node {
 
     /// The end that has been open and not up for the longest: of the lowest number, since numbers are given out in order. A
     /// caller that limits how long handshakes take, or how many of them go on at once, gives this end up first: it closes the
-    /// connection and tells [`Event::Lost`].
+    /// connection and reports [`Event::Lost`].
     ///
     /// This is no step, and no other call sees that it was made. It takes `&mut self` to keep how far it has looked, so that all
     /// calls together walk each number once.
@@ -187,9 +187,9 @@ impl Node {
     ///
     /// A closed end takes one byte, its cause, and none once that is forgotten. So whoever runs a node for years calls this from
     /// time to time, with a number below which nobody will ask any more why an end was closed. This is no step: it isn't counted,
-    /// says nothing and is never refused. By the law `forgetting_changes_no_step` of `dist_laws` it changes
+    /// sends nothing and is never refused. By the law `forgetting_changes_no_step` of `dist_core_laws` it changes
     /// nothing else: each event has the reply or the refusal that it would have had, but for the cause that
-    /// [`StepError::Gone`] tells.
+    /// [`StepError::Gone`] carries.
     #[tactic(auto, using(crate::proofs::Forgetting::length_forgotten))]
     pub fn forget(&mut self, below: EndId)
         ensures { self.new ≡ record self.old { ends = forgotten below.0 self.old.ends } }
@@ -199,7 +199,7 @@ impl Node {
 
     /// Takes an event. A refusal changes nothing, and is the first that holds in the order of [`StepError`].
     ///
-    /// `fresh` is the challenge of a step that says a challenge or a reply; any other step ignores it. The caller draws it
+    /// `fresh` is the challenge of a step that sends a challenge or a reply; any other step ignores it. The caller draws it
     /// anew for each step, so that no digest is known beforehand.
     pub fn step(&mut self, alloc: Global, event: &Event, fresh: u32) -> Result<Reply, StepError>
         // The reply and the node afterwards are those of the definition, or the refusal is.
@@ -220,10 +220,10 @@ impl Node {
         // The ends that hold a peer are those that make its entry.
         ensures legal { AreLegal self.old.ends }
     {
-        self.stepped(alloc, event, fresh)
+        self.make_step(alloc, event, fresh)
     }
 
-    /// What `step` would answer, or `NoMemory` where memory is short for the answer itself. It changes nothing.
+    /// What `step` would return, or `NoMemory` where memory runs out for the answer itself. It changes nothing.
     pub fn answer(&self, alloc: Global, event: &Event, fresh: u32) -> Result<Reply, StepError>
         ensures answer { GivesReply result (step self.now event.now fresh) }
 
@@ -235,48 +235,53 @@ impl Node {
         ensures alone { IsLoss event.now → IfErr result IsGone }
         ensures quiet { IsLoss event.now → IfOk result IsSilent }
     {
-        self.answered(alloc, event, fresh)
+        self.answer_by_effect(alloc, event, fresh)
     }
 
     // A step, with what is shown of it at once.
     #[tactic(auto, unfolding(crate::specs::Step::effect_of))]
-    fn stepped(&mut self, alloc: Global, event: &Event, fresh: u32) -> Result<Reply, StepError>
+    fn make_step(&mut self, alloc: Global, event: &Event, fresh: u32) -> Result<Reply, StepError>
         ensures step { IsStep result (step self.old event.now fresh) self.old self.new }
         ensures loss { IsLoss event.now → result ≢ Err StepError.NoMemory }
         ensures legal { AreLegal self.old.ends }
     {
-        // That tells what the ends are before the step, also where it is refused.
+        // This shows what the ends are before the step, also where it is refused.
         let _ = self.open_ends();
         match event {
             Event::Tick { end_: id } => self.tick(alloc, *id),
             Event::Lost { end_: id, why } => self.lose(alloc, *id, *why),
             Event::Incoming { link } => self.come_in(alloc, *link),
-            _ => self.decided(alloc, event, fresh),
+            _ => self.step_by_effect(alloc, event, fresh),
         }
     }
 
     // A step by its effect.
-    fn decided(&mut self, alloc: Global, event: &Event, fresh: u32) -> Result<Reply, StepError>
+    fn step_by_effect(
+        &mut self,
+        alloc: Global,
+        event: &Event,
+        fresh: u32,
+    ) -> Result<Reply, StepError>
         ensures step { IsStep result (step self.old event.now fresh) self.old self.new }
         ensures loss { IsLoss event.now → result ≢ Err StepError.NoMemory }
         ensures legal { AreLegal self.old.ends }
     {
-        // That tells what the ends are before the step, also where it is refused.
+        // This shows what the ends are before the step, also where it is refused.
         let _ = self.open_ends();
         let effect = self.effect(alloc, event, fresh)?;
-        self.commit(effect, cost(event))
+        self.apply_effect(effect, cost(event))
     }
 
-    // A loss, which closes its end and says nothing.
+    // A loss, which closes its end and sends nothing.
     fn lose(&mut self, alloc: Global, id: EndId, why: Why) -> Result<Reply, StepError>
         ensures step { IsStep result (stepped self.old (Event.Lost id why) (at_end (slice_get self.old.ends id.0) (λ e. Ok (closes id why)))) self.old self.new }
         ensures loss { result ≢ Err StepError.NoMemory }
     {
-        // That tells what the ends are before the step.
+        // This shows what the ends are before the step.
         let _ = self.open_ends();
         let _end = open_end(&self.ends, id)?;
         self.ends.close(id, why);
-        let mut reply = says(id, ByteString::new(alloc));
+        let mut reply = reply_that_says(id, ByteString::new(alloc));
         reply.closed = Some((id, why));
         Ok(reply)
     }
@@ -285,7 +290,7 @@ impl Node {
     fn come_in(&mut self, alloc: Global, _link: u64) -> Result<Reply, StepError>
         ensures { IsStep result (stepped self.old (Event.Incoming _link) (came_in self.old)) self.old self.new }
     {
-        // That tells what the ends are before the step.
+        // This shows what the ends are before the step.
         let _ = self.open_ends();
         if self.gives_no_end() {
             return Err(StepError::Spent);
@@ -299,7 +304,7 @@ impl Node {
             return Err(StepError::NoMemory);
         }
         self.steps += 1;
-        Ok(says(id, ByteString::new(alloc)))
+        Ok(reply_that_says(id, ByteString::new(alloc)))
     }
 
     // A tick, which leaves all ends as they are.
@@ -317,20 +322,20 @@ impl Node {
             return Err(StepError::NoMemory);
         };
         self.steps += 1;
-        Ok(says(id, say))
+        Ok(reply_that_says(id, say))
     }
 
     // An answer, with what is shown of it at once.
-    fn answered(&self, alloc: Global, event: &Event, fresh: u32) -> Result<Reply, StepError>
+    fn answer_by_effect(&self, alloc: Global, event: &Event, fresh: u32) -> Result<Reply, StepError>
         ensures answer { GivesReply result (step self.now event.now fresh) }
         ensures loss { IsLoss event.now → result ≢ Err StepError.NoMemory }
     {
-        let effect = self.effect(alloc, event, fresh)?;
-        Ok(effect.into_reply())
+        let prepared = self.work_out(alloc, event, fresh)?;
+        Ok(prepared.into_reply())
     }
 
     // Makes a step that the definition gives.
-    fn commit(&mut self, effect: Effect, cost: u64) -> Result<Reply, StepError>
+    pub(crate) fn apply_effect(&mut self, effect: Effect, cost: u64) -> Result<Reply, StepError>
         requires fits { AreLegal self.old.ends → Fits self.old (table_of self.old.ends) effect }
         requires few { length (ends_after self.old.ends effect) ≤ self.old.steps + cost }
         requires bounded { self.old.steps + cost ≤ (let l = limits_of self.old in l.steps) }
@@ -340,7 +345,7 @@ impl Node {
         ensures loss { claim_of effect.this ≡ None → effect.reply.end_.0 < length self.old.ends → IsOk result }
     {
         let Effect { reply, this, other } = effect;
-        // These tell that each end has a number, and that the steps can be counted.
+        // These show that each end has a number, and that the steps can be counted.
         let _ = self.most_ends();
         let _ = self.most_steps();
         match self.ends.change(&self.setup.name, reply.end_, this, other) {
@@ -352,9 +357,33 @@ impl Node {
         }
     }
 
+    // Counts a step that changes no end.
+    pub(crate) fn count(&mut self, cost: u64)
+        requires { self.old.steps + cost ≤ (let l = limits_of self.old in l.steps) }
+        ensures { self.new ≡ record { setup = self.old.setup; steps = self.old.steps + cost; ends = self.old.ends } }
+    {
+        let _ = self.most_steps();
+        self.steps += cost;
+    }
+
+    // How many steps were counted, and what every node keeps.
+    pub(crate) fn counted_steps(&self) -> u64
+        ensures is { result ≡ self.now.steps }
+        ensures few { length self.now.ends ≤ self.now.steps }
+        ensures bounded { self.now.steps ≤ (let l = limits_of self.now in l.steps) }
+        ensures numbered { length self.now.ends ≤ (let l = limits_of self.now in l.ends) }
+    {
+        self.steps
+    }
+
     // What an event does, or the first refusal.
     #[tactic(auto, unfolding(crate::specs::Step::effect_of))]
-    fn effect(&self, alloc: Global, event: &Event, fresh: u32) -> Result<Effect, StepError>
+    pub(crate) fn effect(
+        &self,
+        alloc: Global,
+        event: &Event,
+        fresh: u32,
+    ) -> Result<Effect, StepError>
         ensures effect { Gives result (effect_of self.now event.now fresh) }
         ensures loss { IsLoss event.now → result ≢ Err StepError.NoMemory }
         ensures few { length self.now.ends ≤ self.now.steps }
@@ -362,15 +391,15 @@ impl Node {
         ensures numbered { length self.now.ends ≤ (let l = limits_of self.now in l.ends) }
     {
         match event {
-            Event::Dial { peer, opening } => self.dialled(alloc, peer, *opening),
-            Event::Incoming { link: _ } => self.came_in(alloc),
+            Event::Dial { peer, opening } => self.effect_of_dial(alloc, peer, *opening),
+            Event::Incoming { link: _ } => self.effect_of_incoming(alloc),
             Event::Opened { end_: id, link: _ } => {
                 let end = open_end(&self.ends, *id)?;
-                self.opened(alloc, *id, end)
+                self.effect_of_opened(alloc, *id, end)
             }
             Event::Frame { end_: id, body } => {
                 let end = open_end(&self.ends, *id)?;
-                self.framed(alloc, *id, fresh, body, end)
+                self.effect_of_frame(alloc, *id, fresh, body, end)
             }
             Event::Lost { end_: id, why } => {
                 let _end = open_end(&self.ends, *id)?;
@@ -378,7 +407,7 @@ impl Node {
             }
             Event::Tick { end_: id } => {
                 let end = open_end(&self.ends, *id)?;
-                self.ticked(alloc, *id, end)
+                self.effect_of_tick(alloc, *id, end)
             }
         }
     }
@@ -445,7 +474,7 @@ impl Node {
     }
 
     // A name that isn't refused has its verdict.
-    pub(crate) fn name_taken(
+    pub(crate) fn rule_on_name(
         &self,
         alloc: Global,
         id: EndId,
@@ -454,12 +483,12 @@ impl Node {
         ensures { IfOk result (λ f. f ≡ name_taken self.now.setup self.now.ends id attempt (verdict_in self.now id attempt.peer)) }
     {
         let verdict = self.verdict(&attempt.peer, id);
-        name_taken(alloc, &self.setup, &self.ends, id, attempt, verdict)
+        effect_of_verdict(alloc, &self.setup, &self.ends, id, attempt, verdict)
     }
 }
 
 // The end says this, and nothing else is told.
-fn says(id: EndId, say: ByteString) -> Reply
+pub(crate) fn reply_that_says(id: EndId, say: ByteString) -> Reply
     ensures { result ≡ record { end_ = id; say = say; closed = None; up = None; note = Note.Nothing } }
 {
     Reply {

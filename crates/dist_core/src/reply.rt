@@ -1,6 +1,6 @@
-//! What a node answers.
+//! What a node returns for an event.
 
-use dist_ends::{UpRecord, Why};
+use dist_core_ends::{UpRecord, Why};
 use dist_names::{ByteString, NodeName};
 use dist_peers::EndId;
 
@@ -9,18 +9,18 @@ use dist_peers::EndId;
 pub enum Note {
     /// Nothing that is noted.
     Nothing,
-    /// A name passed all checks, also where `nok` was said to it.
+    /// A name passed all checks, also where `nok` was sent to it.
     NameTaken {
         /// The name.
         peer: NodeName,
         /// The own dialled end that it made doomed, if one.
         dooms: Option<EndId>,
     },
-    /// A reply to a challenge was said.
+    /// A reply to a challenge was sent.
     ReplySaid,
 }
 
-/// What a step answers.
+/// What a step returns.
 #[derive(Debug, Drop)]
 pub struct Reply {
     /// The event's end, or the one that was given out.

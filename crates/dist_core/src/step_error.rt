@@ -2,13 +2,13 @@
 ghost use Rattle.std.specs.Prelude.{◌≡◌};
 ghost use Rattle.dist_core.specs.Words.{refusal_name};
 
-use dist_ends::Why;
+use dist_core_ends::Why;
 use dist_peers::Entry;
 use std::error::Error;
 use std::fmt;
 
-/// Why a step is refused. Each leaves the node unchanged. The variants stand in the order of refusals: the first that
-/// holds is told. Our own choice; the ERTS User's Guide has no such machine.
+/// Why a step is refused. Each leaves the node unchanged. The variants stand in the order of refusals: the first that holds is
+/// returned. Our own choice; the ERTS User's Guide has no such machine.
 #[derive(Clone, Copy, Debug, PartialEq, Eq)]
 pub enum StepError {
     /// The number was never given out. The caller's fault, as the four that follow.
@@ -20,7 +20,7 @@ pub enum StepError {
     WrongPhase,
     /// A dial to a peer that is not idle, and its entry.
     Busy(Entry),
-    /// As many steps that told no loss were made as the node's limits allow; of a new end also where as many ends were given
+    /// As many steps that reported no loss were made as the node's limits allow; of a new end also where as many ends were given
     /// out as they allow.
     Spent,
     /// A dial with as many entries as the node's limits allow, or a new end with as many open ends as they allow.
@@ -46,7 +46,7 @@ impl StepError {
     }
 }
 
-// The sentence that tells it.
+// The sentence for it.
 fn sentence(error: StepError) -> &'static str {
     match error {
         StepError::NoSuchEnd => "no such end",

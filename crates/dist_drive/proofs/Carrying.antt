@@ -6,15 +6,15 @@ use Rattle.std.specs.Io.KnownBytes.{prepend_known, append_known}
 use Rattle.dist_frames.specs.Reader.{Reader, Short, Linked, fed, next_body, without_next, told, to_come}
 use Rattle.dist_frames.specs.History.{IsBytes}
 use Rattle.dist_peers.specs.declared.entry.EndId.{EndId}
-use Rattle.dist_ends.specs.declared.why.Why.{Why}
-use Rattle.dist_ends.specs.declared.why.Why.TheVariants as why
+use Rattle.dist_core_ends.specs.declared.why.Why.{Why}
+use Rattle.dist_core_ends.specs.declared.why.Why.TheVariants as why
 use Rattle.dist_core.specs.declared.event.Event.TheVariants as event
-use Rattle.dist_ends.specs.declared.phase.Still.TheVariants as still
+use Rattle.dist_core_ends.specs.declared.phase.Still.TheVariants as still
 use Rattle.dist_core.specs.declared.step_error.StepError.{StepError}
 use Rattle.dist_core.specs.declared.step_error.StepError.TheVariants as error
-use Rattle.dist_streams.specs.Stream.{StreamState}
-use Rattle.dist_streams.specs.Turns.{Says, Hears}
-use Rattle.dist_streams.specs.declared.turn_error.TurnError.{TurnError}
+use Rattle.dist_stream.specs.Stream.{StreamState}
+use Rattle.dist_stream.specs.Turns.{Says, Hears}
+use Rattle.dist_stream.specs.declared.turn_error.TurnError.{TurnError}
 use Rattle.dist_drive.specs.declared.outcome.Ending.{Ending}
 use Rattle.dist_drive.specs.declared.outcome.Ending.TheVariants as ending
 use Rattle.dist_drive.specs.Desks.{Step, event_of, last_reply, DeskFacts, IsOther}
@@ -48,11 +48,11 @@ abbrev pub finish_at : {D W : Type 0} → Place D W → Finish D W
 finish_at place = record { stream = place.stream; desk = place.desk; draws = place.draws }
 
 module _ (laws : FrameLaws) {D W : Type 0} (facts : DeskFacts D) (gives : Gives W) where
-  -- what a call does that is on its way at this place, where all was said
+  -- what a call that is on its way at this place does, where all was sent
   abbrev pub course_at : (start : Start D W) (place : Place D W) (reader : Reader) → Runs facts gives start place reader → Course W
   course_at start place reader p = record { input = p.input; steps = p.steps; output = text_of start.first p.steps; left = place.left; draws = place.draws }
 
-  -- where the call stops once all was said
+  -- where the call stops once all was sent
   pub carries : (start : Start D W) (place : Place D W) (reader : Reader) (drawn : W) (e : Ending) (p : Runs facts gives start place reader)
       → DrawsOneAtMost gives place.draws drawn
       → HasCause facts start (course_at start place reader p) (record { stream = place.stream; desk = place.desk; draws = drawn }) e
@@ -103,7 +103,7 @@ module _ (laws : FrameLaws) {D W : Type 0} (facts : DeskFacts D) (gives : Gives 
   refused start place reader drawn body n error.WrongPhase p next draw h = gives_up start place reader drawn body n error.WrongPhase tt p next draw h
   refused start place reader drawn body n error.Spent p next draw h = gives_up start place reader drawn body n error.Spent tt p next draw h
 
-  -- it was said whole, and the call goes on
+  -- it was sent whole, and the call goes on
   pub runs_on : (start : Start D W) (before after : Place D W) (reader : Reader) (body : List ℕ) (up : Bool) (m : MakesStep facts gives start.end_ body before.desk after.desk before.draws after.draws)
       → Runs facts gives start before reader → next_body reader ≡ Some body → Says before.stream after.stream before.left after.left None m.reply.say → up ≡ is_some m.reply.up
       → Runs facts gives start after (after_step up (without_next reader))
@@ -160,7 +160,7 @@ module _ (laws : FrameLaws) {D W : Type 0} (facts : DeskFacts D) (gives : Gives 
         marks = marks_since e p.ended p.read_failed p.write_failed (reply_marks (own_why start.end_ m.reply.closed) says.fault e m.reply.say says.says (says.ends e refl));
       }
 
-  -- the desk refused the frame, or it was handed on and not said whole
+  -- the desk refused the frame, or it was handed on and not sent whole
   pub stops : (start : Start D W) (before after : Place D W) (reader : Reader) (body : List ℕ) (e : Ending)
       → Runs facts gives start before reader → next_body reader ≡ Some body → HandsOn facts gives start.end_ body before after (Err e)
       → Carries facts gives start (finish_at after) e
@@ -172,7 +172,7 @@ module _ (laws : FrameLaws) {D W : Type 0} (facts : DeskFacts D) (gives : Gives 
       subst P (λ i. (sym h.stream_is i, sym h.desk_is i, same i)) here
   stops start before after reader body e p next (inr h) = cut start before after reader body e h.step p next h.says
 
-  -- it was handed on and said whole
+  -- it was handed on and sent whole
   pub moves_on : (start : Start D W) (before after : Place D W) (reader : Reader) (body : List ℕ) (up : Bool)
       → Runs facts gives start before reader → next_body reader ≡ Some body → HandsOn facts gives start.end_ body before after (Ok up)
       → Runs facts gives start after (after_step up (without_next reader))
@@ -223,7 +223,7 @@ module _ (laws : FrameLaws) {D W : Type 0} (facts : DeskFacts D) (gives : Gives 
       λ start is runs. subst (λ (x : Reader). Goes facts gives start after x true) (sym same) (rises_on start before after reader body (p start is runs) next (at_end facts gives end_ start.end_ body before after (Ok true) is h))
   rises_so end_ begun before after held reader holds body false p next h yes' same = absurd cc
 
-  -- the desk tells that the end is gone
+  -- the desk reports that the end is gone
   pub gone : (start : Start D W) (place : Place D W) (reader : Reader) (w : Why)
       → Runs facts gives start place reader → to_come reader ≡ [] → facts.standing place.desk start.end_ (still.Gone w)
       → Carries facts gives start (finish_at place) (ending.Gone w)

@@ -6,7 +6,7 @@ use Rattle.std.proofs.lemmas.List.{append-nil}
 use Rattle.std.specs.Io.KnownBytes.{prepend_known}
 use Rattle.dist_frames.specs.Stream.{framed}
 use Rattle.dist_frames.specs.Reader.{Reader, Short, Linked, linked, rest_of}
-use Rattle.dist_ends.specs.declared.known.UpRecord.{UpRecord}
+use Rattle.dist_core_ends.specs.declared.known.UpRecord.{UpRecord}
 use Rattle.dist_drive.specs.Desks.{DeskFacts}
 use Rattle.dist_drive.specs.Numbers.{Gives}
 use Rattle.dist_drive.specs.Driven.{Start, frames_of, IsOnlyGone}

@@ -1,4 +1,4 @@
--- What a call shows on its way and where it ends: what was handed on, said and counted.
+-- What a call shows on its way and where it ends: what was handed on, sent and counted.
 use Rattle.std.proofs.Common.{◌≡◌, ℕ, ◌+◌, ◌-◌, ◌*◌, ◌<◌, ◌≤◌, ◌⊎◌, Bool, true, false, List, [], ◌∷◌, ◌++◌, length, take, drop, map, Option, Some, None, Result, Ok, Err, refl, sym, ap, subst, ◌∙◌, arith, append_assoc, length-append, inl, inr, ⊎_elim}
 use Rattle.std.specs.Prelude.{eqb, if◌then◌else◌}
 use Rattle.std.proofs.lemmas.Bool.{eqb-true}
@@ -8,15 +8,15 @@ use Rattle.std.specs.Io.KnownBytes.{prepend_known, append_known}
 use Rattle.dist_frames.specs.Reader.{Short}
 use Rattle.dist_frames.specs.History.{Accounts}
 use Rattle.dist_peers.specs.declared.entry.EndId.{EndId}
-use Rattle.dist_ends.specs.declared.why.Why.{Why}
-use Rattle.dist_ends.specs.declared.why.Why.TheVariants as why
+use Rattle.dist_core_ends.specs.declared.why.Why.{Why}
+use Rattle.dist_core_ends.specs.declared.why.Why.TheVariants as why
 use Rattle.dist_core.specs.declared.event.Event.TheVariants as event
 use Rattle.dist_core.specs.declared.reply.Reply.{Reply}
 use Rattle.dist_core.specs.declared.step_error.StepError.{StepError}
-use Rattle.dist_streams.specs.Stream.{StreamState}
-use Rattle.dist_streams.specs.Turns.{Rises, Spends, Says, Hears, SaysFront}
-use Rattle.dist_streams.specs.declared.turn_error.TurnError.{TurnError}
-use Rattle.dist_streams.specs.declared.turn_error.TurnError.TheVariants as fault
+use Rattle.dist_stream.specs.Stream.{StreamState}
+use Rattle.dist_stream.specs.Turns.{Rises, Spends, Says, Hears, SaysFront}
+use Rattle.dist_stream.specs.declared.turn_error.TurnError.{TurnError}
+use Rattle.dist_stream.specs.declared.turn_error.TurnError.TheVariants as fault
 use Rattle.dist_drive.specs.declared.outcome.Ending.{Ending}
 use Rattle.dist_drive.specs.declared.outcome.Ending.TheVariants as ending
 use Rattle.dist_drive.specs.Desks.{Step, event_of, number_of, last_reply, DeskFacts}
@@ -48,7 +48,7 @@ pieces_on n limit turns left fewer h = omega (arith, fewer, h)
 pub pieces_one : (heard piece : List ℕ) (limit turns left : ℕ) → turns ≤ limit → turns ≡ left + 1 → length piece ≤ 4096 → length heard ≤ 4096 * (limit - turns) → length (heard ++ piece) ≤ 4096 * (limit - left)
 pieces_one heard piece limit turns left within one small h = omega (arith, length-append heard piece, within, one, small, h)
 
--- so many calls were made, in so many turns
+-- this many calls were made, in this many turns
 pub record Spent (limit left old new : ℕ) : Type 0 where
   pub within : left ≤ limit
   pub calls : Rises (limit - left) old new
@@ -76,7 +76,7 @@ whole_reply {old = old} {new = new} {turns = turns} {left = left} text p =
     let all : take p.count text ≡ text = ap (λ n. take n text) p.whole ∙ take-length text in
     subst (λ (l : List ℕ). Says old new turns left None l) all p.says
 
--- where the call goes on, all was said
+-- where the call goes on, all was sent
 pub goes_on : {old new : StreamState} {turns left : ℕ} (own : Option Why) (told : Option TurnError) (text : List ℕ) → after_reply own told ≡ Ok tt → SaysFront old new turns left told text → Says old new turns left None text
 goes_on own None text e p = whole_reply text p
 goes_on own (Some fault.Limit) text e p = absurd cc
@@ -101,7 +101,7 @@ marks_since e ended read written m = record {
   write_failed = ⊎_elim (λ h. inl (h ∙ written)) (λ h. inr h) m.write_failed;
 }
 
--- after a reply that was not said whole, or that closed the end
+-- after a reply that was not sent whole, or that closed the end
 pub reply_marks : {old new : StreamState} {turns left : ℕ} (own : Option Why) (told : Option TurnError) (e : Ending) (text : List ℕ) → SaysFront old new turns left told text → after_reply own told ≡ Err e → Marks e old new
 reply_marks own (Some fault.ReadFailed) e text p h = absurd p.says.fault_is
 reply_marks own (Some fault.Ended) e text p h = absurd p.says.fault_is
@@ -133,7 +133,7 @@ first_marks fault.WriteFailed first p = record { ended = p.says.spends.ended; re
 first_marks fault.ReadFailed first p = absurd p.says.fault_is
 first_marks fault.Ended first p = absurd p.says.fault_is
 
--- what is told is told of some text
+-- the first words are not written whole only where there are some
 said_of_some : {old new : StreamState} {turns left : ℕ} (error : TurnError) (first : List ℕ) → SaysFront old new turns left (Some error) first → first ≢ []
 said_of_some error first p none =
     let none_long : length first ≡ 0 = ap length none in
@@ -146,7 +146,7 @@ first_unread fault.WriteFailed first p = record { unread = p.says.unread; ended 
 first_unread fault.ReadFailed first p = absurd p.says.fault_is
 first_unread fault.Ended first p = absurd p.says.fault_is
 
--- where the desk tells that the end is gone nothing was read
+-- where the desk reports that the end is gone nothing was read
 pub gone_unread : (first : List ℕ) (start mid new : StreamState) (w : Why) (e : Ending) → ends_as e ≡ ends_as (ending.Gone w) → new ≡ mid → (mid.unread ≡ start.unread) × (mid.ended ≡ start.ended) × (mid.read_failed ≡ start.read_failed) → LeavesUnread first start new e
 gone_unread first start mid new w e is same kept =
     let told : ending.Gone w ≡ e = cc in
@@ -173,7 +173,7 @@ module _ {D W : Type 0} (facts : DeskFacts D) (start : Start D W) (course : Cour
     pub whole : WritesAll e finish.stream Said
     pub cause : HasCause facts start course finish e
 
-  -- after a reply, of which a part was said
+  -- after a reply, of which a part was sent
   pub record ShowsEnd (reply : Reply) (part : List ℕ) (Handed : Type 0) (before : List ℕ) (e : Ending) : Type 0 where
     pub all : HandsOnAll e Handed
     pub whole : WritesAll e finish.stream (before ++ part ≡ before ++ reply.say)
@@ -242,7 +242,7 @@ endings_are e f h = cc
 pub not_refused : (up : Bool) (e : Ending) → Ok up ≡ Err e → ⊥
 not_refused up e h = cc
 
--- what an exit by `?` tells
+-- what an exit by `?` returns
 pub at_err : {X : Type 0} (P : Ending → Type 0) (r : Result X Ending) (e : Ending) → IsErrAnd r (λ y. y ≡ e) → P e → IfErr r P
 at_err P (Ok x) e h p = absurd h
 at_err P (Err y) e h p = subst P (sym h) p
@@ -304,7 +304,7 @@ begins_so none facts gives start stream left p =
       keeps = keeps_none none;
     }
 
--- the loss was told, or the end was gone or unknown by then
+-- the loss was reported, or the end was gone or unknown by then
 pub tells : {D : Type 0} (facts : DeskFacts D) (end_ : EndId) (before after : D) (w : Why) (r : Result (Unit {0}) StepError)
     → OnOk r ((reply : Reply) × (facts.list after ≡ facts.list before ++ (event.Lost end_ w, 0, reply) ∷ []))
     → OnErr r (after ≡ before)

@@ -1,10 +1,10 @@
--- Texts and lists of steps that grow by one step, and what a stream tells then.
+-- Texts and lists of steps that grow by one step, and what a stream shows then.
 use Rattle.std.proofs.Common.{◌≡◌, ℕ, ◌+◌, ◌<◌, ◌≤◌, List, [], ◌∷◌, ◌++◌, length, take, drop, Option, Some, None, refl, sym, ap, subst, ◌∙◌, arith, append_assoc, length-append}
 use Rattle.std.proofs.lemmas.List.{append-nil, take-append-le, take-append-drop}
 use Rattle.std.specs.List.{flat_map}
 use Rattle.std.proofs.lemmas.List.Concat.{flat_map-append}
 use Rattle.std.specs.Io.KnownBytes.{prepend_known, append_known}
-use Rattle.dist_streams.specs.Turns.{Rises}
+use Rattle.dist_stream.specs.Turns.{Rises}
 use Rattle.dist_drive.specs.Desks.{Step}
 use Rattle.dist_drive.specs.Driven.{IsFront, text_of}
 
@@ -61,7 +61,7 @@ text_one first xs s = text_more first xs (s ∷ []) ∙ ap (λ l. text_of first 
 pub text_front : (first : List ℕ) (steps : List Step) (i : ℕ) → IsFront (text_of first (take i steps)) (text_of first steps)
 text_front first steps i = (flat_map says (drop i steps), ap (text_of first) (sym (take-append-drop i steps)) ∙ text_more first (take i steps) (drop i steps))
 
--- before the last step was handed on, all was said that stood before it
+-- before the last step was handed on, all was sent that stood before it
 pub text_before : (first : List ℕ) (steps : List Step) (s : Step) (said : List ℕ) (i : ℕ) → i < length (steps ++ s ∷ []) → IsFront (text_of first steps) said → IsFront (text_of first (take i (steps ++ s ∷ []))) said
 text_before first steps s said i h p =
     let few : i ≤ length steps = omega (arith, length-append steps (s ∷ [])) in

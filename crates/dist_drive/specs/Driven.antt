@@ -5,18 +5,18 @@ use Rattle.std.specs.List.{flat_map}
 use Rattle.std.specs.Io.KnownBytes.{prepend_known, append_known, IsAtEnd}
 use Rattle.dist_frames.specs.Stream.{bodies}
 use Rattle.dist_peers.specs.declared.entry.EndId.{EndId}
-use Rattle.dist_ends.specs.declared.why.Why.{Why}
-use Rattle.dist_ends.specs.declared.why.Why.TheVariants as why
+use Rattle.dist_core_ends.specs.declared.why.Why.{Why}
+use Rattle.dist_core_ends.specs.declared.why.Why.TheVariants as why
 use Rattle.dist_core.specs.declared.event.Event.{Event}
 use Rattle.dist_core.specs.declared.event.Event.TheVariants as event
 use Rattle.dist_core.specs.declared.reply.Reply.{Reply}
-use Rattle.dist_ends.specs.declared.phase.Still.{Still}
-use Rattle.dist_ends.specs.declared.phase.Still.TheVariants as still
+use Rattle.dist_core_ends.specs.declared.phase.Still.{Still}
+use Rattle.dist_core_ends.specs.declared.phase.Still.TheVariants as still
 use Rattle.dist_core.specs.declared.step_error.StepError.{StepError}
 use Rattle.dist_core.specs.declared.step_error.StepError.TheVariants as error
 use Rattle.dist_core.specs.Losses.{IsGone}
-use Rattle.dist_streams.specs.Stream.{StreamState}
-use Rattle.dist_streams.specs.Turns.{Rises}
+use Rattle.dist_stream.specs.Stream.{StreamState}
+use Rattle.dist_stream.specs.Turns.{Rises}
 use Rattle.dist_drive.specs.declared.outcome.Outcome.{Outcome}
 use Rattle.dist_drive.specs.declared.outcome.Outcome.TheVariants as outcome
 use Rattle.dist_drive.specs.declared.outcome.Ending.{Ending}
@@ -91,7 +91,7 @@ next_frame input steps = slice_get (frames_of input steps) (length steps)
 abbrev pub events_of : EndId → List (List ℕ) → List Event
 events_of end_ frames = map (event.Frame end_) frames
 
--- THE TEXT OF A CALL: what is written first, then what each reply says
+-- THE TEXT OF A CALL: what is written first, then what each reply sends
 abbrev pub text_of : List ℕ → List Step → List ℕ
 text_of first steps = first ++ flat_map (λ step. (reply_of step).say) steps
 
@@ -134,8 +134,8 @@ module _ {D W : Type 0} (facts : DeskFacts D) (start : Start D W) (course : Cour
   abbrev pub ClosesEnd : Why → Type 0
   ClosesEnd w = (reply : Reply) × (last_reply course.steps ≡ Some reply) × (reply.closed ≡ Some (start.end_, w))
 
-  -- What the ending shows. The desk that tells that the end is gone, or refuses a frame, is the one behind the last step.
-  -- Where it tells that the end is gone, no frame is left.
+  -- What the ending shows. The desk that reports that the end is gone, or refuses a frame, is the one behind the last step.
+  -- Where it reports that the end is gone, no frame is left.
   abbrev pub HasCause : Ending → Type 0
   HasCause ending.Limit = course.left ≡ 0
   HasCause (ending.Shut w) = ClosesEnd w
@@ -157,14 +157,14 @@ abbrev pub is_of_failed_read : Ending → Bool
 is_of_failed_read (ending.Fault why.ReadFailed) = true
 is_of_failed_read other = false
 
--- so may a call end in which a write failed: with that fault, or with the reply that closed the end and was to be said
+-- so may a call end in which a write failed: with that fault, or with the reply that closed the end and was to be sent
 abbrev pub IsOfFailedWrite : Ending → Type 0
 IsOfFailedWrite (ending.Fault why.WriteFailed) = Unit {0}
 IsOfFailedWrite (ending.Shut w) = Unit {0}
 IsOfFailedWrite other = ⊥
 
--- THE MARKS OF A CALL: the stream's marks that were not there before are told by the ending. So nothing is read once the
--- stream said that it has ended or that a read failed, and nothing is read or handed on once a write failed.
+-- THE MARKS OF A CALL: the ending shows which marks of the stream were not there before. So nothing is read once the stream
+-- reported its end or a failed read, and nothing is read or handed on once a write failed.
 pub record Marks (ending : Ending) (old new : StreamState) : Type 0 where
   -- That the stream has ended is marked where the call ends for that.
   pub ended : new.ended ≡ (is_of_end ending || old.ended)
@@ -179,7 +179,7 @@ pub record Marks (ending : Ending) (old new : StreamState) : Type 0 where
 abbrev pub IsOnlyGone : {D : Type 0} → DeskFacts D → D → EndId → Type 0
 IsOnlyGone facts desk end_ = (s : Still) → facts.standing desk end_ s → (w : Why) × (s ≡ still.Gone w)
 
--- The call tells that the end is gone, unless what was to be said first could not be written.
+-- The call reports that the end is gone, unless what was to be sent first could not be written.
 abbrev pub EndsUnread : List ℕ → Ending → Type 0
 EndsUnread first (ending.Gone w) = Unit {0}
 EndsUnread first ending.Limit = first ≢ []
@@ -193,11 +193,11 @@ pub record LeavesUnread (first : List ℕ) (old new : StreamState) (ending : End
   -- No mark of a read is set.
   pub ended : new.ended ≡ old.ended
   pub read_failed : new.read_failed ≡ old.read_failed
-  -- The call tells why.
+  -- The call reports why.
   pub ending_is : EndsUnread first ending
 
--- A fault of the call's own is told the desk as one loss with that cause, unless the desk refuses it, since the end is gone
--- or unknown by then. Nothing else is told. The list has the steps by which it is told.
+-- A fault of the call's own is reported to the desk as one loss with that cause, unless the desk refuses it, since the end is
+-- gone or unknown by then. Nothing else is reported. The list has the steps by which it is reported.
 abbrev pub TellsLoss : {D : Type 0} → DeskFacts D → EndId → D → Ending → List Step → Type 0
 TellsLoss facts end_ desk (ending.Fault w) losses =
     ((reply : Reply) × (losses ≡ (event.Lost end_ w, 0, reply) ∷ []))
@@ -231,9 +231,9 @@ module _ {D W : Type 0} (facts : DeskFacts D) (gives : Gives W) (start : Start D
     pub text : IsFront course.output (text_of start.first course.steps)
     -- It is the whole text, where the ending says so.
     pub all_text : WritesAll ending finish.stream (course.output ≡ text_of start.first course.steps)
-    -- Before a frame is handed on, all is written that is to be said before it.
+    -- Before a frame is handed on, all is written that is to be sent before it.
     pub in_turn : (i : ℕ) → i < length course.steps → IsFront (text_of start.first (take i course.steps)) course.output
-    -- At most as many reads and writes are made as may be, and where the limit is told, so many.
+    -- At most as many reads and writes are made as may be, and where the limit is returned, exactly as many.
     pub within : course.left ≤ start.limit
     pub turns : Rises (start.limit - course.left) start.stream.calls finish.stream.calls
     -- No read gives more than 4,096 bytes.
@@ -241,21 +241,21 @@ module _ {D W : Type 0} (facts : DeskFacts D) (gives : Gives W) (start : Start D
     -- Once a mark is set, the call ends.
     pub marks : Marks ending start.stream finish.stream
 
-  -- THE WHOLE CALL: up to its ending, and then the loss that is told, at most one.
+  -- THE WHOLE CALL: up to its ending, and then the loss that is reported, at most one.
   pub record Drives (finish : Finish D W) (outcome : Outcome) : Type 0 where
     -- how it ends
     pub ending : Ending
-    -- the desk before a loss is told
+    -- the desk before a loss is reported
     pub desk : D
     -- Up to its ending it carries frames and text.
     pub carries : Carries (record finish { desk = desk }) ending
-    -- the steps by which a loss is told
+    -- the steps by which a loss is reported
     pub losses : List Step
     -- They are of a fault of the call's own.
     pub losses_are : TellsLoss facts start.end_ desk ending losses
     -- The desk's list grows by them.
     pub list_is : facts.list finish.desk ≡ facts.list desk ++ losses
-    -- The outcome tells how it ends.
+    -- The outcome shows how it ends.
     pub outcome_is : outcome ≡ outcome_of ending
     -- The desk is asked before anything is read: of an end that is gone nothing is.
     pub gone : IsOnlyGone facts start.desk start.end_ → LeavesUnread start.first start.stream finish.stream ending

@@ -4,9 +4,9 @@ use Rattle.std.specs.List.{flat_map}
 use Rattle.std.specs.Int.{w16}
 use Rattle.std.specs.Io.KnownBytes.{prepend_known, append_known}
 use Rattle.dist_frames.specs.Stream.{framed}
-use Rattle.dist_ends.specs.declared.known.UpRecord.{UpRecord}
+use Rattle.dist_core_ends.specs.declared.known.UpRecord.{UpRecord}
 use Rattle.dist_core.specs.declared.reply.Reply.{Reply}
-use Rattle.dist_streams.specs.Turns.{Rises}
+use Rattle.dist_stream.specs.Turns.{Rises}
 use Rattle.dist_drive.specs.declared.reached.Reached.{Reached}
 use Rattle.dist_drive.specs.declared.reached.Reached.TheVariants as reached
 use Rattle.dist_drive.specs.Desks.{Step, event_of, number_of, last_reply, DeskFacts}
@@ -38,7 +38,7 @@ module _ {D W : Type 0} (facts : DeskFacts D) (gives : Gives W) (start : Start D
     pub numbers : DrawsAll gives start.draws (map number_of steps) finish.draws
     -- The newest reply has the record.
     pub up : IsUpWith (facts.list finish.desk) kept
-    -- All that is to be said is written.
+    -- All that is to be sent is written.
     pub output_is : finish.stream.written ≡ append_known start.stream.written (text_of start.first steps)
     -- At most as many reads and writes are made as may be.
     pub within : left ≤ start.limit

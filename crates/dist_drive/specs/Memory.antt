@@ -1,13 +1,13 @@
 -- A desk that holds its node itself.
 use Rattle.std.specs.Prelude.{◌≡◌, ◌≢◌, ℕ, ◌<◌, ◌⊎◌, true, List, Some, slice_get}
 use Rattle.dist_peers.specs.declared.entry.EndId.{EndId}
-use Rattle.dist_ends.specs.declared.known.End.{End}
-use Rattle.dist_ends.specs.declared.phase.Still.{Still}
+use Rattle.dist_core_ends.specs.declared.known.End.{End}
+use Rattle.dist_core_ends.specs.declared.phase.Still.{Still}
 use Rattle.dist_core.specs.declared.event.Event.{Event}
 use Rattle.dist_core.specs.declared.step_error.StepError.{StepError}
 use Rattle.dist_core.specs.declared.step_error.StepError.TheVariants as error
 use Rattle.dist_core.specs.Answers.{Refuses}
-use Rattle.dist_ends.specs.Ends.{is_open, still_of}
+use Rattle.dist_core_ends.specs.Ends.{is_open, still_of}
 use Rattle.dist_core.specs.Clauses.{end_of}
 use Rattle.dist_core.specs.Node.{NodeState}
 use Rattle.dist_core.specs.Step.{step}

@@ -6,16 +6,16 @@ use Rattle.std.specs.Io.KnownBytes.{prepend_known, append_known}
 use Rattle.dist_frames.specs.Reader.{Reader, Short, Linked, fed, linked, told}
 use Rattle.dist_frames.specs.History.{Accounts, IsBytes}
 use Rattle.dist_peers.specs.declared.entry.EndId.{EndId}
-use Rattle.dist_ends.specs.declared.why.Why.{Why}
-use Rattle.dist_ends.specs.declared.why.Why.TheVariants as why
+use Rattle.dist_core_ends.specs.declared.why.Why.{Why}
+use Rattle.dist_core_ends.specs.declared.why.Why.TheVariants as why
 use Rattle.dist_core.specs.declared.event.Event.TheVariants as event
 use Rattle.dist_core.specs.declared.reply.Reply.{Reply}
 use Rattle.dist_core.specs.declared.step_error.StepError.{StepError}
 use Rattle.dist_core.specs.declared.step_error.StepError.TheVariants as error
-use Rattle.dist_streams.specs.Stream.{StreamState}
-use Rattle.dist_streams.specs.Turns.{Rises, Hears, SaysFront}
-use Rattle.dist_streams.specs.declared.turn_error.TurnError.{TurnError}
-use Rattle.dist_streams.specs.declared.turn_error.TurnError.TheVariants as fault
+use Rattle.dist_stream.specs.Stream.{StreamState}
+use Rattle.dist_stream.specs.Turns.{Rises, Hears, SaysFront}
+use Rattle.dist_stream.specs.declared.turn_error.TurnError.{TurnError}
+use Rattle.dist_stream.specs.declared.turn_error.TurnError.TheVariants as fault
 use Rattle.dist_drive.specs.declared.outcome.Ending.{Ending}
 use Rattle.dist_drive.specs.declared.outcome.Ending.TheVariants as ending
 use Rattle.dist_drive.specs.Desks.{Step, event_of, number_of, last_reply, DeskFacts}
@@ -70,7 +70,7 @@ abbrev pub IsUpNow : List Step → Type 0
 IsUpNow list = (reply : Reply) × (last_reply list ≡ Some reply) × (is_some reply.up ≡ true)
 
 module _ {D W : Type 0} (facts : DeskFacts D) (gives : Gives W) where
-  -- Each frame that came whole was handed on or waits in the reader, and all that was to be said was written.
+  -- Each frame that came whole was handed on or waits in the reader, and all that was to be sent was written.
   pub record Runs (start : Start D W) (place : Place D W) (reader : Reader) : Type 0 where
     -- the bytes that were read
     pub input : List ℕ
@@ -80,7 +80,7 @@ module _ {D W : Type 0} (facts : DeskFacts D) (gives : Gives W) where
     pub steps : List Step
     -- No byte that was read is lost.
     pub input_is : start.stream.unread ≡ prepend_known input place.stream.unread
-    -- All that was to be said was written.
+    -- All that was to be sent was written.
     pub output_is : place.stream.written ≡ append_known start.stream.written (text_of start.first steps)
     -- At most as many reads and writes were made as may be.
     pub within : place.left ≤ start.limit

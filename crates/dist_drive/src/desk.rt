@@ -39,7 +39,7 @@ pub trait Desk {
     fn last(&self) -> Option<&Reply>
         ensures { option_copied result ≡ last_reply (facts.list self.now) };
 
-    /// How an end stands, as the desk tells it.
+    /// How an end stands, as the desk reports it.
     fn still(&self, end_: EndId) -> Still
         ensures { facts.standing self.now end_ result };
 }

@@ -5,7 +5,7 @@ ghost use Rattle.dist_drive.specs.Driven.{Carries, Drives, IsOnlyGone, LeavesUnr
 ghost use Rattle.dist_frames.specs.Reader.Reader.{Short};
 ghost use Rattle.dist_frames.specs.Reader.{next_body, without_next, to_come, fed, told};
 ghost use Rattle.dist_frames.specs.History.{IsBytes};
-ghost use Rattle.dist_streams.specs.Turns.{fault_of};
+ghost use Rattle.dist_stream.specs.Turns.{fault_of};
 ghost use Rattle.dist_drive.specs.Running.{after_reply, after_step, ending_of_refusal, ending_of_stream, own_why};
 ghost use Rattle.dist_drive.specs.Running.{MakesStep, RefusesStep, SaysReply, HandsOn, GoesOn, EndsSo, HearsPiece};
 
@@ -16,7 +16,7 @@ use dist_core::{Event, Reply, StepError, Still, Why};
 use dist_frames::{Frames, bodies_of_stream, fed_and_moved};
 use dist_names::ByteString;
 use dist_peers::EndId;
-use dist_streams::{Limited, Stream, TurnError};
+use dist_stream::{Limited, Stream, TurnError};
 use std::alloc::Global;
 
 // Why the call ends where the desk refused a frame.
@@ -234,7 +234,7 @@ pub fn turn<S: Stream, D: Desk, W: Draws>(
     }
 }
 
-// Drives to the end, but for the loss that is then told.
+// Drives to the end, but for the loss that is then reported.
 fn run<S: Stream, D: Desk, W: Draws>(
     alloc: Global,
     stream: &mut S,
@@ -274,7 +274,7 @@ fn run<S: Stream, D: Desk, W: Draws>(
     }
 }
 
-// Tells a fault of the call's own as a loss.
+// Reports a fault of the call's own as a loss.
 pub fn tell<D: Desk>(desk: &mut D, end_: EndId, ending: Ending)
     ensures told { (losses : List Step) × (D.facts.list desk.new ≡ D.facts.list desk.old ++ losses) × TellsLoss D.facts end_ desk.old ending losses }
     ensures base { D.base desk.new ≡ D.base desk.old }
@@ -287,15 +287,15 @@ pub fn tell<D: Desk>(desk: &mut D, end_: EndId, ending: Ending)
 
 /// Drives an end over a stream, in at most `limit` reads and writes, until it is closed or no turn is left.
 ///
-/// It writes `first`: what the end said when its connection was there, and nothing for an accepted end. Then, again and
+/// It writes `first`: what the end sent when its connection was there, and nothing for an accepted end. Then, again and
 /// again, it asks the desk how the end stands, reads a piece of at most 4,096 bytes, and hands each whole frame in it on,
 /// with a number of its own, writing all that the reply says before the next frame. Once a reply has brought the end up,
 /// what comes is packets, which are skipped unread.
 ///
 /// Closed comes with the cause of the reply that closed the end, also where its last words could not be written; or with
-/// that for which the desk says that the end is gone; or with a fault, which is told the desk as one loss: Ended (a read
+/// that for which the desk says that the end is gone; or with a fault, which is reported to the desk as one loss: Ended (a read
 /// gave nothing), ReadFailed, WriteFailed (also a write that took nothing), NoMemory, GaveUp (the desk refused a frame for
-/// another reason). Limit comes where the turns ran out, and nothing is told then.
+/// another reason). Limit comes where the turns ran out, and nothing is reported then.
 ///
 /// As many numbers are drawn as frames were handed on, and one more where the desk refused a frame.
 ///

@@ -12,7 +12,7 @@ use crate::reached::Reached;
 use dist_core::{UpRecord, Why};
 use dist_frames::{Frames, bodies_of_stream, fed_and_moved};
 use dist_peers::EndId;
-use dist_streams::{Limited, Stream};
+use dist_stream::{Limited, Stream};
 use std::alloc::Global;
 
 // The record of the end that the newest reply brought up.
@@ -33,7 +33,7 @@ fn newest_record<D: Desk>(alloc: Global, desk: &D) -> Result<UpRecord, Ending>
     }
 }
 
-// Drives until the end is up, or to its end, but for the loss that is then told.
+// Drives until the end is up, or to its end, but for the loss that is then reported.
 fn come_up<S: Stream, D: Desk, W: Draws>(
     alloc: Global,
     stream: &mut S,
@@ -71,10 +71,10 @@ fn come_up<S: Stream, D: Desk, W: Draws>(
 
 /// Drives an end over a stream, in at most `limit` reads and writes, until it is up, or closed, or no turn is left.
 ///
-/// It does what `drive` does, in the same order, up to the frame whose reply brings the end up: then it answers that
+/// It does what `drive` does, in the same order, up to the frame whose reply brings the end up: then it returns that
 /// reply's record, and the bytes that were read behind that frame. What was read is the frames that were handed on, and then
 /// these bytes; the stream, the desk and what draws are the caller's again. Where the end does not come up, it ends as
-/// `drive` does. Where no memory is left for the record of an end that came up, NoMemory is told as a loss.
+/// `drive` does. Where no memory is left for the record of an end that came up, NoMemory is reported as a loss.
 ///
 /// It is meant for an end that took no frame before. Source: our own choice.
 pub fn handshake<S: Stream, D: Desk, W: Draws>(

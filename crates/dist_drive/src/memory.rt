@@ -9,7 +9,7 @@ ghost use Rattle.dist_drive.specs.Memory.{MayRefuse};
 
 use crate::desk::Desk;
 use dist_core::{Event, Node, Reply, StepError, Still};
-use dist_laws::a_lost_end_is_closed;
+use dist_core_laws::a_lost_end_is_closed;
 use dist_peers::EndId;
 use std::alloc::{AllocError, Global};
 use std::marker::Model;
@@ -76,7 +76,7 @@ fn make_room(steps: &mut Vec<(Event, u32, Reply)>, loss: bool) -> Result<(), All
     steps.reserve(2)
 }
 
-// Why a step is refused for which there is no room: want of memory is the last of its refusals.
+// Why a step is refused for which there is no room: out of memory is the last of its refusals.
 fn lacks(alloc: Global, node: &Node, event: &Event, fresh: u32) -> StepError
     ensures { Refuses result (step node.now event.now fresh) }
 {

@@ -12,7 +12,7 @@ use Rattle.std.specs.declared.cmp.Ordering.TheVariants.{Less, Equal, Greater}
 use Rattle.std.proofs.lemmas.Cmp.{nat_list_cmp_total}
 use Rattle.std.proofs.lemmas.Map.Text.{is_eq-slice_cmp}
 use Rattle.dist_epmd.specs.declared.row.Row.{Row}
-use Rattle.dist_epmd.specs.Book.{with_row, is_named, is_behind}
+use Rattle.dist_epmd.specs.Registrations.{with_row, is_named, is_behind}
 use Rattle.dist_epmd.specs.Named.{IsAtItsName, StandAtNames}
 
 abbrev compared : List ℕ → List ℕ → Ordering

@@ -1,4 +1,4 @@
--- What a call answers that may lack memory.
+-- What a call that may run out of memory returns.
 use Rattle.std.specs.Prelude.{ℕ, Bool, true, false, List, codes, Result, Ok, Err}
 use Rattle.dist_names.specs.Answer.{AnswersBut}
 use Rattle.dist_epmd.specs.declared.message.Answer.{Answer}
@@ -13,28 +13,28 @@ abbrev pub is_want : EpmdError → Bool
 is_want NoMemory = true
 is_want _ = false
 
--- The answer, seen by view, is the one expected, but for want of memory.
+-- Seen by view, the answer is the one expected, or out of memory.
 abbrev pub Answers : {X Y : Type 0} → (X → Y) → Result X EpmdError → Result Y EpmdError → Type 0
 Answers view result expected = AnswersBut is_want view result expected
 
--- an answer was read that bears a name or a text
+-- an answer was read that carries a name or a text
 abbrev pub BearsText : Result Answer EpmdError → Type 0
 BearsText (Ok (answer.Port (Ok info))) = Unit {0}
 BearsText (Ok (answer.Names port text)) = Unit {0}
 BearsText other = ⊥
 
--- Memory lacks only for an answer that bears a name or a text.
+-- Memory runs out only for an answer that carries a name or a text.
 abbrev pub LacksText : {X : Type 0} → Result X EpmdError → Result Answer EpmdError → Type 0
 LacksText (Err NoMemory) expected = BearsText expected
 LacksText result expected = Unit {0}
 
--- a request was read that bears a name
+-- a request was read that carries a name
 abbrev pub BearsName : Result Request EpmdError → Type 0
 BearsName (Ok (request.Alive info)) = Unit {0}
 BearsName (Ok (request.PortPlease name)) = Unit {0}
 BearsName other = ⊥
 
--- Memory lacks only for a request that bears a name.
+-- Memory runs out only for a request that carries a name.
 abbrev pub LacksName : {X : Type 0} → Result X EpmdError → Result Request EpmdError → Type 0
 LacksName (Err NoMemory) expected = BearsName expected
 LacksName result expected = Unit {0}

@@ -1,5 +1,5 @@
 pub mod Answering
-pub mod Book
+pub mod Registrations
 pub mod History
 pub mod Layout
 pub mod Named

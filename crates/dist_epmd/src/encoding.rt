@@ -10,7 +10,7 @@ use crate::epmd_error::EpmdError;
 use crate::message::{Answer, NodeInfo, Request};
 use std::alloc::{AllocError, Global};
 
-// The greatest number that a length of 2 bytes can say.
+// The greatest number that a length of 2 bytes can hold.
 const MOST: usize = 65535;
 
 // What has to be written, in two pieces.
@@ -21,7 +21,7 @@ pub fn push_both(bytes: &mut Vec<u8>, first: &[u8], second: &[u8]) -> Result<(),
     bytes.extend_from_slice(second)
 }
 
-fn push_sized(bytes: &mut Vec<u8>, text: &[u8]) -> Result<(), AllocError>
+fn push_text(bytes: &mut Vec<u8>, text: &[u8]) -> Result<(), AllocError>
     requires { length text.now < 2 ^ 16 }
     ensures { OnOk result (bytes.new.items ≡ bytes.old.items ++ sized text.now) }
 {
@@ -45,8 +45,8 @@ fn push_info(bytes: &mut Vec<u8>, before: &[u8], info: &NodeInfo) -> Result<(), 
     ensures { OnOk result (bytes.new.items ≡ bytes.old.items ++ (before.now ++ info_text info.now)) }
 {
     push_both(bytes, before, &numbers(info))?;
-    push_sized(bytes, info.name.as_slice())?;
-    push_sized(bytes, info.extra.as_slice())
+    push_text(bytes, info.name.as_slice())?;
+    push_text(bytes, info.extra.as_slice())
 }
 
 // Whether a frame takes the request.

@@ -21,7 +21,8 @@ pub use laws::{
     written_answer_is_read, written_request_is_read,
 };
 pub use message::{
-    AliveReq, Answer, Asked, HIDDEN, HIGHEST, LOWEST, NORMAL, NodeInfo, PortInfo, Request, TCP,
+    AliveReq, Answer, Asked, HIDDEN, HIGHEST, LOWEST, MAPPER_PORT, NORMAL, NodeInfo, PortInfo,
+    Request, TCP,
 };
 pub use reading::{decode_answer, decode_request};
 pub use registry::Registry;

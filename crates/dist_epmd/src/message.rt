@@ -6,6 +6,9 @@ ghost use Rattle.dist_epmd.specs.Nodes.{type_of, info_of_node};
 use dist_names::ByteString;
 use std::alloc::{AllocError, Global};
 
+/// The port of the port mapper, where nobody says another (ERTS User's Guide, Distribution Protocol, EPMD Protocol).
+pub const MAPPER_PORT: u16 = 4369;
+
 /// The node type of a node that is not hidden (ERTS User's Guide, Distribution Protocol, Register a Node in EPMD).
 pub const NORMAL: u8 = 77;
 
@@ -21,7 +24,7 @@ pub const HIGHEST: u16 = 6;
 /// The lowest version of the handshake.
 pub const LOWEST: u16 = 5;
 
-/// What a node tells of itself when it registers, and what a lookup of it answers.
+/// What a node says of itself when it registers, and what a lookup of it returns.
 ///
 /// The fields are spelled one behind the other, numbers in big-endian order (ERTS User's Guide, EPMD Protocol):
 ///
@@ -50,11 +53,11 @@ pub struct NodeInfo {
 }
 
 impl NodeInfo {
-    /// What a node tells of itself that knows all versions of the handshake, at least 5 and at most 6, over TCP and IPv4.
+    /// What a node says of itself, where it knows all versions of the handshake, at least 5 and at most 6, over TCP and IPv4.
     /// `short` is the part of its name before the `@`, and `port` that at which it accepts connections. A hidden node is one
-    /// that its peers don't tell each other of.
+    /// that its peers don't announce to each other.
     ///
-    /// A node that knows fewer versions lowers `highest`. The only refusal is want of memory.
+    /// A node that knows fewer versions lowers `highest`. It fails only where memory runs out.
     ///
     /// Source: ERTS User's Guide, Distribution Protocol, Register a Node in EPMD.
     pub fn of_node(
@@ -76,7 +79,7 @@ impl NodeInfo {
         })
     }
 
-    /// An equal one. The only refusal is want of memory.
+    /// An equal one. It fails only where memory runs out.
     pub fn try_clone(&self, alloc: Global) -> Result<NodeInfo, AllocError>
         ensures { IfOk result (λ copy. copy ≡ self.now) }
     {
@@ -101,7 +104,7 @@ fn type_of(hidden: bool) -> u8
 /// What a registration says of the node.
 pub type AliveReq = NodeInfo;
 
-/// What a lookup answers of the node.
+/// What a lookup returns of the node.
 pub type PortInfo = NodeInfo;
 
 /// What a node or a tool asks of the port mapper (ERTS User's Guide, EPMD Protocol).
@@ -147,7 +150,7 @@ pub enum Answer {
     Names { port: u32, text: ByteString },
 }
 
-/// Which request an answer is awaited for. The answer's first byte does not tell: an answer to `Names` has none.
+/// Which request an answer is awaited for. The answer's first byte does not show it: an answer to `Names` has no such byte.
 #[derive(Clone, Copy, PartialEq, Eq)]
 pub enum Asked {
     /// A registration.

@@ -100,7 +100,7 @@ fn alive(bytes: &[u8]) -> Result<Answer, EpmdError>
 }
 
 #[tactic(auto, unfolding(crate::specs::Reading::looked_up))]
-fn looked_up(alloc: Global, bytes: &[u8]) -> Result<Answer, EpmdError>
+fn found_node_answer(alloc: Global, bytes: &[u8]) -> Result<Answer, EpmdError>
     ensures exact { Answers (λ a. a) result (looked_up bytes.now) }
     ensures lacks { LacksText result (looked_up bytes.now) }
 {
@@ -118,7 +118,7 @@ fn looked_up(alloc: Global, bytes: &[u8]) -> Result<Answer, EpmdError>
 
 // The answer to a registration.
 #[tactic(auto, unfolding(crate::specs::Reading::read_answer))]
-fn registered(bytes: &[u8]) -> Result<Answer, EpmdError>
+fn registration_answer(bytes: &[u8]) -> Result<Answer, EpmdError>
     ensures exact { Answers (λ a. a) result (read_answer Asked.Alive bytes.now) }
     ensures lacks { LacksText result (read_answer Asked.Alive bytes.now) }
 {
@@ -134,7 +134,7 @@ fn registered(bytes: &[u8]) -> Result<Answer, EpmdError>
 
 // The answer to a lookup.
 #[tactic(auto, unfolding(crate::specs::Reading::read_answer))]
-fn found(alloc: Global, bytes: &[u8]) -> Result<Answer, EpmdError>
+fn lookup_answer(alloc: Global, bytes: &[u8]) -> Result<Answer, EpmdError>
     ensures exact { Answers (λ a. a) result (read_answer Asked.Port bytes.now) }
     ensures lacks { LacksText result (read_answer Asked.Port bytes.now) }
 {
@@ -144,12 +144,12 @@ fn found(alloc: Global, bytes: &[u8]) -> Result<Answer, EpmdError>
     if *tag != 0x77 {
         return Err(EpmdError::Malformed);
     }
-    looked_up(alloc, rest)
+    found_node_answer(alloc, rest)
 }
 
 // The answer to a question for all names.
 #[tactic(auto, unfolding(crate::specs::Reading::read_answer))]
-fn named(alloc: Global, bytes: &[u8]) -> Result<Answer, EpmdError>
+fn names_answer(alloc: Global, bytes: &[u8]) -> Result<Answer, EpmdError>
     ensures exact { Answers (λ a. a) result (read_answer Asked.Names bytes.now) }
     ensures lacks { LacksText result (read_answer Asked.Names bytes.now) }
 {
@@ -166,9 +166,9 @@ fn read_answer(alloc: Global, asked: Asked, bytes: &[u8]) -> Result<Answer, Epmd
     ensures lacks { LacksText result (read_answer asked bytes.now) }
 {
     match asked {
-        Asked::Alive => registered(bytes),
-        Asked::Port => found(alloc, bytes),
-        Asked::Names => named(alloc, bytes),
+        Asked::Alive => registration_answer(bytes),
+        Asked::Port => lookup_answer(alloc, bytes),
+        Asked::Names => names_answer(alloc, bytes),
     }
 }
 
@@ -176,7 +176,7 @@ fn read_answer(alloc: Global, asked: Asked, bytes: &[u8]) -> Result<Answer, Epmd
 ///
 /// Refusals, the first that holds: Malformed where the first byte is none of 0x78, 0x7a and 0x6e; Short where there is no
 /// byte, or the body ends inside a field; Trailing where bytes stand after the last field; NoMemory, which comes only for a
-/// request that bears a name.
+/// request that carries a name.
 pub fn decode_request(alloc: Global, body: &[u8]) -> Result<Request, EpmdError>
     // What is read is spelled so.
     ensures found { IfOk result (λ m. SpellsRequest m body.now) }
@@ -190,7 +190,7 @@ pub fn decode_request(alloc: Global, body: &[u8]) -> Result<Request, EpmdError>
     // Which refusal it is.
     ensures exact { Answers (λ r. r) result (read_request body.now) }
 
-    // Memory lacks only for a request that bears a name.
+    // Memory runs out only for a request that carries a name.
     ensures lacks { LacksName result (read_request body.now) }
 {
     read_request(alloc, body)
@@ -200,7 +200,7 @@ pub fn decode_request(alloc: Global, body: &[u8]) -> Result<Request, EpmdError>
 ///
 /// Refusals, the first that holds: Malformed where the first byte is none of those of an answer to this question (0x76 and
 /// 0x79, 0x77, or any byte for names); Short where there is no byte, or the bytes end inside a field; Trailing where bytes
-/// stand after the last field; NoMemory, which comes only for an answer that bears a name or a text.
+/// stand after the last field; NoMemory, which comes only for an answer that carries a name or a text.
 pub fn decode_answer(alloc: Global, asked: Asked, bytes: &[u8]) -> Result<Answer, EpmdError>
     // What is read is spelled so.
     ensures found { IfOk result (λ m. SpellsAnswer asked m bytes.now) }
@@ -214,7 +214,7 @@ pub fn decode_answer(alloc: Global, asked: Asked, bytes: &[u8]) -> Result<Answer
     // Which refusal it is.
     ensures exact { Answers (λ a. a) result (read_answer asked bytes.now) }
 
-    // Memory lacks only for an answer that bears a name or a text.
+    // Memory runs out only for an answer that carries a name or a text.
     ensures lacks { LacksText result (read_answer asked bytes.now) }
 {
     read_answer(alloc, asked, bytes)

@@ -1,12 +1,12 @@
 //! The registry behind the port mapper's answers.
 
 ghost use Rattle.std.specs.Prelude.{◌≡◌, ◌∷◌, ◌++◌, IfOk, OnOk, OnErr, IsTrue, flat_map, option_copied};
-ghost use Rattle.dist_epmd.specs.Book.{Book, opening, is_accepted, after_request, after_closed, answer_to, given, refused, found, line_of, names_text, IsLegal};
+ghost use Rattle.dist_epmd.specs.Registrations.{Registrations, opening, is_accepted, after_request, after_closed, answer_to, given, refused, found, line_of, names_text, IsLegal};
 
 use crate::message::{AliveReq, Answer, PortInfo};
 use crate::row::Row;
 use crate::rows::{
-    drop_conn, has_conn, has_fewer, has_name, is_short_name, push_lines, register, row_named,
+    drop_conn, has_conn, has_fewer, has_name, is_short_name, push_lines, register, row_of_name,
 };
 use dist_names::ByteString;
 use std::alloc::{AllocError, Global};
@@ -19,8 +19,8 @@ const MOST: usize = 1024;
 // The least version of the handshake that has creations of 32 bits.
 const NEWER: u16 = 6;
 
-// The answer that bears this creation, by the node's highest version.
-fn given(request: &AliveReq, creation: u32) -> Answer
+// The answer that carries this creation, by the node's highest version.
+fn registered_answer(request: &AliveReq, creation: u32) -> Answer
     ensures { result ≡ given request.now creation }
 {
     if request.highest < NEWER {
@@ -37,7 +37,7 @@ fn given(request: &AliveReq, creation: u32) -> Answer
 }
 
 // The answer that refuses.
-fn refused(request: &AliveReq) -> Answer
+fn refusal(request: &AliveReq) -> Answer
     ensures { result ≡ refused request.now }
 {
     if request.highest < NEWER {
@@ -67,10 +67,10 @@ pub struct Registry {
 
 impl Model for Registry {
     ghost use Rattle.std.specs.BTreeMap.{values};
-    ghost use Rattle.dist_epmd.specs.Book.{Book, IsLegal};
+    ghost use Rattle.dist_epmd.specs.Registrations.{Registrations, IsLegal};
     ghost use Rattle.dist_epmd.specs.Named.{StandAtNames};
 
-    ghost Value = { Book };
+    ghost Value = { Registrations };
 
     ghost view = { λ r. record { port = r.port; next = r.next; rows = values r.rows } };
 
@@ -103,7 +103,7 @@ impl Registry {
             && self.next <= u32::MAX as u64
     }
 
-    /// Registers a node as long as the connection lasts, and answers it.
+    /// Registers a node as long as the connection lasts, and returns the answer.
     ///
     /// It is refused, with result 1 and creation 0, where one of these holds (our own choice; all are answered alike):
     /// - the name has no byte, more than 255, or one that is not from 0x21 to 0x7E or is the `@`,
@@ -112,9 +112,9 @@ impl Registry {
     /// - 1,024 nodes are registered,
     /// - the creations are used up.
     ///
-    /// A highest version below 6 is answered with `Alive`, any other with `AliveX`. `Alive` bears one of 1 to 3 in place of
-    /// the creation: the remainder of the creation and 2 by 3, and 1 more (our own choice). A refusal changes nothing and takes no
-    /// creation. An `Err` is want of memory, and changes nothing.
+    /// A highest version below 6 is answered with `Alive`, any other with `AliveX`. `Alive` carries one of 1 to 3 in place of
+    /// the creation: the remainder of the creation and 2 by 3, and 1 more (our own choice). A refusal changes nothing and takes
+    /// no creation. It fails only where memory runs out, and then changes nothing.
     pub fn alive(
         &mut self,
         alloc: Global,
@@ -124,27 +124,27 @@ impl Registry {
         ensures answer { IfOk result (λ answer. answer ≡ answer_to conn request.now self.old) }
         ensures after { OnOk result (self.new ≡ after_request conn request.now self.old) }
 
-        // Memory lacks only where the registration is accepted.
+        // Memory runs out only where the registration is accepted.
         ensures lacks { OnErr result (IsTrue (is_accepted conn request.now self.old)) }
         ensures err { OnErr result (self.new ≡ self.old) }
     {
         if !self.accepts(conn, request) {
-            return Ok(refused(request));
+            return Ok(refusal(request));
         }
         let creation = self.next as u32;
         register(&mut self.rows, alloc, conn, request, creation)?;
         self.next += 1;
-        Ok(given(request, creation))
+        Ok(registered_answer(request, creation))
     }
 
-    /// What the node of this name told of itself, as it came. It takes no memory.
+    /// What the node of this name said of itself, as it came. It takes no memory.
     pub fn port_please(&self, name: &[u8]) -> Option<&PortInfo>
         ensures found { option_copied result ≡ found name.now self.now }
 
         // No two registrations share a name, a connection or a creation, and the next creation is above all of them.
         ensures legal { IsLegal self.now }
     {
-        let row = row_named(&self.rows, name)?;
+        let row = row_of_name(&self.rows, name)?;
         Some(&row.info)
     }
 

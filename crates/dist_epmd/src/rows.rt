@@ -3,12 +3,13 @@
 ghost use Rattle.std.specs.Prelude.{◌≡◌, ◌++◌, false, not, length, filter, find, flat_map, nat_lt, option_copied, OnOk, OnErr};
 ghost use Rattle.std.specs.BTreeMap.{values};
 ghost use Rattle.std.specs.List.{list_all, list_any};
-ghost use Rattle.dist_epmd.specs.Book.{is_short_byte, is_short_name, is_named, is_of, with_row, line_of};
+ghost use Rattle.dist_epmd.specs.Registrations.{is_short_byte, is_short_name, is_named, is_of, with_row, line_of};
 ghost use Rattle.dist_epmd.specs.Named.{StandAtNames};
 
 use crate::encoding::push_both;
 use crate::message::NodeInfo;
 use crate::row::Row;
+use dist_names::is_visible;
 use itoa::Buffer;
 use std::alloc::{AllocError, Global};
 use std::collections::BTreeMap;
@@ -16,8 +17,7 @@ use std::collections::BTreeMap;
 fn are_short_bytes(name: &[u8]) -> bool
     ensures { result ≡ list_all is_short_byte name.now }
 {
-    name.iter()
-        .all(|byte| 0x21 <= *byte && *byte <= 0x7E && *byte != b'@')
+    name.iter().all(|byte| is_visible(*byte) && *byte != b'@')
 }
 
 pub fn is_short_name(name: &[u8]) -> bool
@@ -33,7 +33,7 @@ pub fn has_fewer(rows: &BTreeMap<Vec<u8>, Row>, most: usize) -> bool
     rows.len() < most
 }
 
-pub fn row_named<'r>(rows: &'r BTreeMap<Vec<u8>, Row>, name: &[u8]) -> Option<&'r Row>
+pub fn row_of_name<'r>(rows: &'r BTreeMap<Vec<u8>, Row>, name: &[u8]) -> Option<&'r Row>
     // A registry keeps its rows so.
     requires { StandAtNames rows.now.entries }
     ensures { option_copied result ≡ find (is_named name.now) (values rows.now) }
@@ -56,7 +56,7 @@ pub fn has_conn(rows: &BTreeMap<Vec<u8>, Row>, conn: u64) -> bool
 }
 
 // Puts a row at its name.
-fn put(rows: &mut BTreeMap<Vec<u8>, Row>, name: Vec<u8>, row: Row) -> Result<(), AllocError>
+fn put_row(rows: &mut BTreeMap<Vec<u8>, Row>, name: Vec<u8>, row: Row) -> Result<(), AllocError>
     // A registry keeps its rows so.
     requires names { StandAtNames rows.old.entries }
 
@@ -92,7 +92,7 @@ pub fn register(
 {
     let name = Vec::from_slice(alloc, request.name.as_slice())?;
     let info = request.try_clone(alloc)?;
-    put(
+    put_row(
         rows,
         name,
         Row {

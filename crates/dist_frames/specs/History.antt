@@ -20,7 +20,7 @@ pub record Seen : Type 0 where
   pub stream : List ℕ
   -- the bodies that were moved out
   pub moved : List (List ℕ)
-  -- how many packets had ended when they were last told
+  -- how many packets had ended when they were last reported
   pub before : ℕ
 
 -- a new reader, to which nothing came
@@ -37,7 +37,7 @@ pub record Accounts (stream : List ℕ) (moved : List (List ℕ)) (pending : Lis
   pub fit : AllByRecursion (Fits w16) moved
   pub bytes : IsBytes pending
 
--- how many packets have ended by now, where they are told
+-- how many packets have ended by now, where they are reported
 abbrev pub ended_by_now : Reader → Seen → ℕ
 ended_by_now (Short pending) s = s.before
 ended_by_now (Linked ended rest) s = packets (unmoved s)
@@ -60,8 +60,8 @@ FeedBytes [] = Unit {0}
 FeedBytes (Feed piece ∷ calls) = IsBytes piece × FeedBytes calls
 FeedBytes (call ∷ calls) = FeedBytes calls
 
--- THE READER IS RIGHT: until it is linked, the bodies moved out and those still to come are those of the stream; then
--- those untold are the packets of all bytes from the first that was not moved out that ended since they were last told
+-- THE READER IS RIGHT: until it is linked, the bodies moved out and those still to come are those of the stream; then the
+-- packets not yet reported are those of all bytes from the first that was not moved out that ended since the last report
 abbrev pub IsRight : Reader → Seen → Type 0
 IsRight (Short pending) s = s.moved ++ bodies pending ≡ bodies s.stream
 IsRight (Linked ended rest) s = (more : List ℕ) × (s.stream ≡ flat_map (framed w16) s.moved ++ more) × (ended ≡ saturated (packets more - s.before))

@@ -1,16 +1,11 @@
 -- What a reader keeps, of short frames and of packets.
-use Rattle.std.specs.Prelude.{◌≡◌, ℕ, ◌+◌, ◌≤◌, List, length, take, drop, nat_le, ◌==◌, if◌then◌else◌}
+use Rattle.std.specs.Prelude.{ℕ, ◌+◌, List, length, take, nat_le, ◌==◌, if◌then◌else◌}
 use Rattle.std.specs.Int.{w16, w32}
 use Rattle.dist_frames.specs.Stream.{number, head}
 
 -- how many bytes the short frame at the front has with its length, and 2 until that has come
 abbrev pub frame_len : List ℕ → ℕ
 frame_len pending = if nat_le 2 (length pending) then 2 + head w16 pending else 2
-
--- a mark between the bytes that were moved out and those that were not, and the frame that these begin with
-pub record IsMarked (start awaited : ℕ) (bytes : List ℕ) : Type 0 where
-  pub within : start ≤ length bytes
-  pub length : awaited ≡ frame_len (drop start bytes)
 
 -- what is kept of a packet that has not ended: the bytes of its length that came, or a length of what it still owes
 abbrev pub kept_of : ℕ → List ℕ → ℕ → List ℕ

@@ -8,7 +8,7 @@ use Rattle.dist_frames.specs.Stream.{first_body, after_first, bodies, packets, p
 pub data Reader : Type 0 where
   -- the bytes fed that were not moved out
   Short : List ℕ → Reader
-  -- How many packets ended and were not told. And what is still owed of the next, as a stream that goes on as it does: the
+  -- How many packets ended and were not reported. And what is still owed of the next, as a stream that goes on as it does: the
   -- bytes of its length that came, or its length as if the bytes that came had not been part of it.
   Linked : ℕ → List ℕ → Reader
 
@@ -41,12 +41,12 @@ abbrev pub linked : Reader → Reader
 linked (Short pending) = fed (Linked 0 []) pending
 linked (Linked ended rest) = Linked ended rest
 
--- how many packets ended and were not told
+-- how many packets ended and were not reported
 abbrev pub untold : Reader → ℕ
 untold (Short pending) = 0
 untold (Linked ended rest) = ended
 
--- the reader when they are told
+-- the reader once they are reported
 abbrev pub told : Reader → Reader
 told (Short pending) = Short pending
 told (Linked ended rest) = Linked 0 rest

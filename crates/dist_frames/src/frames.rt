@@ -2,8 +2,9 @@ ghost use Rattle.std.specs.Prelude.{◌≡◌, [], option_map, option_copied, On
 ghost use Rattle.dist_frames.specs.Reader.{fed, next_body, to_come, without_next, linked, untold, told, rest_of, IsLinked};
 ghost use Rattle.dist_frames.specs.Reader.Reader.{Short};
 
-use crate::buffer::Buffer;
+use crate::byte_queue::ByteQueue;
 use crate::partial::Partial;
+use crate::short::{drop_first, first_body};
 use std::alloc::{AllocError, Global};
 use std::marker::Model;
 
@@ -22,7 +23,7 @@ pub struct Frames {
 #[derive(Drop)]
 enum Stage {
     // Short frames: the bytes that were not moved out.
-    Short(Buffer),
+    Short(ByteQueue),
     // Packets: how many ended and were not told, and what is owed of the next.
     Linked { ended: usize, left: Partial },
 }
@@ -43,7 +44,7 @@ impl Frames {
     {
         Frames {
             alloc,
-            stage: Stage::Short(Buffer::new(alloc)),
+            stage: Stage::Short(ByteQueue::new(alloc)),
         }
     }
 
@@ -51,7 +52,7 @@ impl Frames {
         ensures { option_copied result ≡ next_body self.now }
     {
         match &self.stage {
-            Stage::Short(pending) => pending.front(),
+            Stage::Short(pending) => first_body(pending.as_slice()),
             Stage::Linked { .. } => None,
         }
     }
@@ -70,7 +71,7 @@ impl Frames {
         ensures { self.new ≡ without_next self.old }
     {
         match &mut self.stage {
-            Stage::Short(pending) => pending.drop_front(),
+            Stage::Short(pending) => drop_first(pending),
             Stage::Linked { .. } => {}
         }
     }
@@ -129,8 +130,8 @@ impl Frames {
         }
     }
 
-    /// Answers how many packets ended since the last call, at most the greatest `usize`, of which nothing is kept. Before
-    /// `to_linked` it answers 0 and drops nothing. It takes no memory.
+    /// Returns how many packets ended since the last call, at most the greatest `usize`, of which nothing is kept. Before
+    /// `to_linked` it returns 0 and drops nothing. It takes no memory.
     pub fn skip_long(&mut self) -> usize
         ensures count { result ≡ untold self.old }
         ensures after { self.new ≡ told self.old }
@@ -151,7 +152,7 @@ impl Frames {
         ensures { result.items ≡ rest_of self }
     {
         match self.stage {
-            Stage::Short(pending) => pending.into_bytes(),
+            Stage::Short(pending) => pending.into_vec(),
             Stage::Linked { .. } => Vec::new(self.alloc),
         }
     }

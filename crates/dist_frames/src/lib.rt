@@ -8,17 +8,18 @@
 //! Connected Nodes ("4-byte length").
 #![tactic(auto)]
 
-mod buffer;
+mod byte_queue;
 mod frame_error;
 mod frames;
 mod laws;
 mod partial;
 mod short;
 
+pub use byte_queue::ByteQueue;
 pub use frame_error::FrameError;
 pub use frames::Frames;
 pub use laws::{
     any_pieces, bodies_of_stream, fed_and_moved, frame_in_front, one_frame, packets_of_stream,
 };
 pub use partial::tick;
-pub use short::{into_short, write_short};
+pub use short::{first_body, into_short, write_short};

@@ -77,7 +77,7 @@ impl Partial {
 }
 
 impl Partial {
-    /// Takes all bytes of a piece, and answers how many packets ended with them.
+    /// Takes all bytes of a piece, and returns how many packets ended with them.
     pub fn feed(&mut self, piece: &[u8]) -> usize
         ensures count { result ≡ saturated (packets (self.old ++ piece.now)) }
         ensures left { self.new ≡ partial (self.old ++ piece.now) }

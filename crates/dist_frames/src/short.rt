@@ -3,17 +3,18 @@
 
 ghost use Rattle.std.specs.Prelude.{◌≡◌, ◌↔◌, ◌≤◌, ◌^◌, ◌++◌, length, option_copied, IfOk, OnOk, IsErrOf};
 ghost use Rattle.std.specs.Int.{w16};
-ghost use Rattle.dist_frames.specs.Stream.{framed, first_body};
+ghost use Rattle.dist_frames.specs.Stream.{framed, first_body, after_first};
 ghost use Rattle.dist_frames.specs.Kept.{frame_len};
 
+use crate::byte_queue::ByteQueue;
 use crate::frame_error::FrameError;
 use std::alloc::{AllocError, Global};
 
 /// The longest body, by its field of 2 bytes.
 const MOST: usize = 65535;
 
-/// How many bytes the frame at the front has with its length, and 2 until that has come.
-pub fn frame_len(pending: &[u8]) -> usize
+// How many bytes the frame at the front has with its length, and 2 until that has come.
+fn frame_len(pending: &[u8]) -> usize
     ensures { result ≡ frame_len pending.now }
 {
     if pending.len() < 2 {
@@ -23,16 +24,29 @@ pub fn frame_len(pending: &[u8]) -> usize
     2 + u16::from_be_bytes([header[0], header[1]]) as usize
 }
 
-/// The body of the frame at the front, which has so many bytes with its length.
-#[tactic(auto, using(crate::proofs::Marks::least, crate::proofs::Marks::no_body, crate::proofs::Marks::some_body))]
-pub fn awaited_body(pending: &[u8], awaited: usize) -> Option<&[u8]>
-    requires { awaited ≡ frame_len pending.now }
-    ensures { option_copied result ≡ first_body w16 pending.now }
+/// The body of the frame at the front, where it is whole.
+#[tactic(auto, using(crate::proofs::Lengths::least, crate::proofs::Lengths::no_body, crate::proofs::Lengths::some_body))]
+pub fn first_body(bytes: &[u8]) -> Option<&[u8]>
+    ensures { option_copied result ≡ first_body w16 bytes.now }
 {
-    if pending.len() < awaited {
+    let awaited = frame_len(bytes);
+    if bytes.len() < awaited {
         return None;
     }
-    Some(&pending[2..awaited])
+    Some(&bytes[2..awaited])
+}
+
+/// Drops the frame at the front. Where none is whole it changes nothing.
+#[tactic(auto, using(crate::proofs::Lengths::moved, crate::proofs::Lengths::stays_put))]
+pub fn drop_first(pending: &mut ByteQueue)
+    ensures { pending.new ≡ after_first w16 pending.old }
+{
+    let bytes = pending.as_slice();
+    let awaited = frame_len(bytes);
+    if bytes.len() < awaited {
+        return;
+    }
+    pending.drop_front(awaited);
 }
 
 // The length of a body in front of it, where the body lies. Two single bytes cost less than one turn by two places, which

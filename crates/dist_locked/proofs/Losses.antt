@@ -1,12 +1,12 @@
--- A loss is told, or refused.
+-- A loss is reported, or refused.
 use Rattle.std.proofs.Common.{◌≡◌, ℕ, List, [], ◌∷◌, ◌++◌, Result, Ok, Err, inl, inr}
 use Rattle.std.specs.Prelude.{IfOk, IfErr, OnErr}
 use Rattle.dist_peers.specs.declared.entry.EndId.{EndId}
-use Rattle.dist_ends.specs.declared.why.Why.{Why}
+use Rattle.dist_core_ends.specs.declared.why.Why.{Why}
 use Rattle.dist_core.specs.declared.event.Event.TheVariants as event
 use Rattle.dist_core.specs.declared.step_error.StepError.{StepError}
-use Rattle.dist_books.specs.declared.line.Receipt.{Receipt}
-use Rattle.dist_books.specs.History.{IsRefused}
+use Rattle.dist_locked_book.specs.declared.line.Receipt.{Receipt}
+use Rattle.dist_locked_book.specs.History.{IsRefused}
 use Rattle.dist_locked.specs.Losses.{IsLost}
 
 pub lost : (end_ : EndId) (w : Why) (before after : List Receipt) (seat : ℕ) (r : Result Receipt StepError)

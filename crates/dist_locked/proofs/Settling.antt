@@ -45,7 +45,7 @@ taken-working : (s : Bool) (taken : List Taken) → taken_in (working s taken) �
 taken-working true taken = refl
 taken-working false taken = refl
 
--- what a take answers stands at the end of what the worker took
+-- what a take returns stands at the end of what the worker took
 pub taken_by : (r : Option DialOrder) (v w : View) (s : Bool) (taken : List Taken) (P : Type 0) → v ≡ working s taken → MatchOption r P (λ x. (k : ℕ) × (w ≡ with_taken v k x))
     → IfSome r (λ x. (k : ℕ) × (taken_in w ≡ taken ++ (k, x) ∷ []))
 taken_by None v w s taken P e m = tt

@@ -2,16 +2,16 @@
 use Rattle.std.specs.Prelude.{◌≡◌, ◌≢◌, ◌⊎◌, ℕ, List, [], ◌∷◌, Option, Some, None, slice_get}
 use Rattle.dist_peers.specs.declared.entry.EndId.{EndId}
 use Rattle.dist_core.specs.declared.event.Event.{Event}
-use Rattle.dist_ends.specs.declared.phase.Still.{Still}
-use Rattle.dist_ends.specs.Ends.{still_of}
-use Rattle.dist_ends.specs.declared.why.Why.{Why}
+use Rattle.dist_core_ends.specs.declared.phase.Still.{Still}
+use Rattle.dist_core_ends.specs.Ends.{still_of}
+use Rattle.dist_core_ends.specs.declared.why.Why.{Why}
 use Rattle.dist_core.specs.declared.step_error.StepError.{StepError}
 use Rattle.dist_core.specs.declared.step_error.StepError.TheVariants as error
 use Rattle.dist_core.specs.Clauses.{end_of}
 use Rattle.dist_core.specs.Losses.{loss_of}
 use Rattle.dist_drive.specs.Desks.{Step, DeskFacts}
-use Rattle.dist_books.specs.declared.line.Receipt.{Receipt}
-use Rattle.dist_books.specs.History.{BookState, SeatState, IsLegal, IsRefused}
+use Rattle.dist_locked_book.specs.declared.line.Receipt.{Receipt}
+use Rattle.dist_locked_book.specs.History.{BookState, SeatState, IsLegal, IsRefused}
 
 -- the step of a receipt
 abbrev pub entry_of : Receipt → Step
@@ -32,7 +32,7 @@ pub record DeskState : Type 0 where
 abbrev pub desk_of : EndId → SeatState → List Step → DeskState
 desk_of end_ seat steps = record { end_ = end_; number = seat.number; start = seat.list; list = steps }
 
--- some node with a legal history tells so of the end
+-- some node with a legal history reports so of the end
 abbrev pub IsStill : EndId → Still → Type 0
 IsStill end_ told = (b : BookState) × IsLegal b × (told ≡ still_of (slice_get b.node.ends end_.0))
 
@@ -40,7 +40,7 @@ IsStill end_ told = (b : BookState) × IsLegal b × (told ≡ still_of (slice_ge
 abbrev pub stands_so : DeskState → EndId → Still → Type 0
 stands_so d end_ told = IsStill end_ told
 
--- the cause that the last step tells, where it is of a loss
+-- the cause that the last step reports, where it is of a loss
 abbrev pub last_loss : List Step → Option Why
 last_loss [] = None
 last_loss (s ∷ []) = loss_of s.0

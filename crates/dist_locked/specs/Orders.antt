@@ -1,5 +1,6 @@
 -- Orders that two workers take, each in its turn.
-use Rattle.std.specs.Prelude.{◌≡◌, ℕ, zero, suc, ◌+◌, ◌<◌, ◌≤◌, ◌==◌, if◌then◌else◌, nat_lt, List, [], ◌∷◌, ◌++◌, length, Some, slice_get, All, AllPairs, count_by}
+use Rattle.std.specs.Prelude.{◌≡◌, ℕ, zero, suc, ◌+◌, ◌<◌, ◌≤◌, ◌==◌, if◌then◌else◌, nat_lt}
+use Rattle.std.specs.Prelude.{List, [], ◌∷◌, ◌++◌, length, Some, slice_get, All, AllPairs, count_by}
 use Rattle.dist_locked.specs.declared.rule.DialOrder.{DialOrder}
 
 -- an order with the place that it had among all that were put
@@ -18,14 +19,15 @@ Rises taken = AllPairs (λ (p : Taken) (q : Taken). p.0 < q.0) taken
 abbrev pub Agrees : List DialOrder → List Taken → Type 0
 Agrees put taken = All (λ (p : Taken). slice_get put p.0 ≡ Some p.1) taken
 
--- the places that the two workers took are those below t, each once; each worker's places rise, and the order at a place is what was put there
+-- the places that the two workers took are those below t, each once; each worker's places rise, and the order at a place is
+-- what was put there
 pub record AreInTurn (put : List DialOrder) (a b : List Taken) (t : ℕ) : Type 0 where
   pub within : t ≤ length put
   pub once : (k : ℕ) → times k a + times k b ≡ (if nat_lt k t then 1 else 0)
   pub rises : Rises a × Rises b
   pub agrees : Agrees put a × Agrees put b
 
--- so many orders are left, and the others were taken in turn
+-- this many orders are left, and the others were taken in turn
 abbrev pub AreLeft : List DialOrder → List Taken → List Taken → ℕ → Type 0
 AreLeft put a b left = (t : ℕ) × AreInTurn put a b t × (left + t ≡ length put)
 

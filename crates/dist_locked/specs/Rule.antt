@@ -50,7 +50,8 @@ Left put a b items = (t : ℕ) × AreInTurn put a b t × (items ≡ drop t put)
 
 -- one pass at most knows a list, and it knows it as it is
 abbrev pub Owned : {X : Type 0} → (View → Bool) → (View → X) → List View → ℕ → X → Type 0
-Owned knows_it list_of views owner xs = (port : ℕ) (v : View) → get_elem? views port ≡ some v → knows_it v ≡ true → (port ≡ owner) × (list_of v ≡ xs)
+Owned knows_it list_of views owner xs =
+    (port : ℕ) (v : View) → get_elem? views port ≡ some v → knows_it v ≡ true → (port ≡ owner) × (list_of v ≡ xs)
 
 -- what was put is what the workers took in turn, and then what the queue holds; each of the three lists is known to one pass
 abbrev pub Kept : List DialOrder → List View → Type 0

@@ -1,14 +1,14 @@
 //! An end of a locked node, driven.
 ghost use Rattle.std.specs.Prelude.{◌≡◌, List, [], ◌++◌, map, IfOk, IfErr};
 ghost use Rattle.dist_drive.specs.Driven.{Drives};
-ghost use Rattle.dist_books.specs.declared.line.Receipt.{Receipt};
+ghost use Rattle.dist_locked_book.specs.declared.line.Receipt.{Receipt};
 ghost use Rattle.dist_locked.specs.Desks.{entry_of, desk_of, seat_facts};
 
 use crate::locked_node::LockedNode;
 use crate::seat_desk::SeatDesk;
-use dist_books::Seat;
 use dist_core::{Event, Reply};
 use dist_drive::{Draws, Outcome, Stream, drive};
+use dist_locked_book::Seat;
 use dist_peers::EndId;
 use std::alloc::{AllocError, Global};
 use std::sync::Wait;
@@ -38,7 +38,8 @@ pub fn drive_end<R: Wait, S: Stream, W: Draws>(
     first: &[u8],
     limit: usize,
 ) -> Result<Driven, (AllocError, Seat)>
-    ensures receipts { IfOk result (λ r. (r.seat.number ≡ seat.number) × ((kept : List Receipt) × (r.seat.list ≡ seat.list ++ kept) × (map entry_of kept ≡ r.steps.items))) }
+    ensures receipts { IfOk result (λ r. (r.seat.number ≡ seat.number)
+        × ((kept : List Receipt) × (r.seat.list ≡ seat.list ++ kept) × (map entry_of kept ≡ r.steps.items))) }
     ensures drives { IfOk result (λ r. Drives seat_facts W.gives
         (record { end_ = end_; first = first.now; limit = limit; stream = S.meaning stream.old; desk = desk_of end_ seat []; draws = draws.old })
         (record { stream = S.meaning stream.new; desk = desk_of end_ seat r.steps.items; draws = draws.new })

@@ -4,9 +4,9 @@ ghost use Rattle.std.specs.Prelude.{◌≡◌, true};
 /// When a worker asks its gate: once before the first step of an order's connection, once after it.
 #[derive(Clone, Copy, Debug, PartialEq, Eq)]
 pub enum Moment {
-    /// The connection is there, and its end was not told yet.
+    /// The connection is there, and the node was not given its event yet.
     BeforeStep,
-    /// The end was told, and nothing was written yet.
+    /// The node was given the event, and nothing was written yet.
     AfterStep,
 }
 

@@ -1,11 +1,11 @@
 ghost use Rattle.std.specs.Prelude.{◌≡◌, ◌≢◌, ◌<◌, ◌≤◌, ◌∷◌, [], ◌++◌, vec_len, false, Ok, Err, IfOk, IfErr, OnOk, OnErr};
 ghost use Rattle.dist_core.specs.Losses.{is_loss, IsGone};
 ghost use Rattle.dist_core.specs.Answers.{IsLoss};
-ghost use Rattle.dist_books.specs.History.{AreFresh, IsAnswered, IsLegal, IsRefused};
+ghost use Rattle.dist_locked_book.specs.History.{AreFresh, IsAnswered, IsLegal, IsRefused};
 ghost use Rattle.dist_locked.specs.Desks.{IsStill};
 
-use dist_books::{Book, Receipt, Seat, fresh_seats, step_on};
 use dist_core::{Event, Setup, StepError, Still};
+use dist_locked_book::{Book, Receipt, Seat, fresh_seats, step_on};
 use dist_peers::EndId;
 use std::alloc::{AllocError, Global};
 use std::sync::atomic::{AtomicU64, Ordering};
@@ -65,7 +65,7 @@ impl LockedNode {
     /// Makes a step under the lock, with a ticket that is drawn there. What the node was at that moment no clause of a caller
     /// can say: only that some node with a legal history gives this reply, or refuses so. `close` compares.
     ///
-    /// It is refused as the node refuses the step, want of memory last, and changes nothing then. Source: our own choice.
+    /// It is refused as the node refuses the step, out of memory last, and changes nothing then. Source: our own choice.
     pub fn step<R: Wait>(
         &self,
         rt: &R,
@@ -90,7 +90,7 @@ impl LockedNode {
         step_on(self.alloc, &mut book, seat, ticket, event, fresh)
     }
 
-    // Why a step is refused for which there is no room: want of memory is the last of its refusals.
+    // Why a step is refused for which there is no room: out of memory is the last of its refusals.
     pub(crate) fn lacks<R: Wait>(&self, rt: &R, event: &Event, fresh: u32) -> StepError
         ensures { IsRefused event.now fresh result }
     {
@@ -101,7 +101,7 @@ impl LockedNode {
         }
     }
 
-    /// How an end stands at this moment, as some node with a legal history tells it.
+    /// How an end stands at this moment, as some node with a legal history reports it.
     pub fn still<R: Wait>(&self, rt: &R, end_: EndId) -> Still
         ensures { IsStill end_ result }
     {

@@ -5,9 +5,9 @@ ghost use Rattle.dist_locked.specs.Losses.{IsLost, IsGivenUp};
 
 use crate::driven::Driven;
 use crate::locked_node::LockedNode;
-use dist_books::Seat;
 use dist_core::{Event, Still, Why};
 use dist_drive::Outcome;
+use dist_locked_book::Seat;
 use dist_peers::EndId;
 use std::alloc::AllocError;
 use std::sync::Wait;

@@ -1,18 +1,19 @@
-ghost use Rattle.std.specs.Prelude.{◌≡◌, ◌≢◌, ◌<◌, ◌≤◌, ℕ, List, ◌∷◌, [], ◌++◌, length, ◌+◌, map, vec_len, vec_capacity, false, Some, None, Ok, Err, IfOk, IfErr, OnOk, OnErr, option_copied};
+ghost use Rattle.std.specs.Prelude.{◌≡◌, ◌≢◌, ◌<◌, ◌≤◌, ℕ, List, ◌∷◌, [], ◌++◌, length, ◌+◌, map};
+ghost use Rattle.std.specs.Prelude.{vec_len, vec_capacity, false, Some, None, Ok, Err, IfOk, IfErr, OnOk, OnErr, option_copied};
 ghost use Rattle.dist_core.specs.declared.event.Event.{Event};
 ghost use Rattle.dist_core.specs.declared.reply.Reply.{Reply};
 ghost use Rattle.dist_core.specs.Losses.{is_loss, IsGone};
 ghost use Rattle.dist_core.specs.Answers.{IsLoss};
 ghost use Rattle.dist_core.specs.Clauses.{end_of};
 ghost use Rattle.dist_core.specs.declared.step_error.StepError.{StepError};
-ghost use Rattle.dist_books.specs.declared.line.Receipt.{Receipt};
+ghost use Rattle.dist_locked_book.specs.declared.line.Receipt.{Receipt};
 ghost use Rattle.dist_drive.specs.Desks.{last_reply};
 ghost use Rattle.dist_locked.specs.Desks.{entry_of, causes, seat_facts};
 
 use super::locked_node::LockedNode;
-use dist_books::{Line, Receipt, Seat};
 use dist_core::{Event, Reply, StepError, Still, Why};
 use dist_drive::Desk;
+use dist_locked_book::{Line, Receipt, Seat};
 use dist_peers::EndId;
 use std::alloc::{AllocError, Global};
 use std::collections::LinkedList;
@@ -39,7 +40,8 @@ impl<'a, R: Wait> Model for SeatDesk<'a, R> {
 
     ghost view = { λ d. record { end_ = d.end_; number = d.seat.number; start = take d.before d.seat.list; list = d.steps.items } };
 
-    ghost invariant = { λ d. (d.before ≤ length d.seat.list) × (map entry_of (drop d.before d.seat.list) ≡ d.steps.items) × (d.lost ≡ None → vec_len d.steps < vec_capacity d.steps) × (d.lost ≡ None → 0 < d.seat.spare) × (d.lost ≡ last_loss d.steps.items) };
+    ghost invariant = { λ d. (d.before ≤ length d.seat.list) × (map entry_of (drop d.before d.seat.list) ≡ d.steps.items)
+        × (d.lost ≡ None → vec_len d.steps < vec_capacity d.steps) × (d.lost ≡ None → 0 < d.seat.spare) × (d.lost ≡ last_loss d.steps.items) };
 }
 
 impl<'a, R: Wait> SeatDesk<'a, R> {

@@ -37,12 +37,13 @@ impl<'a, R: Wait> SharedMapper<'a, R> {
 }
 
 impl<'a, R: Wait> Mapper for SharedMapper<'a, R> {
-    ghost use Rattle.dist_epmd.specs.Book.{Book, IsLegal};
+    ghost use Rattle.dist_epmd.specs.Registrations.{Registrations, IsLegal};
 
     // Other threads may have changed it before and after: some legal registry gives this answer.
-    ghost allows = { λ before conn request answer after. (b : Book) × (c : Book) × IsLegal b × ⟦<Registry as Mapper>⟧.allows b conn request answer c };
+    ghost allows = { λ before conn request answer after. (b : Registrations) × (c : Registrations) × IsLegal b
+        × ⟦<Registry as Mapper>⟧.allows b conn request answer c };
 
-    // No answer tells what a closed connection left.
+    // No answer shows what a closed connection left.
     ghost leaves = { λ before conn after. Unit {0} };
 
     fn ask(&mut self, alloc: Global, conn: u64, request: &Request) -> Result<Answer, AllocError> {

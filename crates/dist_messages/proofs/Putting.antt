@@ -10,7 +10,7 @@ use Rattle.dist_messages.specs.Writing.{Checked, name_in}
 pub more : (old front piece body next : List ℕ) → body ≡ old ++ front → next ≡ body ++ piece → next ≡ old ++ (front ++ piece)
 more old front piece body next e f = f ∙ ap (λ (x : List ℕ). x ++ piece) e ∙ append_assoc old front piece
 
--- the last piece, which may find no memory
+-- the last piece, for which memory may run out
 pub last : {X E : Type 0} (r : Result X E) (old front piece body next : List ℕ) → body ≡ old ++ front → OnOk r (next ≡ body ++ piece) → OnOk r (next ≡ old ++ (front ++ piece))
 last (Ok x) old front piece body next e f = more old front piece body next e f
 last (Err x) old front piece body next e f = tt

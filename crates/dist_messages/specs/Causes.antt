@@ -53,7 +53,7 @@ pub record HasUnknownStatus (side : Side) (body : List ℕ) : Type 0 where
   pub parts : body ≡ status_tag ∷ text
   pub no_status : (s : Status) → IsTrue (is_said_by s side) → text ≡ text_of s → ⊥
 
--- Why a body is refused. Memory is wanted for a message alone, and a name that is read is of any length.
+-- Why a body is refused. Memory is needed for a message alone, and a name that is read is of any length.
 unfoldable pub IsCause : Side → List ℕ → MessageError → Type 0
 IsCause side body errors.Empty = body ≡ []
 IsCause side body errors.UnknownTag = HasUnknownTag side body

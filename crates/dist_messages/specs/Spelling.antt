@@ -9,7 +9,7 @@ use Rattle.dist_messages.specs.declared.message.Status.TheVariants as status
 use Rattle.dist_messages.specs.declared.message.Message.{Message}
 use Rattle.dist_messages.specs.declared.message.Message.TheVariants as message
 
--- the side that says a status
+-- the side that sends a status
 abbrev pub is_said_by : Status → Side → Bool
 is_said_by status.True Dialler = true
 is_said_by status.True Acceptor = false
@@ -27,7 +27,7 @@ text_of status.Nok = codes "nok"
 text_of status.NotAllowed = codes "not_allowed"
 text_of status.Alive = codes "alive"
 
--- The body spells the message, as this side says it: a row for each message of the side.
+-- The body spells the message, as this side sends it: a row for each message of the side.
 abbrev pub Spells : Side → Message → List ℕ → Type 0
 Spells Dialler (message.OldName flags name) body = (version : ℕ) × (version < 2 ^ 16) × (body ≡ 0x6e ∷ to_be_bytes w16 version ++ to_be_bytes w32 flags ++ name)
 Spells Dialler (message.NewName flags creation name) body = (ignored : List ℕ) × (length name < 2 ^ 16) × (body ≡ 0x4e ∷ to_be_bytes w64 flags.0 ++ to_be_bytes w32 creation.0 ++ to_be_bytes w16 (length name) ++ name ++ ignored)

@@ -46,7 +46,7 @@ pub fn digest_at(bytes: &[u8]) -> Result<([u8; 16], &[u8]), MessageError>
     Ok((*head, rest))
 }
 
-/// Bytes of a length that another field told.
+/// Bytes of a length that another field gives.
 pub fn bytes_of_len(len: usize, bytes: &[u8]) -> Result<(&[u8], &[u8]), MessageError>
     ensures { MatchResult result (λ x. bytes_at len bytes.now ≡ Some (x.0.now, x.1.now)) (IsShortOf (bytes_at len bytes.now)) }
 {

@@ -2,7 +2,7 @@
 
 use dist_names::{ByteString, Creation, Flags};
 
-/// Who says a message.
+/// Who sends a message.
 #[derive(Clone, Copy, Debug, PartialEq, Eq)]
 pub enum Side {
     /// The side that connected.
@@ -11,7 +11,7 @@ pub enum Side {
     Acceptor,
 }
 
-/// What a status says, and its text. The first five are said by the accepting side, the others by the dialling side.
+/// What a status means, and its text. The accepting side sends the first five, the dialling side the others.
 #[derive(Clone, Copy, Debug, PartialEq, Eq)]
 pub enum Status {
     /// `ok`: the handshake goes on.
@@ -60,7 +60,7 @@ pub enum Message {
     NewName {
         /// All flags.
         flags: Flags,
-        /// Which start of the node says this.
+        /// The incarnation of the node that sends this.
         creation: Creation,
         /// The name, which may have no bytes.
         name: ByteString,
@@ -100,7 +100,7 @@ pub enum Message {
         flags: Flags,
         /// The number that the dialling side has to digest.
         challenge: u32,
-        /// Which start of the node says this.
+        /// The incarnation of the node that sends this.
         creation: Creation,
         /// The name, which may have no bytes.
         name: ByteString,
@@ -113,7 +113,7 @@ pub enum Message {
     Complement {
         /// The upper half of the flags.
         high: u32,
-        /// Which start of the node says this.
+        /// The incarnation of the node that sends this.
         creation: Creation,
     },
     /// The dialling side's answer to a challenge, and its own (`send_challenge_reply`).

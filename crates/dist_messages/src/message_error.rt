@@ -23,7 +23,7 @@ pub enum MessageError {
     /// 4. Bytes stand after the last field of a complement, a reply or an acknowledgement: the peer's fault.
     #[error("bytes stand after the last field")]
     Long,
-    /// 5. The name has more than 255 bytes: the caller's fault. `encode` alone tells it, since a longer name is read.
+    /// 5. The name has more than 255 bytes: the caller's fault. `encode` alone returns it: `decode` reads longer names.
     #[error("name has more than 255 bytes")]
     BadName,
     /// 6. The text is that of no status of this side: the peer's fault. In `encode`, the status is one of the other side:

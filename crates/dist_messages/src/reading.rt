@@ -101,10 +101,10 @@ pub fn decode(alloc: Global, side: Side, body: &[u8]) -> Result<Message, Message
     // What is spelled so is read, unless memory runs out.
     ensures only { (m : Message) → Fits m → Spells side m body.now → Answers (λ x. x) result (Ok m) }
 
-    // What is refused has the cause that is told.
+    // What is refused has the cause that is returned.
     ensures cause { IfErr result (λ e. IsCause side body.now e) }
 
-    // Memory is wanted for a name alone.
+    // Memory is needed for a name alone.
     ensures memory { IsErrOf result MessageError.NoMemory → IsTrue (has_name_tag body.now) }
 
     // Which of them it is, computed from left to right.

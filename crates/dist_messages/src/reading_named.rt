@@ -1,5 +1,5 @@
-//! Reading the messages that have a name. Each takes the bytes after the tag, and asks for memory last, so that want of it is
-//! told only where no other refusal holds.
+//! Reading the messages that have a name. Each takes the bytes after the tag, and asks for memory last, so that `NoMemory` is
+//! returned only where no other refusal holds.
 
 ghost use Rattle.dist_messages.specs.Answer.{Answers};
 ghost use Rattle.dist_messages.specs.Reading.{old_name, new_name, old_challenge, new_challenge};

@@ -22,7 +22,7 @@ impl Status {
         }
     }
 
-    /// Whether this side says it.
+    /// Whether this side sends it.
     pub fn is_said_by(self, side: Side) -> bool
         ensures { result ≡ is_said_by self side }
     {

@@ -14,7 +14,7 @@ use crate::writing_named::{put_new_challenge, put_new_name, put_old_challenge, p
 use dist_names::Creation;
 use std::alloc::{AllocError, Global};
 
-/// The most bytes that a body has beside its name: a reply has so many.
+/// The most bytes that a body has beside its name: a reply has this many.
 const MOST_BESIDE_NAME: usize = 21;
 
 /// The bytes of the length that a frame puts before the body, for which there is to be room.
@@ -40,7 +40,7 @@ fn put_reply(body: &mut Vec<u8>, challenge: u32, digest: &[u8]) -> Result<(), Al
     body.extend_from_slice(digest)
 }
 
-fn put_tagged(body: &mut Vec<u8>, tag: u8, text: &[u8]) -> Result<(), AllocError>
+fn put_tag_and_text(body: &mut Vec<u8>, tag: u8, text: &[u8]) -> Result<(), AllocError>
     ensures { OnOk result (body.new.items ≡ body.old.items ++ tag ∷ text.now) }
 {
     body.push(tag)?;
@@ -59,7 +59,7 @@ fn put_message(body: &mut Vec<u8>, message: &Message) -> Result<(), AllocError>
             creation,
             name,
         } => put_new_name(body, *flags, *creation, name.as_slice()),
-        Message::Status(status) => put_tagged(body, b's', status.text()),
+        Message::Status(status) => put_tag_and_text(body, b's', status.text()),
         Message::OldChallenge {
             flags,
             challenge,
@@ -73,7 +73,7 @@ fn put_message(body: &mut Vec<u8>, message: &Message) -> Result<(), AllocError>
         } => put_new_challenge(body, *flags, *challenge, *creation, name.as_slice()),
         Message::Complement { high, creation } => put_complement(body, *high, *creation),
         Message::Reply { challenge, digest } => put_reply(body, *challenge, digest),
-        Message::Ack { digest } => put_tagged(body, b'a', digest),
+        Message::Ack { digest } => put_tag_and_text(body, b'a', digest),
     }
 }
 

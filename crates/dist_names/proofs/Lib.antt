@@ -2,3 +2,6 @@ pub mod Places
 pub mod Orders
 pub mod Bytes
 pub mod Texts
+pub mod Digits
+pub mod Numerals
+pub mod Printable

@@ -5,19 +5,19 @@ use Rattle.std.specs.Str.{IsUtf8}
 use Rattle.std.specs.List.{list_all}
 use Rattle.std.proofs.lemmas.Bool.{and_parts, leb-true}
 use Rattle.std.proofs.lemmas.Str.{IsUtf8-from_ascii}
-use Rattle.dist_names.specs.NodeName.{is_name_byte}
+use Rattle.dist_names.specs.Bytes.{is_visible}
 
-below : (byte : ℕ) → is_name_byte byte ≡ true → byte < 128
+below : (byte : ℕ) → is_visible byte ≡ true → byte < 128
 below byte h =
     let p = and_parts (nat_le 0x21 byte) (nat_le byte 0x7E) h in
     let most : byte ≤ 0x7E = leb-true byte 0x7E p.1 in
     omega (arith, most)
 
-all_below : (bytes : List ℕ) → list_all is_name_byte bytes ≡ true → (i : ℕ) → get_or bytes i 0 < 128
+all_below : (bytes : List ℕ) → list_all is_visible bytes ≡ true → (i : ℕ) → get_or bytes i 0 < 128
 all_below [] h i = omega arith
-all_below (b ∷ bytes) h zero = below b (and_parts (is_name_byte b) (list_all is_name_byte bytes) h).0
-all_below (b ∷ bytes) h (suc i) = all_below bytes (and_parts (is_name_byte b) (list_all is_name_byte bytes) h).1 i
+all_below (b ∷ bytes) h zero = below b (and_parts (is_visible b) (list_all is_visible bytes) h).0
+all_below (b ∷ bytes) h (suc i) = all_below bytes (and_parts (is_visible b) (list_all is_visible bytes) h).1 i
 
 -- bytes that may stand in a name are ASCII, and so UTF-8
-pub name_bytes_are_text : (bytes : List ℕ) → list_all is_name_byte bytes ≡ true → IsUtf8 bytes
+pub name_bytes_are_text : (bytes : List ℕ) → list_all is_visible bytes ≡ true → IsUtf8 bytes
 name_bytes_are_text bytes h = IsUtf8-from_ascii bytes (all_below bytes h)

@@ -1,14 +1,14 @@
--- What a call answers that may lack memory.
+-- What a call that may run out of memory returns.
 use Rattle.std.specs.Prelude.{◌≡◌, Bool, true, false, Result, Ok, Err, IsOk}
 use Rattle.dist_names.specs.declared.name_error.NameError.{NameError}
 use Rattle.dist_names.specs.declared.name_error.NameError.TheVariants.{NoMemory}
 
--- A refusal is the one expected. Want of memory comes only where none is.
+-- A refusal is the one expected. Memory runs out only where no refusal is expected.
 abbrev pub RefusedBut : {E Y : Type 0} → Bool → E → Result Y E → Type 0
 RefusedBut true error expected = IsOk expected
 RefusedBut false error expected = expected ≡ Err error
 
--- The answer, seen by view, is the one expected, but for want of memory, which the test tells from other errors.
+-- Seen by view, the answer is the one expected, or out of memory, which the test recognizes among the errors.
 abbrev pub AnswersBut : {E X Y : Type 0} → (E → Bool) → (X → Y) → Result X E → Result Y E → Type 0
 AnswersBut is_want view (Ok value) expected = expected ≡ Ok (view value)
 AnswersBut is_want view (Err error) expected = RefusedBut (is_want error) error expected

@@ -1,5 +1,5 @@
--- Rows of bytes, and numbers in them.
-use Rattle.std.specs.Prelude.{ℕ, ◌<◌, List, get_or}
+-- Rows of bytes, which of them show, and numbers in them.
+use Rattle.std.specs.Prelude.{ℕ, ◌<◌, Bool, ◌&&◌, nat_le, List, get_or}
 use Rattle.std.specs.Int.{Width, to_be_bytes}
 
 -- each element is a byte
@@ -9,3 +9,11 @@ IsBytes bytes = (i : ℕ) → get_or bytes i 0 < 256
 -- a number in the bytes of a field, the greater ones first: big-endian, as all of the protocol's numbers are
 abbrev pub number : Width → ℕ → List ℕ
 number w value = to_be_bytes w value
+
+-- a printable ASCII character, the space among them
+abbrev pub is_printable : ℕ → Bool
+is_printable byte = nat_le 0x20 byte && nat_le byte 0x7E
+
+-- a printable ASCII character, and no space
+abbrev pub is_visible : ℕ → Bool
+is_visible byte = nat_le 0x21 byte && nat_le byte 0x7E

@@ -1,7 +1,7 @@
 -- The flags that nodes announce and require (ERTS User's Guide, Distribution Protocol, Distribution Flags).
 use Rattle.std.specs.Prelude.{ℕ, ◌+◌, ◌*◌, ◌/◌, ◌%◌, ◌^◌, ◌-◌, Bool, ◌==◌, bit_and, bit_or}
 
--- ---- halves: an old name, an old challenge and a complement bear 32 bits each
+-- ---- halves: an old name, an old challenge and a complement carry 32 bits each
 
 abbrev pub low_half : ℕ → ℕ
 low_half flags = flags % 2 ^ 32

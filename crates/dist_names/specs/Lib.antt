@@ -3,3 +3,5 @@ pub mod Order
 pub mod Answer
 pub mod Bytes
 pub mod Flags
+pub mod Escaped
+pub mod Digits

@@ -2,14 +2,11 @@
 --
 -- The ERTS User's Guide (Distribution Protocol) gives a name as text with one `@`. That it has 3 to 255 bytes, each a
 -- printable ASCII character and no space, and that neither part is empty, is our own choice.
-use Rattle.std.specs.Prelude.{◌≡◌, ℕ, ◌<◌, ◌≤◌, Bool, ◌&&◌, not, List, length, count_by, Result, Ok, Err, nat_lt, nat_le, ◌==◌, IsTrue, if◌then◌else◌}
+use Rattle.std.specs.Prelude.{◌≡◌, ℕ, ◌<◌, ◌≤◌, Bool, ◌&&◌, not, List, length, count_by, Result, Ok, Err, nat_lt, ◌==◌, IsTrue, if◌then◌else◌}
 use Rattle.std.specs.List.{before_first, after_first, list_all}
+use Rattle.dist_names.specs.Bytes.{is_visible}
 use Rattle.dist_names.specs.declared.name_error.NameError.{NameError}
 use Rattle.dist_names.specs.declared.name_error.NameError.TheVariants.{TooShort, TooLong, BadByte, BadAt}
-
--- a printable ASCII character, and no space
-abbrev pub is_name_byte : ℕ → Bool
-is_name_byte byte = nat_le 0x21 byte && nat_le byte 0x7E
 
 -- the character '@'
 abbrev pub is_separator : ℕ → Bool
@@ -31,7 +28,7 @@ has_two_parts name = (count_by is_separator name == 1) && (nat_lt 0 (length (sho
 pub record IsNodeName (name : List ℕ) : Type 0 where
   pub least : 3 ≤ length name
   pub most : length name ≤ 255
-  pub bytes : IsTrue (list_all is_name_byte name)
+  pub bytes : IsTrue (list_all is_visible name)
   pub separator : count_by is_separator name ≡ 1
   pub short : 0 < length (short_of name)
   pub host : 0 < length (host_of name)
@@ -41,5 +38,5 @@ abbrev pub named : List ℕ → Result (List ℕ) NameError
 named bytes =
     if nat_lt (length bytes) 3 then Err TooShort else (
     if nat_lt 255 (length bytes) then Err TooLong else (
-    if not (list_all is_name_byte bytes) then Err BadByte else (
+    if not (list_all is_visible bytes) then Err BadByte else (
     if not (has_two_parts bytes) then Err BadAt else Ok bytes)))

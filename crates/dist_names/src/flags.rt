@@ -1,5 +1,22 @@
-ghost use Rattle.std.specs.Prelude.{◌≡◌, ◌↔◌, IsTrue, bit_and};
+ghost use Rattle.std.specs.Prelude.{◌≡◌, ◌↔◌, ◌&&◌, IsTrue, Some, None, bit_and, length, nat_le, if◌then◌else◌};
+ghost use Rattle.std.specs.Str.Parse.{digits_value};
+ghost use Rattle.dist_names.specs.Digits.{flags_in, is_numeral};
 ghost use Rattle.dist_names.specs.Flags.{low_half, high_half, of_halves, announced, required, common, has_all};
+
+use crate::numbers::number_in;
+
+/// The most digits of flags, which have 64 bits.
+const MOST_DIGITS: usize = 16;
+
+// The number that 1 to 16 hexadecimal digits write.
+fn flags_value(word: &[u8]) -> Option<u64>
+    ensures { result ≡ (if is_numeral 16 word.now && nat_le (length word.now) 16 then Some (digits_value 16 word.now) else None) }
+{
+    if word.len() > MOST_DIGITS {
+        return None;
+    }
+    number_in(word, 16)
+}
 
 /// The abilities that a node announces or requires, one bit each, named `DFLAG_..` in Erlang/OTP.
 ///
@@ -22,6 +39,16 @@ impl Flags {
         Flags((high as u64) << 32 | low as u64)
     }
 
+    /// The flags that a word writes: 1 to 16 hexadecimal digits of either case.
+    pub fn of_digits(word: &[u8]) -> Option<Flags>
+        ensures { result ≡ flags_in word.now }
+    {
+        match flags_value(word) {
+            Some(flags) => Some(Flags(flags)),
+            None => None,
+        }
+    }
+
     /// The lower 32 bits, as an old name or an old challenge bears them.
     pub fn low(self) -> u32
         ensures { result ≡ low_half self.0 }
@@ -29,7 +56,7 @@ impl Flags {
         (self.0 % (1 << 32)) as u32
     }
 
-    /// The upper 32 bits, as a complement bears them.
+    /// The upper 32 bits, as a complement carries them.
     pub fn high(self) -> u32
         ensures { result ≡ high_half self.0 }
     {

@@ -1,10 +1,12 @@
 ghost use Rattle.std.specs.Prelude.{◌≡◌, ◌↔◌, Some, None, IsTrue, IfOk, OnOk, option_copied, if◌then◌else◌};
-ghost use Rattle.std.specs.List.{list_all, position, position_or_len};
-ghost use Rattle.dist_names.specs.NodeName.{short_of, host_of, is_name_byte, is_separator, has_two_parts, named, IsNodeName};
+ghost use Rattle.std.specs.List.{list_all};
+ghost use Rattle.dist_names.specs.Bytes.{is_visible};
+ghost use Rattle.dist_names.specs.NodeName.{short_of, host_of, has_two_parts, named, IsNodeName};
 ghost use Rattle.dist_names.specs.Order.{same_name};
 ghost use Rattle.dist_names.specs.Answer.{Answers};
 
 use crate::name_error::NameError;
+use crate::plain::{are_visible, host_part, is_same_text, short_part};
 use std::alloc::{AllocError, Global};
 use std::marker::Model;
 use std::str;
@@ -31,54 +33,17 @@ const LEAST: usize = 3;
 
 const MOST: usize = 255;
 
-fn are_name_bytes(bytes: &[u8]) -> bool
-    ensures { result ≡ list_all is_name_byte bytes.now }
-{
-    bytes.iter().all(|byte| 0x21 <= *byte && *byte <= 0x7E)
-}
-
 // The bytes as text, where each may stand in a name.
 #[tactic(auto, using(crate::proofs::Texts::name_bytes_are_text))]
 fn name_text(bytes: &[u8]) -> Option<&str>
-    ensures { option_copied result ≡ (if list_all is_name_byte bytes.now then Some bytes.now else None) }
+    ensures { option_copied result ≡ (if list_all is_visible bytes.now then Some bytes.now else None) }
 {
-    if !are_name_bytes(bytes) {
+    if !are_visible(bytes) {
         return None;
     }
     match str::from_utf8(bytes) {
         Ok(text) => Some(text),
         Err(_) => unreachable!(),
-    }
-}
-
-fn separator(bytes: &[u8]) -> Option<usize>
-    ensures { result ≡ position is_separator bytes.now }
-{
-    bytes.iter().position(|byte| *byte == b'@')
-}
-
-// Where the first separator stands, or the length where none does.
-#[tactic(auto, using(crate::proofs::Places::place_or_length))]
-fn separator_place(bytes: &[u8]) -> usize
-    ensures { result ≡ position_or_len is_separator bytes.now }
-{
-    separator(bytes).unwrap_or(bytes.len())
-}
-
-fn short_part(bytes: &[u8]) -> &[u8]
-    ensures { result.now ≡ short_of bytes.now }
-{
-    &bytes[..separator_place(bytes)]
-}
-
-fn host_part(bytes: &[u8]) -> &[u8]
-    ensures { result.now ≡ host_of bytes.now }
-{
-    let place = separator_place(bytes);
-    if place < bytes.len() {
-        &bytes[place + 1..]
-    } else {
-        &[]
     }
 }
 
@@ -95,7 +60,7 @@ impl NodeName {
     pub fn new(alloc: Global, bytes: &[u8]) -> Result<NodeName, NameError>
         ensures exact { Answers result (named bytes.now) }
 
-        // The bytes of a name are taken, unless memory runs out, and no others are.
+        // The bytes of a name are accepted, unless memory runs out, and no others are.
         ensures accepts { IsNodeName bytes.now → Answers result (Ok bytes.now) }
         ensures good { OnOk result (IsNodeName bytes.now) }
     {
@@ -158,7 +123,7 @@ impl NodeName {
         ensures computed { result ≡ same_name self.now bytes.now }
         ensures each { IsTrue result ↔ (self.now ≡ bytes.now) }
     {
-        self.bytes().cmp(bytes).is_eq()
+        is_same_text(self.bytes(), bytes)
     }
 
     /// Whether the two names are one.
@@ -166,6 +131,6 @@ impl NodeName {
         ensures computed { result ≡ same_name self.now other.now }
         ensures each { IsTrue result ↔ (self.now ≡ other.now) }
     {
-        self.text().cmp(other.text()).is_eq()
+        is_same_text(self.bytes(), other.bytes())
     }
 }

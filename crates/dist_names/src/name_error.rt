@@ -6,7 +6,7 @@ ghost use Rattle.dist_names.specs.declared.name_error.NameError.TheVariants.{NoM
 use std::alloc::AllocError;
 use thiserror::Error;
 
-/// Why bytes are no node name. The first of these reasons that holds is told; nothing is kept of the bytes.
+/// Why bytes are no node name. The first of these reasons that holds is returned; nothing is kept of the bytes.
 #[derive(Clone, Copy, Debug, PartialEq, Eq, Error)]
 pub enum NameError {
     /// There are fewer than 3 bytes, so that a part is empty.

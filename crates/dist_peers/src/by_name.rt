@@ -42,7 +42,7 @@ pub fn up_in(entries: &BTreeMap<NodeName, Entry>, i: usize) -> Option<EndId>
     entries.iter().filter_map(|(_, entry)| entry.up()).nth(i)
 }
 
-/// Gives a name an entry, and answers the one that it had.
+/// Gives a name an entry, and returns the one that it had.
 pub fn put_row(
     entries: &mut BTreeMap<NodeName, Entry>,
     alloc: Global,
@@ -74,7 +74,7 @@ pub fn set_row(entries: &mut BTreeMap<NodeName, Entry>, name: &NodeName, entry: 
     }
 }
 
-/// Gives a name that has an entry another, and answers the one that it had. It takes no memory.
+/// Gives a name that has an entry another, and returns the one that it had. It takes no memory.
 pub fn change_row(
     entries: &mut BTreeMap<NodeName, Entry>,
     name: &NodeName,

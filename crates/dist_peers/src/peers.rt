@@ -118,7 +118,7 @@ impl Peers {
         waits_for(self.entry(peer), id)
     }
 
-    /// What is to be said of a peer's name that comes on this end, where there is room for an entry.
+    /// The verdict on a peer's name that comes on this end, where there is room for an entry.
     pub fn verdict(&self, me: &NodeName, peer: &NodeName, id: EndId) -> Verdict
         ensures { result ≡ verdict_on self.now me.now peer.now id }
     {
@@ -176,7 +176,7 @@ impl Peers {
 
     /// A dial to a peer that is known to be idle begins on this end: its entry becomes `Out`. The table is searched once.
     ///
-    /// Want of memory changes nothing.
+    /// Where memory runs out, nothing changes.
     pub fn dial_idle(&mut self, peer: &NodeName, id: EndId) -> Result<(), AllocError>
         // `entry` is the test.
         requires idle { entry_of self.old peer.now ≡ None }
@@ -190,7 +190,7 @@ impl Peers {
     /// A peer's name came on this end: its entry becomes the one of the table of verdicts. An idle peer, as most are, is
     /// searched once.
     ///
-    /// Want of memory changes nothing.
+    /// Where memory runs out, nothing changes.
     #[tactic(auto, using(crate::proofs::Others::put_there, crate::proofs::Others::put_over))]
     pub fn take_name(&mut self, me: &NodeName, peer: &NodeName, id: EndId) -> Result<(), AllocError>
         ensures ok { OnOk result (self.new ≡ map.insert self.old peer.now (let r = ruling (is_greater me.now peer.now) id (entry_of self.old peer.now) in r.entry)) }
@@ -204,7 +204,7 @@ impl Peers {
         Ok(())
     }
 
-    /// This end came up with the peer. Answers the end that was up before, which is closed. It takes no memory.
+    /// This end came up with the peer. Returns the end that was up before, which is closed. It takes no memory.
     #[tactic(auto, using(crate::proofs::Others::others_insert))]
     pub fn came_up(&mut self, peer: &NodeName, id: EndId) -> Option<EndId>
         // Only an end that was dialled, or whose name was taken, comes up; `is_waiting` is the test.
@@ -229,7 +229,7 @@ impl Peers {
         }
     }
 
-    // Gives a peer an entry, and answers the one that it had.
+    // Gives a peer an entry, and returns the one that it had.
     fn put(&mut self, peer: &NodeName, entry: Entry) -> Result<Option<Entry>, AllocError>
         ensures was { IfOk result (λ was. was ≡ entry_of self.old peer.now) }
         ensures ok { OnOk result (self.new ≡ map.insert self.old peer.now entry) }
@@ -246,7 +246,7 @@ impl Peers {
         set_row(&mut self.by_name, peer, entry);
     }
 
-    // Gives a peer that has an entry another, and answers the one that it had.
+    // Gives a peer that has an entry another, and returns the one that it had.
     fn change(&mut self, peer: &NodeName, entry: Entry) -> Option<Entry>
         requires { IsSome (entry_of self.old peer.now) }
         ensures was { result ≡ entry_of self.old peer.now }

@@ -1,11 +1,11 @@
 -- One frame, put together from its length, its tag and what stands behind them.
 use Rattle.std.proofs.Common.{◌≡◌, ℕ, ◌^◌, ◌<◌, true, List, [], ◌∷◌, ◌++◌, length, Ok, sym, ap, subst, ◌∙◌, inl, inr}
 use Rattle.std.specs.Int.{w16, to_be_bytes}
-use Rattle.dist_streams.specs.Stream.{StreamState}
-use Rattle.dist_streams.proofs.Talks.{Hears-trans}
-use Rattle.dist_mapper.specs.Bodies.{HearsFrame}
-use Rattle.dist_mapper.specs.declared.bodies.Arrived.{Arrived}
-use Rattle.dist_mapper.specs.declared.bodies.Arrived.TheVariants as arrived
+use Rattle.dist_stream.specs.Stream.{StreamState}
+use Rattle.dist_stream.proofs.Talks.{Hears-trans}
+use Rattle.dist_epmd_calls.specs.Bodies.{HearsFrame}
+use Rattle.dist_epmd_calls.specs.declared.bodies.Arrived.{Arrived}
+use Rattle.dist_epmd_calls.specs.declared.bodies.Arrived.TheVariants as arrived
 use Rattle.dist_probe.specs.Bodies.{HearsBehind, HearsByte, HearsFrameOf, HearsRest, begins_with_one, is_one_of}
 
 pub behind_tag : {old mid new : StreamState} {turns between left : ℕ} (len tag : ℕ) (tags : List ℕ) (a : Arrived) → is_one_of tags tag ≡ true → HearsByte old mid turns between (Ok tag) → HearsRest mid new between left len tag a → HearsBehind old new turns left len tags a

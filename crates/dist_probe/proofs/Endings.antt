@@ -1,12 +1,12 @@
--- The talk, put together from what was said and what was heard.
+-- The talk, put together from what was sent and what was received.
 use Rattle.std.proofs.Common.{◌≡◌, ℕ, List, Bool, Option, Some, None, Err, ap, subst, ◌∙◌}
 use Rattle.dist_names.specs.Order.{same_name}
 use Rattle.dist_names.specs.declared.flags.Flags.{Flags}
 use Rattle.dist_messages.specs.declared.message.Status.{Status}
 use Rattle.dist_messages.specs.declared.form.Form.TheVariants as form
-use Rattle.dist_setup.specs.declared.setup.Setup.{Setup}
-use Rattle.dist_setup.specs.Saying.{name_text}
-use Rattle.dist_streams.specs.Stream.{StreamState}
+use Rattle.dist_core_setup.specs.declared.setup.Setup.{Setup}
+use Rattle.dist_core_setup.specs.Saying.{name_text}
+use Rattle.dist_stream.specs.Stream.{StreamState}
 use Rattle.dist_probe.specs.declared.hearing.Heard.{Heard}
 use Rattle.dist_probe.specs.declared.verdict.Verdict.{Verdict}
 use Rattle.dist_probe.specs.declared.asking.Report.{Report}

@@ -1,4 +1,4 @@
--- HOW A PROBE ENDS: what it said, what it heard upon that, and what the tables make of it.
+-- HOW A PROBE ENDS: what it sent, what it received upon that, and what the tables make of it.
 use Rattle.std.specs.Prelude.{◌≡◌, ℕ, ◌⊎◌, Bool, true, false, List, Option, Some, None, Result, Ok, Err}
 use Rattle.dist_names.specs.Order.{same_name}
 use Rattle.dist_names.specs.declared.flags.Flags.{Flags}
@@ -6,14 +6,14 @@ use Rattle.dist_messages.specs.declared.message.Message.TheVariants as message
 use Rattle.dist_messages.specs.declared.message.Status.{Status}
 use Rattle.dist_messages.specs.declared.message.Status.TheVariants as status
 use Rattle.dist_messages.specs.declared.form.Form.TheVariants as form
-use Rattle.dist_setup.specs.declared.setup.Setup.{Setup}
-use Rattle.dist_setup.specs.Rules.{announced_by, own_digest}
-use Rattle.dist_setup.specs.Saying.{name_text, reply_text, status_text}
-use Rattle.dist_flag_names.specs.Releases.{missing, required_by}
-use Rattle.dist_flag_names.specs.declared.release.Release.TheVariants as release
-use Rattle.dist_streams.specs.Stream.{StreamState}
-use Rattle.dist_streams.specs.Turns.{SaysFront}
-use Rattle.dist_streams.specs.declared.turn_error.TurnError.{TurnError}
+use Rattle.dist_core_setup.specs.declared.setup.Setup.{Setup}
+use Rattle.dist_core_setup.specs.Rules.{announced_by, own_digest}
+use Rattle.dist_core_setup.specs.Saying.{name_text, reply_text, status_text}
+use Rattle.dist_flags.specs.Releases.{missing, required_by}
+use Rattle.dist_flags.specs.declared.release.Release.TheVariants as release
+use Rattle.dist_stream.specs.Stream.{StreamState}
+use Rattle.dist_stream.specs.Turns.{SaysFront}
+use Rattle.dist_stream.specs.declared.turn_error.TurnError.{TurnError}
 use Rattle.dist_probe.specs.declared.hearing.Heard.{Heard}
 use Rattle.dist_probe.specs.declared.hearing.Heard.TheVariants as heard
 use Rattle.dist_probe.specs.declared.verdict.Verdict.{Verdict}
@@ -23,7 +23,7 @@ use Rattle.dist_probe.specs.declared.asking.Report.{Report}
 use Rattle.dist_probe.specs.Hearing.{HearsMessage, heard_instead}
 use Rattle.dist_probe.specs.Verdicts.{ack_verdict, challenge_verdict, status_verdict}
 
--- ---- what is told of what was heard
+-- ---- what is reported of what was received
 
 -- the status
 abbrev pub status_in : Heard → Option Status
@@ -40,7 +40,7 @@ abbrev pub challenge_in : Heard → ℕ
 challenge_in (heard.Said (message.NewChallenge flags challenge creation name)) = challenge
 challenge_in other = 0
 
--- which flags lack that releases from 26 on ask for
+-- which flags that releases from 26 on ask for are missing
 abbrev pub lacking : Setup → Flags
 lacking setup = record { 0 = missing (announced_by setup) (required_by release.Otp28) }
 
@@ -49,18 +49,18 @@ abbrev pub outcome_of : Verdict → Result (Unit {0}) Verdict
 outcome_of verdict.Up = Ok tt
 outcome_of other = Err other
 
--- ---- what is said, and heard upon it
+-- ---- what is sent, and received upon it
 
 -- nothing was read or written
 abbrev pub Rests : StreamState → StreamState → ℕ → ℕ → Type 0
 Rests old new turns left = (new ≡ old) × (left ≡ turns)
 
--- what is heard behind a text: the next message where all of it was said, else why not
+-- what is received behind a text: the next message where all of it was sent, else why not
 abbrev pub HearsBehind : Option TurnError → StreamState → StreamState → ℕ → ℕ → Heard → Type 0
 HearsBehind None old new turns left h = HearsMessage old new turns left h
 HearsBehind (Some error) old new turns left h = Rests old new turns left × (h ≡ heard_instead error)
 
--- The text was said, and then one message was heard; or the text was not said whole, and nothing was heard.
+-- The text was sent, and then one message was received; or the text was not sent whole, and nothing was received.
 pub record Exchanges (text : List ℕ) (h : Heard) (old new : StreamState) (turns left : ℕ) : Type 0 where
   pub mid : StreamState
   pub between : ℕ
@@ -68,7 +68,7 @@ pub record Exchanges (text : List ℕ) (h : Heard) (old new : StreamState) (turn
   pub said : SaysFront old mid turns between stop text
   pub behind : HearsBehind stop mid new between left h
 
--- the same, or there was no memory for the text, and nothing was said
+-- the same, or there was no memory for the text, and nothing was sent
 abbrev pub Asks : List ℕ → Heard → StreamState → StreamState → ℕ → ℕ → Type 0
 Asks text h old new turns left = (Rests old new turns left × (h ≡ heard.NoMemory)) ⊎ Exchanges text h old new turns left
 
@@ -77,14 +77,14 @@ pub record SaysFalse (old new : StreamState) (turns left : ℕ) : Type 0 where
   pub stop : Option TurnError
   pub said : SaysFront old new turns left stop (status_text status.False)
 
--- behind `alive` the answer is `false`, so the connection that the node has stays; behind any other refusal nothing is said
+-- behind `alive` the answer is `false`, so the connection that the node has stays; behind any other refusal nothing is sent
 abbrev pub Leaves : Verdict → StreamState → StreamState → ℕ → ℕ → Type 0
 Leaves verdict.AlreadyUp old new turns left = SaysFalse old new turns left
 Leaves other old new turns left = Rests old new turns left
 
 -- ---- the talk, from its end
 
--- The reply was said, and what was heard upon it decides.
+-- The reply was sent, and what was received upon it decides.
 pub record Replies (setup : Setup) (target : List ℕ) (fresh challenge : ℕ) (old new : StreamState) (turns left : ℕ) (outcome : Result (Unit {0}) Verdict) : Type 0 where
   pub third : Heard
   pub asked : Asks (reply_text setup form.New target fresh challenge) third old new turns left
@@ -95,12 +95,12 @@ abbrev pub BehindChallenge : Bool → Setup → List ℕ → ℕ → ℕ → Str
 BehindChallenge false setup target fresh challenge old new turns left outcome = Rests old new turns left × (outcome ≡ Err verdict.Reached)
 BehindChallenge true setup target fresh challenge old new turns left outcome = Replies setup target fresh challenge old new turns left outcome
 
--- behind what was heard where the challenge was due
+-- behind what was received where the challenge was due
 abbrev pub Decides : Option Verdict → Bool → Setup → List ℕ → ℕ → ℕ → StreamState → StreamState → ℕ → ℕ → Result (Unit {0}) Verdict → Type 0
 Decides (Some v) replies setup target fresh challenge old new turns left outcome = Rests old new turns left × (outcome ≡ Err v)
 Decides None replies setup target fresh challenge old new turns left outcome = BehindChallenge replies setup target fresh challenge old new turns left outcome
 
--- The status went on: one message was heard where the challenge is due, and the table says how it goes on.
+-- The status went on: one message was received where the challenge is due, and the table says how it goes on.
 pub record GoesOn (replies : Bool) (setup : Setup) (target : List ℕ) (fresh : ℕ) (old new : StreamState) (turns left : ℕ) (report : Report) : Type 0 where
   pub second : Heard
   pub mid : StreamState
@@ -109,13 +109,13 @@ pub record GoesOn (replies : Bool) (setup : Setup) (target : List ℕ) (fresh : 
   pub peer : report.peer ≡ peer_in second
   pub decides : Decides (challenge_verdict (lacking setup) target second) replies setup target fresh (challenge_in second) mid new between left report.outcome
 
--- behind what was heard where the status was due
+-- behind what was received where the status was due
 abbrev pub BehindName : Option Verdict → Bool → Setup → List ℕ → ℕ → StreamState → StreamState → ℕ → ℕ → Report → Type 0
 BehindName (Some v) replies setup target fresh old new turns left report = Leaves v old new turns left × (report.peer ≡ None) × (report.outcome ≡ Err v)
 BehindName None replies setup target fresh old new turns left report = GoesOn replies setup target fresh old new turns left report
 
--- THE TALK: the own name was said, and what was heard upon it decides, by the tables of Verdicts.antt, how it goes on, what is
--- said next, and what is reported. Never more reads and writes are made than there are turns.
+-- THE TALK: the own name was sent, and what was received upon it decides, by the tables of Verdicts.antt, how it goes on, what
+-- is sent next, and what is reported. Never more reads and writes are made than there are turns.
 pub record Ends (replies : Bool) (setup : Setup) (target : List ℕ) (fresh : ℕ) (old new : StreamState) (turns : ℕ) (report : Report) : Type 0 where
   pub first : Heard
   pub mid : StreamState

@@ -1,4 +1,4 @@
--- What is heard of a node, where one message of it is awaited.
+-- What is received of a node, where one message of it is awaited.
 use Rattle.std.specs.Prelude.{◌≡◌, ℕ, ◌<◌, false, List, [], ◌∷◌, ◌++◌, Option, Some, None}
 use Rattle.std.specs.Int.{w16}
 use Rattle.dist_names.specs.Bytes.{number}
@@ -7,11 +7,11 @@ use Rattle.dist_messages.specs.Spelling.{Spells}
 use Rattle.dist_messages.specs.Causes.{IsCause}
 use Rattle.dist_messages.specs.declared.message.Side.TheVariants.{Acceptor}
 use Rattle.dist_messages.specs.declared.message.Message.{Message}
-use Rattle.dist_streams.specs.Stream.{StreamState}
-use Rattle.dist_streams.specs.Turns.{Hears}
-use Rattle.dist_streams.specs.declared.turn_error.TurnError.{TurnError}
-use Rattle.dist_streams.specs.declared.turn_error.TurnError.TheVariants as fault
-use Rattle.dist_mapper.specs.Serving.{IsInside}
+use Rattle.dist_stream.specs.Stream.{StreamState}
+use Rattle.dist_stream.specs.Turns.{Hears}
+use Rattle.dist_stream.specs.declared.turn_error.TurnError.{TurnError}
+use Rattle.dist_stream.specs.declared.turn_error.TurnError.TheVariants as fault
+use Rattle.dist_epmd_calls.specs.Serving.{IsInside}
 use Rattle.dist_probe.specs.Bodies.{is_one_of}
 use Rattle.dist_probe.specs.declared.hearing.Heard.{Heard}
 use Rattle.dist_probe.specs.declared.hearing.Heard.TheVariants as heard
@@ -21,12 +21,12 @@ use Rattle.dist_probe.specs.declared.hearing.Heard.TheVariants as heard
 abbrev pub most : ℕ
 most = 1024
 
--- the first bytes of what an accepting side says: s of a status, n of an older challenge, N of a newer one, a of an acknowledgement
--- (ERTS User's Guide, Distribution Handshake)
+-- the first bytes of what an accepting side sends: s of a status, n of an older challenge, N of a newer one, a of an
+-- acknowledgement (ERTS User's Guide, Distribution Handshake)
 abbrev pub tags : List ℕ
 tags = 0x73 ∷ 0x6e ∷ 0x4e ∷ 0x61 ∷ []
 
--- what is heard where the stream gave or took no more
+-- what is received where the stream gave or took no more
 abbrev pub heard_instead : TurnError → Heard
 heard_instead fault.ReadFailed = heard.Broken
 heard_instead fault.WriteFailed = heard.Broken
@@ -37,14 +37,14 @@ heard_instead fault.Limit = heard.Silent
 abbrev pub Frames : Message → List ℕ → Type 0
 Frames m bytes = (body : List ℕ) × (bytes ≡ framed w16 body) × Spells Acceptor m body
 
--- a body, and what is heard in it
+-- a body, and what is received in it
 abbrev pub IsHeardIn : Heard → List ℕ → Type 0
 IsHeardIn (heard.Said m) body = Spells Acceptor m body
 IsHeardIn (heard.NoMessage error) body = IsCause Acceptor body error
 IsHeardIn heard.NoMemory body = Unit {0}
 IsHeardIn other body = ⊥
 
--- what these bytes are heard as, where no read failed
+-- what these bytes are read as, where no read failed
 abbrev pub IsWhole : Heard → List ℕ → Type 0
 IsWhole (heard.Said m) bytes = Frames m bytes
 IsWhole (heard.NoMessage error) bytes = (body : List ℕ) × (bytes ≡ framed w16 body) × IsCause Acceptor body error
@@ -52,12 +52,12 @@ IsWhole (heard.Length front) bytes = (first : ℕ) × (bytes ≡ number w16 fron
 IsWhole heard.NoMemory bytes = Unit {0}
 IsWhole other bytes = ⊥
 
--- these bytes came, and that was heard: a message, or that the stream gave no more inside of a frame
+-- these bytes came, and that was received: a message, or that the stream gave no more inside of a frame
 abbrev pub IsHeardAs : Option TurnError → Heard → List ℕ → Type 0
 IsHeardAs None h bytes = IsWhole h bytes
 IsHeardAs (Some error) h bytes = (h ≡ heard_instead error) × IsInside bytes
 
--- ONE MESSAGE WAS HEARD, or why none was, within the turns that were there; nothing was written.
+-- ONE MESSAGE WAS RECEIVED, or why none was, within the turns that were there; nothing was written.
 pub record HearsMessage (old new : StreamState) (turns left : ℕ) (h : Heard) : Type 0 where
   pub bytes : List ℕ
   pub stop : Option TurnError

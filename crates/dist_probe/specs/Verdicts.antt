@@ -1,4 +1,4 @@
--- THE TABLE OF VERDICTS: what it means that this was heard at this place of the handshake.
+-- THE TABLE OF VERDICTS: what it means that this was received at this place of the handshake.
 use Rattle.std.specs.Prelude.{ℕ, Bool, false, ◌==◌, List, Option, Some, None, if◌then◌else◌}
 use Rattle.std.specs.Cmp.Lexicographic.{pointwise}
 use Rattle.dist_names.specs.declared.flags.Flags.{Flags}
@@ -12,7 +12,7 @@ use Rattle.dist_probe.specs.declared.verdict.Verdict.{Verdict}
 use Rattle.dist_probe.specs.declared.verdict.Verdict.TheVariants as verdict
 use Rattle.dist_probe.specs.Services.{service_of}
 
--- `not_allowed`: the name is the node's own, or a flag lacks that releases from 26 on ask for, or the name is not on the
+-- `not_allowed`: the name is the node's own, or a flag that releases from 26 on ask for is missing, or the name is not on the
 -- node's list
 abbrev pub not_allowed : Bool → Flags → Verdict
 not_allowed is_own lacking = if is_own then verdict.OwnName else if lacking.0 == 0 then verdict.NotOnList else verdict.LacksFlags lacking
@@ -47,7 +47,7 @@ challenge_verdict lacking target (heard.Said (message.OldChallenge flags challen
 challenge_verdict lacking target (heard.Said (message.Status status.NotAllowed)) = Some (not_allowed false lacking)
 challenge_verdict lacking target other = Some (refusal awaited.Challenge other)
 
--- behind the own reply: an end of the stream there is what a node does that has another cookie
+-- behind the own reply: an end of the stream there is what a node that has another cookie does
 abbrev pub ack_verdict : Flags → List ℕ → Heard → Verdict
 ack_verdict lacking wanted (heard.Said (message.Ack digest)) = if pointwise ◌==◌ digest wanted then verdict.Up else verdict.WrongAck
 ack_verdict lacking wanted (heard.Said (message.Status status.NotAllowed)) = not_allowed false lacking

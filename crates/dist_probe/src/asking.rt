@@ -2,17 +2,17 @@
 
 ghost use Rattle.std.specs.Prelude.{◌≡◌, Err, IfErr, IsOk, None};
 ghost use Rattle.dist_messages.specs.declared.form.Form.TheVariants as form;
-ghost use Rattle.dist_setup.specs.Saying.{name_text, reply_text};
+ghost use Rattle.dist_core_setup.specs.Saying.{name_text, reply_text};
 ghost use Rattle.dist_probe.specs.Ending.{Asks, BehindChallenge, Ends, Exchanges, GoesOn, Leaves, SaysFalse, challenge_in, lacking, outcome_of, peer_in, status_in};
 
 use crate::hearing::{Heard, hear, heard_instead};
 use crate::judging::{ack_verdict, challenge_verdict, status_verdict};
 use crate::verdict::Verdict;
-use dist_flag_names::{Release, missing};
+use dist_core_setup::{Setup, announced_by, name_frame, own_digest, reply_frame};
+use dist_flags::{Release, missing};
 use dist_messages::{Form, Message, Status};
 use dist_names::{ByteString, Creation, Flags, NodeName};
-use dist_setup::{Setup, announced_by, name_frame, own_digest, reply_frame};
-use dist_streams::{Limited, Stream};
+use dist_stream::{Limited, Stream};
 use std::alloc::Global;
 
 /// What a node says of itself.
@@ -20,16 +20,16 @@ use std::alloc::Global;
 pub struct Peer {
     /// What it announces.
     pub flags: Flags,
-    /// Which start of the node answered.
+    /// The incarnation of the node that answered.
     pub creation: Creation,
     /// Its name.
     pub name: ByteString,
 }
 
-/// What a probe heard, and what that means.
+/// What a probe received, and what that means.
 #[derive(Drop)]
 pub struct Report {
-    /// The status that the node said.
+    /// The status that the node sent.
     pub status: Option<Status>,
     /// What it said of itself.
     pub peer: Option<Peer>,
@@ -57,7 +57,7 @@ pub fn lacking(setup: &Setup) -> Flags
     missing(announced_by(setup), Release::Otp28.required())
 }
 
-// The status that was said.
+// The status that was sent.
 fn status_in(heard: &Heard) -> Option<Status>
     ensures { result ≡ status_in heard.now }
 {
@@ -67,7 +67,7 @@ fn status_in(heard: &Heard) -> Option<Status>
     }
 }
 
-// The challenge that was said, and 0 where none was.
+// The challenge that was sent, and 0 where none was.
 fn challenge_in(heard: &Heard) -> u32
     ensures { result ≡ challenge_in heard.now }
 {
@@ -108,7 +108,7 @@ fn outcome_of(verdict: Verdict) -> Result<(), Verdict>
     }
 }
 
-// Says a text, and hears the message behind it.
+// Sends a text, and receives the message behind it.
 fn exchange<S: Stream>(alloc: Global, limited: &mut Limited<'_, S>, text: &ByteString) -> Heard
     ensures asks { Exchanges text.now result (S.meaning limited.old.stream.now) (S.meaning limited.new.stream.now) limited.old.left limited.new.left }
     ensures loan { limited.new.stream.ghost_name ≡ limited.old.stream.ghost_name }
@@ -119,7 +119,7 @@ fn exchange<S: Stream>(alloc: Global, limited: &mut Limited<'_, S>, text: &ByteS
     }
 }
 
-// Says the own name, and hears what comes upon it.
+// Sends the own name, and receives what comes upon it.
 fn greet<S: Stream>(alloc: Global, limited: &mut Limited<'_, S>, setup: &Setup) -> Heard
     ensures asks { Asks (name_text setup.now form.New) result (S.meaning limited.old.stream.now) (S.meaning limited.new.stream.now) limited.old.left limited.new.left }
     ensures loan { limited.new.stream.ghost_name ≡ limited.old.stream.ghost_name }
@@ -130,7 +130,7 @@ fn greet<S: Stream>(alloc: Global, limited: &mut Limited<'_, S>, setup: &Setup) 
     }
 }
 
-// Replies to a challenge, and hears what comes upon that.
+// Replies to a challenge, and receives what comes upon that.
 fn reply<S: Stream>(
     alloc: Global,
     limited: &mut Limited<'_, S>,
@@ -151,7 +151,7 @@ fn reply<S: Stream>(
 // The frame of `false`, which takes no memory.
 const FALSE: [u8; 8] = [0, 6, 0x73, 0x66, 0x61, 0x6c, 0x73, 0x65];
 
-// Says `false`, so that the node keeps the connection that it has under the own name.
+// Sends `false`, so that the node keeps the connection that it has under the own name.
 fn leave_alone<S: Stream>(limited: &mut Limited<'_, S>)
     ensures says { SaysFalse (S.meaning limited.old.stream.now) (S.meaning limited.new.stream.now) limited.old.left limited.new.left }
     ensures loan { limited.new.stream.ghost_name ≡ limited.old.stream.ghost_name }
@@ -160,7 +160,7 @@ fn leave_alone<S: Stream>(limited: &mut Limited<'_, S>)
 }
 
 // What comes of the challenge of the node that was dialled.
-fn tried<S: Stream>(
+fn answer_challenge<S: Stream>(
     alloc: Global,
     limited: &mut Limited<'_, S>,
     setup: &Setup,
@@ -180,7 +180,7 @@ fn tried<S: Stream>(
     outcome_of(ack_verdict(lacking(setup), wanted, &heard))
 }
 
-// Hears the challenge, and goes on from there. What the node said of itself is told, whether or not it was dialled.
+// Receives the challenge, and goes on from there. What the node said of itself is reported, whether or not it was dialled.
 fn go_on<S: Stream>(
     alloc: Global,
     limited: &mut Limited<'_, S>,
@@ -198,7 +198,7 @@ fn go_on<S: Stream>(
     let challenge = challenge_in(&heard);
     let outcome = match challenge_verdict(lacking(setup), target.bytes(), &heard) {
         Some(verdict) => Err(verdict),
-        None => tried(alloc, limited, setup, target, fresh, replies, challenge),
+        None => answer_challenge(alloc, limited, setup, target, fresh, replies, challenge),
     };
     Report {
         status,
@@ -208,7 +208,7 @@ fn go_on<S: Stream>(
 }
 
 // Ends a talk that the node refused behind the own name.
-fn refused<S: Stream>(
+fn end_refused<S: Stream>(
     limited: &mut Limited<'_, S>,
     status: Option<Status>,
     verdict: Verdict,
@@ -231,7 +231,7 @@ fn refused<S: Stream>(
 /// whether both have the same cookie. `fresh` is the own challenge.
 ///
 /// The opening is the newer name. Where `replies` is false the talk ends at the node's challenge, so nothing of a cookie is
-/// told, and the node never counts the probe as up. Where the node says `alive` the answer is `false`: what it has under that
+/// shown, and the node never counts the probe as up. Where the node sends `alive` the answer is `false`: what it has under that
 /// name stays. The connection is the caller's to close, at once: an end that comes up is not kept.
 pub fn ask_node<S: Stream>(
     alloc: Global,
@@ -267,7 +267,7 @@ fn talk<S: Stream>(
     let status = status_in(&heard);
     let is_own = setup.name.is_same(target);
     match status_verdict(is_own, lacking(setup), &heard) {
-        Some(verdict) => refused(limited, status, verdict),
+        Some(verdict) => end_refused(limited, status, verdict),
         None => go_on(alloc, limited, setup, target, fresh, replies, status),
     }
 }

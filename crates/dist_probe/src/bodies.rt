@@ -3,9 +3,9 @@
 ghost use Rattle.std.specs.Prelude.{◌≡◌, ◌<◌, ◌∷◌, IfOk};
 ghost use Rattle.dist_probe.specs.Bodies.{HearsBehind, HearsByte, HearsFrameOf, HearsRest};
 
-use dist_mapper::{Arrived, read_frame};
+use dist_epmd_calls::{Arrived, read_frame};
 use dist_names::ByteString;
-use dist_streams::{Limited, Stream, TurnError};
+use dist_stream::{Limited, Stream, TurnError};
 use std::alloc::{AllocError, Global};
 
 // The next byte.
@@ -27,7 +27,7 @@ fn body_of(alloc: Global, tag: u8, rest: &[u8]) -> Result<ByteString, AllocError
     Ok(body)
 }
 
-// The body of so many bytes that this tag begins, of which the rest is still to be read.
+// The body of this many bytes that this tag begins, of which the rest is still to be read.
 fn read_rest<S: Stream>(alloc: Global, limited: &mut Limited<'_, S>, len: u16, tag: u8) -> Arrived
     requires { 0 < len }
     ensures hears { HearsRest (S.meaning limited.old.stream.now) (S.meaning limited.new.stream.now) limited.old.left limited.new.left len tag result }
@@ -45,7 +45,7 @@ fn read_rest<S: Stream>(alloc: Global, limited: &mut Limited<'_, S>, len: u16, t
     }
 }
 
-// What stands behind a length: so many bytes where one of these tags begins them, else the first alone.
+// What stands behind a length: this many bytes where one of these tags begins them, else the first alone.
 fn read_behind<S: Stream>(
     alloc: Global,
     limited: &mut Limited<'_, S>,
@@ -70,7 +70,7 @@ fn read_behind<S: Stream>(
 
 /// Reads the next frame, where what comes may be no frame at all: a length above `most` counts only if the body begins with
 /// one of these tags. Else the length and the byte behind it are all that is read, so that nobody waits for bytes that another
-/// service never says. It reads no byte behind the frame, and writes nothing.
+/// service never sends. It reads no byte behind the frame, and writes nothing.
 ///
 /// Source: our own choice.
 pub fn read_frame_of<S: Stream>(

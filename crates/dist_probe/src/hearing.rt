@@ -4,9 +4,9 @@ ghost use Rattle.std.specs.Prelude.{◌≡◌};
 ghost use Rattle.dist_probe.specs.Hearing.{HearsMessage, IsHeardIn, heard_instead};
 
 use crate::bodies::read_frame_of;
-use dist_mapper::Arrived;
+use dist_epmd_calls::Arrived;
 use dist_messages::{Message, MessageError, Side, decode};
-use dist_streams::{Limited, Stream, TurnError};
+use dist_stream::{Limited, Stream, TurnError};
 use std::alloc::Global;
 
 /// What came where a message was awaited.
@@ -37,7 +37,7 @@ const MOST: u16 = 1024;
 // Distribution Handshake.
 const TAGS: [u8; 4] = [0x73, 0x6e, 0x4e, 0x61];
 
-/// What is heard where the stream gave or took no more.
+/// What is received where the stream gave or took no more.
 pub fn heard_instead(fault: TurnError) -> Heard
     ensures { result ≡ heard_instead fault }
 {

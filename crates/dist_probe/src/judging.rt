@@ -1,4 +1,4 @@
-//! The table of verdicts: what it means that this was heard.
+//! The table of verdicts: what it means that this was received.
 
 ghost use Rattle.std.specs.Prelude.{◌≡◌};
 ghost use Rattle.dist_probe.specs.Verdicts.{ack_verdict, challenge_verdict, not_allowed, refusal, refused_nok, status_verdict};
@@ -10,7 +10,7 @@ use dist_messages::{Message, Status};
 use dist_names::Flags;
 
 // What `not_allowed` means.
-fn not_allowed(is_own: bool, lacking: Flags) -> Verdict
+fn meaning_of_not_allowed(is_own: bool, lacking: Flags) -> Verdict
     ensures { result ≡ not_allowed is_own lacking }
 {
     if is_own {
@@ -55,7 +55,7 @@ pub fn status_verdict(is_own: bool, lacking: Flags, heard: &Heard) -> Option<Ver
         Heard::Said(Message::Status(status)) => match status {
             Status::Ok | Status::OkSimultaneous => None,
             Status::Nok => Some(refused_nok(is_own)),
-            Status::NotAllowed => Some(not_allowed(is_own, lacking)),
+            Status::NotAllowed => Some(meaning_of_not_allowed(is_own, lacking)),
             Status::Alive => Some(Verdict::AlreadyUp),
             Status::True | Status::False => Some(Verdict::Unexpected(Awaited::Status)),
         },
@@ -77,7 +77,9 @@ pub fn challenge_verdict(lacking: Flags, target: &[u8], heard: &Heard) -> Option
             }
         }
         Heard::Said(Message::OldChallenge { .. }) => Some(Verdict::Version5),
-        Heard::Said(Message::Status(Status::NotAllowed)) => Some(not_allowed(false, lacking)),
+        Heard::Said(Message::Status(Status::NotAllowed)) => Some(meaning_of_not_allowed(
+            false, lacking,
+        )),
         other => Some(refusal(Awaited::Challenge, other)),
     }
 }
@@ -94,7 +96,7 @@ pub fn ack_verdict(lacking: Flags, wanted: [u8; 16], heard: &Heard) -> Verdict
                 Verdict::WrongAck
             }
         }
-        Heard::Said(Message::Status(Status::NotAllowed)) => not_allowed(false, lacking),
+        Heard::Said(Message::Status(Status::NotAllowed)) => meaning_of_not_allowed(false, lacking),
         Heard::Gone => Verdict::WrongCookie,
         other => refusal(Awaited::Ack, other),
     }

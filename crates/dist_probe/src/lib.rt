@@ -1,7 +1,7 @@
-//! Why a node does not come up with another: what a node says when it is dialled, and what that means.
+//! Why a node does not come up with another: what a node sends when it is dialled, and what that means.
 //!
-//! One call dials nobody: it speaks the dialling side of the handshake over any stream, writes down what it heard, and
-//! answers a verdict. Which verdict belongs to what was heard is a table (`specs/Verdicts`). No sockets, no clock, no
+//! One call dials nobody: it speaks the dialling side of the handshake over any stream, writes down what it received, and
+//! returns a verdict. Which verdict belongs to what was received is a table (`specs/Verdicts`). No sockets, no clock, no
 //! randomness, no node that is kept: an end that comes up is left at once.
 #![tactic(auto)]
 

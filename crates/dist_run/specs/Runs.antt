@@ -1,7 +1,7 @@
 -- The orders of a run that made no `Dial` step.
 use Rattle.std.specs.Prelude.{List}
 use Rattle.std.specs.List.Sorted.{IsNonDecreasingBy}
-use Rattle.dist_hosts.specs.declared.order_fault.OrderFault.{OrderFault}
+use Rattle.dist_run_hosts.specs.declared.order_fault.OrderFault.{OrderFault}
 
 -- IN THE ORDER OF THE FILE: no number is above a later one
 abbrev pub AreInOrder : List OrderFault → Type 0

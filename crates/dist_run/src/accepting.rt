@@ -4,12 +4,12 @@ use crate::connection::Carrier;
 use crate::crew::{Crew, Rest};
 use crate::site::Site;
 use dist_core::Event;
-use dist_hosts::{Challenges, Connection, Host, Pool, accepted, link_of};
+use dist_run_hosts::{Challenges, Connection, Host, Pool, accept, link_of};
 use std::sync::Wait;
 use std::thread::{Scope, Threads};
 use std::time::Clock;
 
-// Tells the node of a connection that has come, and starts a thread for it.
+// Gives the node a connection that has come, and starts a thread for it.
 fn take_in<'s, E, R: Threads + Wait + Sync, G>(
     crew: &mut Crew<'s, E, R, G>,
     number: usize,
@@ -25,7 +25,7 @@ fn take_in<'s, E, R: Threads + Wait + Sync, G>(
 }
 
 // Accepts until as many turns in a row were quiet as the plan says, or until the run has failed. A connection for which there is
-// no place is closed, and nobody is told of it.
+// no place is closed, and nothing reports it.
 fn accept_into<'s, E, R: Threads + Wait + Clock + Sync, G>(
     site: &Site<'_, R, G>,
     crew: &mut Crew<'s, E, R, G>,
@@ -38,7 +38,7 @@ fn accept_into<'s, E, R: Threads + Wait + Clock + Sync, G>(
             break;
         }
         crew.join_ended();
-        match accepted(site.rt, &crew.host().listener) {
+        match accept(site.rt, &crew.host().listener) {
             Some(connection) => {
                 if crew.open_count() < places {
                     take_in(crew, number, connection);
@@ -65,5 +65,5 @@ pub fn accept_all<'s, E, R: Threads + Wait + Clock + Sync, G>(
     let places = site.places.node.saturating_add(dials);
     let mut crew = Crew::new(scope, site, host, refused, pool, challenges, dials);
     accept_into(site, &mut crew, places);
-    crew.joined()
+    crew.join()
 }

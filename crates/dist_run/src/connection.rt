@@ -2,10 +2,10 @@
 
 use dist_core::Why;
 use dist_drive::SocketStream;
-use dist_hosts::{Challenges, Host, say_goodbye};
 use dist_locked::{Seat, drive_end, lose, settled};
 use dist_names::ByteString;
 use dist_peers::EndId;
+use dist_run_hosts::{Challenges, Host, say_goodbye};
 use std::alloc::Global;
 use std::sync::Wait;
 use std::sync::atomic::{AtomicUsize, Ordering};
@@ -31,7 +31,7 @@ pub struct Job<'a> {
     pub seat: Seat,
     /// The connection.
     pub carrier: Carrier,
-    /// What the end said when it was opened.
+    /// What the end sent when it was opened.
     pub first: ByteString,
     /// Where its challenges come from.
     pub challenges: Challenges,

@@ -4,10 +4,10 @@ use crate::connection::{Carrier, Job, Left};
 use crate::site::Site;
 use dist_core::{Event, StepError, Why};
 use dist_drive::SocketStream;
-use dist_hosts::{Challenges, Host, Pool, say_goodbye};
 use dist_locked::{Receipt, Seat, lose};
 use dist_names::ByteString;
 use dist_peers::EndId;
+use dist_run_hosts::{Challenges, Host, Pool, say_goodbye};
 use std::mem;
 use std::sync::Wait;
 use std::sync::atomic::{AtomicUsize, Ordering};
@@ -43,15 +43,15 @@ pub struct Rest {
     pub streams: Vec<SocketStream>,
 }
 
-// The end of a step, and what it says.
-fn said(receipt: Receipt) -> (EndId, ByteString) {
+// The end of a step, and what it sends.
+fn end_and_bytes(receipt: Receipt) -> (EndId, ByteString) {
     let line = receipt.line;
     let reply = line.reply;
     (reply.end_, reply.say)
 }
 
 impl<'s, E, R: Threads + Wait + Sync, G> Crew<'s, E, R, G> {
-    /// A crew that has started nothing. It keeps so many connections of closed ends that are of no known dial of the run.
+    /// A crew that has started nothing. It keeps this many connections of closed ends that are of no known dial of the run.
     pub fn new(
         scope: &'s Scope<'s, E>,
         site: &'s Site<'s, R, G>,
@@ -84,11 +84,11 @@ impl<'s, E, R: Threads + Wait + Sync, G> Crew<'s, E, R, G> {
         self.site
     }
 
-    /// Makes a step of the crew's own. The end, and what it says.
+    /// Makes a step of the crew's own. The end, and what it sends.
     pub fn step(&mut self, event: &Event) -> Result<(EndId, ByteString), StepError> {
         let own = &mut self.pool.own;
         match self.host.node.step(self.site.rt, own, event, 0) {
-            Ok(receipt) => Ok(said(receipt)),
+            Ok(receipt) => Ok(end_and_bytes(receipt)),
             Err(error) => Err(error),
         }
     }
@@ -100,7 +100,7 @@ impl<'s, E, R: Threads + Wait + Sync, G> Crew<'s, E, R, G> {
     }
 
     // Whether the connection of a closed end is to be kept. Both sockets of each dial of the run are, so that no two of them have
-    // one pair of ports. A connection may come before its link is noted, so the first few are kept whosever they are: where no
+    // one pair of ports. A connection may come before its link is noted, so the first few are kept, whoever made them: where no
     // stranger comes, that is all of them.
     fn keeps_closed(&mut self, link: u64) -> bool {
         if self.site.is_of_dial(link) {
@@ -133,7 +133,7 @@ impl<'s, E, R: Threads + Wait + Sync, G> Crew<'s, E, R, G> {
     }
 
     // Keeps what is left of a job. The seat comes back to its place.
-    fn keep_left(&mut self, left: Left) {
+    fn keep_rest(&mut self, left: Left) {
         self.site.keep(&mut self.pool.free, left.seat);
         if left.is_over {
             self.part_with(left.carrier);
@@ -143,7 +143,7 @@ impl<'s, E, R: Threads + Wait + Sync, G> Crew<'s, E, R, G> {
     }
 
     // The next thread that has ended.
-    fn next_ended(&mut self) -> Option<Running> {
+    fn take_ended(&mut self) -> Option<Running> {
         let ended = &self.host.ended;
         let place = self
             .running
@@ -159,10 +159,10 @@ impl<'s, E, R: Threads + Wait + Sync, G> Crew<'s, E, R, G> {
     /// Joins the threads that have ended. Their seats come back.
     pub fn join_ended(&mut self) {
         for _ in 0..self.running.len() {
-            let Some(running) = self.next_ended() else {
+            let Some(running) = self.take_ended() else {
                 return;
             };
-            self.keep_left(running.handle.join(self.site.rt));
+            self.keep_rest(running.handle.join(self.site.rt));
         }
     }
 
@@ -207,13 +207,13 @@ impl<'s, E, R: Threads + Wait + Sync, G> Crew<'s, E, R, G> {
         match self.scope.spawn(move || job.run(rt, alloc, refused)) {
             Ok(handle) => {
                 if let Err(failed) = self.running.push(Running { seat, handle }) {
-                    self.keep_left(failed.value.handle.join(rt));
+                    self.keep_rest(failed.value.handle.join(rt));
                 }
             }
             Err(back) => {
                 refused.store(number, Ordering::SeqCst);
                 let job = back.value;
-                self.keep_left(job());
+                self.keep_rest(job());
             }
         }
     }
@@ -222,12 +222,12 @@ impl<'s, E, R: Threads + Wait + Sync, G> Crew<'s, E, R, G> {
     fn join_all(&mut self) {
         let all = mem::replace(&mut self.running, Vec::new(self.site.alloc));
         for running in all {
-            self.keep_left(running.handle.join(self.site.rt));
+            self.keep_rest(running.handle.join(self.site.rt));
         }
     }
 
     /// Joins all threads.
-    pub fn joined(mut self) -> Rest {
+    pub fn join(mut self) -> Rest {
         self.join_all();
         Rest {
             pool: self.pool,

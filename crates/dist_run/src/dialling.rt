@@ -7,12 +7,13 @@ use crate::crew::{Crew, Rest};
 use crate::site::Site;
 use dist_core::{Event, Opening, StepError, Why};
 use dist_drive::{lookup, opening_for};
-use dist_hosts::{
-    Challenges, Connection, Host, OrderFault, OrderRefusal, Pool, RunError, connected, link_of,
-};
 use dist_locked::{Gate, LAST_ORDER, Moment, Orders, TakePass};
 use dist_names::{ByteString, NodeName};
 use dist_peers::EndId;
+use dist_run_hosts::{
+    Challenges, Connection, Host, OrderFault, OrderRefusal, Pool, RunError, connect_to_port,
+    link_of,
+};
 use std::net::{Net, TcpListener, TcpStream};
 use std::sync::Wait;
 use std::sync::atomic::AtomicUsize;
@@ -48,7 +49,7 @@ fn looked_up<R: Net<Listener = TcpListener, Stream = TcpStream>, G>(
     site: &Site<'_, R, G>,
     to: &NodeName,
 ) -> Result<Peer, OrderRefusal> {
-    let connection = match connected(site.rt, site.mapper_port) {
+    let connection = match connect_to_port(site.rt, site.mapper_port) {
         Ok(connection) => connection,
         Err(error) => return Err(OrderRefusal::of_connect(&error)),
     };
@@ -63,7 +64,7 @@ fn looked_up<R: Net<Listener = TcpListener, Stream = TcpStream>, G>(
 }
 
 // The step that begins a dial.
-fn begun<'s, E, R: Threads + Wait + Sync, G>(
+fn begin<'s, E, R: Threads + Wait + Sync, G>(
     crew: &mut Crew<'s, E, R, G>,
     to: &NodeName,
     opening: Opening,
@@ -77,7 +78,7 @@ fn begun<'s, E, R: Threads + Wait + Sync, G>(
     }
 }
 
-// Tells the node of a connection, between the two moments of the gate: what its end says, or why it is to be lost.
+// Gives the node a connection, between the two moments of the gate: what its end sends, or why it is to be lost.
 fn opened<'s, E, R: Threads + Wait + Sync, G: Gate>(
     crew: &mut Crew<'s, E, R, G>,
     worker: u32,
@@ -129,8 +130,8 @@ where
 {
     let site = crew.site();
     let peer = looked_up(site, to)?;
-    let end_ = begun(crew, to, peer.opening)?;
-    match connected(site.rt, peer.port) {
+    let end_ = begin(crew, to, peer.opening)?;
+    match connect_to_port(site.rt, peer.port) {
         Ok(connection) => open(crew, worker, number, end_, peer.port, connection),
         Err(_) => crew.lose(end_, Why::DialFailed),
     }
@@ -222,7 +223,7 @@ fn rests_of<'s, E, R: Threads + Wait + Sync, G>(
 ) -> Vec<Rest> {
     let mut rests = Vec::new(site.alloc);
     for crew in crews {
-        site.keep(&mut rests, crew.joined());
+        site.keep(&mut rests, crew.join());
     }
     rests
 }

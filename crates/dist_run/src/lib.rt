@@ -2,8 +2,8 @@
 //! for each connection.
 //!
 //! What a node does stands in the crates below, and nothing is printed or read from a file here: these are sockets and
-//! threads alone. No thread holds a lock while it reads or writes. Every thread is joined, and every wait ends after at
-//! most 10 milliseconds, one for a connection after 8 seconds, so that a run ends by its number of turns.
+//! threads alone. No thread holds a lock while it reads or writes. Every thread is joined, and every wait returns after at most
+//! 10 milliseconds, one for a connection after 8 seconds, so that a run always terminates, by its number of turns.
 #![tactic(auto)]
 
 mod accepting;
@@ -15,5 +15,5 @@ mod site;
 mod threads;
 
 pub use dist_drive::opening_for;
-pub use dist_hosts::{Challenges, OrderFault, OrderRefusal, RunError};
+pub use dist_run_hosts::{Challenges, OrderFault, OrderRefusal, RunError};
 pub use running::{Ran, run_plan};

@@ -1,18 +1,19 @@
 //! A run, from its plan to its closed nodes.
 
 ghost use Rattle.std.specs.Prelude.{◌++◌, IfOk, IsPermutation};
-ghost use Rattle.dist_hosts.specs.Setups.{AreOfPlans};
+ghost use Rattle.dist_run_hosts.specs.Setups.{AreOfPlans};
+ghost use Rattle.dist_run_hosts.specs.Orders.{AreObeyed};
 ghost use Rattle.dist_run.specs.Runs.{AreInOrder};
 
 use crate::crew::Rest;
 use crate::site::{Dial, Site};
 use crate::threads::{Ended, Pools, run_threads};
-use dist_hosts::{
-    Challenges, Host, OrderFault, Places, Pool, RunError, SharedOut, are_of_plans, listening,
-    most_descriptors, places_of, serve_all, started,
-};
 use dist_locked::{Book, Closed, Gate, Seat, Tickets, close};
-use dist_plan::{DialPlan, NodePlan, Plan};
+use dist_run_hosts::{
+    Challenges, Host, OrderFault, Places, Pool, RunError, SharedOut, are_obeyed, are_of_plans,
+    listen, most_descriptors, places_of, serve_all, start,
+};
+use dist_run_plan::{DialPlan, NodePlan, Plan};
 use rand::make_rng;
 use rand::rngs::StdRng;
 use std::alloc::Global;
@@ -64,7 +65,7 @@ fn start_all<R: Net<Listener = TcpListener, Stream = TcpStream>>(
         pools: Pools::new(alloc),
     };
     for plan in plans {
-        let (host, shares) = started(rt, alloc, plan, mapper_port, turns, &tickets)?;
+        let (host, shares) = start(rt, alloc, plan, mapper_port, turns, &tickets)?;
         all.add(host, shares)?;
     }
     Ok(all)
@@ -122,7 +123,7 @@ fn book_of(host: Host) -> Book {
 }
 
 // Closes a book with its seats.
-fn closed(book: Book, seats: Vec<Seat>) -> Result<Closed, RunError> {
+fn close_book(book: Book, seats: Vec<Seat>) -> Result<Closed, RunError> {
     match close(book, seats) {
         Ok(closed) => Ok(closed),
         Err((error, _, _)) => Err(RunError::NotClosed(error)),
@@ -132,7 +133,7 @@ fn closed(book: Book, seats: Vec<Seat>) -> Result<Closed, RunError> {
 // Closes the next node.
 fn close_next(alloc: Global, host: Host, rests: &mut Rests) -> Result<Closed, RunError> {
     let seats = next_seats(alloc, rests)?;
-    closed(book_of(host), seats)
+    close_book(book_of(host), seats)
 }
 
 // Closes all nodes.
@@ -220,7 +221,7 @@ fn places_for(plan: &Plan) -> Places {
     places_of(most_descriptors(), nodes, dials)
 }
 
-// Serves the port mapper while the nodes run. Where it ended before it was told to, that is the run's fault.
+// Serves the port mapper while the nodes run. Where it stopped before it was asked to, that is the run's fault.
 fn run_beside<R, G>(
     rt: &R,
     alloc: Global,
@@ -267,7 +268,7 @@ where
         return Err(RunError::NoRandomBytes);
     };
     let challenges = Challenges::new(generator);
-    let Ok((listener, port)) = listening(rt, plan.port) else {
+    let Ok((listener, port)) = listen(rt, plan.port) else {
         return Err(RunError::ListenFailed);
     };
     run_beside(rt, alloc, listener, port, plan, gate, challenges)
@@ -276,7 +277,8 @@ where
 /// Runs a plan to its end: until each node's accepting thread was quiet for as many turns as the plan says, and all
 /// connections have ended or made as many. Faults of the start, in order: NoRandomBytes, ListenFailed of the port mapper,
 /// ThreadFailed, then of each node in the order of the plan those of its start, then ThreadFailed. NoMemory may come
-/// anywhere. What is closed is compared with the plan, and OtherSetup tells of a node that differs: no run that was seen has had it.
+/// anywhere. What is closed is compared with the plan: OtherSetup is returned for a node that differs, and then OtherOrders where the
+/// dials that were made and the orders that are reported are not the plan's, each once. No run that was seen has had either.
 pub fn run_plan<R, G>(rt: &R, alloc: Global, plan: &Plan, gate: &G) -> Result<Ran, RunError>
 where
     R: Net<Listener = TcpListener, Stream = TcpStream>
@@ -288,10 +290,18 @@ where
     G: Gate + Sync,
     ensures order { IfOk result (λ ran. AreInOrder ran.faults.items) }
     ensures nodes { IfOk result (λ ran. AreOfPlans plan.now.node ran.closed.items) }
+    ensures orders { IfOk result (λ ran. AreObeyed plan.now.dial ran.faults.items ran.closed.items) }
 {
     let ran = run_all(rt, alloc, plan, gate)?;
     if !are_of_plans(plan.node.as_slice(), ran.closed.as_slice()) {
         return Err(RunError::OtherSetup);
+    }
+    if !are_obeyed(
+        plan.dial.as_slice(),
+        ran.faults.as_slice(),
+        ran.closed.as_slice(),
+    ) {
+        return Err(RunError::OtherOrders);
     }
     Ok(ran)
 }

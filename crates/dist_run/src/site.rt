@@ -1,7 +1,7 @@
 //! What all threads of a run share.
 
-use dist_hosts::{Host, Places};
 use dist_names::NodeName;
+use dist_run_hosts::{Host, Places};
 use std::alloc::Global;
 use std::sync::atomic::{AtomicBool, AtomicU64, Ordering};
 

@@ -6,8 +6,8 @@ use crate::accepting::accept_all;
 use crate::crew::Rest;
 use crate::dialling::{Shift, Worked, work_on};
 use crate::site::{Dial, Site};
-use dist_hosts::{Challenges, Pool, RunError, SharedOut};
 use dist_locked::{CAPACITY, Gate, MOST_ORDERS, Orders, dispatch};
+use dist_run_hosts::{Challenges, Pool, RunError, SharedOut};
 use std::alloc::Global;
 use std::net::{Net, TcpListener, TcpStream};
 use std::sync::Wait;
@@ -206,7 +206,7 @@ where
     }
 }
 
-/// Starts all threads of the nodes, and answers once they have ended. ThreadFailed comes where a node gets none, NoMemory
+/// Starts all threads of the nodes, and returns once they have ended. ThreadFailed comes where a node gets none, NoMemory
 /// where something could not be kept.
 pub fn run_threads<R, G>(
     site: Site<'_, R, G>,

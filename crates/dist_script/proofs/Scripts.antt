@@ -1,13 +1,13 @@
 -- The lines of a script, one after the other.
 use Rattle.std.proofs.Common.{◌≡◌, ℕ, suc, ◌+◌, ◌<◌, ◌≤◌, Bool, true, false, cond, List, [], ◌∷◌, ◌++◌, length, drop, Option, Some, None, Result, Ok, Err, refl, sym, ap, subst, ◌∙◌, arith, length-append, Bor, option_copied, ◌⊎◌, inl, inr}
 use Rattle.std.specs.Prelude.{codes, ◌==◌, slice_index, MatchOption, MatchResult, IsErrAnd}
-use Rattle.dist_setup.specs.declared.setup.Setup.{Setup}
-use Rattle.dist_words.specs.Words.{before_first, words_of, is_skipped}
-use Rattle.dist_words.specs.declared.fault.ScriptFault.{ScriptFault}
-use Rattle.dist_words.specs.declared.fault.ScriptFault.TheVariants.{BadLine, NoNode, NoMemory}
-use Rattle.dist_words.specs.declared.words.LineFault.{LineFault}
-use Rattle.dist_words.specs.declared.words.LineFault.TheVariants.{Bad}
-use Rattle.dist_agreement.specs.declared.happening.Happening.{Happening}
+use Rattle.dist_core_setup.specs.declared.setup.Setup.{Setup}
+use Rattle.dist_script_words.specs.Words.{before_first, words_of, is_skipped}
+use Rattle.dist_script_words.specs.declared.fault.ScriptFault.{ScriptFault}
+use Rattle.dist_script_words.specs.declared.fault.ScriptFault.TheVariants.{BadLine, NoNode, NoMemory}
+use Rattle.dist_script_words.specs.declared.words.LineFault.{LineFault}
+use Rattle.dist_script_words.specs.declared.words.LineFault.TheVariants.{Bad}
+use Rattle.dist_world_model.specs.declared.happening.Happening.{Happening}
 use Rattle.dist_script.specs.declared.script.Line.{Line}
 use Rattle.dist_script.specs.Scripts.{SoFar, nothing, lines_of, with_node, with_event, with_happening, is_either, with_told, with_words, with_line, unless_bad, with_lines, Events, Happenings, whole, all_good, script_in}
 use Rattle.dist_script.proofs.Reading.{begun, not_begun}
@@ -56,7 +56,7 @@ abbrev pub lines_in : Option (List ℕ) → List (List ℕ)
 lines_in None = []
 lines_in (Some text) = lines_of text
 
--- no line feed stands at the first so many places
+-- no line feed stands at this many places from the front
 abbrev NoFeed : ℕ → List ℕ → Type 0
 NoFeed n text = (i : ℕ) → i < n → (slice_index text i == 10) ≡ true → ⊥
 
@@ -86,7 +86,7 @@ next_line : (text line : List ℕ) (behind : Option (Bor (List ℕ))) → Parts 
 next_line text line None e h = ap lines_of (sym e) ∙ last_line line (subst (NoFeed (length line)) (sym e) h)
 next_line text line (Some rest) e h = ap lines_of (sym e) ∙ line_and_rest line rest.now (subst (NoFeed (length line)) (sym e) h)
 
--- so many bytes are left, and one more where a line is
+-- this many bytes are left, and one more where a line is
 abbrev pub bytes_left : Option (List ℕ) → ℕ
 bytes_left None = 0
 bytes_left (Some text) = suc (length text)
@@ -161,7 +161,7 @@ pub not_read : (text : List ℕ) (fault : ScriptFault) → (fault ≡ NoMemory) 
 not_read text fault (inl e) = inl e
 not_read text fault (inr e) = inr (ap all_good e)
 
--- what an exit by `?` answers
+-- what an exit by `?` returns
 pub at_fault : {X : Type 0} (P : X → Type 0) (Q : ScriptFault → Type 0) (r : Result X ScriptFault) (fault : ScriptFault) → IsErrAnd r (λ y. y ≡ fault) → Q fault → MatchResult r P Q
 at_fault P Q (Ok x) fault h q = absurd h
 at_fault P Q (Err y) fault h q = subst Q (sym h) q

@@ -1,4 +1,4 @@
--- The lines of a script that tell its one node something.
+-- The lines of a script for its one node.
 use Rattle.std.specs.Prelude.{ℕ, List, [], ◌∷◌, drop, codes, Option, Some}
 use Rattle.dist_core.specs.declared.event.Event.TheVariants as event
 use Rattle.dist_script.specs.declared.script.Line.{Line}

@@ -1,26 +1,23 @@
 -- What the words of a line say.
-use Rattle.std.specs.Prelude.{◌≡◌, ℕ, zero, suc, Bool, ◌&&◌, ◌^◌, nat_lt, nat_le, if◌then◌else◌, List, [], ◌∷◌, length, drop, codes, Option, Some, None, option_map, option_and_then, Result, MatchResult}
+use Rattle.std.specs.Prelude.{◌≡◌, ℕ, zero, suc, ◌&&◌, ◌^◌, nat_lt, if◌then◌else◌, List, [], ◌∷◌, drop, codes, Option, Some, None, option_map, option_and_then, Result, MatchResult}
 use Rattle.std.specs.Result.{result_ok}
-use Rattle.std.specs.List.{list_all}
-use Rattle.std.specs.Char.{digit_value}
 use Rattle.std.specs.Str.Parse.{digits_value}
 use Rattle.hex.specs.Hex.{decode_of}
+use Rattle.dist_names.specs.Digits.{is_numeral}
 use Rattle.dist_names.specs.NodeName.{named}
 use Rattle.dist_names.specs.Order.{same_name}
-use Rattle.dist_names.specs.declared.flags.Flags.{Flags}
 use Rattle.dist_names.specs.declared.creation.Creation.{Creation}
 use Rattle.dist_messages.specs.declared.opening.Opening.{Opening}
 use Rattle.dist_messages.specs.declared.opening.Opening.TheVariants as opening
 use Rattle.dist_peers.specs.declared.entry.EndId.{EndId}
-use Rattle.dist_ends.specs.declared.why.Why.{Why}
-use Rattle.dist_ends.specs.Words.{why_of}
-use Rattle.dist_words.specs.Digits.{flags_of}
-use Rattle.dist_words.specs.declared.words.LineFault.{LineFault}
-use Rattle.dist_words.specs.declared.words.LineFault.TheVariants.{Bad}
+use Rattle.dist_core_ends.specs.declared.why.Why.{Why}
+use Rattle.dist_core_ends.specs.Words.{why_of}
+use Rattle.dist_script_words.specs.declared.words.LineFault.{LineFault}
+use Rattle.dist_script_words.specs.declared.words.LineFault.TheVariants.{Bad}
 
--- ---- what a call answers that reads something
+-- ---- what a call that reads something returns
 
--- The answer is what is there. Bad comes just where nothing is, want of memory apart.
+-- Unless memory runs out, the answer is what is there, and Bad comes exactly where nothing is.
 abbrev pub Reads : {T : Type 0} → Result T LineFault → Option T → Type 0
 Reads result there = MatchResult result (λ value. there ≡ Some value) (λ fault. fault ≡ Bad → there ≡ None)
 
@@ -40,7 +37,7 @@ abbrev pub first_in : {T : Type 0} → (List ℕ → Option T) → List (List �
 first_in says [] = None
 first_in says (word ∷ words) = says word
 
--- the words behind the first so many
+-- the words behind this many from the front
 abbrev pub behind : ℕ → List (List ℕ) → List (List ℕ)
 behind zero words = words
 behind (suc count) words = behind count (drop 1 words)
@@ -57,10 +54,6 @@ meaning_in (row ∷ rows) word = if same_name row.0 word then Some row.1 else me
 
 -- ---- single words
 
--- digits of this radix, at least one
-abbrev pub is_numeral : ℕ → List ℕ → Bool
-is_numeral radix word = nat_lt 0 (length word) && list_all (λ byte. nat_lt (digit_value byte) radix) word
-
 -- the number below 2^bits that decimal digits write
 abbrev pub number_in : ℕ → List ℕ → Option ℕ
 number_in bits word = if is_numeral 10 word && nat_lt (digits_value 10 word) (2 ^ bits) then Some (digits_value 10 word) else None
@@ -76,10 +69,6 @@ creation_in word = option_map (λ number. record { 0 = number }) (number_in 32 w
 -- the number of an end
 abbrev pub end_in : List ℕ → Option EndId
 end_in word = option_map (λ number. record { 0 = number }) (number_in 32 word)
-
--- flags, in 1 to 16 hexadecimal digits
-abbrev pub flags_in : List ℕ → Option Flags
-flags_in word = if is_numeral 16 word && nat_le (length word) 16 then Some (flags_of word) else None
 
 -- bytes, two hexadecimal digits for each, at least one
 abbrev pub bytes_in : List ℕ → Option (List ℕ)
@@ -98,6 +87,6 @@ openings = (codes "new", opening.New) ∷ (codes "old", opening.Old) ∷ []
 abbrev pub opening_in : List ℕ → Option Opening
 opening_in word = meaning_in openings word
 
--- a cause, by the word that tells it
+-- a cause, by its word
 abbrev pub why_in : List ℕ → Option Why
 why_in word = why_of word

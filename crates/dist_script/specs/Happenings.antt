@@ -1,7 +1,7 @@
 -- The lines of a script that say what happens in a world.
 use Rattle.std.specs.Prelude.{ℕ, List, [], ◌∷◌, drop, codes, Option, Some, None}
-use Rattle.dist_agreement.specs.declared.happening.Happening.{Happening}
-use Rattle.dist_agreement.specs.declared.happening.Happening.TheVariants as happening
+use Rattle.dist_world_model.specs.declared.happening.Happening.{Happening}
+use Rattle.dist_world_model.specs.declared.happening.Happening.TheVariants as happening
 use Rattle.dist_script.specs.declared.happenings.Kind.{Kind}
 use Rattle.dist_script.specs.declared.happenings.Kind.TheVariants as kind
 use Rattle.dist_peers.specs.declared.entry.EndId.{EndId}

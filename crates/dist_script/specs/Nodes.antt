@@ -1,17 +1,19 @@
 -- The line of a script that sets a node up.
-use Rattle.std.specs.Prelude.{ℕ, Bool, false, ◌&&◌, nat_le, nat_lt, if◌then◌else◌, List, [], ◌∷◌, length, drop, codes, Option, Some, None, option_map}
+use Rattle.std.specs.Prelude.{ℕ, Bool, false, nat_lt, if◌then◌else◌, List, [], ◌∷◌, length, drop, codes, Option, Some, None, option_map}
 use Rattle.std.specs.Result.{result_ok}
 use Rattle.std.specs.List.{list_all}
+use Rattle.dist_names.specs.Bytes.{is_visible}
+use Rattle.dist_names.specs.Digits.{flags_in}
 use Rattle.dist_names.specs.Order.{Name, same_name}
 use Rattle.dist_names.specs.declared.flags.Flags.{Flags}
 use Rattle.dist_secret.specs.Cookie.{cookie_of}
 use Rattle.dist_secret.specs.Cookies.{CookieTable, is_full_for, with_cookie}
-use Rattle.dist_setup.specs.declared.setup.Setup.{Setup}
-use Rattle.dist_setup.specs.Limits.{usual_limits}
-use Rattle.dist_setup.specs.declared.version.Version.{Version}
-use Rattle.dist_setup.specs.declared.version.Version.TheVariants as version
+use Rattle.dist_core_setup.specs.declared.setup.Setup.{Setup}
+use Rattle.dist_core_setup.specs.Limits.{usual_limits}
+use Rattle.dist_core_setup.specs.declared.version.Version.{Version}
+use Rattle.dist_core_setup.specs.declared.version.Version.TheVariants as version
 use Rattle.dist_script.specs.declared.node_line.Terms.{Terms}
-use Rattle.dist_script.specs.Fields.{◌>>=◌, behind, first_in, creation_in, flags_in, name_in}
+use Rattle.dist_script.specs.Fields.{◌>>=◌, behind, first_in, creation_in, name_in}
 
 -- ---- words that may stand there
 
@@ -20,7 +22,7 @@ abbrev pub begins : List ℕ → List (List ℕ) → Bool
 begins wanted [] = false
 begins wanted (word ∷ words) = same_name word wanted
 
--- version 5, which is told, or version 6
+-- version 5, which is named, or version 6
 abbrev pub version_in : List (List ℕ) → Option Version
 version_in words =
     if begins (codes "version") words then (if begins (codes "5") (drop 1 words) then Some version.Five else None) else Some version.Six
@@ -38,10 +40,6 @@ abbrev pub behind_required : List (List ℕ) → List (List ℕ)
 behind_required words = if begins (codes "require") words then behind 2 words else words
 
 -- ---- cookies
-
--- a printable ASCII character, and no space
-abbrev pub is_visible : ℕ → Bool
-is_visible byte = nat_le 0x21 byte && nat_le byte 0x7E
 
 -- a cookie, which is the whole word
 abbrev pub cookie_in : List ℕ → Option (List ℕ)
@@ -115,7 +113,8 @@ behind_cookies name terms cookies words =
     name_in name >>= (λ named.
     Some (record { name = named; cookies = cookies; version = terms.version; flags = terms.flags; required = terms.required; creation = terms.creation; allow = allow; limits = usual_limits })))
 
--- THE LINE OF A NODE, behind its first word: a name, the usual cookie, how the node is met, the cookies of peers, the names that are allowed
+-- THE LINE OF A NODE, behind its first word: a name, the usual cookie, how the node is met, the cookies of peers, the names
+-- that are allowed
 abbrev pub node_in : List (List ℕ) → Option Setup
 node_in words =
     first_in Some words >>= (λ name.

@@ -1,10 +1,10 @@
 -- THE SCRIPT OF A TEXT. Its language is in docs/PROTOCOL.md, section 8.
 use Rattle.std.specs.Prelude.{ℕ, ◌+◌, Bool, false, true, ◌||◌, ◌==◌, if◌then◌else◌, List, [], ◌∷◌, ◌++◌, drop, codes, is_some, Option, Some, None, Result, Ok, Err}
-use Rattle.dist_setup.specs.declared.setup.Setup.{Setup}
-use Rattle.dist_agreement.specs.declared.happening.Happening.{Happening}
-use Rattle.dist_words.specs.Words.{before_first, words_of, is_skipped}
-use Rattle.dist_words.specs.declared.fault.ScriptFault.{ScriptFault}
-use Rattle.dist_words.specs.declared.fault.ScriptFault.TheVariants.{BadLine, NoNode}
+use Rattle.dist_core_setup.specs.declared.setup.Setup.{Setup}
+use Rattle.dist_world_model.specs.declared.happening.Happening.{Happening}
+use Rattle.dist_script_words.specs.Words.{before_first, words_of, is_skipped}
+use Rattle.dist_script_words.specs.declared.fault.ScriptFault.{ScriptFault}
+use Rattle.dist_script_words.specs.declared.fault.ScriptFault.TheVariants.{BadLine, NoNode}
 use Rattle.dist_script.specs.declared.script.Line.{Line}
 use Rattle.dist_script.specs.declared.script.Script.{Script}
 use Rattle.dist_script.specs.declared.script.Script.TheVariants as script
@@ -24,7 +24,7 @@ pub record SoFar : Type 0 where
   pub nodes : List Setup
   -- whether one of them sets no node up
   pub has_lines : Bool
-  -- what they tell one node
+  -- what they give one node
   pub events : List Line
   -- what they let happen to several
   pub happenings : List Happening
@@ -72,12 +72,12 @@ abbrev pub unless_bad : ℕ → Option SoFar → (SoFar → Result SoFar ScriptF
 unless_bad number None behind = Err (BadLine number)
 unless_bad number (Some s) behind = behind s
 
--- these lines, the first of which has this number. The first bad one is told
+-- these lines, the first of which has this number. The first bad one is returned
 abbrev pub with_lines : SoFar → ℕ → List (List ℕ) → Result SoFar ScriptFault
 with_lines s number [] = Ok s
 with_lines s number (line ∷ lines) = unless_bad number (with_line s line) (λ more. with_lines more (number + 1) lines)
 
--- WHAT A SCRIPT SAYS: one node and what it is told, or several and what happens in their world
+-- WHAT A SCRIPT SAYS: one node and what it is given, or several and what happens in their world
 pub data Says : Type 0 where
   Events : Setup → List Line → Says
   Happenings : List Setup → List Happening → Says
@@ -93,7 +93,7 @@ abbrev pub all_good : Result SoFar ScriptFault → Result Says ScriptFault
 all_good (Err fault) = Err fault
 all_good (Ok s) = whole s.nodes s
 
--- THE SCRIPT OF A TEXT: the first bad line is told, lines counted from 1; then that there is no node
+-- THE SCRIPT OF A TEXT: the first bad line is returned, lines counted from 1; then that there is no node
 abbrev pub script_in : List ℕ → Result Says ScriptFault
 script_in text = all_good (with_lines nothing 1 (lines_of text))
 

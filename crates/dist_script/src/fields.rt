@@ -4,14 +4,13 @@ ghost use Rattle.std.specs.Prelude.{◌≡◌, ◌↔◌, ℕ, List, [], drop, m
 ghost use Rattle.std.specs.Result.{result_ok};
 ghost use Rattle.dist_names.specs.NodeName.{named};
 ghost use Rattle.dist_names.specs.Order.{same_name};
-ghost use Rattle.dist_words.specs.declared.words.LineFault.TheVariants.{Bad};
+ghost use Rattle.dist_script_words.specs.declared.words.LineFault.TheVariants.{Bad};
 ghost use Rattle.dist_script.specs.Fields.{Reads, ReadsPlainly, first_in, meaning_in, number_in, count_in, end_in, bytes_in, name_in, opening_in, why_in};
 
 use dist_core::{Opening, Why};
-use dist_names::{ByteString, NameError, NodeName};
-use dist_numerals::{number_32, number_64};
+use dist_names::{ByteString, NameError, NodeName, is_same_text, number_32, number_64};
 use dist_peers::EndId;
-use dist_words::{LineFault, Words, bytes_of};
+use dist_script_words::{LineFault, Words, bytes_of};
 use std::alloc::Global;
 
 const OPENINGS: [(&str, Opening); 2] = [("new", Opening::New), ("old", Opening::Old)];
@@ -108,19 +107,12 @@ pub fn bytes_from(alloc: Global, word: &[u8]) -> Result<ByteString, LineFault>
     bytes_of(alloc, word)
 }
 
-// Whether two words are one.
-fn is_same(known: &str, word: &[u8]) -> bool
-    ensures { result ≡ same_name known.now word.now }
-{
-    known.as_bytes().cmp(word).is_eq()
-}
-
 /// What a word stands for in a table of words.
 pub fn meaning_of<T: Copy>(table: &[(&'static str, T)], word: &[u8]) -> Option<T>
     ensures { result ≡ meaning_in (map (λ row. (row.0.now, row.1)) table.now) word.now }
 {
     for (known, meaning) in table {
-        if is_same(known, word) {
+        if is_same_text(known.as_bytes(), word) {
             return Some(*meaning);
         }
     }

@@ -7,10 +7,10 @@ ghost use Rattle.dist_script.specs.Happenings.{happening_kinds, words_behind, be
 use crate::fields::{
     count_word, end_word, line_end, meaning_of, name_of, number_word, opening_word, why_word,
 };
-use dist_agreement::Happening;
 use dist_names::Creation;
 use dist_peers::EndId;
-use dist_words::{LineFault, Words};
+use dist_script_words::{LineFault, Words};
+use dist_world_model::Happening;
 use std::alloc::Global;
 
 #[derive(Clone, Copy)]
@@ -121,7 +121,7 @@ fn kind_word(words: &mut Words<'_>) -> Result<Kind, LineFault>
     meaning_of(&KINDS, words.word()?).ok_or(LineFault::Bad)
 }
 
-/// What a line says that happens.
+/// The happening that a line names.
 #[tactic(auto, using(crate::proofs::Reading::not_done))]
 pub fn happening_of(alloc: Global, words: &mut Words<'_>) -> Result<Happening, LineFault>
     ensures { Reads result (line_in words.old) }

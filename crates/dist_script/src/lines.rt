@@ -1,4 +1,4 @@
-//! The lines of a script that tell its one node something.
+//! The lines of a script for its one node.
 
 ghost use Rattle.std.specs.Prelude.{◌≡◌, drop, OnOk};
 ghost use Rattle.dist_script.specs.Fields.{Reads, ReadsPlainly, behind, first_in, meaning_in};
@@ -11,10 +11,10 @@ use crate::fields::{
 use crate::script::Line;
 use dist_core::Event;
 use dist_peers::EndId;
-use dist_words::{LineFault, Words};
+use dist_script_words::{LineFault, Words};
 use std::alloc::Global;
 
-// What a line tells the node.
+// What a line gives the node.
 #[derive(Clone, Copy)]
 enum Kind {
     Incoming,
@@ -58,7 +58,7 @@ fn bytes(alloc: Global, words: &mut Words<'_>) -> Result<Line, LineFault>
     Ok(Line::Bytes { end_, bytes, fresh })
 }
 
-// What is told, in the words behind the first.
+// What is given, in the words behind the first.
 fn told(alloc: Global, kind: Kind, words: &mut Words<'_>) -> Result<Line, LineFault>
     ensures reads { Reads result (told_in kind words.old) }
     ensures rest { OnOk result (words.new ≡ behind (words_behind kind) words.old) }
@@ -91,7 +91,7 @@ fn kind_word(words: &mut Words<'_>) -> Result<Kind, LineFault>
     meaning_of(&KINDS, words.word()?).ok_or(LineFault::Bad)
 }
 
-/// What a line tells the node.
+/// What a line gives the node.
 #[tactic(auto, using(crate::proofs::Reading::not_done))]
 pub fn line_of(alloc: Global, words: &mut Words<'_>) -> Result<Line, LineFault>
     ensures { Reads result (line_in words.old) }

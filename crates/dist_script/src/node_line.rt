@@ -1,25 +1,24 @@
 //! The line of a script that sets the node up.
 
 ghost use Rattle.std.specs.Prelude.{◌≡◌, drop, Some, None, OnOk, MatchResult};
-ghost use Rattle.std.specs.List.{list_all};
-ghost use Rattle.dist_words.specs.declared.words.LineFault.TheVariants.{Bad};
-ghost use Rattle.dist_script.specs.Fields.{Reads, ReadsPlainly, behind, first_in, creation_in, flags_in};
-ghost use Rattle.dist_script.specs.Nodes.{version_in, behind_version, required_in, behind_required, is_visible, cookie_in, cookie_added, further_in, cookies_in, names_in, allowed_in, terms_in, behind_terms, behind_cookies, node_in};
+ghost use Rattle.dist_names.specs.Digits.{flags_in};
+ghost use Rattle.dist_script_words.specs.declared.words.LineFault.TheVariants.{Bad};
+ghost use Rattle.dist_script.specs.Fields.{Reads, ReadsPlainly, behind, first_in, creation_in};
+ghost use Rattle.dist_script.specs.Nodes.{version_in, behind_version, required_in, behind_required, cookie_in, cookie_added, further_in, cookies_in, names_in, allowed_in, terms_in, behind_terms, behind_cookies, node_in};
 
 use crate::fields::{line_end, name_of, name_word, number_word};
 use dist_core::{Limits, NameList, Setup, Version};
-use dist_names::{Creation, Flags, NodeName};
+use dist_names::{Creation, Flags, NodeName, are_visible};
+use dist_script_words::{LineFault, Words};
 use dist_secret::{Cookie, CookieError, Cookies, CookiesError};
-use dist_words::{LineFault, Words, flags_value};
 use std::alloc::Global;
 
-#[tactic(auto, using(crate::proofs::Reading::flags_read))]
 fn flags_word(words: &mut Words<'_>) -> Result<Flags, LineFault>
     ensures reads { ReadsPlainly result (first_in flags_in words.old) }
     ensures rest { words.new ≡ drop 1 words.old }
 {
-    match flags_value(words.word()?) {
-        Some(flags) => Ok(Flags(flags)),
+    match Flags::of_digits(words.word()?) {
+        Some(flags) => Ok(flags),
         None => Err(LineFault::Bad),
     }
 }
@@ -29,17 +28,6 @@ fn creation_word(words: &mut Words<'_>) -> Result<Creation, LineFault>
     ensures rest { words.new ≡ drop 1 words.old }
 {
     Ok(Creation(number_word(words)?))
-}
-
-fn are_visible(word: &[u8]) -> bool
-    ensures { result ≡ list_all is_visible word.now }
-{
-    for byte in word {
-        if *byte < 0x21 || 0x7E < *byte {
-            return false;
-        }
-    }
-    true
 }
 
 // The cookie that a word is.
@@ -106,7 +94,7 @@ fn names(alloc: Global, words: &mut Words<'_>) -> Result<Vec<NodeName>, LineFaul
 }
 
 // The names that are allowed. Without one of them all are.
-fn allowed(alloc: Global, words: &mut Words<'_>) -> Result<Option<NameList>, LineFault>
+fn allow_list(alloc: Global, words: &mut Words<'_>) -> Result<Option<NameList>, LineFault>
     ensures { Reads result (allowed_in words.old) }
 {
     if words.is_done() {
@@ -133,7 +121,7 @@ fn version(words: &mut Words<'_>) -> Result<Version, LineFault>
 
 // The flags that are required, behind `require`. Without it none are.
 #[tactic(auto, using(crate::proofs::Reading::begun, crate::proofs::Reading::not_begun))]
-fn required(words: &mut Words<'_>) -> Result<Flags, LineFault>
+fn required_flags(words: &mut Words<'_>) -> Result<Flags, LineFault>
     ensures reads { ReadsPlainly result (required_in words.old) }
     ensures rest { OnOk result (words.new ≡ behind_required words.old) }
 {
@@ -161,7 +149,7 @@ fn terms_of(words: &mut Words<'_>) -> Result<Terms, LineFault>
         flags: flags_word(words)?,
         creation: creation_word(words)?,
         version: version(words)?,
-        required: required(words)?,
+        required: required_flags(words)?,
     })
 }
 
@@ -175,7 +163,7 @@ fn setup_behind(
 ) -> Result<Setup, LineFault>
     ensures { Reads result (behind_cookies name.now terms cookies words.old) }
 {
-    let allow = allowed(alloc, words)?;
+    let allow = allow_list(alloc, words)?;
     let name = name_of(alloc, name)?;
     Ok(Setup {
         name,

@@ -1,24 +1,24 @@
 //! A script: the lines that set nodes up, and the lines of what happens to them.
 
 ghost use Rattle.std.specs.Prelude.{◌≡◌, ◌⊎◌, false, true, is_some, Ok, Err, Some, None, MatchResult};
-ghost use Rattle.dist_words.specs.Words.{words_of};
-ghost use Rattle.dist_words.specs.declared.fault.ScriptFault.TheVariants.{BadLine, NoMemory};
-ghost use Rattle.dist_words.specs.declared.words.LineFault.TheVariants.{Bad};
+ghost use Rattle.dist_script_words.specs.Words.{words_of};
+ghost use Rattle.dist_script_words.specs.declared.fault.ScriptFault.TheVariants.{BadLine, NoMemory};
+ghost use Rattle.dist_script_words.specs.declared.words.LineFault.TheVariants.{Bad};
 ghost use Rattle.dist_script.specs.Happenings as happenings;
 ghost use Rattle.dist_script.specs.Scripts.{lines_of, nothing, with_node, with_event, with_happening, is_either, with_words, with_line, with_lines, script_in, says};
 
 use crate::happenings::happening_of;
 use crate::lines::line_of;
 use crate::node_line::setup_of;
-use dist_agreement::Happening;
 use dist_core::{Event, Setup};
 use dist_names::ByteString;
 use dist_peers::EndId;
-use dist_words::{LineFault, ScriptFault, Words, first_line, is_skipped};
+use dist_script_words::{LineFault, ScriptFault, Words, first_line, is_skipped};
+use dist_world_model::Happening;
 use std::alloc::Global;
 use std::marker::Model;
 
-/// What a line tells the one node of a script.
+/// What a line gives the one node of a script.
 #[derive(Drop)]
 pub enum Line {
     /// An event as it stands.
@@ -34,7 +34,7 @@ pub enum Line {
 /// A script that was read and checked whole. The number of its nodes decides what its lines say.
 #[derive(Drop)]
 pub enum Script {
-    /// One node, and what it is told.
+    /// One node, and what it is given.
     Events {
         node: Setup,
         lines: Vec<Line>,
@@ -164,7 +164,7 @@ fn draft_of(alloc: Global, text: &[u8]) -> Result<Draft, ScriptFault>
     Ok(draft)
 }
 
-/// The script that a text is. The first line that is no line of a script is told before a missing node.
+/// The script that a text is. The first line that is no line of a script is reported before a missing node.
 #[tactic(auto, using(crate::proofs::Scripts::several, crate::proofs::Scripts::one_node, crate::proofs::Scripts::no_nodes, crate::proofs::Scripts::not_read))]
 pub fn script_of(alloc: Global, text: &[u8]) -> Result<Script, ScriptFault>
     ensures { MatchResult result (λ script. script_in text.now ≡ Ok (says script)) (λ fault. (fault ≡ NoMemory) ⊎ (script_in text.now ≡ Err fault)) }

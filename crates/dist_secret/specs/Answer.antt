@@ -1,4 +1,4 @@
--- What a call answers that may lack memory.
+-- What a call that may run out of memory returns.
 use Rattle.std.specs.Prelude.{ℕ, Bool, true, false, List, codes, Result}
 use Rattle.dist_names.specs.Answer.{AnswersBut}
 use Rattle.dist_secret.specs.declared.cookie_error.CookieError.{CookieError}
@@ -9,7 +9,7 @@ abbrev pub is_want : CookieError → Bool
 is_want NoMemory = true
 is_want _ = false
 
--- The answer is the one expected, but for want of memory.
+-- The answer is the one expected, or out of memory.
 abbrev pub Answers : {Y : Type 0} → Result Y CookieError → Result Y CookieError → Type 0
 Answers result expected = AnswersBut is_want (λ value. value) result expected
 

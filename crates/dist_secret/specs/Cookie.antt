@@ -1,16 +1,13 @@
 -- The cookie of a text, and why a text has none.
-use Rattle.std.specs.Prelude.{◌≡◌, ℕ, ◌<◌, ◌≤◌, Bool, false, ◌&&◌, ◌||◌, not, List, ◌∷◌, ◌++◌, length, drop, Result, Ok, Err, nat_lt, nat_le, ◌==◌, IsTrue, if◌then◌else◌}
+use Rattle.std.specs.Prelude.{◌≡◌, ℕ, ◌<◌, ◌≤◌, Bool, false, ◌||◌, not, List, ◌∷◌, ◌++◌, length, drop, Result, Ok, Err, nat_lt, ◌==◌, IsTrue, if◌then◌else◌}
 use Rattle.std.specs.List.{list_all, position_or_len, before_first}
+use Rattle.dist_names.specs.Bytes.{is_printable}
 use Rattle.dist_secret.specs.declared.cookie_error.CookieError.{CookieError}
 use Rattle.dist_secret.specs.declared.cookie_error.CookieError.TheVariants.{Empty, BadByte, TooLong}
 
--- a printable ASCII character, the space among them
-abbrev pub is_cookie_byte : ℕ → Bool
-is_cookie_byte byte = nat_le 0x20 byte && nat_le byte 0x7E
-
--- any other byte
+-- a byte that stands in no cookie
 abbrev pub is_other : ℕ → Bool
-is_other byte = not (is_cookie_byte byte)
+is_other byte = not (is_printable byte)
 
 -- a line feed, a carriage return or a space
 abbrev pub may_follow : ℕ → Bool
@@ -20,11 +17,11 @@ may_follow byte = (byte == 0x0A) || ((byte == 0x0D) || (byte == 0x20))
 pub record IsCookie (cookie : List ℕ) : Type 0 where
   pub least : 0 < length cookie
   pub most : length cookie ≤ 255
-  pub bytes : IsTrue (list_all is_cookie_byte cookie)
+  pub bytes : IsTrue (list_all is_printable cookie)
 
 -- no byte of a cookie stands at the front
 abbrev pub StartsOtherwise : List ℕ → Type 0
-StartsOtherwise rest = (first : ℕ) (more : List ℕ) → rest ≡ first ∷ more → is_cookie_byte first ≡ false
+StartsOtherwise rest = (first : ℕ) (more : List ℕ) → rest ≡ first ∷ more → is_printable first ≡ false
 
 -- The text is short. It is the cookie and then bytes that may follow, of which the first is no byte of a cookie.
 pub record IsCookieOf (text cookie : List ℕ) : Type 0 where

@@ -47,7 +47,7 @@ OwnersKeep old new = (name : Name) → owns old name ≡ true → cookie_for new
 abbrev pub OthersHave : List ℕ → CookieTable → CookieTable → Type 0
 OthersHave cookie old new = (name : Name) → owns old name ≡ false → cookie_for new name ≡ cookie
 
--- a call set the cookie; a refusal changed nothing, and want of memory comes only where there was room
+-- a call set the cookie; a refusal changed nothing, and memory runs out only where there was room
 abbrev pub Sets : {T : Type 0} → Result T CookiesError → Name → List ℕ → CookieTable → CookieTable → Type 0
 Sets (Ok x) name cookie old new = (is_full_for old name ≡ false) × (new ≡ with_cookie old name cookie)
 Sets (Err Full) name cookie old new = (is_full_for old name ≡ true) × (new ≡ old)

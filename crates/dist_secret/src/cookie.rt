@@ -3,10 +3,12 @@ ghost use Rattle.std.specs.Prelude.{◌≡◌, ◌==◌, ◌≤◌, ◌↔◌, �
 ghost use Rattle.std.specs.Cmp.Lexicographic.{pointwise};
 ghost use Rattle.std.specs.Cmp.Rules.{comparing};
 ghost use Rattle.std.specs.List.{list_all, position, position_or_len};
-ghost use Rattle.dist_secret.specs.Cookie.{is_cookie_byte, is_other, may_follow, cookie_of, IsCookie, IsCookieOf};
+ghost use Rattle.dist_names.specs.Bytes.{is_printable};
+ghost use Rattle.dist_secret.specs.Cookie.{is_other, may_follow, cookie_of, IsCookie, IsCookieOf};
 ghost use Rattle.dist_secret.specs.Answer.{Answers};
 
 use crate::cookie_error::CookieError;
+use dist_names::is_printable;
 use std::alloc::{AllocError, Global};
 use std::marker::Model;
 
@@ -39,8 +41,7 @@ const MOST: usize = 255;
 fn first_other(text: &[u8]) -> Option<usize>
     ensures { result ≡ position is_other text.now }
 {
-    text.iter()
-        .position(|byte| !(0x20 <= *byte && *byte <= 0x7E))
+    text.iter().position(|byte| !is_printable(*byte))
 }
 
 // How many bytes of a cookie stand at the front.
@@ -48,7 +49,7 @@ fn first_other(text: &[u8]) -> Option<usize>
 fn front_len(text: &[u8]) -> usize
     ensures place { result ≡ position_or_len is_other text.now }
     ensures within { result ≤ length text.now }
-    ensures good { IsTrue (list_all is_cookie_byte (take result text.now)) }
+    ensures good { IsTrue (list_all is_printable (take result text.now)) }
 {
     first_other(text).unwrap_or(text.len())
 }
@@ -117,7 +118,7 @@ impl Cookie {
         self.secret.len()
     }
 
-    /// An equal cookie. The only refusal is want of memory.
+    /// An equal cookie. It fails only where memory runs out.
     pub fn try_clone(&self, alloc: Global) -> Result<Cookie, AllocError>
         ensures { IfOk result (λ copy. copy ≡ self.now) }
     {
@@ -126,7 +127,7 @@ impl Cookie {
         })
     }
 
-    /// Whether the two have the same bytes. The time that it takes tells how much of their fronts is alike: it is for one who
+    /// Whether the two have the same bytes. The time that it takes shows how much of their fronts is alike: it is for one who
     /// holds both.
     pub fn is_same(&self, other: &Cookie) -> bool
         ensures computed { result ≡ pointwise ◌==◌ self.now other.now }

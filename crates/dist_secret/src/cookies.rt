@@ -125,7 +125,7 @@ impl Cookies {
         self.usual = cookie;
     }
 
-    /// Equal cookies. The only refusal is want of memory.
+    /// Equal cookies. It fails only where memory runs out.
     pub fn try_clone(&self, alloc: Global) -> Result<Cookies, AllocError>
         ensures { IfOk result (λ copy. copy ≡ self.now) }
     {

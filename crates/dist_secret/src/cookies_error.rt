@@ -7,7 +7,7 @@ use thiserror::Error;
 
 /// Why a cookie is not kept for a peer. The cookies are then those that they were.
 ///
-/// `Full` is told before `NoMemory`.
+/// `Full` comes before `NoMemory`.
 #[derive(Clone, Copy, Debug, PartialEq, Eq, Error)]
 pub enum CookiesError {
     /// 1,024 other names have cookies of their own, and this one has none yet. Our own limit.

@@ -60,7 +60,7 @@ fn hear<R: Read>(
     requires { has_failed.old ≡ false }
     ensures hears { Hears (R.remaining reader.old) (R.remaining reader.new) result }
 
-    // `ReadFailed` is answered exactly where a read failed.
+    // `ReadFailed` is returned exactly where a read failed.
     ensures marks { IsErrOf result CookieError.ReadFailed ↔ IsTrue has_failed.new }
 {
     let mut room = [0u8; MOST_READ];

@@ -3,11 +3,11 @@ use Rattle.std.specs.Prelude.{◌≡◌, ℕ, Bool, false, List, ◌++◌, Optio
 use Rattle.std.specs.Option.{option_map, option_and_then}
 use Rattle.dist_peers.specs.declared.entry.EndId.{EndId}
 use Rattle.dist_messages.specs.declared.message.Side.{Side}
-use Rattle.dist_ends.specs.declared.why.Why.{Why}
+use Rattle.dist_core_ends.specs.declared.why.Why.{Why}
 use Rattle.dist_core.specs.Node.{NodeState}
-use Rattle.dist_agreement.specs.World.{World, Life, running, row_at}
-use Rattle.dist_agreement.specs.Delivery.{text_to}
-use Rattle.dist_lives.specs.Hearing.{wire_of}
+use Rattle.dist_world_model.specs.World.{World, Life, running, row_at}
+use Rattle.dist_world_model.specs.Delivery.{text_to}
+use Rattle.dist_world_lives.specs.Hearing.{wire_of}
 
 -- the running incarnation of a node, itself
 abbrev pub running_life : World → ℕ → Option Life
@@ -17,7 +17,7 @@ running_life w i = option_and_then (slice_get w.lives) (running w i)
 abbrev pub node_of : World → ℕ → Option NodeState
 node_of w i = option_map (λ l. l.node) (running_life w i)
 
--- what was said to this side of a connection and is undelivered
+-- what was sent to this side of a connection and is undelivered
 abbrev pub undelivered : World → Option (Side × ℕ) → Option (List ℕ)
 undelivered w None = None
 undelivered w (Some x) = option_map (λ c. (let t = text_to x.0 c in t.said)) (slice_get w.conns x.1)

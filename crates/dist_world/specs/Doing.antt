@@ -1,10 +1,10 @@
--- What the calls that make one happening answer.
+-- What the calls that make one happening return.
 use Rattle.std.specs.Prelude.{◌≡◌, Bool, true, false, Option, Some, None, is_some, Result, Ok, Err}
 use Rattle.std.specs.declared.alloc.AllocError.{AllocError}
-use Rattle.dist_agreement.specs.World.{World}
-use Rattle.dist_agreement.specs.Happenings.{ticked_on}
+use Rattle.dist_world_model.specs.World.{World}
+use Rattle.dist_world_model.specs.Happenings.{ticked_on}
 
--- THE HAPPENING was made, did not apply, or wants memory, and then nothing changed
+-- THE HAPPENING was made, did not apply, or memory ran out, and then nothing changed
 abbrev pub Did : Result Bool AllocError → Option World → World → World → Type 0
 Did (Ok true) o old new = o ≡ Some new
 Did (Ok false) o old new = (o ≡ None) × (new ≡ old)

@@ -2,7 +2,7 @@
 use Rattle.std.specs.Prelude.{Bool, false, ◌||◌, List, [], ◌∷◌}
 use Rattle.std.specs.List.{list_any}
 use Rattle.dist_names.specs.Order.{Name, same_name}
-use Rattle.dist_setup.specs.declared.setup.Setup.{Setup}
+use Rattle.dist_core_setup.specs.declared.setup.Setup.{Setup}
 
 -- one of the setups has this name
 abbrev pub is_named : List Setup → Name → Bool

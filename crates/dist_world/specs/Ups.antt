@@ -1,11 +1,11 @@
 -- Which nodes count each other as up.
 use Rattle.std.specs.Prelude.{◌≡◌, ◌≢◌, ℕ, Option, Some, None}
-use Rattle.dist_ends.specs.declared.known.UpRecord.{UpRecord}
-use Rattle.dist_agreement.specs.World.{World}
+use Rattle.dist_core_ends.specs.declared.known.UpRecord.{UpRecord}
+use Rattle.dist_world_model.specs.World.{World}
 use Rattle.dist_names.specs.Flags.{common}
-use Rattle.dist_setup.specs.declared.setup.Setup.{Setup}
-use Rattle.dist_setup.specs.Rules.{announced_in}
-use Rattle.dist_agreement.specs.Agreement.{IsUp, AreAgreed, known_creation}
+use Rattle.dist_core_setup.specs.declared.setup.Setup.{Setup}
+use Rattle.dist_core_setup.specs.Rules.{announced_in}
+use Rattle.dist_world_model.specs.Agreement.{IsUp, AreAgreed, known_creation}
 use Rattle.dist_world.specs.declared.agreement.Agreement.{Agreement}
 
 -- what was found is a connection on which node a counts node b as up, and the record there
@@ -13,7 +13,7 @@ abbrev pub FindsPeer : World → ℕ → ℕ → Option (ℕ × UpRecord) → Ty
 FindsPeer w a b None = Unit {0}
 FindsPeer w a b (Some x) = (u : IsUp w a b x.0) × (u.kept ≡ x.1)
 
--- what is told of two records
+-- what is returned of two records
 abbrev pub agreed : ℕ → UpRecord → UpRecord → Agreement
 agreed c here there = record { conn = c; common = here.common; creation_a = there.creation; creation_b = here.creation }
 
@@ -36,8 +36,8 @@ setup_of x = let s = x.life in s.node.setup
 abbrev pub flags_of : {w : World} {a b c : ℕ} → IsUp w a b c → ℕ
 flags_of x = let s = x.life in announced_in s.node.setup.version s.node.setup.flags.0
 
--- what was told is what the two nodes agree on: both ends are those of that connection, both records have the flags that
--- both announced, each the other's creation where known, and each bears the digest of its own cookie for the other and its
+-- what was returned is what the two nodes agree on: both ends are those of that connection, both records have the flags that
+-- both announced, each the other's creation where known, and each holds the digest of its own cookie for the other and its
 -- own challenge
 abbrev pub FindsAgreed : World → ℕ → ℕ → Option Agreement → Type 0
 FindsAgreed w a b None = Unit {0}
@@ -45,6 +45,6 @@ FindsAgreed w a b (Some g) = (d : ℕ) × (x : IsUp w a b g.conn) × (y : IsUp w
     × (g.common.0 ≡ common (flags_of x) (flags_of y))
     × (g.creation_a ≡ known_creation (setup_of y) (setup_of x)) × (g.creation_b ≡ known_creation (setup_of x) (setup_of y))
 
--- these two records were told, on whatever connection
+-- these two records were returned, on whatever connection
 abbrev pub IsTold : Option Agreement → UpRecord → UpRecord → Type 0
 IsTold o here there = (c : ℕ) × (o ≡ Some (agreed c here there))

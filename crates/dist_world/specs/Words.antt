@@ -1,4 +1,4 @@
--- The words by which refusals of setups are told.
+-- The words for refusals of setups, as programs print them.
 use Rattle.std.specs.Prelude.{ℕ, List, codes}
 use Rattle.dist_world.specs.declared.world_error.WorldError.{WorldError}
 use Rattle.dist_world.specs.declared.world_error.WorldError.TheVariants as error

@@ -2,7 +2,7 @@
 ghost use Rattle.std.specs.Prelude.{◌≡◌, ◌≢◌, ℕ, Some};
 ghost use Rattle.std.specs.Option.{option_map};
 ghost use Rattle.dist_world.specs.Ups.{agreed, agreed_of, FindsBoth};
-ghost use Rattle.dist_agreement.specs.Agreement.{IsUp};
+ghost use Rattle.dist_world_model.specs.Agreement.{IsUp};
 
 use crate::scene::Scene;
 use dist_core::UpRecord;

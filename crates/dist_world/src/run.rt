@@ -1,19 +1,19 @@
 //! A run of happenings.
 ghost use Rattle.std.specs.Prelude.{◌≡◌, ◌<◌, length, take, IfOk, IfErr, OnOk};
-ghost use Rattle.dist_ends.specs.Change.{one_if};
-ghost use Rattle.dist_agreement.specs.Agreement.{AllFit};
-ghost use Rattle.dist_agreement.specs.Run.{run, count_applied};
+ghost use Rattle.dist_core_ends.specs.Change.{one_if};
+ghost use Rattle.dist_world_model.specs.Agreement.{AllFit};
+ghost use Rattle.dist_world_model.specs.Run.{run, count_applied};
 
 use crate::scene::Scene;
-use dist_agreement::Happening;
+use dist_world_model::Happening;
 use std::alloc::Global;
 use thiserror::Error;
 
-/// A run was cut off by want of memory: the world stands after the first `done` happenings of the list.
+/// A run was cut off since memory ran out: the world stands after the first `done` happenings of the list.
 #[derive(Clone, Copy, Debug, PartialEq, Eq, Error)]
 #[error("out of memory")]
 pub struct Stopped {
-    /// How many happenings of the list were let happen, whether they applied or not: fewer than it has.
+    /// How many happenings of the list were tried, whether they applied or not: fewer than it has.
     pub done: usize,
 }
 
@@ -24,7 +24,7 @@ fn one_if(applies: bool) -> usize
 }
 
 impl Scene {
-    /// Lets these happenings happen in turn, and answers how many applied. One that does not apply changes nothing.
+    /// Lets these happenings happen in turn, and returns how many applied. One that does not apply changes nothing.
     pub fn run(&mut self, alloc: Global, happenings: &[Happening]) -> Result<usize, Stopped>
         ensures after { OnOk result (self.new ≡ run happenings.now self.old) }
         ensures count { IfOk result (λ n. n ≡ count_applied happenings.now self.old) }

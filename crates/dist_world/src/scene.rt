@@ -1,18 +1,18 @@
 //! All that a world has, and one happening.
 ghost use Rattle.std.specs.Prelude.{◌≡◌, ◌↔◌, ◌++◌, IsTrue, List, IsErrOf, ℕ, Ok, slice_get, option_copied, IfOk, OnOk};
 ghost use Rattle.std.specs.Option.{option_map};
-ghost use Rattle.dist_agreement.specs.World.{empty, running};
+ghost use Rattle.dist_world_model.specs.World.{empty, running};
 ghost use Rattle.dist_world.specs.Setups.{names_repeat};
 ghost use Rattle.dist_world.specs.Asking.{node_of, said_to, SaidNext, closing};
-ghost use Rattle.dist_lives.specs.Links.{up_on};
+ghost use Rattle.dist_world_lives.specs.Links.{up_on};
 ghost use Rattle.dist_world.specs.Ups.{FindsPeer};
-ghost use Rattle.dist_agreement.specs.Agreement.{AreSetups, IsUp};
+ghost use Rattle.dist_world_model.specs.Agreement.{AreSetups, IsUp};
 
 use crate::setups::are_good;
 use crate::world_error::WorldError;
 use dist_core::{Node, Setup, UpRecord, Why};
-use dist_lives::{Connections, Lives};
 use dist_peers::EndId;
+use dist_world_lives::{Connections, Lives};
 use std::alloc::Global;
 use std::marker::Model;
 
@@ -31,7 +31,7 @@ pub struct Scene {
 }
 
 impl Model for Scene {
-    ghost use Rattle.dist_agreement.specs.World as world;
+    ghost use Rattle.dist_world_model.specs.World as world;
 
     ghost Value = { world.World };
 

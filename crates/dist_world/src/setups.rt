@@ -1,8 +1,8 @@
 //! The setups of a world.
 ghost use Rattle.std.specs.Prelude.{◌≡◌, ◌||◌, ℕ, Some, slice_get, is_some, not, true, IfOk, OnOk};
 ghost use Rattle.std.specs.BTreeMap.{get};
-ghost use Rattle.dist_setup.specs.declared.setup.Setup.{Setup};
-ghost use Rattle.dist_agreement.specs.Agreement.{AreSetups, IsSetup};
+ghost use Rattle.dist_core_setup.specs.declared.setup.Setup.{Setup};
+ghost use Rattle.dist_world_model.specs.Agreement.{AreSetups, IsSetup};
 ghost use Rattle.dist_names.specs.Order.{Name, name_cmp, same_name};
 ghost use Rattle.dist_world.specs.Setups.{is_named, names_repeat};
 
@@ -41,7 +41,7 @@ fn all_known(setups: &[Setup])
     }
 }
 
-// Puts a name into a set, and answers whether it was there.
+// Puts a name into a set, and returns whether it was there.
 fn put_name(
     names: &mut BTreeMap<NodeName, ()>,
     alloc: Global,
@@ -93,7 +93,7 @@ fn names_repeat(alloc: Global, setups: &[Setup]) -> bool
     }
 }
 
-/// Setups of nodes, no two of one name. It fails for no want of memory, and takes longer then.
+/// Setups of nodes, no two of one name. It does not fail where memory runs out, and takes longer then.
 pub fn are_good(alloc: Global, setups: &[Setup]) -> bool
     ensures repeat { result ≡ not (names_repeat setups.now) }
     ensures good { result ≡ true → AreSetups setups.now }

@@ -1,23 +1,23 @@
 //! The world.
 ghost use Rattle.std.specs.Prelude.{◌≡◌, ◌↔◌, ◌≢◌, ◌<◌, ℕ, Some, length, take, option_copied, IfOk, IfErr, OnOk, IsErrOf, IsTrue};
 ghost use Rattle.std.specs.Option.{option_map};
-ghost use Rattle.dist_agreement.specs.World.{empty};
-ghost use Rattle.dist_agreement.specs.Run.{run, count_applied};
+ghost use Rattle.dist_world_model.specs.World.{empty};
+ghost use Rattle.dist_world_model.specs.Run.{run, count_applied};
 ghost use Rattle.dist_world.specs.Setups.{names_repeat};
 ghost use Rattle.dist_world.specs.Asking.{node_of, said_to, SaidNext, closing};
-ghost use Rattle.dist_agreement.specs.Laws.{AllLives, Decided};
-ghost use Rattle.dist_agreement.specs.Agreement.{Agreement as NodesAgree, Counts, IsUp};
+ghost use Rattle.dist_world_model.specs.Laws.{AllLives, Decided};
+ghost use Rattle.dist_world_model.specs.Agreement.{Agreement as NodesAgree, Counts, IsUp};
 ghost use Rattle.dist_world.specs.Ups.{agreed, FindsBoth, FindsAgreed, IsTold};
 
 use crate::agreement::Agreement;
 use crate::run::Stopped;
 use crate::scene::Scene;
 use crate::world_error::WorldError;
-use dist_agreement::{
-    Happening, crossings_are_decided, nodes_agree, ups_are_linked, worlds_are_reached,
-};
 use dist_core::{Node, Setup, Why};
 use dist_peers::EndId;
+use dist_world_model::{
+    Happening, crossings_are_decided, nodes_agree, ups_are_linked, worlds_are_reached,
+};
 use std::alloc::Global;
 use std::marker::Model;
 
@@ -31,8 +31,8 @@ pub struct World {
 }
 
 impl Model for World {
-    ghost use Rattle.dist_agreement.specs.World as world;
-    ghost use Rattle.dist_agreement.specs.Agreement.{IsReached};
+    ghost use Rattle.dist_world_model.specs.World as world;
+    ghost use Rattle.dist_world_model.specs.Agreement.{IsReached};
 
     ghost Value = { world.World };
 
@@ -56,12 +56,12 @@ impl World {
         Ok(World { scene })
     }
 
-    /// Lets these happenings happen in turn, and answers how many applied. One that does not apply changes nothing: among
+    /// Lets these happenings happen in turn, and returns how many applied. One that does not apply changes nothing: among
     /// others a begin after 1,048,576 of them, a reach after 1,048,576 connections, and anything after 2^62 happenings that
     /// applied.
     ///
-    /// An `Err` is for want of memory alone, and the world then stands after the first `done` happenings of the list: none
-    /// applies by half, and the others can be run from there.
+    /// It fails only where memory runs out, and the world then stands after the first `done` happenings of the list: no happening
+    /// applies in part, and the others can be run from there.
     pub fn run(&mut self, alloc: Global, happenings: &[Happening]) -> Result<usize, Stopped>
         ensures after { OnOk result (self.new ≡ run happenings.now self.old) }
         ensures count { IfOk result (λ n. n ≡ count_applied happenings.now self.old) }
@@ -71,7 +71,7 @@ impl World {
         ensures decided { AllLives Decided self.new }
 
         // Two running nodes that each count the other as up do so over one connection, with the flags that both announced
-        // and each other's creation where known, each bearing the digest of its own cookie for the other and its challenge.
+        // and each other's creation where known, each holding the digest of its own cookie for the other and its challenge.
         ensures agree { NodesAgree self.new }
     {
         worlds_are_reached();
@@ -87,7 +87,7 @@ impl World {
         ensures only { (c d : ℕ) (x : IsUp self.now a b c) (y : IsUp self.now b a d) → a ≢ b → result ≡ Some (agreed c x.kept y.kept) }
         ensures counted { (x : Counts self.now a b) (y : Counts self.now b a) → a ≢ b → IsTold result x.kept y.kept }
 
-        // What is told is what they agree on.
+        // What is returned is what they agree on.
         ensures agree { FindsAgreed self.now a b result }
     {
         ups_are_linked();
@@ -118,7 +118,7 @@ impl World {
         self.scene.last_closed()
     }
 
-    /// Whether what the other side said and is undelivered for this end of the node's running incarnation begins with these
+    /// Whether what the other side sent and is undelivered for this end of the node's running incarnation begins with these
     /// bytes. `false` without a connection; with no bytes and a connection, true.
     pub fn said_next(&self, node: usize, id: EndId, bytes: &[u8]) -> bool
         ensures { SaidNext result (said_to self.now node id) bytes.now }

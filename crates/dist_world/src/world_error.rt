@@ -4,7 +4,7 @@ ghost use Rattle.dist_world.specs.Words.{refusal_name};
 
 use thiserror::Error;
 
-/// Why a list of setups makes no world: the first that holds is told, in this order.
+/// Why a list of setups makes no world: the first that holds is returned, in this order.
 #[derive(Clone, Copy, Debug, PartialEq, Eq, Error)]
 pub enum WorldError {
     /// Two of the setups have one name. The caller's fault.

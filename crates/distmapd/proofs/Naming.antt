@@ -30,6 +30,7 @@ found word = found-passes (has_name word) (λ w. name_of w ≡ word) (λ w e. on
 own : (w : Key) → key_named (name_of w) ≡ Some w
 unfolding key_named
 own key.Port = refl
+own key.Mapper = refl
 own key.Address = refl
 own key.Timeout = refl
 own key.Clients = refl

@@ -1,10 +1,10 @@
--- What `-names` prints of an answer, and when it is told to be cut.
+-- What `-names` prints of an answer, and when it is reported as cut.
 use Rattle.std.specs.Prelude.{◌≡◌, ℕ, ◌<◌, Bool, false, ◌||◌, ◌&&◌, ◌==◌, List, [], ◌∷◌, ◌++◌, length, take, drop, codes, Option, Result, Ok, Err, if◌then◌else◌, IsTrue}
 use Rattle.std.specs.Int.{w32, from_be_bytes}
 use Rattle.std.specs.Fmt.{decimal}
 use Rattle.std.specs.Io.KnownBytes.{Appends}
 use Rattle.std.specs.List.{ends_with}
-use Rattle.dist_numerals.specs.Escaped.{escaped_lines}
+use Rattle.dist_names.specs.Escaped.{escaped_lines}
 use Rattle.distmapd.specs.declared.answer.Answer.{Answer}
 use Rattle.distmapd.specs.declared.fault.Fault.{Fault}
 use Rattle.distmapd.specs.declared.fault.Fault.TheVariants as fault
@@ -17,8 +17,8 @@ has_whole_lines text = length text == 0 || ends_with ◌==◌ text (0x0A ∷ [])
 abbrev pub line_end : List ℕ → List ℕ
 line_end text = if has_whole_lines text then [] else 0x0A ∷ []
 
--- THE LISTING of a port and a text: a line as `epmd -names` prints it, then the text, of which only line feeds and printable bytes
--- reach the screen
+-- THE LISTING of a port and a text: a line as `epmd -names` prints it, then the text, of which only line feeds and printable
+-- bytes reach the screen
 unfoldable pub listing : ℕ → List ℕ → List ℕ
 listing port text =
     codes "epmd: up and running on port " ++ (decimal port ++ (codes " with data:" ++ (0x0A ∷ (escaped_lines text ++ line_end text))))
@@ -31,8 +31,8 @@ listing_of bytes = listing (from_be_bytes w32 (take 4 bytes)) (drop 4 bytes)
 abbrev pub is_whole : Bool → List ℕ → Bool
 is_whole is_ended text = is_ended && has_whole_lines text
 
--- WHAT IS PRINTED, BY HOW THE PRINTING ENDS: the listing of a whole answer; the listing of what came, and that it was cut; nothing
--- of an answer that ends before its port does
+-- WHAT IS PRINTED, BY HOW THE PRINTING ENDS: the listing of a whole answer; the listing of what came, and that it was cut;
+-- nothing of an answer that ends before its port does
 abbrev pub Prints : Option (List ℕ) → Option (List ℕ) → Answer → Result (Unit {0}) Fault → Type 0
 Prints old new answer (Ok done) = IsTrue (is_whole answer.is_ended (drop 4 answer.bytes.items)) × Appends old new (listing_of answer.bytes.items)
 Prints old new answer (Err fault.AnswerCut) = (is_whole answer.is_ended (drop 4 answer.bytes.items) ≡ false) × Appends old new (listing_of answer.bytes.items)

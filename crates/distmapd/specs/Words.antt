@@ -19,6 +19,7 @@ use Rattle.distmapd.specs.declared.settings.Task.TheVariants as task
 
 abbrev pub name_of : Key → List ℕ
 name_of key.Port = codes "-port"
+name_of key.Mapper = codes "--epmd-port"
 name_of key.Address = codes "-address"
 name_of key.Timeout = codes "-packet_timeout"
 name_of key.Clients = codes "-max_clients"
@@ -37,8 +38,8 @@ has_name word k = pointwise ◌==◌ (name_of k) word
 
 abbrev pub all_keys : List Key
 all_keys =
-    key.Port ∷ key.Address ∷ key.Timeout ∷ key.Clients ∷ key.Systemd ∷ key.Names ∷ key.Help ∷ key.Version ∷ key.Daemon ∷ key.Kill ∷ key.Stop ∷ key.Debug
-    ∷ key.Relaxed ∷ []
+    key.Port ∷ key.Mapper ∷ key.Address ∷ key.Timeout ∷ key.Clients ∷ key.Systemd ∷ key.Names ∷ key.Help ∷ key.Version ∷ key.Daemon ∷ key.Kill ∷ key.Stop
+    ∷ key.Debug ∷ key.Relaxed ∷ []
 
 unfoldable pub key_named : List ℕ → Option Key
 key_named word = find (has_name word) all_keys
@@ -65,6 +66,7 @@ reads settings what = Ok (record { settings = settings; awaits = what })
 abbrev pub after_key : Settings → Option Key → Read
 after_key s None = Err UnknownWord
 after_key s (Some key.Port) = reads s awaits.Port
+after_key s (Some key.Mapper) = reads s awaits.Port
 after_key s (Some key.Address) = reads s awaits.Address
 after_key s (Some key.Timeout) = reads s awaits.Timeout
 after_key s (Some key.Clients) = reads s awaits.Clients
@@ -97,20 +99,15 @@ after_awaited s awaits.Clients word = with_number (number_of 4294967295 word.now
 
 -- ---- all words
 
--- Each word counts in turn: a later one stands for an earlier one, and the first that is bad is told.
+-- Each word counts in turn: a later one stands for an earlier one, and the first that is bad is refused.
 abbrev pub after_words : Read → List Word → Read
 after_words (Err refusal) words = Err refusal
 after_words (Ok r) [] = Ok r
 after_words (Ok r) (word ∷ words) = after_words (after_awaited r.settings r.awaits word) words
 
--- what is asked for without any word, with the addresses of ERL_EPMD_ADDRESS
-abbrev pub usual : Option Word → Settings
-usual address = record { task = task.Serve; port = 4369; addresses = address; seconds = 60; clients = 4096; systemd = false }
-
--- the same, with the port of ERL_EPMD_PORT
-abbrev pub opening : Option Word → Option Word → Read
-opening None address = reads (usual address) awaits.Key
-opening (Some port) address = after_awaited (usual address) awaits.Port port
+-- what is asked for without any word, at this port, with the addresses of ERL_EPMD_ADDRESS
+abbrev pub usual : ℕ → Option Word → Settings
+usual port address = record { task = task.Serve; port = port; addresses = address; seconds = 60; clients = 4096; systemd = false }
 
 -- behind the last word none is awaited that is a value
 abbrev pub settled_at : Settings → Awaits → Result Settings Refusal
@@ -124,6 +121,6 @@ abbrev pub settled : Read → Result Settings Refusal
 settled (Ok r) = settled_at r.settings r.awaits
 settled (Err refusal) = Err refusal
 
--- WHAT THE WORDS ASK FOR, and those of the environment
-abbrev pub settings_of : Option Word → Option Word → List Word → Result Settings Refusal
-settings_of port address words = settled (after_words (opening port address) words)
+-- WHAT THE WORDS ASK FOR, with the port and the addresses that the environment says
+abbrev pub settings_of : ℕ → Option Word → List Word → Result Settings Refusal
+settings_of port address words = settled (after_words (reads (usual port address) awaits.Key) words)

@@ -1,11 +1,11 @@
-//! What a port mapper answers that is asked for all names: 4 bytes of its port, a line for each name, and the end (ERTS User's
+//! The answer of a port mapper that is asked for all names: 4 bytes of its port, a line for each name, and the end (ERTS User's
 //! Guide, Distribution Protocol, Get All Registered Names from EPMD).
 
 ghost use Rattle.std.specs.Prelude.{◌≡◌, IfOk, IfErr};
 ghost use Rattle.distmapd.specs.Answers.{AnswersNames, HearsRest, IsFaultOfAsking};
 
 use crate::fault::Fault;
-use dist_streams::{AMPLE_TURNS, Limited, Stream, TurnError};
+use dist_stream::{AMPLE_TURNS, Limited, Stream, TurnError};
 use std::alloc::{AllocError, Global};
 
 // The frame of the question: a body of one byte.
@@ -14,7 +14,7 @@ const QUESTION: [u8; 3] = [0, 1, b'n'];
 // The most bytes of one read.
 const PIECE: usize = 4096;
 
-// No more is read once so many bytes came, so that no answer takes all memory. A name has its line of at most 280 bytes, so
+// No more is read once this many bytes came, so that no answer takes all memory. A name has its line of at most 280 bytes, so
 // there is room for 3,700 and more. Our own choice.
 const ENOUGH: usize = 1_048_576;
 
@@ -27,7 +27,7 @@ pub struct Answer {
     pub is_ended: bool,
 }
 
-// Appends what comes, up to the end, to the first fault or to enough bytes. Tells whether the end was read.
+// Appends what comes, up to the end, to the first fault or to enough bytes. Returns whether the end was read.
 fn read_rest<S: Stream>(
     limited: &mut Limited<'_, S>,
     bytes: &mut Vec<u8>,
@@ -53,7 +53,7 @@ fn read_rest<S: Stream>(
 /// Asks for all names, and reads what comes: up to the end, or up to a fault, a stream that stays quiet, or a mebibyte and
 /// at most 4,095 bytes more.
 ///
-/// NoAnswer where the question could not be said whole, and NoMemory. Nothing else is refused: what came may be cut anywhere.
+/// NoAnswer where the question could not be sent whole, and NoMemory. Nothing else is refused: what came may be cut anywhere.
 pub fn ask<S: Stream>(alloc: Global, stream: &mut S) -> Result<Answer, Fault>
     ensures ok { IfOk result (λ answer. AnswersNames (S.meaning stream.old) (S.meaning stream.new) answer) }
     ensures err { IfErr result IsFaultOfAsking }

@@ -1,13 +1,14 @@
-//! Why the program ends.
+//! Why the program stops.
 
 ghost use Rattle.std.specs.Prelude.{◌≡◌};
 ghost use Rattle.distmapd.specs.declared.fault.Fault.TheVariants.{NoMemory};
 
 use crate::refusal::Refusal;
+use dist_program::{PortError, TextError};
 use std::alloc::AllocError;
 use thiserror::Error;
 
-/// Why the program ends.
+/// Why the program stops.
 #[derive(Debug, Drop, Error)]
 pub enum Fault {
     /// The words of the command line or the environment ask for nothing. Whoever started it is to blame.
@@ -16,13 +17,16 @@ pub enum Fault {
     /// A word is no UTF-8. Whoever started it is to blame.
     #[error("a word of the command line or the environment is no UTF-8")]
     NoText,
+    /// ERL_EPMD_PORT names no port. Whoever set it is to blame.
+    #[error("{0}")]
+    BadMapperPort(PortError),
     /// An address is no IP address. Whoever started it is to blame.
     #[error("-address and ERL_EPMD_ADDRESS want IP addresses with commas between them")]
     BadAddress,
     /// It can't listen: the port is taken, an address is not this host's, or no socket was handed over.
     #[error("ListenFailed: the port is taken, an address is not of this host, or no socket was handed over")]
     ListenFailed,
-    /// The system doesn't tell what is ready.
+    /// The system doesn't report what is ready.
     #[error("ServeFailed")]
     ServeFailed,
     /// Nobody listens at the port of the port mapper.
@@ -46,8 +50,26 @@ impl Fault {
     /// The status that the program ends with.
     pub fn status(&self) -> u8 {
         match self {
-            Fault::BadWords(_) | Fault::NoText | Fault::BadAddress => 2,
+            Fault::BadWords(_) | Fault::NoText | Fault::BadMapperPort(_) | Fault::BadAddress => 2,
             _ => 1,
+        }
+    }
+}
+
+impl From<TextError> for Fault {
+    fn from(error: TextError) -> Fault {
+        match error {
+            TextError::NoText => Fault::NoText,
+            TextError::NoMemory => Fault::NoMemory,
+        }
+    }
+}
+
+impl From<PortError> for Fault {
+    fn from(error: PortError) -> Fault {
+        match error {
+            PortError::NoMemory => Fault::NoMemory,
+            bad => Fault::BadMapperPort(bad),
         }
     }
 }

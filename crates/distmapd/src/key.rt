@@ -10,6 +10,8 @@ ghost use Rattle.distmapd.specs.Words.{has_name, key_named, name_of};
 pub enum Key {
     /// The port comes next.
     Port,
+    /// The same, by the word that the other programs have for it.
+    Mapper,
     /// The addresses come next.
     Address,
     /// The seconds come next.
@@ -30,14 +32,15 @@ pub enum Key {
     Kill,
     /// A node is unregistered.
     Stop,
-    /// `epmd` tells what it does.
+    /// `epmd` prints what it does.
     Debug,
     /// `epmd` is ended though nodes are registered, and nodes are unregistered.
     Relaxed,
 }
 
-const ALL: [Key; 13] = [
+const ALL: [Key; 14] = [
     Key::Port,
+    Key::Mapper,
     Key::Address,
     Key::Timeout,
     Key::Clients,
@@ -59,6 +62,7 @@ impl Key {
     {
         match self {
             Key::Port => "-port",
+            Key::Mapper => "--epmd-port",
             Key::Address => "-address",
             Key::Timeout => "-packet_timeout",
             Key::Clients => "-max_clients",

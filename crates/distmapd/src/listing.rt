@@ -7,7 +7,7 @@ ghost use Rattle.distmapd.specs.Listing.{Prints, has_whole_lines, is_whole, line
 use crate::answer::Answer;
 use crate::fault::Fault;
 use crate::output::print;
-use dist_numerals::escape_lines;
+use dist_names::escape_lines;
 use std::alloc::{AllocError, Global};
 use std::io::Write;
 
@@ -44,8 +44,8 @@ fn listing(alloc: Global, port: u32, text: &[u8]) -> Result<String, AllocError>
 
 /// Prints what came of an answer.
 ///
-/// AnswerCut where it was printed and the answer isn't whole: its end did not come, or came in mid-line. NoAnswer where not even the
-/// port came, and NoMemory: then nothing is printed. WriteFailed where it could not be printed whole.
+/// AnswerCut where it was printed and the answer isn't whole: its end did not come, or came in mid-line. NoAnswer where not
+/// even the port came, and NoMemory: then nothing is printed. WriteFailed where it could not be printed whole.
 pub fn print_answer<W: Write>(alloc: Global, answer: &Answer, out: &mut W) -> Result<(), Fault>
     ensures { Prints (W.contents out.old) (W.contents out.new) answer.now result }
 {

@@ -18,10 +18,10 @@ use crate::output::print;
 use crate::reading::settings_of;
 use crate::settings::{Settings, Task};
 use crate::sockets::{listeners, port_of};
-use dist_serving::{Limits, Server, serve};
-use std::alloc::{AllocError, Global};
-use std::env::{self, VarError};
-use std::io::{self, ErrorKind, Write};
+use dist_epmd_server::{Limits, Server, serve};
+use dist_program::{mapper_port, report, texts, variable, words_of};
+use std::alloc::Global;
+use std::io::{self, Write};
 use std::net::Net;
 use std::process::ExitCode;
 use std::sync::Wait;
@@ -37,6 +37,7 @@ const HELP: &str =
 A port mapper for Erlang nodes, in place of epmd. It stays in the foreground.
 
   -port N            the port of the port mapper (ERL_EPMD_PORT, else 4369)
+  --epmd-port N      the same, by the word that the other programs have for it
   -address A,B       the IP addresses at which it listens, beside 127.0.0.1 (ERL_EPMD_ADDRESS, else all)
   -packet_timeout S  after how many seconds a client is closed that has not asked (60)
   -max_clients N     the most clients at once (4096)
@@ -57,38 +58,10 @@ const LEAST_CREATION: u32 = 4;
 const SECONDS: u64 = 1;
 
 fn main(rt: HostRuntime) -> ExitCode {
-    let (mut out, mut err) = (rt.stdout(), rt.stderr());
-    match perform(&rt, &rt, &mut out) {
+    match perform(&rt, &rt, &mut rt.stdout()) {
         Ok(()) => ExitCode::from(0),
-        Err(fault) => {
-            let _ = write!(err, "distmapd: {fault}\n");
-            ExitCode::from(fault.status())
-        }
+        Err(fault) => ExitCode::from(report(&mut rt.stderr(), "distmapd", &fault, fault.status())),
     }
-}
-
-// The words behind the program's name. One that is no UTF-8 is no word of a command.
-fn words_of(rt: &HostRuntime, alloc: Global) -> Result<Vec<String>, Fault> {
-    match env::args(rt) {
-        Ok(words) => words.skip(1).collect(alloc).map_err(|_| Fault::NoMemory),
-        Err(error) if error.kind() == ErrorKind::OutOfMemory => Err(Fault::NoMemory),
-        Err(_) => Err(Fault::NoText),
-    }
-}
-
-// What the environment says by this name. A text that is no UTF-8 asks for nothing, and is not passed over: the program would
-// listen where nobody asked it to.
-fn variable(rt: &HostRuntime, name: &str) -> Result<Option<String>, Fault> {
-    match env::var(rt, name) {
-        Ok(text) => Ok(Some(text)),
-        Err(VarError::NotPresent) => Ok(None),
-        Err(VarError::NotUnicode) => Err(Fault::NoText),
-        Err(VarError::OutOfMemory) => Err(Fault::NoMemory),
-    }
-}
-
-fn texts(alloc: Global, words: &[String]) -> Result<Vec<&str>, AllocError> {
-    words.iter().map(|word| word.as_str()).collect(alloc)
 }
 
 // Does what the words say. What may wait is handed in once more as `host`: outside of `main` the runtime itself does not.
@@ -98,11 +71,10 @@ fn perform<R: Net + Wait + Clock, W: Write>(
     out: &mut W,
 ) -> Result<(), Fault> {
     let alloc = rt.alloc();
-    let words = words_of(rt, alloc)?;
+    let words = words_of(rt)?;
     let words = texts(alloc, &words)?;
-    let port = variable(rt, "ERL_EPMD_PORT")?;
+    let port = mapper_port(rt)?;
     let address = variable(rt, "ERL_EPMD_ADDRESS")?;
-    let port = port.as_ref().map(|word| word.as_str());
     let address = address.as_ref().map(|word| word.as_str());
     let settings = match settings_of(&words, port, address) {
         Ok(settings) => settings,

@@ -1,17 +1,14 @@
-//! What the words of the command line and of the environment ask for, in the words of `epmd` (ERTS Reference Manual, epmd).
+//! What the words of the command line ask for, in the words of `epmd` (ERTS Reference Manual, epmd).
 //!
 //! It reads no environment, and it knows no address: words come in as texts, and the addresses stay a text.
 
 ghost use Rattle.std.specs.Prelude.{◌≡◌, ◌≤◌, IfSome};
-ghost use Rattle.distmapd.specs.Words.{number_of, after_awaited, after_key, key_named, opening, reads, settled_at, settings_of, usual};
+ghost use Rattle.distmapd.specs.Words.{number_of, after_awaited, after_key, key_named, reads, settled_at, settings_of, usual};
 
 use crate::key::Key;
 use crate::refusal::Refusal;
 use crate::settings::{Settings, Task};
-use dist_numerals::number_32;
-
-/// Where a port mapper listens, unless it is told otherwise. Source: ERTS Reference Manual, epmd.
-const PORT: u16 = 4369;
+use dist_names::number_32;
 
 /// After how many seconds a client is closed that has not asked. Source: ERTS Reference Manual, epmd.
 const SECONDS: u32 = 60;
@@ -63,13 +60,13 @@ fn number_of(word: &str, most: u32) -> Option<u32>
 }
 
 impl<'a> Settings<'a> {
-    // What is asked for without any word, with these addresses.
-    fn usual(addresses: Option<&'a str>) -> Settings<'a>
-        ensures { result ≡ usual addresses.entry }
+    // What is asked for without any word, at this port, with these addresses.
+    fn usual(port: u16, addresses: Option<&'a str>) -> Settings<'a>
+        ensures { result ≡ usual port addresses.entry }
     {
         Settings {
             task: Task::Serve,
-            port: PORT,
+            port,
             addresses,
             seconds: SECONDS,
             clients: CLIENTS,
@@ -83,7 +80,7 @@ impl<'a> Settings<'a> {
     {
         match Key::of_word(word) {
             None => return Err(Refusal::UnknownWord),
-            Some(Key::Port) => return reads(self, Awaits::Port),
+            Some(Key::Port | Key::Mapper) => return reads(self, Awaits::Port),
             Some(Key::Address) => return reads(self, Awaits::Address),
             Some(Key::Timeout) => return reads(self, Awaits::Timeout),
             Some(Key::Clients) => return reads(self, Awaits::Clients),
@@ -117,27 +114,17 @@ impl<'a> Settings<'a> {
     }
 }
 
-// What the words of the environment ask for.
-fn opening<'a>(port: Option<&'a str>, address: Option<&'a str>) -> Result<Reading<'a>, Refusal>
-    ensures { result ≡ opening port.entry address.entry }
-{
-    let settings = Settings::usual(address);
-    match port {
-        Some(word) => settings.after(Awaits::Port, word),
-        None => reads(settings, Awaits::Key),
-    }
-}
-
-/// What the words after the program's name ask for, and before them the words of ERL_EPMD_PORT and ERL_EPMD_ADDRESS. A later
-/// word stands for an earlier one, and the first that is bad is told.
+/// What the words after the program's name ask for. Without any it is to serve at `port`, and at the addresses of ERL_EPMD_ADDRESS. A
+/// later word stands for an earlier one, and the first that is bad is told.
 pub fn settings_of<'a>(
     words: &[&'a str],
-    port: Option<&'a str>,
+    port: u16,
     address: Option<&'a str>,
 ) -> Result<Settings<'a>, Refusal>
-    ensures { result ≡ settings_of port.entry address.entry words.now }
+    ensures { result ≡ settings_of port address.entry words.now }
 {
-    let mut reading = opening(port, address)?;
+    let settings = Settings::usual(port, address);
+    let mut reading = reads(settings, Awaits::Key)?;
     for word in words {
         reading = reading.settings.after(reading.awaits, word)?;
     }

@@ -2,8 +2,7 @@
 
 use thiserror::Error;
 
-/// Why the words ask for nothing: the first that is met, where those of the environment come before those of the command line.
-/// Whoever started the program is to blame.
+/// Why the words ask for nothing: the first that is met. Whoever started the program is to blame.
 #[derive(Clone, Copy, Debug, PartialEq, Eq, Error)]
 pub enum Refusal {
     /// A word is none of the program's.
@@ -16,7 +15,7 @@ pub enum Refusal {
     #[error("the last word wants a value behind it")]
     NoValue,
     /// The port is no number from 1 to 65,535.
-    #[error("-port and ERL_EPMD_PORT want a number from 1 to 65535")]
+    #[error("-port and --epmd-port want a number from 1 to 65535")]
     BadPort,
     /// The time is no number of seconds from 1 to 4,294,967,295.
     #[error("-packet_timeout wants a number of seconds from 1 to 4294967295")]

@@ -1,7 +1,8 @@
 -- How a fault ends the program.
 use Rattle.std.specs.Prelude.{ℕ}
 use Rattle.distnode.specs.declared.fault.Fault.{Fault}
-use Rattle.distnode.specs.declared.fault.Fault.TheVariants.{BadCommandLine, BadNodesFile, RunEnded, ReadFailed, WriteFailed, OpenFailed, NoCookie, ConnectFailed, NoAnswer, NoMemory}
+use Rattle.distnode.specs.declared.fault.Fault.TheVariants.{BadCommandLine, BadNodesFile, RunEnded, ReadFailed, WriteFailed}
+use Rattle.distnode.specs.declared.fault.Fault.TheVariants.{OpenFailed, NoCookie, ConnectFailed, NoAnswer, NoMemory}
 
 -- the exit status: 2 where what the user wrote is at fault, else 1
 abbrev pub status_of : Fault → ℕ

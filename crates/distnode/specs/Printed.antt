@@ -3,25 +3,29 @@ use Rattle.std.specs.Prelude.{◌≡◌, ℕ, zero, suc, List, [], ◌∷◌, �
 use Rattle.std.specs.List.{All, concat}
 use Rattle.std.specs.Io.KnownBytes.{Appends, Consumes, IsAtEnd}
 use Rattle.hex.specs.Hex.{encode_lower}
-use Rattle.dist_numerals.specs.Escaped.{escaped_lines, IsPrintableOrLineFeed}
+use Rattle.dist_names.specs.Escaped.{escaped_lines, IsPrintableOrLineFeed}
 use Rattle.dist_secret.specs.Digest.{digest_of}
 use Rattle.dist_secret.specs.Hearing.{Hears}
-use Rattle.dist_streams.specs.Stream.{StreamState}
+use Rattle.dist_stream.specs.Stream.{StreamState}
 use Rattle.dist_epmd.specs.declared.message.Request.TheVariants.{Names}
-use Rattle.dist_mapper.specs.Asking.{AsksFor, names_meant}
-use Rattle.dist_agreement.specs.World.{World}
-use Rattle.dist_books.specs.declared.closing.Closed.{Closed}
+use Rattle.dist_epmd_calls.specs.Asking.{AsksFor, names_meant}
+use Rattle.dist_world_model.specs.World.{World}
+use Rattle.dist_locked_book.specs.declared.closing.Closed.{Closed}
 use Rattle.dist_audit.specs.declared.audit_error.AuditError.{AuditError}
-use Rattle.dist_audit.specs.Audit.{AreOfOneWorld, EachLinkComesHome, EachTakesItsBody, Tells, TellsFirst, world_of}
+use Rattle.dist_audit.specs.Audit.{IsWorldOf, Tells, TellsFirst}
 use Rattle.dist_audit.specs.Refusals.{refusal_name, refusal_number}
-use Rattle.dist_plan.specs.declared.plan.Plan.{Plan}
-use Rattle.dist_plan.specs.Plans.{plan_of}
-use Rattle.dist_hosts.specs.Setups.{AreOfPlans}
-use Rattle.dist_hosts.specs.Words.{order_refusal_name}
-use Rattle.dist_hosts.specs.declared.order_fault.OrderFault.{OrderFault}
+use Rattle.dist_run_plan.specs.declared.plan.Plan.{Plan}
+use Rattle.dist_run_plan.specs.Plans.{plan_of}
+use Rattle.dist_run_hosts.specs.Setups.{AreOfPlans}
+use Rattle.dist_run_hosts.specs.Orders.{AreObeyed}
+use Rattle.dist_run_hosts.specs.Words.{order_refusal_name}
+use Rattle.dist_run_hosts.specs.declared.order_fault.OrderFault.{OrderFault}
 use Rattle.dist_run.specs.Runs.{AreInOrder}
-use Rattle.dist_lines.specs.Lines.{node_text}
-use Rattle.dist_lines.specs.Worlds.{nodes_text, AreAgreements}
+use Rattle.dist_script_lines.specs.Lines.{node_text}
+use Rattle.dist_script_lines.specs.Worlds.{nodes_text, AreAgreements}
+use Rattle.distnode.specs.declared.fault.Fault.{Fault}
+use Rattle.distnode.specs.declared.fault.Fault.TheVariants.{WriteFailed}
+use Rattle.distnode.specs.Fault.{status_of}
 
 -- a text of which this is so is written behind what stood
 abbrev pub Puts : (List ℕ → Type 0) → Option (List ℕ) → Option (List ℕ) → Type 0
@@ -31,7 +35,9 @@ Puts Is old new = (text : List ℕ) × Is text × Appends old new text
 
 -- cookie of L bytes, digest of C is HEX
 abbrev pub cookie_line : List ℕ → ℕ → List ℕ
-cookie_line cookie challenge = concat (codes "cookie of " ∷ decimal (length cookie) ∷ codes " bytes, digest of " ∷ decimal challenge ∷ codes " is " ∷ encode_lower (digest_of cookie challenge) ∷ codes "\n" ∷ [])
+cookie_line cookie challenge =
+    concat (codes "cookie of " ∷ decimal (length cookie) ∷ codes " bytes, digest of " ∷ decimal challenge
+    ∷ codes " is " ∷ encode_lower (digest_of cookie challenge) ∷ codes "\n" ∷ [])
 
 -- the line of the cookie that was read was put there
 abbrev pub PrintsCookie : Option (List ℕ) → Option (List ℕ) → ℕ → Option (List ℕ) → Option (List ℕ) → Type 0
@@ -39,13 +45,16 @@ PrintsCookie before after challenge old new = (cookie : List ℕ) × Hears befor
 
 -- ---- `names`
 
--- the text of the answer to a question for all nodes was put there, asked in at most so many turns
+-- the text of the answer to a question for all nodes was put there, asked in at most this many turns
 abbrev pub PrintsNames : StreamState → StreamState → ℕ → Option (List ℕ) → Option (List ℕ) → Type 0
-PrintsNames before after turns old new = (port : ℕ) × (text : List ℕ) × AsksFor Names before after turns names_meant (Ok (port, text)) × Appends old new text
+PrintsNames before after turns old new =
+    (port : ℕ) × (text : List ℕ) × AsksFor Names before after turns names_meant (Ok (port, text)) × Appends old new text
 
 -- ON A TERMINAL: the escape of that text was put there, of which no terminal acts upon a byte
 abbrev pub PrintsEscapedNames : StreamState → StreamState → ℕ → Option (List ℕ) → Option (List ℕ) → Type 0
-PrintsEscapedNames before after turns old new = (port : ℕ) × (text : List ℕ) × AsksFor Names before after turns names_meant (Ok (port, text)) × All IsPrintableOrLineFeed (escaped_lines text) × Appends old new (escaped_lines text)
+PrintsEscapedNames before after turns old new =
+    (port : ℕ) × (text : List ℕ) × AsksFor Names before after turns names_meant (Ok (port, text))
+    × All IsPrintableOrLineFeed (escaped_lines text) × Appends old new (escaped_lines text)
 
 -- ---- `run`
 
@@ -79,22 +88,45 @@ refusal_text e closed = closed_text closed ++ refused_line e
 abbrev pub IsHeld : World → List ℕ → Type 0
 IsHeld w text = (agreements : List ℕ) × AreAgreements w agreements × (text ≡ nodes_text w ++ agreements ++ codes "audit holds\n")
 
--- WHAT IS SAID OF CLOSED NODES, by the exit status: with 0 they are of one world, whose text it is; with 1 the audit's first
--- refusal is told
+-- WHAT IS PRINTED OF CLOSED NODES, by the exit status: with 0 they are of one world, whose text it is; with 1 the audit's first
+-- refusal is printed
 abbrev pub IsAudited : ℕ → List Closed → List ℕ → Type 0
-IsAudited zero closed text = AreOfOneWorld closed × EachLinkComesHome closed × EachTakesItsBody closed × IsHeld (world_of closed) text
+IsAudited zero closed text = (w : World) × IsWorldOf closed w × IsHeld w text
 IsAudited (suc zero) closed text = (e : AuditError) × Tells e closed × TellsFirst e closed × (text ≡ refusal_text e closed)
 IsAudited (suc (suc status)) closed text = ⊥
 
--- THE TEXT OF A RUN: the orders that made no dial, and what is said of its closed nodes
+-- THE TEXT OF A RUN: the orders that made no dial, and what is printed of its closed nodes
 abbrev pub IsOfRun : ℕ → List OrderFault → List Closed → List ℕ → Type 0
 IsOfRun status faults closed text = (said : List ℕ) × IsAudited status closed said × (text ≡ orders_text faults ++ said)
 
--- WHAT `run` PRINTS, by the exit status: the text of a run of the nodes file: some orders, in its order, that made no dial, and
--- closed nodes that are its nodes, as many, in its order, each set up as it says
-abbrev pub PrintsRun : List ℕ → ℕ → Option (List ℕ) → Option (List ℕ) → Type 0
-PrintsRun file status old new = (plan : Plan) × (faults : List OrderFault) × (closed : List Closed) × (plan_of file ≡ Some plan) × AreOfPlans plan.node closed × AreInOrder faults × Puts (IsOfRun status faults closed) old new
+-- WHAT `run` PRINTS, by the exit status: the text of a run of the nodes file
+pub record PrintsRun (file : List ℕ) (status : ℕ) (old new : Option (List ℕ)) : Type 0 where
+  -- what the file says
+  pub plan : Plan
+  -- the orders that made no dial
+  pub faults : List OrderFault
+  -- the nodes as they were closed
+  pub closed : List Closed
+  -- the file is a nodes file, and says just this
+  pub says : plan_of file ≡ Some plan
+  -- the closed nodes are the file's: as many, in its order, each set up as it says
+  pub nodes : AreOfPlans plan.node closed
+  -- those orders stand in the order of the file
+  pub order : AreInOrder faults
+  -- each order of the file made its dial once, or is one of those and made none; and no node made another dial
+  pub orders : AreObeyed plan.dial faults closed
+  -- just their text was put there
+  pub text : Puts (IsOfRun status faults closed) old new
 
--- with status 0, that of a nodes file that was read to its end
-abbrev pub PrintsRunOf : Option (List ℕ) → Option (List ℕ) → Option (List ℕ) → Option (List ℕ) → Type 0
-PrintsRunOf before after old new = (file : List ℕ) × Consumes before after file × IsAtEnd after × PrintsRun file 0 old new
+-- by the status, that of a nodes file that was read to its end
+abbrev pub PrintsRunOf : Option (List ℕ) → Option (List ℕ) → ℕ → Option (List ℕ) → Option (List ℕ) → Type 0
+PrintsRunOf before after status old new = (file : List ℕ) × Consumes before after file × IsAtEnd after × PrintsRun file status old new
+
+-- nothing was put there, unless a write failed
+abbrev pub IsUnprinted : Fault → Option (List ℕ) → Option (List ℕ) → Type 0
+IsUnprinted WriteFailed old new = Unit {0}
+IsUnprinted e old new = new ≡ old
+
+-- a fault of status 1 ended the command, and what it prints was not put there
+abbrev pub PrintsNothing : Option (List ℕ) → Option (List ℕ) → Type 0
+PrintsNothing old new = (e : Fault) × (status_of e ≡ 1) × IsUnprinted e old new

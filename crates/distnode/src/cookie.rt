@@ -7,8 +7,8 @@ ghost use Rattle.distnode.specs.Printed.{cookie_line, PrintsCookie};
 
 use crate::fault::Fault;
 use crate::output::write_text;
+use dist_script_words::{Piece, put};
 use dist_secret::{Cookie, digest, read_cookie};
-use dist_words::{Piece, put};
 use std::alloc::Global;
 use std::io;
 use std::io::{Read, Write};
@@ -58,7 +58,7 @@ fn perform<R: Read, W: Write>(
 }
 
 /// Prints how many bytes the cookie of a file has, and the digest of it and a challenge. The cookie itself is never
-/// printed. Answers the exit status, 0, or 1 for a fault, which is told on `err`.
+/// printed. Returns the exit status, 0, or 1 for a fault, which is reported on `err`.
 pub fn cookie<R: Read, W: Write, E: Write>(
     alloc: Global,
     file: &mut R,

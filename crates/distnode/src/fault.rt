@@ -1,15 +1,19 @@
-//! What ends a command before its work is done, and how that is told.
+//! What stops a command before its work is done, and how that is reported.
 
 ghost use Rattle.std.specs.Prelude.{◌≡◌};
 ghost use Rattle.distnode.specs.Fault.{status_of};
 
 use dist_commands::OrderError;
-use dist_hosts::RunError;
-use dist_mapper::LookupError;
+use dist_epmd_calls::LookupError;
+use dist_program::{TextError, report};
+use dist_run_hosts::RunError;
+use dist_script_words::ScriptFault;
 use dist_secret::CookieError;
-use dist_words::ScriptFault;
 use std::fmt;
 use std::io::Write;
+
+/// The name that stands before what is told on standard error.
+pub const PROGRAM: &str = "distnode";
 
 /// What ends a command. Its `Display` is what stands after `distnode: ` on standard error.
 #[derive(Clone, Copy, Debug, PartialEq, Eq)]
@@ -53,6 +57,15 @@ impl fmt::Display for Fault {
     }
 }
 
+impl From<TextError> for Fault {
+    fn from(error: TextError) -> Fault {
+        match error {
+            TextError::NoText => Fault::BadCommandLine,
+            TextError::NoMemory => Fault::NoMemory,
+        }
+    }
+}
+
 impl From<OrderError> for Fault {
     fn from(error: OrderError) -> Fault {
         match error {
@@ -88,11 +101,11 @@ impl Fault {
         }
     }
 
-    /// Tells the fault on standard error and answers the exit status. Where it cannot be told nothing is lost but the text.
+    /// Reports the fault on standard error and returns the exit status. Where it cannot be reported, nothing is lost but the
+    /// text.
     pub fn tell<E: Write>(self, err: &mut E) -> u8
         ensures { result ≡ status_of self }
     {
-        let _ = writeln!(err, "distnode: {self}");
-        self.status()
+        report(err, PROGRAM, &self, self.status())
     }
 }

@@ -1,6 +1,6 @@
 //! The program: handshakes of nodes by a script, the digest of a cookie, what a port mapper knows, and nodes at work.
 //!
-//! Each command is a public function over any reader and writers, which answers the exit status. Only `main` knows of
+//! Each command is a public function over any reader and writers, which returns the exit status. Only `main` knows of
 //! files, sockets and the process.
 #![tactic(auto)]
 
@@ -10,13 +10,13 @@ mod names;
 mod output;
 mod run;
 
-use crate::fault::Fault;
-use dist_commands::{Order, order_of};
-use dist_play::enact;
-use std::alloc::{AllocError, Global};
-use std::env;
+use crate::fault::{Fault, PROGRAM};
+use dist_commands::{Order, order_with};
+use dist_program::{MAPPER_PORT, PortError, mapper_port, talk_here, texts, words_of};
+use dist_script_play::enact;
+use std::alloc::Global;
 use std::fs::File;
-use std::io::{ErrorKind, IsTerminal, Write};
+use std::io::{IsTerminal, Write};
 use std::net::{Net, TcpListener, TcpStream};
 use std::process::ExitCode;
 use std::random::RandomSource;
@@ -28,7 +28,7 @@ fn main(rt: HostRuntime) -> ExitCode {
     ExitCode::from(answer(&rt, &rt, rt.alloc()))
 }
 
-// Does what the command line asks for, and answers the exit status. What starts threads is handed in once more as `host`:
+// Does what the command line asks for, and returns the exit status. What starts threads is handed in once more as `host`:
 // outside of `main` the runtime itself starts none.
 fn answer<R>(rt: &HostRuntime, host: &R, alloc: Global) -> u8
 where
@@ -54,37 +54,26 @@ where
         + RandomSource
         + Sync,
 {
-    let words = own_words(rt, alloc)?;
+    let words = words_of(rt)?;
     let words = texts(alloc, &words).map_err(|_| Fault::NoMemory)?;
-    let order = order_of(alloc, behind_the_first(&words))?;
-    Ok(follow(rt, host, order, &mut rt.stdout(), &mut rt.stderr()))
+    let named = mapper_port(rt);
+    let order = order_with(alloc, &words, port_or_usual(&named))?;
+    Ok(follow(rt, host, order, &named, &mut rt.stdout(), &mut rt.stderr()))
 }
 
-// The program's name and the words behind it. One that is no UTF-8 is no word of a command.
-fn own_words(rt: &HostRuntime, alloc: Global) -> Result<Vec<String>, Fault> {
-    match env::args(rt) {
-        Ok(words) => words.collect(alloc).map_err(|_| Fault::NoMemory),
-        Err(error) if error.kind() == ErrorKind::OutOfMemory => Err(Fault::NoMemory),
-        Err(_) => Err(Fault::BadCommandLine),
+// The port of the port mapper for words that name none. Where the environment names a bad one it is the usual port, and the command
+// that would ask there refuses.
+fn port_or_usual(named: &Result<u16, PortError>) -> u16 {
+    match named {
+        Ok(port) => *port,
+        Err(_) => MAPPER_PORT,
     }
-}
-
-// The words behind the program's name.
-fn behind_the_first<'w, 's>(words: &'w [&'s str]) -> &'w [&'s str] {
-    match words {
-        [_, rest @ ..] => rest,
-        [] => words,
-    }
-}
-
-fn texts(alloc: Global, words: &[String]) -> Result<Vec<&str>, AllocError> {
-    words.iter().map(|word| word.as_str()).collect(alloc)
 }
 
 // What the port mapper knows, as it came, or by its escape where standard output is a terminal.
 fn print_names<W: Write, E: Write>(rt: &HostRuntime, port: u16, out: &mut W, err: &mut E) -> u8 {
     let alloc = rt.alloc();
-    match names::connected(rt, port) {
+    match talk_here(rt, port) {
         Ok(mut stream) if rt.stdout().is_terminal() => names::names_on_terminal(
             alloc,
             &mut stream,
@@ -96,11 +85,26 @@ fn print_names<W: Write, E: Write>(rt: &HostRuntime, port: u16, out: &mut W, err
     }
 }
 
+// The same, unless the environment names a bad port, whatever port the command line names.
+fn ask_for_names<W: Write, E: Write>(
+    rt: &HostRuntime,
+    named: &Result<u16, PortError>,
+    port: u16,
+    out: &mut W,
+    err: &mut E,
+) -> u8 {
+    match named {
+        Ok(_) => print_names(rt, port, out, err),
+        Err(error) => error.tell(PROGRAM, err),
+    }
+}
+
 // Does what an order says, and answers the exit status.
 fn follow<R, W: Write, E: Write>(
     rt: &HostRuntime,
     host: &R,
     order: Order<'_>,
+    named: &Result<u16, PortError>,
     out: &mut W,
     err: &mut E,
 ) -> u8
@@ -119,7 +123,7 @@ where
             Ok(mut file) => cookie::cookie(alloc, &mut file, challenge, out, err),
             Err(_) => Fault::OpenFailed.tell(err),
         },
-        Order::Names { port } => print_names(rt, port, out, err),
+        Order::Names { port } => ask_for_names(rt, named, port, out, err),
         Order::Run { file } => match File::open(rt, file) {
             Ok(mut file) => run::run_file(host, alloc, &mut file, out, err),
             Err(_) => Fault::OpenFailed.tell(err),

@@ -6,35 +6,16 @@ ghost use Rattle.distnode.specs.Printed.{PrintsNames, PrintsEscapedNames};
 
 use crate::fault::Fault;
 use crate::output::write_text;
-use dist_mapper::ask_names;
-use dist_numerals::escape_lines;
-use dist_streams::{DeadlineStream, Stream, connect_by, deadline_after};
+use dist_epmd_calls::ask_names;
+use dist_names::escape_lines;
+use dist_stream::Stream;
 use std::alloc::{AllocError, Global};
-use std::io::{self, Write};
-use std::net::{Ipv4Addr, SocketAddr};
-use std::time::Duration;
+use std::io::Write;
 
 /// The most turns. A turn is one read or one write, a quiet one among them. A real port mapper writes each line of its answer
 /// by itself, so that as many reads may be needed as it knows nodes: an `epmd` holds some 1,018, and there is room for 1,024.
 /// Our own choice.
 const MOST_TURNS: usize = 1280;
-
-/// How long the question and its answer may take, whatever comes meanwhile. Our own choice.
-const ANSWER_IN_SECONDS: u64 = 5;
-
-/// How long a connect may take. Where so many connections wait to be accepted that the system drops further ones, a connect
-/// without a limit waits some two minutes. Our own choice.
-const CONNECT_IN_SECONDS: u64 = 8;
-
-/// A connection to the port mapper of this host, which is quiet once the time of the answer is over. TimedOut where it was not
-/// made within the time of a connect; any other error is the system's.
-pub fn connected(rt: &HostRuntime, port: u16) -> io::Result<DeadlineStream<&HostRuntime>> {
-    let address = SocketAddr::from((Ipv4Addr::LOCALHOST, port));
-    let until = deadline_after(rt, Duration::from_secs(CONNECT_IN_SECONDS))?;
-    let stream = connect_by(rt, &address, until)?.into_inner();
-    let until = deadline_after(rt, Duration::from_secs(ANSWER_IN_SECONDS))?;
-    Ok(DeadlineStream::new(stream, rt, until))
-}
 
 fn perform<S: Stream, W: Write>(alloc: Global, stream: &mut S, out: &mut W) -> Result<(), Fault>
     ensures status { IfErr result (λ fault. status_of fault ≡ 1) }
@@ -44,8 +25,8 @@ fn perform<S: Stream, W: Write>(alloc: Global, stream: &mut S, out: &mut W) -> R
     write_text(out, text.as_slice())
 }
 
-/// Asks a port mapper for the nodes that it knows, and prints the text of its answer as it came. Answers the exit
-/// status, 0, or 1 for a fault, which is told on `err`: that of the question, or a write that failed.
+/// Asks a port mapper for the nodes that it knows, and prints the text of its answer as it came. Returns the exit
+/// status, 0, or 1 for a fault, which is reported on `err`: that of the question, or a write that failed.
 pub fn names<S: Stream, W: Write, E: Write>(
     alloc: Global,
     stream: &mut S,

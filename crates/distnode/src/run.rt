@@ -1,18 +1,19 @@
 //! The command `run`: the nodes of a nodes file at work, on this host.
 
-ghost use Rattle.std.specs.Prelude.{◌≡◌, ◌≤◌, Some, IfOk, OnOk};
+ghost use Rattle.std.specs.Prelude.{◌≡◌, ◌≤◌, ◌⊎◌, Some, IfOk, IfErr, OnOk};
 ghost use Rattle.std.specs.Io.KnownBytes.{Appends};
-ghost use Rattle.distnode.specs.Printed.{order_line, orders_text, closed_text, refused_line, refusal_text, Puts, IsHeld, IsAudited, IsOfRun, PrintsRun, PrintsRunOf};
-ghost use Rattle.dist_plan.specs.Plans as plans;
+ghost use Rattle.distnode.specs.Printed.{order_line, orders_text, closed_text, refused_line, refusal_text};
+ghost use Rattle.distnode.specs.Printed.{Puts, IsHeld, IsAudited, IsOfRun, IsUnprinted, PrintsRun, PrintsRunOf, PrintsNothing};
+ghost use Rattle.dist_run_plan.specs.Plans as plans;
 
 use crate::fault::Fault;
 use crate::output::write_text;
 use dist_audit::{AuditError, audit};
-use dist_lines::{print, print_agreements, print_nodes};
 use dist_locked::{Closed, Gate, Open};
-use dist_plan::{Plan, PlanError, plan_of};
 use dist_run::{OrderFault, Ran, run_plan};
-use dist_words::{Piece, ScriptFault, put, read_text};
+use dist_run_plan::{Plan, PlanError, plan_of};
+use dist_script_lines::{print, print_agreements, print_nodes};
+use dist_script_words::{Piece, ScriptFault, put, read_text};
 use dist_world::World;
 use std::alloc::Global;
 use std::io::{Read, Write};
@@ -107,7 +108,7 @@ fn print_refusal<W: Write>(out: &mut W, all: &[Closed], error: AuditError) -> io
     print_error(out, error)
 }
 
-// What the audit says of closed nodes. Answers the exit status.
+// What the audit says of closed nodes. Returns the exit status.
 #[tactic(auto, using(crate::proofs::Printing::says_held, crate::proofs::Printing::says_refused))]
 fn print_audit<W: Write>(alloc: Global, out: &mut W, all: &[Closed]) -> Result<u8, ScriptFault>
     ensures status { IfOk result (λ status. status ≤ 1) }
@@ -125,7 +126,7 @@ fn print_audit<W: Write>(alloc: Global, out: &mut W, all: &[Closed]) -> Result<u
     }
 }
 
-// What the nodes left, and what the audit says of it. Answers the exit status.
+// What the nodes left, and what the audit says of it. Returns the exit status.
 fn print_ran<W: Write>(alloc: Global, out: &mut W, ran: &Ran) -> Result<u8, ScriptFault>
     ensures status { IfOk result (λ status. status ≤ 1) }
     ensures printed { IfOk result (λ status. Puts (IsOfRun status ran.now.faults.items ran.now.closed.items) (W.contents out.old) (W.contents out.new)) }
@@ -138,9 +139,11 @@ fn print_ran<W: Write>(alloc: Global, out: &mut W, ran: &Ran) -> Result<u8, Scri
 }
 
 // Prints what a run left. Answers the exit status.
+#[tactic(auto, using(crate::proofs::Printing::unprinted, crate::proofs::Printing::cut))]
 fn put_ran<W: Write>(alloc: Global, ran: &Ran, out: &mut W) -> Result<u8, Fault>
     ensures status { IfOk result (λ status. status ≤ 1) }
     ensures printed { IfOk result (λ status. Puts (IsOfRun status ran.now.faults.items ran.now.closed.items) (W.contents out.old) (W.contents out.new)) }
+    ensures err { IfErr result (λ fault. IsUnprinted fault (W.contents out.old) (W.contents out.new)) }
 {
     let mut text = Vec::new(alloc);
     let Ok(status) = print_ran(alloc, &mut text, ran) else {
@@ -151,7 +154,7 @@ fn put_ran<W: Write>(alloc: Global, ran: &Ran, out: &mut W) -> Result<u8, Fault>
 }
 
 // Runs the nodes of a text, audits what they leave, and prints it. Answers the exit status.
-#[tactic(auto, using(crate::proofs::Printing::of_text))]
+#[tactic(auto, using(crate::proofs::Printing::of_text, crate::proofs::Printing::unprinted))]
 fn perform<R, G, W: Write>(
     rt: &R,
     alloc: Global,
@@ -169,6 +172,7 @@ where
     G: Gate + Sync,
     ensures status { IfOk result (λ status. status ≤ 1) }
     ensures printed { IfOk result (λ status. PrintsRun text.now status (W.contents out.old) (W.contents out.new)) }
+    ensures err { IfErr result (λ fault. IsUnprinted fault (W.contents out.old) (W.contents out.new)) }
 {
     let plan = plan_in(alloc, text)?;
     let ran = run_plan(rt, alloc, &plan, gate).map_err(Fault::RunEnded)?;
@@ -178,8 +182,8 @@ where
 /// Runs the nodes of a nodes file on this host until all their connections were quiet for as many turns as it says, and
 /// prints the orders that made no dial, then what the audit says: for each node its line and its table and for each two that
 /// are up with one another what they agree on, all from the audit's world, and `audit holds`; or the tables of the closed
-/// nodes and `audit refused`. Answers the exit status: 0 where the audit holds, 2 for a text that is no nodes file, 1 for a
-/// refused audit or another fault. A fault is told on `err`; nothing was printed then, unless a write failed.
+/// nodes and `audit refused`. Returns the exit status: 0 where the audit holds, 2 for a text that is no nodes file, 1 for a
+/// refused audit or another fault. A fault is reported on `err`; nothing was printed then, unless a write failed.
 #[tactic(auto, using(crate::proofs::Printing::never_zero))]
 pub fn run_nodes<R, G, W: Write, E: Write>(
     rt: &R,
@@ -199,9 +203,14 @@ where
     G: Gate + Sync,
     ensures status { result ≤ 2 }
 
-    // Status 0 comes only where the audit holds of the nodes of the text, each closed as it was set up there, and what was
-    // printed is the text of the world that it found.
+    // Status 0 comes only where the audit holds of the nodes of the text, each closed as it was set up there, and each order
+    // of the text made its dial once or has its line, and what was printed is the text of the world that it found.
     ensures printed { result ≡ 0 → PrintsRun text.now 0 (W.contents out.old) (W.contents out.new) }
+
+    // With status 1 the audit refused, and what was printed are the nodes as they were closed, and why; or a fault ended the
+    // run, and nothing was printed, unless the write failed.
+    ensures refused { result ≡ 1 → PrintsRun text.now 1 (W.contents out.old) (W.contents out.new)
+        ⊎ PrintsNothing (W.contents out.old) (W.contents out.new) }
 {
     match perform(rt, alloc, text, gate, out) {
         Ok(status) => status,
@@ -226,7 +235,9 @@ where
         + RandomSource
         + Sync,
     ensures status { result ≤ 2 }
-    ensures printed { result ≡ 0 → PrintsRunOf (F.remaining file.old) (F.remaining file.new) (W.contents out.old) (W.contents out.new) }
+    ensures printed { result ≡ 0 → PrintsRunOf (F.remaining file.old) (F.remaining file.new) 0 (W.contents out.old) (W.contents out.new) }
+    ensures refused { result ≡ 1 → PrintsRunOf (F.remaining file.old) (F.remaining file.new) 1 (W.contents out.old) (W.contents out.new)
+        ⊎ PrintsNothing (W.contents out.old) (W.contents out.new) }
 {
     let bytes = match read_text(alloc, file) {
         Ok(bytes) => bytes,

@@ -1,9 +1,9 @@
--- What the exports say that take or give bodies without their lengths.
+-- The contracts of the exports that take or give bodies without their lengths.
 use Rattle.std.specs.Prelude.{ℕ, List, length, nat_le, slice_get, Bool, true, false, Option, Some, None}
 use Rattle.dist_frames.specs.Stream.{bodies}
 use Rattle.dist_peers.specs.declared.entry.EndId.{EndId}
-use Rattle.dist_guest.specs.Calls.{answer_to, frame_to}
-use Rattle.dist_guest.specs.declared.guest.Guest.{Guest}
+use Rattle.dist_c_guest.specs.Calls.{answer_to, frame_to}
+use Rattle.dist_c_guest.specs.declared.guest.Guest.{Guest}
 use Rattle.distnode_c.specs.declared.told.DnReply.{DnReply}
 use Rattle.distnode_c.specs.Mapper.{Leaves}
 use Rattle.distnode_c.specs.Steps.{Copies, Keeps, Makes, said}
@@ -27,7 +27,7 @@ abbrev pub CopiesAt : Option (List ℕ) → ℕ → ℕ → ℕ → List ℕ →
 CopiesAt None code had len old new = Leaves 6 code had len old new
 CopiesAt (Some body) code had len old new = Copies body code len old new
 
--- the body at a place of what the newest reply says is copied, where there is a guest (1)
+-- the body at a place of what the newest reply sends is copied, where there is a guest (1)
 abbrev pub SaysBody : ℕ → Option Guest → ℕ → ℕ → ℕ → List ℕ → List ℕ → Type 0
 SaysBody place None code had len old new = Leaves 1 code had len old new
 SaysBody place (Some s) code had len old new = CopiesAt (slice_get (bodies (said s.last)) place) code had len old new

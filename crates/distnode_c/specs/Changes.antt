@@ -1,4 +1,4 @@
--- What the exports say that change the setup of a node, between two steps.
+-- The contracts of the exports that change the setup of a node, between two steps.
 use Rattle.std.specs.Prelude.{◌≡◌, ℕ, ◌⊎◌, List, Bool, true, false, Option, Some, None, Result, Ok, Err}
 use Rattle.dist_names.specs.declared.name_error.NameError.{NameError}
 use Rattle.dist_secret.specs.declared.cookie_error.CookieError.{CookieError}
@@ -6,23 +6,23 @@ use Rattle.dist_core.specs.declared.changing.ChangeError.{ChangeError}
 use Rattle.dist_core.specs.declared.changing.Change.TheVariants.{Cookie, UsualCookie}
 use Rattle.dist_core.specs.Changing.{change}
 use Rattle.dist_core.specs.Node.{NodeState}
-use Rattle.dist_guest.specs.declared.guest.Guest.{Guest}
+use Rattle.dist_c_guest.specs.declared.guest.Guest.{Guest}
 use Rattle.dist_names.specs.NodeName.{named}
-use Rattle.dist_guest.specs.Forms.{formed, has_form}
-use Rattle.dist_guest.specs.Planning.{lets_in, shuts_out, with_form, without_form}
+use Rattle.dist_c_guest.specs.Forms.{formed, has_form}
+use Rattle.dist_c_guest.specs.Planning.{lets_in, shuts_out, with_form, without_form}
 use Rattle.distnode_c.specs.Codes.{name_code, cookie_code, change_code}
 
 -- nothing changed, with this code
 abbrev pub Stays : ℕ → ℕ → Guest → Guest → Type 0
 Stays wanted code old new = (code ≡ wanted) × (new ≡ old)
 
--- the node is the definition's after a change, and what its newest step answered and heard stays; or the definition's refusal
--- is told; where it refuses nothing memory may be wanted (3)
+-- the node is the definition's after a change, and what its newest step returned and received stays; or the definition's refusal
+-- is returned; where it refuses nothing memory may run out (3)
 abbrev pub Amends : Result NodeState ChangeError → ℕ → Guest → Guest → Type 0
 Amends (Ok n) code old new = ((code ≡ 0) × (new ≡ record old { node = n })) ⊎ Stays 3 code old new
 Amends (Err e) code old new = Stays (change_code e) code old new
 
--- every peer of this form may connect, beside those that might; memory may be wanted (3)
+-- every peer of this form may connect, beside those that might; memory may run out (3)
 abbrev pub AllowsForm : Result (List ℕ) NameError → ℕ → Guest → Guest → Type 0
 AllowsForm (Ok form) code old new = ((code ≡ 0) × (new ≡ with_form old form)) ⊎ Stays 3 code old new
 AllowsForm (Err e) code old new = Stays (name_code e) code old new
@@ -51,7 +51,7 @@ abbrev pub DisallowsText : Bool → List ℕ → ℕ → Guest → Guest → Typ
 DisallowsText true text code old new = DisallowsForm (formed text) code old new
 DisallowsText false text code old new = Disallows (named text) code old new
 
--- a peer has this cookie, or the first reason why not; memory may be wanted for both, whatever the change
+-- a peer has this cookie, or the first reason why not; memory may run out for both, whatever the change
 abbrev pub Keys : Result (List ℕ) NameError → Result (List ℕ) CookieError → ℕ → Guest → Guest → Type 0
 Keys (Err e) cookie code old new = Stays (name_code e) code old new
 Keys (Ok p) (Err e) code old new = Stays (cookie_code e) code old new

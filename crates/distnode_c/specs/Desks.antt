@@ -7,10 +7,10 @@ use Rattle.dist_epmd.specs.declared.message.Request.{Request}
 use Rattle.dist_epmd.specs.declared.message.Answer.{Answer}
 use Rattle.dist_epmd.specs.declared.message.Answer.TheVariants as answer
 use Rattle.dist_epmd.specs.Answering.{is_want}
-use Rattle.dist_epmd.specs.Book.{Book, opening, after_closed}
+use Rattle.dist_epmd.specs.Registrations.{Registrations, opening, after_closed}
 use Rattle.dist_epmd.specs.Layout.{written_answer}
 use Rattle.dist_epmd.specs.Reading.{read_request}
-use Rattle.dist_mapper.specs.Mapping.{Allows}
+use Rattle.dist_epmd_calls.specs.Mapping.{Allows}
 use Rattle.distnode_c.specs.declared.desk.Desk.{Desk}
 use Rattle.distnode_c.specs.declared.desk.DeskError.{DeskError}
 use Rattle.distnode_c.specs.declared.desk.DeskError.TheVariants as desk
@@ -25,7 +25,7 @@ registered_number (answer.AliveX r c) = if r == 0 then 1 else 0
 registered_number (answer.Alive r c) = if r == 0 then 1 else 0
 registered_number other = 0
 
--- a request was answered as the registry's rules allow, and the answer is kept; or memory was wanted, and nothing changed
+-- a request was answered as the registry's rules allow, and the answer is kept; or memory ran out, and nothing changed
 abbrev pub IsAnswered : Result (Unit {0}) EpmdError → ℕ → Request → Desk → Desk → Type 0
 IsAnswered (Ok u) conn request old new = (given : Answer) × Allows old.registry conn request given new.registry × (new.last ≡ Some given)
 IsAnswered (Err e) conn request old new = (e ≡ epmd.NoMemory) × (new ≡ old)
@@ -44,15 +44,16 @@ IsHeard result conn (Some body) old new = IsHeardOf result conn (2 + length body
 
 -- ---- the exports
 
--- there is a registry without nodes, or memory was wanted (3); one that is there stays (2)
+-- there is a registry without nodes, or memory ran out (3); one that is there stays (2)
 abbrev pub Opens : ℕ → ℕ → ℕ → Option Desk → Option Desk → Type 0
 Opens port first code (Some d) new = (code ≡ 2) × (new ≡ Some d)
 Opens port first code None new = ((code ≡ 0) × (new ≡ Some (record { registry = opening port first; last = None }))) ⊎ ((code ≡ 3) × (new ≡ None))
 
--- THE ANSWER, as C has it: one that the rules allow is kept and told of, or memory was wanted (3)
+-- THE ANSWER, as C has it: one that the rules allow is kept and reported, or memory ran out (3)
 abbrev pub Serves : ℕ → Request → ℕ → ℕ → Desk → Option Desk → DnServed → DnServed → Type 0
 Serves conn request taken code d new was is =
-    ((given : Answer) × (after : Book) × Allows d.registry conn request given after × (code ≡ 0) × (new ≡ Some (record { registry = after; last = Some given })) × (is ≡ record { taken = taken; registered = registered_number given }))
+    ((given : Answer) × (after : Registrations) × Allows d.registry conn request given after × (code ≡ 0)
+    × (new ≡ Some (record { registry = after; last = Some given })) × (is ≡ record { taken = taken; registered = registered_number given }))
     ⊎ Untold 3 code (Some d) new was is
 
 -- the same of what a frame's body spells, or why it is refused
@@ -75,7 +76,7 @@ abbrev pub answer_text : Option Answer → Result (List ℕ) EpmdError
 answer_text None = Ok []
 answer_text (Some given) = written_answer given
 
--- a text is copied, or memory was wanted, or the reason why there is no text
+-- a text is copied, or memory ran out, or the reason why there is no text
 abbrev pub CopiesText : Result (List ℕ) EpmdError → ℕ → ℕ → ℕ → List ℕ → List ℕ → Type 0
 CopiesText (Ok text) code had len old new = Copies text code len old new ⊎ Leaves 3 code had len old new
 CopiesText (Err e) code had len old new = Leaves (epmd_code e) code had len old new

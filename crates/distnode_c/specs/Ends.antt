@@ -1,15 +1,15 @@
--- What is told of an end, and of the oldest one that is not up.
+-- What is reported of an end, and of the oldest one that is not up.
 use Rattle.std.specs.Prelude.{◌≡◌, ℕ, zero, suc, List, [], length, nat_le, Option, Some, None, slice_get, count_by}
 use Rattle.dist_names.specs.Order.{Name}
 use Rattle.dist_peers.specs.declared.entry.EndId.{EndId}
-use Rattle.dist_ends.specs.declared.phase.Phase.{Phase}
-use Rattle.dist_ends.specs.declared.phase.Phase.TheVariants as phase
-use Rattle.dist_ends.specs.declared.known.End.{End}
-use Rattle.dist_ends.specs.declared.known.End.TheVariants as ends
-use Rattle.dist_ends.specs.Ends.{is_open, oldest_pending}
-use Rattle.dist_ends.specs.Forgetting.{forgotten}
-use Rattle.dist_guest.specs.Calls.{renewed}
-use Rattle.dist_guest.specs.declared.guest.Guest.{Guest}
+use Rattle.dist_core_ends.specs.declared.phase.Phase.{Phase}
+use Rattle.dist_core_ends.specs.declared.phase.Phase.TheVariants as phase
+use Rattle.dist_core_ends.specs.declared.known.End.{End}
+use Rattle.dist_core_ends.specs.declared.known.End.TheVariants as ends
+use Rattle.dist_core_ends.specs.Ends.{is_open, oldest_pending}
+use Rattle.dist_core_ends.specs.Forgetting.{forgotten}
+use Rattle.dist_c_guest.specs.Calls.{renewed}
+use Rattle.dist_c_guest.specs.declared.guest.Guest.{Guest}
 use Rattle.distnode_c.specs.declared.ends.DnEnd.{DnEnd}
 use Rattle.distnode_c.specs.Codes.{why_number}
 use Rattle.distnode_c.specs.Steps.{CopiesIf, Silent}
@@ -49,7 +49,7 @@ end_peer _ = []
 abbrev pub end_told : Option End → DnEnd
 end_told o = record { peer = length (end_peer o); phase = end_number o; why = end_why o }
 
--- an end is told, and the name of its peer copied
+-- an end is reported, and the name of its peer copied
 abbrev pub TellsEnd : Option End → ℕ → DnEnd → DnEnd → List ℕ → List ℕ → Type 0
 TellsEnd o code was is old new = (is ≡ end_told o) × CopiesIf (nat_le (length (end_peer o)) (length old)) (end_peer o) code old new
 
@@ -58,12 +58,12 @@ abbrev pub TellsEndAt : ℕ → Option Guest → ℕ → DnEnd → DnEnd → Lis
 TellsEndAt id None code was is old new = (code ≡ 1) × (is ≡ was) × (new ≡ old)
 TellsEndAt id (Some s) code was is old new = TellsEnd (slice_get s.node.ends id) code was is old new
 
--- the number of an end is told, or there is none (6)
+-- the number of an end is reported, or there is none (6)
 abbrev pub TellsId : Option EndId → ℕ → ℕ → ℕ → Type 0
 TellsId None code was is = Silent 6 code was is
 TellsId (Some x) code was is = (code ≡ 0) × (is ≡ x.0)
 
--- the oldest pending end is told, where there is a guest (1)
+-- the oldest pending end is reported, where there is a guest (1)
 abbrev pub TellsOldest : Option Guest → ℕ → ℕ → ℕ → Type 0
 TellsOldest None code was is = Silent 1 code was is
 TellsOldest (Some s) code was is = TellsId (oldest_pending s.node.ends) code was is
@@ -72,7 +72,7 @@ TellsOldest (Some s) code was is = TellsId (oldest_pending s.node.ends) code was
 abbrev pub forgetful : ℕ → Guest → Guest
 forgetful below s = record s { node = record s.node { ends = forgotten below s.node.ends } }
 
--- a guest begins anew, or is left as it is while ends are open (16), of which there are so many
+-- a guest begins anew, or is left as it is while ends are open (16), of which there are this many
 abbrev pub RenewsWith : ℕ → ℕ → Guest → Option Guest → Type 0
 RenewsWith zero code s new = (code ≡ 0) × (new ≡ Some (renewed s))
 RenewsWith (suc open_ends) code s new = (code ≡ 16) × (new ≡ Some s)

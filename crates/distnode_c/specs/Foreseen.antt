@@ -1,18 +1,18 @@
--- What the exports say that tell beforehand what a step would answer. None changes the node.
+-- The contracts of the exports that foresee what a step would return. None changes the node.
 use Rattle.std.specs.Prelude.{◌≡◌, ℕ, ◌+◌, ◌⊎◌, List, length, Bool, true, false, Option, Some, None, Result, Ok, Err}
 use Rattle.dist_peers.specs.declared.entry.EndId.{EndId}
 use Rattle.dist_core.specs.declared.reply.Reply.{Reply}
 use Rattle.dist_core.specs.declared.step_error.StepError.{StepError}
 use Rattle.dist_core.specs.Node.{NodeState}
-use Rattle.dist_guest.specs.Calls.{answer_to}
-use Rattle.dist_guest.specs.declared.guest.Guest.{Guest}
+use Rattle.dist_c_guest.specs.Calls.{answer_to}
+use Rattle.dist_c_guest.specs.declared.guest.Guest.{Guest}
 use Rattle.distnode_c.specs.declared.told.DnReply.{DnReply}
 use Rattle.distnode_c.specs.Codes.{step_code}
 use Rattle.distnode_c.specs.Told.{told}
 use Rattle.distnode_c.specs.Steps.{Silent}
 use Rattle.distnode_c.specs.Bodies.{is_short}
 
--- the reply of a step is told, or its refusal, or memory was wanted for the answer (3)
+-- the reply of a step is reported, or its refusal, or memory ran out for the answer (3)
 abbrev pub Foresees : Result (Reply × NodeState) StepError → ℕ → ℕ → DnReply → DnReply → Type 0
 Foresees (Ok x) taken code was is = ((code ≡ 0) × (is ≡ told x.0 taken)) ⊎ Silent 3 code was is
 Foresees (Err e) taken code was is = Silent (step_code e) code was is

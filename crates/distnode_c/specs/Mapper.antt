@@ -1,4 +1,4 @@
--- What the exports say that write and read the port mapper's messages, and that of a digest.
+-- The contracts of the exports that write and read the port mapper's messages, and of the one that makes a digest.
 use Rattle.std.specs.Prelude.{◌≡◌, ℕ, ◌^◌, ◌≤◌, ◌⊎◌, List, [], length, Result, Ok, Err}
 use Rattle.std.specs.Int.{w16}
 use Rattle.dist_frames.specs.Stream.{framed}
@@ -13,7 +13,7 @@ use Rattle.distnode_c.specs.declared.mapper.DnInfo.{DnInfo}
 use Rattle.distnode_c.specs.Codes.{cookie_code, epmd_code}
 use Rattle.distnode_c.specs.Steps.{Copies}
 
--- what is told of a text that is not copied: this code, and the room and the length are as they were
+-- what is reported of a text that is not copied: this code, and the room and the length are as they were
 abbrev pub Leaves : ℕ → ℕ → ℕ → ℕ → List ℕ → List ℕ → Type 0
 Leaves wanted code had len old new = (code ≡ wanted) × (len ≡ had) × (new ≡ old)
 
@@ -25,20 +25,28 @@ Asks (Err e) code had len old new = Leaves (epmd_code e) code had len old new
 
 -- the request of a registration
 abbrev pub alive_of : DnInfo → List ℕ → Request
-alive_of i name = request.Alive (record { port = i.port; node_type = i.node_type; protocol = i.protocol; highest = i.highest; lowest = i.lowest; name = name; extra = [] })
+alive_of i name = request.Alive (record {
+  port = i.port;
+  node_type = i.node_type;
+  protocol = i.protocol;
+  highest = i.highest;
+  lowest = i.lowest;
+  name = name;
+  extra = [];
+})
 
--- nothing was told, with this code
+-- nothing was reported but this code
 abbrev pub Untold : {X Y : Type 0} → ℕ → ℕ → X → X → Y → Y → Type 0
 Untold wanted code was is had has = (code ≡ wanted) × (is ≡ was) × (has ≡ had)
 
--- what is told of the answer to a registration, which takes no memory
+-- what is reported of the answer to a registration, which takes no memory
 abbrev pub AliveTold : Result Answer EpmdError → ℕ → ℕ → ℕ → ℕ → ℕ → Type 0
 AliveTold (Ok (answer.AliveX r c)) code was is had has = (code ≡ 0) × (is ≡ r) × (has ≡ c)
 AliveTold (Ok (answer.Alive r c)) code was is had has = (code ≡ 0) × (is ≡ r) × (has ≡ c)
 AliveTold (Ok other) code was is had has = Untold 40 code was is had has ⊎ Untold 3 code was is had has
 AliveTold (Err e) code was is had has = Untold (epmd_code e) code was is had has
 
--- what is told of the answer to a lookup: memory may be wanted only for a node
+-- what is reported of the answer to a lookup: memory may run out only for a node
 abbrev pub PortTold : Result Answer EpmdError → ℕ → ℕ → ℕ → DnInfo → DnInfo → Type 0
 PortTold (Ok (answer.Port (Ok i))) code was is had has =
     ((code ≡ 0) × (is ≡ 0) × (has ≡ record { port = i.port; highest = i.highest; lowest = i.lowest; node_type = i.node_type; protocol = i.protocol }))

@@ -1,18 +1,18 @@
--- What the exports say that make a node, let it go or ask it.
+-- The contracts of the exports that make a node, let it go or ask it.
 use Rattle.std.specs.Prelude.{◌≡◌, ℕ, ◌⊎◌, ◌||◌, ◌==◌, if◌then◌else◌, List, [], length, nat_le, Option, Some, None, Result, Ok, Err}
 use Rattle.dist_names.specs.Order.{Name}
 use Rattle.dist_names.specs.declared.name_error.NameError.{NameError}
 use Rattle.dist_secret.specs.declared.cookie_error.CookieError.{CookieError}
 use Rattle.dist_peers.specs.declared.entry.EndId.{EndId}
-use Rattle.dist_ends.specs.declared.known.UpRecord.{UpRecord}
-use Rattle.dist_setup.specs.declared.setup.Setup.{Setup}
-use Rattle.dist_setup.specs.declared.limits.Limits.{Limits}
-use Rattle.dist_setup.specs.Limits.{long_running_limits}
-use Rattle.dist_setup.specs.declared.version.Version.{Version}
-use Rattle.dist_setup.specs.declared.version.Version.TheVariants.{Five, Six}
-use Rattle.dist_guest.specs.Calls.{first_guest}
-use Rattle.dist_guest.specs.Reading.{plain}
-use Rattle.dist_guest.specs.declared.guest.Guest.{Guest}
+use Rattle.dist_core_ends.specs.declared.known.UpRecord.{UpRecord}
+use Rattle.dist_core_setup.specs.declared.setup.Setup.{Setup}
+use Rattle.dist_core_setup.specs.declared.limits.Limits.{Limits}
+use Rattle.dist_core_setup.specs.Limits.{long_running_limits}
+use Rattle.dist_core_setup.specs.declared.version.Version.{Version}
+use Rattle.dist_core_setup.specs.declared.version.Version.TheVariants.{Five, Six}
+use Rattle.dist_c_guest.specs.Calls.{first_guest}
+use Rattle.dist_c_guest.specs.Reading.{plain}
+use Rattle.dist_c_guest.specs.declared.guest.Guest.{Guest}
 use Rattle.distnode_c.specs.declared.nodes.DnSetup.{DnSetup}
 use Rattle.distnode_c.specs.declared.nodes.DnPeer.{DnPeer}
 use Rattle.distnode_c.specs.Codes.{name_code, cookie_code}
@@ -23,7 +23,7 @@ use Rattle.distnode_c.specs.Steps.{Copies, CopiesIf, said}
 abbrev pub first_reader : Setup → ℕ → Guest
 first_reader setup mandatory = record (first_guest setup) { reading = record plain { mandatory = record { 0 = mandatory } } }
 
--- there is such a guest, or memory was wanted and there is none
+-- there is such a guest, or memory ran out and there is none
 abbrev pub Makes : Setup → ℕ → ℕ → Option Guest → Type 0
 Makes setup mandatory code new = ((code ≡ 0) × (new ≡ Some (first_reader setup mandatory))) ⊎ ((code ≡ 3) × (new ≡ None))
 
@@ -43,13 +43,27 @@ number_or other n = if n == 0 then other else n
 abbrev pub limits_in : DnSetup → Limits
 limits_in u =
     let most = long_running_limits in
-    record { steps = number_or most.steps u.most_steps; ends = number_or most.ends u.most_ends; entries = number_or most.entries u.most_entries; open_ends = number_or most.open_ends u.most_open_ends }
+    record {
+      steps = number_or most.steps u.most_steps;
+      ends = number_or most.ends u.most_ends;
+      entries = number_or most.entries u.most_entries;
+      open_ends = number_or most.open_ends u.most_open_ends;
+    }
 
 -- the setup of a name, a cookie for all peers, a version and numbers
 abbrev pub setup_of : Name → List ℕ → Version → DnSetup → Setup
-setup_of name cookie v u = record { name = name; cookies = record { usual = cookie; own = [] }; version = v; flags = record { 0 = u.flags }; required = record { 0 = u.required }; creation = record { 0 = u.creation }; allow = limit_of u.limited; limits = limits_in u }
+setup_of name cookie v u = record {
+  name = name;
+  cookies = record { usual = cookie; own = [] };
+  version = v;
+  flags = record { 0 = u.flags };
+  required = record { 0 = u.required };
+  creation = record { 0 = u.creation };
+  allow = limit_of u.limited;
+  limits = limits_in u;
+}
 
--- a name and a cookie are read, or the first reason why not; memory is wanted only where there is none
+-- a name and a cookie are read, or the first reason why not; memory runs out only where there is no such reason
 abbrev pub ReadsBoth : Result (List ℕ × List ℕ) ℕ → Result (List ℕ) NameError → Result (List ℕ) CookieError → Type 0
 ReadsBoth (Ok x) name cookie = (name ≡ Ok x.0) × (cookie ≡ Ok x.1)
 ReadsBoth (Err code) (Err e) cookie = code ≡ name_code e
@@ -57,7 +71,8 @@ ReadsBoth (Err code) (Ok name) (Err e) = code ≡ cookie_code e
 ReadsBoth (Err code) (Ok name) (Ok cookie) = code ≡ 3
 
 -- a new node, or the first reason why there is none; one that is there stays
-abbrev pub News : Option Version → Result (List ℕ) NameError → Result (List ℕ) CookieError → DnSetup → ℕ → Option Guest → Option Guest → Type 0
+abbrev pub News : Option Version → Result (List ℕ) NameError → Result (List ℕ) CookieError → DnSetup → ℕ →
+    Option Guest → Option Guest → Type 0
 News version name cookie u code (Some s) new = (code ≡ 2) × (new ≡ Some s)
 News None name cookie u code None new = (code ≡ 6) × (new ≡ None)
 News (Some v) (Err e) cookie u code None new = (code ≡ name_code e) × (new ≡ None)
@@ -69,16 +84,16 @@ abbrev pub Frees : {X : Type 0} → ℕ → Option X → Option X → Type 0
 Frees code None new = (code ≡ 1) × (new ≡ None)
 Frees code (Some s) new = (code ≡ 0) × (new ≡ None)
 
--- what the newest reply says is copied, where there is a guest
+-- what the newest reply sends is copied, where there is a guest
 abbrev pub Says : Option Guest → ℕ → ℕ → ℕ → List ℕ → List ℕ → Type 0
 Says None code had len old new = (code ≡ 1) × (len ≡ had) × (new ≡ old)
 Says (Some s) code had len old new = Copies (said s.last) code len old new
 
--- what is told of a record
+-- what is reported of a record
 abbrev pub peer_of : EndId → UpRecord → DnPeer
 peer_of id r = record { name = length r.peer; common = r.common.0; id = id.0; creation = creation_number r.creation; has_creation = is_known r.creation }
 
--- a record is told and its name copied; there is none (6)
+-- a record is reported and its name copied; there is none (6)
 abbrev pub Tells : Option (EndId × UpRecord) → ℕ → DnPeer → DnPeer → List ℕ → List ℕ → Type 0
 Tells None code was is old new = (code ≡ 6) × (is ≡ was) × (new ≡ old)
 Tells (Some x) code was is old new = (is ≡ peer_of x.0 x.1) × CopiesIf (nat_le (length x.1.peer) (length old)) x.1.peer code old new

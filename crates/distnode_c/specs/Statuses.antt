@@ -1,9 +1,9 @@
--- What is told of the statuses of the newest step.
+-- What is reported of the statuses of the newest step.
 use Rattle.std.specs.Prelude.{◌≡◌, ℕ, Option, Some, None, option_and_then}
 use Rattle.dist_messages.specs.declared.message.Status.{Status}
 use Rattle.dist_messages.specs.declared.message.Status.TheVariants as status
-use Rattle.dist_guest.specs.declared.guest.Guest.{Guest}
-use Rattle.dist_guest.specs.Statuses.{said_in}
+use Rattle.dist_c_guest.specs.declared.guest.Guest.{Guest}
+use Rattle.dist_c_guest.specs.Statuses.{said_in}
 
 -- the number of a status, and 0 where there is none
 abbrev pub status_number : Option Status → ℕ
@@ -16,7 +16,7 @@ status_number (Some status.Alive) = 5
 status_number (Some status.True) = 6
 status_number (Some status.False) = 7
 
--- the status that the newest step said and the one that it heard are told, where there is a guest (1)
+-- the status that the newest step sent and the one that it received are reported, where there is a guest (1)
 abbrev pub TellsStatuses : Option Guest → ℕ → ℕ → ℕ → ℕ → ℕ → Type 0
 TellsStatuses None code was is had has = (code ≡ 1) × (is ≡ was) × (has ≡ had)
 TellsStatuses (Some s) code was is had has = (code ≡ 0) × (is ≡ status_number (option_and_then said_in s.last)) × (has ≡ status_number s.heard)

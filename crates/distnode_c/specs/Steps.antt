@@ -1,5 +1,6 @@
 -- What the exports do, in the words of the definition's step.
-use Rattle.std.specs.Prelude.{◌≡◌, ℕ, ◌+◌, ◌⊎◌, List, ◌++◌, length, drop, nat_le, ◌==◌, if◌then◌else◌, Bool, true, false, [], Option, Some, None, Result, Ok, Err}
+use Rattle.std.specs.Prelude.{◌≡◌, ℕ, ◌+◌, ◌⊎◌, List, ◌++◌, length, drop, nat_le, ◌==◌}
+use Rattle.std.specs.Prelude.{if◌then◌else◌, Bool, true, false, [], Option, Some, None, Result, Ok, Err}
 use Rattle.dist_peers.specs.declared.entry.EndId.{EndId}
 use Rattle.dist_core.specs.declared.event.Event.{Event}
 use Rattle.dist_core.specs.declared.event.Event.TheVariants as event
@@ -7,13 +8,13 @@ use Rattle.dist_core.specs.declared.reply.Reply.{Reply}
 use Rattle.dist_core.specs.declared.step_error.StepError.{StepError}
 use Rattle.dist_core.specs.Node.{NodeState}
 use Rattle.dist_core.specs.Step.{step}
-use Rattle.dist_guest.specs.Calls.{answer_to, frame_to}
-use Rattle.dist_guest.specs.declared.guest.Guest.{Guest}
-use Rattle.dist_guest.specs.Statuses.{heard_in}
+use Rattle.dist_c_guest.specs.Calls.{answer_to, frame_to}
+use Rattle.dist_c_guest.specs.declared.guest.Guest.{Guest}
+use Rattle.dist_c_guest.specs.Statuses.{heard_in}
 use Rattle.distnode_c.specs.declared.told.DnReply.{DnReply}
 use Rattle.dist_messages.specs.declared.opening.Opening.{Opening}
 use Rattle.dist_messages.specs.declared.opening.Opening.TheVariants.{Old, New}
-use Rattle.dist_ends.specs.declared.why.Why.{Why}
+use Rattle.dist_core_ends.specs.declared.why.Why.{Why}
 use Rattle.distnode_c.specs.Codes.{step_code, why_number}
 use Rattle.distnode_c.specs.Told.{told}
 
@@ -21,15 +22,16 @@ use Rattle.distnode_c.specs.Told.{told}
 abbrev pub Keeps : ℕ → ℕ → Option Guest → Option Guest → DnReply → DnReply → Type 0
 Keeps wanted code old new was is = (code ≡ wanted) × (new ≡ old) × (is ≡ was)
 
--- nothing is told but this code
+-- nothing is reported but this code
 abbrev pub Silent : {X : Type 0} → ℕ → ℕ → X → X → Type 0
 Silent wanted code was is = (code ≡ wanted) × (is ≡ was)
 
--- THE STEP OF AN EVENT, as C has it: the node and the reply are the definition's, and what status was heard is kept; or its
--- refusal is told; where it refuses nothing memory may be wanted (3)
+-- THE STEP OF AN EVENT, as C has it: the node and the reply are the definition's, and the status that was received is kept; or
+-- its refusal is returned; where it refuses nothing memory may run out (3)
 abbrev pub Makes : Event → Result (Reply × NodeState) StepError → ℕ → ℕ → Guest → Option Guest → DnReply → DnReply → Type 0
 Makes v (Ok x) taken code s new was is =
-    ((code ≡ 0) × (new ≡ Some (record s { node = x.1; last = Some x.0; heard = heard_in v })) × (is ≡ told x.0 taken)) ⊎ Keeps 3 code (Some s) new was is
+    ((code ≡ 0) × (new ≡ Some (record s { node = x.1; last = Some x.0; heard = heard_in v })) × (is ≡ told x.0 taken))
+    ⊎ Keeps 3 code (Some s) new was is
 Makes v (Err e) taken code s new was is = Keeps (step_code e) code (Some s) new was is
 
 -- the same at a node that may hold no guest (1)
@@ -51,11 +53,11 @@ abbrev pub CopiesIf : Bool → List ℕ → ℕ → List ℕ → List ℕ → Ty
 CopiesIf false text code old new = (code ≡ 4) × (new ≡ old)
 CopiesIf true text code old new = (code ≡ 0) × (new ≡ text ++ drop (length text) old)
 
--- a text is copied to the front of room where it fits, and its length is told in any case
+-- a text is copied to the front of room where it fits, and its length is reported in any case
 abbrev pub Copies : List ℕ → ℕ → ℕ → List ℕ → List ℕ → Type 0
 Copies text code len old new = (len ≡ length text) × CopiesIf (nat_le (length text) (length old)) text code old new
 
--- the bytes that the newest reply says
+-- the bytes that the newest reply sends
 abbrev pub said : Option Reply → List ℕ
 said None = []
 said (Some r) = r.say

@@ -1,9 +1,9 @@
--- What C is told of a reply.
+-- What is reported to C of a reply.
 use Rattle.std.specs.Prelude.{ℕ, Option, Some, None, length}
 use Rattle.dist_names.specs.declared.creation.Creation.{Creation}
 use Rattle.dist_peers.specs.declared.entry.EndId.{EndId}
-use Rattle.dist_ends.specs.declared.why.Why.{Why}
-use Rattle.dist_ends.specs.declared.known.UpRecord.{UpRecord}
+use Rattle.dist_core_ends.specs.declared.why.Why.{Why}
+use Rattle.dist_core_ends.specs.declared.known.UpRecord.{UpRecord}
 use Rattle.dist_core.specs.declared.reply.Reply.{Reply}
 use Rattle.distnode_c.specs.declared.told.DnReply.{DnReply}
 use Rattle.distnode_c.specs.Codes.{why_number}
@@ -41,6 +41,16 @@ abbrev pub up_creation : Option UpRecord → Option Creation
 up_creation None = None
 up_creation (Some r) = r.creation
 
--- a reply, to bytes of which so many were taken
+-- a reply, to bytes of which this many were taken
 abbrev pub told : Reply → ℕ → DnReply
-told r n = record { say = length r.say; taken = n; common = up_flags r.up; id = r.end_.0; closed = closed_why r.closed; closed_id = closed_id r.closed; up = up_number r.up; creation = creation_number (up_creation r.up); has_creation = is_known (up_creation r.up) }
+told r n = record {
+  say = length r.say;
+  taken = n;
+  common = up_flags r.up;
+  id = r.end_.0;
+  closed = closed_why r.closed;
+  closed_id = closed_id r.closed;
+  up = up_number r.up;
+  creation = creation_number (up_creation r.up);
+  has_creation = is_known (up_creation r.up);
+}

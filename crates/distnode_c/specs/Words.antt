@@ -1,7 +1,7 @@
 -- The words of codes and causes.
 use Rattle.std.specs.Prelude.{◌≡◌, ℕ, ◌==◌, ◌⊎◌, if◌then◌else◌, List, codes}
-use Rattle.dist_ends.specs.declared.why.Why.{Why}
-use Rattle.dist_ends.specs.Words.{why_word}
+use Rattle.dist_core_ends.specs.declared.why.Why.{Why}
+use Rattle.dist_core_ends.specs.Words.{why_word}
 use Rattle.distnode_c.specs.Codes.{why_number}
 use Rattle.distnode_c.specs.Steps.{Copies}
 
@@ -11,8 +11,10 @@ code_word n =
     else if n == 4 then codes "NoRoom" else if n == 5 then codes "Awaits" else if n == 6 then codes "NoSuch" else if n == 8 then codes "TooLong"
     else if n == 9 then codes "PeerInUse" else if n == 10 then codes "NoSuchEnd"
     else if n == 11 then codes "Gone" else if n == 12 then codes "WrongPhase" else if n == 13 then codes "Busy" else if n == 14 then codes "Spent"
-    else if n == 15 then codes "Full" else if n == 16 then codes "OpenEnds" else if n == 20 then codes "NameTooShort" else if n == 21 then codes "NameTooLong" else if n == 22 then codes "NameBadByte"
-    else if n == 23 then codes "NameBadAt" else if n == 30 then codes "CookieEmpty" else if n == 31 then codes "CookieBadByte" else if n == 32 then codes "CookieTooLong"
+    else if n == 15 then codes "Full" else if n == 16 then codes "OpenEnds" else if n == 20 then codes "NameTooShort" else if n == 21 then codes "NameTooLong"
+    else if n == 22 then codes "NameBadByte"
+    else if n == 23 then codes "NameBadAt" else if n == 30 then codes "CookieEmpty" else if n == 31 then codes "CookieBadByte"
+    else if n == 32 then codes "CookieTooLong"
     else if n == 40 then codes "Malformed" else if n == 41 then codes "Short" else if n == 42 then codes "Trailing" else codes "Unknown"
 
 -- the word of the cause of this number is copied, or there is no such cause (6)

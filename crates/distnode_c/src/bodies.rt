@@ -8,7 +8,7 @@ use crate::codes::{NO_SUCH, NOT_A_NODE, OK, TOO_LONG, step_code};
 use crate::copies::copied;
 use crate::held::DnNode;
 use crate::told::{DnReply, told};
-use dist_guest::{Guest, body_at};
+use dist_c_guest::{Guest, body_at};
 use dist_peers::EndId;
 use std::alloc::Global;
 
@@ -81,7 +81,7 @@ fn say_body(guest: &Guest, place: usize, room: &mut [u8], len: &mut usize) -> u3
     }
 }
 
-/// Copies the body at a place of what the newest step says, without its length.
+/// Copies the body at a place of what the newest step sends, without its length.
 #[unsafe(no_mangle)]
 pub extern "C" fn dn_node_say_body(
     node: &mut DnNode,

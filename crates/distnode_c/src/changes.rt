@@ -5,22 +5,22 @@ ghost use Rattle.dist_secret.specs.Cookie.{cookie_of};
 ghost use Rattle.dist_core.specs.declared.changing.Change.{Change};
 ghost use Rattle.dist_core.specs.declared.changing.Change.TheVariants.{UsualCookie};
 ghost use Rattle.dist_core.specs.Changing.{change};
-ghost use Rattle.dist_guest.specs.Forms.{formed, has_form};
-ghost use Rattle.dist_guest.specs.Planning.{Changes};
-ghost use Rattle.dist_guest.specs.declared.guest.Guest.{Guest};
+ghost use Rattle.dist_c_guest.specs.Forms.{formed, has_form};
+ghost use Rattle.dist_c_guest.specs.Planning.{Changes};
+ghost use Rattle.dist_c_guest.specs.declared.guest.Guest.{Guest};
 ghost use Rattle.distnode_c.specs.Changes.{Allows, AllowsForm, AllowsText, Amends, AtGuest, Disallows, DisallowsForm, DisallowsText, Keys, KeysUsually};
 
 use crate::codes::{NO_MEMORY, NOT_A_NODE, OK, change_code, cookie_code, name_code};
 use crate::held::DnNode;
 use crate::nodes::read_both;
+use dist_c_guest::{Guest, form_of, has_form};
 use dist_core::ChangeError;
-use dist_guest::{Guest, form_of, has_form};
 use dist_names::NodeName;
 use dist_secret::Cookie;
 use std::alloc::Global;
 
-// The code of what a change answered.
-fn amended(answer: Result<(), ChangeError>) -> u32
+// The code of what a change returned.
+fn code_of_change(answer: Result<(), ChangeError>) -> u32
     ensures { (v : Change) (old new : Guest) → Changes answer v old new → Amends (change old.node v) result old new }
 {
     match answer {
@@ -33,7 +33,7 @@ fn allow(guest: &mut Guest, alloc: Global, peer: &[u8]) -> u32
     ensures { Allows (named peer.now) result guest.old guest.new }
 {
     match NodeName::new(alloc, peer) {
-        Ok(peer) => amended(guest.allow(alloc, peer)),
+        Ok(peer) => code_of_change(guest.allow(alloc, peer)),
         Err(error) => name_code(error),
     }
 }
@@ -125,7 +125,7 @@ fn set_cookie(guest: &mut Guest, alloc: Global, peer: &[u8], cookie: &[u8]) -> u
     ensures { Keys (named peer.now) (cookie_of cookie.now) result guest.old guest.new }
 {
     match read_both(alloc, peer, cookie) {
-        Ok((peer, cookie)) => amended(guest.set_cookie(peer, cookie)),
+        Ok((peer, cookie)) => code_of_change(guest.set_cookie(peer, cookie)),
         Err(code) => code,
     }
 }
@@ -152,7 +152,7 @@ fn set_usual_cookie(guest: &mut Guest, alloc: Global, cookie: &[u8]) -> u32
     ensures { KeysUsually (cookie_of cookie.now) result guest.old guest.new }
 {
     match Cookie::from_bytes(alloc, cookie) {
-        Ok(cookie) => amended(guest.set_usual_cookie(cookie)),
+        Ok(cookie) => code_of_change(guest.set_usual_cookie(cookie)),
         Err(error) => cookie_code(error),
     }
 }

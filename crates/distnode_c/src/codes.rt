@@ -1,6 +1,6 @@
 //! The numbers by which C knows answers and causes.
 ghost use Rattle.std.specs.Prelude.{◌≡◌, IfSome, Some};
-ghost use Rattle.dist_ends.specs.declared.why.Why.{Why};
+ghost use Rattle.dist_core_ends.specs.declared.why.Why.{Why};
 ghost use Rattle.distnode_c.specs.Codes.{step_code, change_code, name_code, cookie_code, epmd_code, why_number};
 
 use dist_core::{ChangeError, StepError, Why};

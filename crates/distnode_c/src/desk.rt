@@ -1,13 +1,13 @@
 //! A registry, and the answer to its newest request.
 ghost use Rattle.std.specs.Prelude.{◌≡◌, None};
 ghost use Rattle.std.specs.Int.{w16};
-ghost use Rattle.dist_epmd.specs.Book.{opening, after_closed};
+ghost use Rattle.dist_epmd.specs.Registrations.{opening, after_closed};
 ghost use Rattle.dist_frames.specs.Stream.{first_body};
 ghost use Rattle.distnode_c.specs.Desks.{IsAnswered, IsHeard, registered_number};
 
 use dist_epmd::{Answer, EpmdError, Registry, Request, decode_request};
-use dist_guest::first_body;
-use dist_mapper::Mapper;
+use dist_epmd_calls::Mapper;
+use dist_frames::first_body;
 use std::alloc::Global;
 
 /// A registry of the port mapper, and its answer to the newest request that it took.
@@ -62,7 +62,7 @@ impl Desk {
         }
     }
 
-    /// Answers the request in the frame at the front of these bytes, and tells how many bytes it has with its length.
+    /// Answers the request in the frame at the front of these bytes, and returns how many bytes it has with its length.
     pub fn heard(&mut self, alloc: Global, conn: u64, bytes: &[u8]) -> Result<usize, DeskError>
         ensures { IsHeard result conn (first_body w16 bytes.now) self.old self.new }
     {

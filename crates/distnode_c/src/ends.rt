@@ -1,7 +1,7 @@
 //! How ends stand, as C sees it.
 ghost use Rattle.std.specs.Prelude.{◌≡◌, Some, slice_get, count_by};
-ghost use Rattle.dist_ends.specs.Ends.{is_open, oldest_pending};
-ghost use Rattle.dist_ends.specs.declared.known.End.{End};
+ghost use Rattle.dist_core_ends.specs.Ends.{is_open, oldest_pending};
+ghost use Rattle.dist_core_ends.specs.declared.known.End.{End};
 ghost use Rattle.distnode_c.specs.Ends.{TellsEnd, TellsEndAt, TellsId, TellsOldest, Forgets, Renews, RenewsWith, phase_number, end_told};
 ghost use Rattle.distnode_c.specs.Steps.{CopiesIf};
 ghost use Rattle.std.specs.Prelude.{length, nat_le};
@@ -9,8 +9,8 @@ ghost use Rattle.std.specs.Prelude.{length, nat_le};
 use crate::codes::{NO_SUCH, NOT_A_NODE, OK, OPEN_ENDS, why_number};
 use crate::copies::copied;
 use crate::held::DnNode;
+use dist_c_guest::Guest;
 use dist_core::{Absent, End, Phase};
-use dist_guest::Guest;
 use dist_peers::EndId;
 use std::alloc::Global;
 use std::mem::size_of;
@@ -45,7 +45,7 @@ fn phase_number(phase: Phase) -> u32
     }
 }
 
-// Tells this of an end, and copies the name of its peer.
+// Reports this of an end, and copies the name of its peer.
 fn tell(phase: u32, why: u32, peer: &[u8], end: &mut DnEnd, room: &mut [u8]) -> u32
     ensures told { end.new ≡ record { peer = length peer.now; phase = phase; why = why } }
     ensures copied { CopiesIf (nat_le (length peer.now) (length room.old)) peer.now result room.old room.new }

@@ -5,7 +5,7 @@ ghost use Rattle.distnode_c.specs.Entries.{TellsEntry, entry_told, row};
 
 use crate::codes::{NOT_A_NODE, OK, name_code};
 use crate::held::DnNode;
-use dist_guest::Guest;
+use dist_c_guest::Guest;
 use dist_names::NodeName;
 use dist_peers::Entry;
 use std::alloc::Global;
@@ -31,7 +31,7 @@ fn row(state: u32, up: u32, pending: u32) -> DnEntry
     DnEntry { state, up, pending }
 }
 
-fn entry_told(entry: Option<Entry>) -> DnEntry
+fn entry_words(entry: Option<Entry>) -> DnEntry
     ensures { result ≡ entry_told entry }
 {
     match entry {
@@ -48,7 +48,7 @@ fn entry_of(guest: &Guest, alloc: Global, peer: &[u8], entry: &mut DnEntry) -> u
 {
     match NodeName::new(alloc, peer) {
         Ok(peer) => {
-            *entry = entry_told(guest.node.entry_of(&peer));
+            *entry = entry_words(guest.node.entry_of(&peer));
             OK
         }
         Err(error) => name_code(error),

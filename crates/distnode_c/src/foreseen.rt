@@ -1,4 +1,4 @@
-//! What a step would answer, before it is made.
+//! What a step would return, before it is made.
 ghost use Rattle.std.specs.Prelude.{◌≡◌};
 ghost use Rattle.std.specs.Int.{w16};
 ghost use Rattle.dist_frames.specs.Stream.{first_body};
@@ -9,7 +9,7 @@ use crate::bodies::is_short;
 use crate::codes::{AWAITS, NOT_A_NODE, OK, TOO_LONG, step_code};
 use crate::held::DnNode;
 use crate::told::{DnReply, told};
-use dist_guest::{CallError, Guest};
+use dist_c_guest::{CallError, Guest};
 use dist_peers::EndId;
 use std::alloc::Global;
 
@@ -34,7 +34,7 @@ fn foreseen(
     }
 }
 
-/// What `dn_node_received` would answer to these bytes and this challenge.
+/// What `dn_node_received` would return for these bytes and this challenge.
 #[unsafe(no_mangle)]
 pub extern "C" fn dn_node_ready(
     node: &mut DnNode,
@@ -78,7 +78,7 @@ fn foreseen_body(
     }
 }
 
-/// What `dn_node_body` would answer to this body and this challenge.
+/// What `dn_node_body` would return for this body and this challenge.
 #[unsafe(no_mangle)]
 pub extern "C" fn dn_node_ready_body(
     node: &mut DnNode,

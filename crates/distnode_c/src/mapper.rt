@@ -36,7 +36,7 @@ pub struct DnInfo {
 }
 
 // Copies the frame of a request.
-fn asked(alloc: Global, request: &Request, room: &mut [u8], len: &mut usize) -> u32
+fn copy_request(alloc: Global, request: &Request, room: &mut [u8], len: &mut usize) -> u32
     ensures { Asks (written_request request.now) result len.old len.new room.old room.new }
 {
     match encode_request(alloc, request) {
@@ -75,7 +75,7 @@ pub extern "C" fn dn_epmd_alive_request(
         name,
         extra: ByteString::new(alloc),
     };
-    asked(alloc, &Request::Alive(info), room, len)
+    copy_request(alloc, &Request::Alive(info), room, len)
 }
 
 /// Copies the frame that asks for the node of this name, the part before the `@`.
@@ -94,7 +94,7 @@ pub extern "C" fn dn_epmd_port_request(
     let Ok(name) = ByteString::from_slice(alloc, name) else {
         return NO_MEMORY;
     };
-    asked(alloc, &Request::PortPlease(name), room, len)
+    copy_request(alloc, &Request::PortPlease(name), room, len)
 }
 
 /// Copies the frame that asks for all names.
@@ -102,7 +102,7 @@ pub extern "C" fn dn_epmd_port_request(
 pub extern "C" fn dn_epmd_names_request(alloc: Global, room: &mut [u8], len: &mut usize) -> u32
     ensures { Asks (written_request Request.Names) result len.old len.new room.old room.new }
 {
-    asked(alloc, &Request::Names, room, len)
+    copy_request(alloc, &Request::Names, room, len)
 }
 
 /// Reads the answer to a registration. A result of 0 is success.

@@ -1,7 +1,7 @@
 //! A connection that came, and a dial: the oldest end that is not up makes room for them.
 ghost use Rattle.std.specs.Prelude.{◌≡◌, Some};
 ghost use Rattle.dist_names.specs.NodeName.{named};
-ghost use Rattle.dist_guest.specs.Room.{room_for};
+ghost use Rattle.dist_c_guest.specs.Room.{room_for};
 ghost use Rattle.distnode_c.specs.Steps.{Steps, opening_of};
 ghost use Rattle.distnode_c.specs.Newcomers.{ComesAt, Comes, Dials, beside};
 
@@ -9,8 +9,8 @@ use crate::codes::{NOT_A_NODE, OK, name_code, step_code, why_number};
 use crate::exports::stepped_at;
 use crate::held::DnNode;
 use crate::told::DnReply;
+use dist_c_guest::Guest;
 use dist_core::{Event, Opening, Why};
-use dist_guest::Guest;
 use dist_names::NodeName;
 use dist_peers::EndId;
 use std::alloc::Global;
@@ -25,7 +25,7 @@ fn opening_of(number: u32) -> Opening
     }
 }
 
-// Tells which end made room, also where the newcomer was refused.
+// Reports which end made room, also where the newcomer was refused.
 fn tell_beside(lost: Option<EndId>, reply: &mut DnReply)
     ensures { reply.new ≡ beside lost reply.old }
 {
@@ -51,7 +51,7 @@ fn come_at(guest: &mut Guest, alloc: Global, event: &Event, reply: &mut DnReply)
     code
 }
 
-fn come(node: &mut DnNode, alloc: Global, event: &Event, reply: &mut DnReply) -> u32
+fn take_newcomer(node: &mut DnNode, alloc: Global, event: &Event, reply: &mut DnReply) -> u32
     ensures { Comes event.now result node.old.slot.guest node.new.slot.guest reply.old reply.new }
 {
     let Some(mut guest) = node.open(alloc) else {
@@ -68,7 +68,7 @@ fn come(node: &mut DnNode, alloc: Global, event: &Event, reply: &mut DnReply) ->
 pub extern "C" fn dn_node_incoming(node: &mut DnNode, alloc: Global, reply: &mut DnReply) -> u32
     ensures { Comes (Event.Incoming 0) result node.old.slot.guest node.new.slot.guest reply.old reply.new }
 {
-    come(node, alloc, &Event::Incoming { link: 0 }, reply)
+    take_newcomer(node, alloc, &Event::Incoming { link: 0 }, reply)
 }
 
 /// The node is to connect to this peer: a new end is given out. The opening is 0 for the old form of name, else the new.
@@ -85,7 +85,7 @@ pub extern "C" fn dn_node_dial(
     match NodeName::new(alloc, peer) {
         Ok(peer) => {
             let opening = opening_of(opening);
-            come(node, alloc, &Event::Dial { peer, opening }, reply)
+            take_newcomer(node, alloc, &Event::Dial { peer, opening }, reply)
         }
         Err(error) => {
             tell_beside(None, reply);

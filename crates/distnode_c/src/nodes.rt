@@ -5,7 +5,7 @@ ghost use Rattle.std.specs.FinMap as map;
 ghost use Rattle.std.specs.Prelude.{slice_get};
 ghost use Rattle.dist_names.specs.NodeName.{named};
 ghost use Rattle.dist_secret.specs.Cookie.{cookie_of};
-ghost use Rattle.dist_ends.specs.Ends.{up_from, up_ids, table_of, record_in};
+ghost use Rattle.dist_core_ends.specs.Ends.{up_from, up_ids, table_of, record_in};
 ghost use Rattle.distnode_c.specs.Steps.{Copies, said};
 ghost use Rattle.distnode_c.specs.Nodes.{Makes, News, ReadsBoth, version_of, limit_of, limits_in, number_or, Frees, Says, Tells, TellsAt};
 
@@ -13,8 +13,8 @@ use crate::codes::{IN_USE, NO_MEMORY, NO_SUCH, NOT_A_NODE, OK, cookie_code, name
 use crate::copies::copied;
 use crate::held::{DnNode, MARK};
 use crate::told::creation_parts;
+use dist_c_guest::Guest;
 use dist_core::{Limits, NameList, Setup, UpRecord, Version};
-use dist_guest::Guest;
 use dist_names::{Creation, Flags, NameError, NodeName};
 use dist_peers::EndId;
 use dist_secret::{Cookie, Cookies};
@@ -67,7 +67,7 @@ pub struct DnPeer {
 }
 
 // Puts a new guest in where there is none.
-fn made(node: &mut DnNode, alloc: Global, setup: Setup, mandatory: Flags) -> u32
+fn put_new_guest(node: &mut DnNode, alloc: Global, setup: Setup, mandatory: Flags) -> u32
     requires { node.old.slot.guest ≡ None }
     ensures { Makes setup mandatory.0 result node.new.slot.guest }
 {
@@ -128,7 +128,7 @@ fn limits_in(setup: &DnSetup) -> Limits
     }
 }
 
-/// A name and a cookie. That memory is short for the name is told only where the text has a cookie.
+/// A name and a cookie. `NO_MEMORY` for the name is returned only where the text has a cookie.
 pub fn read_both(alloc: Global, name: &[u8], cookie: &[u8]) -> Result<(NodeName, Cookie), u32>
     ensures { ReadsBoth result (named name.now) (cookie_of cookie.now) }
 {
@@ -176,7 +176,7 @@ pub extern "C" fn dn_node_new(
                 allow: limit_of(alloc, setup.limited),
                 limits: limits_in(setup),
             };
-            made(node, alloc, setup, mandatory)
+            put_new_guest(node, alloc, setup, mandatory)
         }
         Err(code) => code,
     }
@@ -205,7 +205,7 @@ fn say_of(guest: &Guest, room: &mut [u8], len: &mut usize) -> u32
     }
 }
 
-/// Copies the bytes that the newest step says.
+/// Copies the bytes that the newest step sends.
 #[unsafe(no_mangle)]
 pub extern "C" fn dn_node_say(
     node: &mut DnNode,
@@ -224,7 +224,7 @@ pub extern "C" fn dn_node_say(
     code
 }
 
-// Tells a record and copies its name, where there is one.
+// Reports a record and copies its name, where there is one.
 fn tell(found: Option<(EndId, &UpRecord)>, room: &mut [u8], peer: &mut DnPeer) -> u32
     ensures { Tells (option_map (λ r. (r.0, r.1.now)) found.entry) result peer.old peer.new room.old room.new }
 {
@@ -253,7 +253,8 @@ pub extern "C" fn dn_node_peer_at(
     peer: &mut DnPeer,
     room: &mut [u8],
 ) -> u32
-    ensures tells { TellsAt (λ s. up_from s.node.ends (slice_get (up_ids (map.entries (table_of s.node.ends))) place)) node.old.slot.guest result peer.old peer.new room.old room.new }
+    ensures tells { TellsAt (λ s. up_from s.node.ends (slice_get (up_ids (map.entries (table_of s.node.ends))) place))
+        node.old.slot.guest result peer.old peer.new room.old room.new }
     ensures same { node.new.slot.guest ≡ node.old.slot.guest }
 {
     let Some(guest) = node.open(alloc) else {

@@ -1,11 +1,11 @@
 //! The statuses of the newest step, as C sees them.
 ghost use Rattle.std.specs.Prelude.{◌≡◌, option_and_then};
-ghost use Rattle.dist_guest.specs.Statuses.{said_in};
+ghost use Rattle.dist_c_guest.specs.Statuses.{said_in};
 ghost use Rattle.distnode_c.specs.Statuses.{TellsStatuses, status_number};
 
 use crate::codes::{NOT_A_NODE, OK};
 use crate::held::DnNode;
-use dist_guest::{Guest, said_in};
+use dist_c_guest::{Guest, said_in};
 use dist_messages::Status;
 use std::alloc::Global;
 
@@ -33,7 +33,7 @@ fn said_by(guest: &Guest, alloc: Global) -> Option<Status>
     }
 }
 
-/// The status that the newest step said, and the one that it heard.
+/// The status that the newest step sent, and the one that it received.
 #[unsafe(no_mangle)]
 pub extern "C" fn dn_node_status(
     node: &mut DnNode,

@@ -62,7 +62,7 @@ fn up_parts(up: &Option<UpRecord>) -> (u32, u64, Option<Creation>)
     }
 }
 
-/// A reply to bytes of which so many were taken.
+/// A reply to bytes of which this many were taken.
 pub fn told(reply: &Reply, taken: usize) -> DnReply
     ensures { result ≡ told reply.now taken }
 {

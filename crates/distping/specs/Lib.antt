@@ -3,4 +3,4 @@ pub mod Places
 pub mod Texts
 pub mod Pairs
 pub mod Listening
-pub mod Cookies
+pub mod Accepting

@@ -1,26 +1,74 @@
--- What came of a connection that was taken.
-use Rattle.std.specs.Prelude.{ℕ, ◌==◌, List, Option, Some, None, if◌then◌else◌}
-use Rattle.std.specs.Cmp.Lexicographic.{pointwise}
-use Rattle.dist_probe.specs.Services.{service_of}
-use Rattle.dist_probe.specs.declared.hearing.Heard.{Heard}
-use Rattle.dist_probe.specs.declared.hearing.Heard.TheVariants as heard
+-- What came of a connection that was taken: the tables of its verdicts.
+use Rattle.std.specs.Prelude.{ℕ, Bool, false, Option, Some, None}
+use Rattle.dist_core_ends.specs.declared.phase.Awaited.{Awaited}
+use Rattle.dist_core_ends.specs.declared.phase.Awaited.TheVariants as awaited
+use Rattle.dist_core_ends.specs.declared.phase.Still.{Still}
+use Rattle.dist_core_ends.specs.declared.phase.Still.TheVariants as still
+use Rattle.dist_core_ends.specs.declared.why.Why.{Why}
+use Rattle.dist_core_ends.specs.declared.why.Why.TheVariants as why
+use Rattle.dist_core.specs.declared.step_error.StepError.{StepError}
+use Rattle.dist_core.specs.declared.step_error.StepError.TheVariants as error
+use Rattle.dist_stream.specs.declared.turn_error.TurnError.{TurnError}
+use Rattle.dist_stream.specs.declared.turn_error.TurnError.TheVariants as fault
+use Rattle.distping.specs.declared.accepting.Content.{Content}
+use Rattle.distping.specs.declared.accepting.Content.TheVariants as content
 use Rattle.distping.specs.declared.listening.Taken.{Taken}
 use Rattle.distping.specs.declared.listening.Taken.TheVariants as taken
 
--- anything but the message that is awaited; the first where the stream gave no more
-abbrev pub heard_verdict : Taken → Heard → Taken
-heard_verdict ended (heard.Said m) = taken.Unexpected
-heard_verdict ended (heard.NoMessage error) = taken.Unexpected
-heard_verdict ended (heard.Length front) = taken.Foreign (service_of front)
-heard_verdict ended heard.Gone = ended
-heard_verdict ended heard.Broken = ended
-heard_verdict ended heard.Silent = taken.Silent
-heard_verdict ended heard.NoMemory = taken.NoMemory
+-- the connection ended, or broke, where the node awaited this; of an end that is up, where its acknowledgement was not taken whole
+abbrev pub end_verdict : Option Awaited → Taken
+end_verdict (Some awaited.Name) = taken.NoName
+end_verdict (Some awaited.Reply) = taken.Left
+end_verdict (Some awaited.Nothing) = taken.Left
+end_verdict other = taken.Unexpected
 
--- a digest, against the one that is wanted where a cookie is compared
-abbrev pub reply_verdict : Option (List ℕ) → List ℕ → Taken
-reply_verdict None digest = taken.Answered
-reply_verdict (Some wanted) digest = if pointwise ◌==◌ digest wanted then taken.Up else taken.WrongCookie
+-- the stream gave or took no more where the node awaited this
+abbrev pub fault_verdict : Option Awaited → TurnError → Taken
+fault_verdict waits fault.Limit = taken.Silent
+fault_verdict waits fault.Ended = end_verdict waits
+fault_verdict waits fault.ReadFailed = end_verdict waits
+fault_verdict waits fault.WriteFailed = end_verdict waits
+
+-- the node closed its end for this cause
+abbrev pub close_verdict : Why → Taken
+close_verdict why.WrongDigest = taken.WrongCookie
+close_verdict other = taken.Unexpected
+
+-- the node refused the step
+abbrev pub step_verdict : StepError → Taken
+step_verdict error.NoMemory = taken.NoMemory
+step_verdict other = taken.Unexpected
+
+-- how the end stands once all that the node said was written; none where its handshake goes on
+abbrev pub still_verdict : Still → Option Taken
+still_verdict still.Up = Some taken.Up
+still_verdict (still.Gone w) = Some (close_verdict w)
+still_verdict still.Pending = None
+still_verdict still.NoSuchEnd = None
+
+-- how the end stands, and what it awaits, where this fault cut off what the node said
+abbrev pub cut_verdict : Still → Option Awaited → TurnError → Taken
+cut_verdict still.Up waits stop = taken.Left
+cut_verdict (still.Gone w) waits stop = close_verdict w
+cut_verdict still.Pending waits stop = fault_verdict waits stop
+cut_verdict still.NoSuchEnd waits stop = fault_verdict waits stop
+
+-- how the end stands once what the node said was written, or cut off by a fault
+abbrev pub written_verdict : Option TurnError → Still → Option Awaited → Option Taken
+written_verdict None s waits = still_verdict s
+written_verdict (Some stop) s waits = Some (cut_verdict s waits stop)
+
+-- a reply, where no cookie is compared and the node awaits it
+abbrev pub reply_verdict : Bool → Option Awaited → Option Taken
+reply_verdict false (Some awaited.Reply) = Some taken.Answered
+reply_verdict compares waits = None
+
+-- what the listener judges itself, where the node awaits this: an older name, and a reply where no cookie is compared
+abbrev pub own_verdict : Bool → Option Awaited → Content → Option Taken
+own_verdict compares waits content.OldName = Some taken.Unexpected
+own_verdict compares waits content.Reply = reply_verdict compares waits
+own_verdict compares waits (content.Name peer) = None
+own_verdict compares waits content.Other = None
 
 -- the exit status: the place to look at
 abbrev pub taken_status : Taken → ℕ

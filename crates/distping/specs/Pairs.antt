@@ -1,8 +1,8 @@
--- What can be told of two nodes from outside.
+-- What can be said of two nodes from outside.
 use Rattle.std.specs.Prelude.{ℕ, ◌==◌, ◌&&◌, Bool, true, false, Option, Some, if◌then◌else◌}
 use Rattle.dist_names.specs.Order.{same_name}
 use Rattle.dist_names.specs.declared.flags.Flags.{Flags}
-use Rattle.dist_flag_names.specs.Releases.{missing, release_of, required_by}
+use Rattle.dist_flags.specs.Releases.{missing, release_of, required_by}
 use Rattle.dist_probe.specs.declared.verdict.Verdict.{Verdict}
 use Rattle.dist_probe.specs.declared.verdict.Verdict.TheVariants as verdict
 use Rattle.dist_probe.specs.declared.names.NameStyle.{NameStyle}
@@ -12,18 +12,18 @@ use Rattle.distping.specs.declared.pairs.Half.{Half}
 use Rattle.distping.specs.declared.pairs.Pairing.{Pairing}
 use Rattle.distping.specs.declared.pairs.Pairing.TheVariants as pairing
 
--- which of the flags the first lacks that the second's release asks for
+-- which flags the first lacks of those that the second's release asks for
 abbrev pub lacks : Flags → Flags → Flags
 lacks first second = record { 0 = missing first.0 (required_by (release_of second.0)) }
 
--- what the cookies tell: certain is a difference alone, where one takes what the other does not
+-- what the cookies show: certain is a difference alone, where one takes what the other does not
 abbrev pub behind_cookies : Verdict → Verdict → Pairing
 behind_cookies verdict.Up verdict.Up = pairing.Agree
 behind_cookies verdict.Up verdict.WrongCookie = pairing.OtherCookies
 behind_cookies verdict.WrongCookie verdict.Up = pairing.OtherCookies
 behind_cookies first second = pairing.Unsure
 
--- what the flags tell, and behind them the cookies
+-- what the flags show, and behind them the cookies
 abbrev pub behind_flags : Option Flags → Option Flags → Pairing → Pairing
 behind_flags (Some first) (Some second) cookies = if ((lacks first second).0 == 0) && ((lacks second first).0 == 0) then cookies else pairing.LacksFlags (lacks first second) (lacks second first)
 behind_flags first second cookies = pairing.NotReached
@@ -33,7 +33,7 @@ same_style style.Long style.Long = true
 same_style style.Short style.Short = true
 same_style first second = false
 
--- the first that holds: one name, a long and a short one, one that was not reached, flags that lack, other cookies
+-- the first that holds: one name, a long and a short one, one that was not reached, missing flags, other cookies
 abbrev pub pairing_of : Half → Half → Pairing
 pairing_of first second =
     if same_name first.node.now second.node.now then pairing.SameName else

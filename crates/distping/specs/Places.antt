@@ -1,6 +1,6 @@
 -- What it means that a place was not reached, and that a lookup went wrong.
-use Rattle.dist_mapper.specs.declared.lookup_error.LookupError.{LookupError}
-use Rattle.dist_mapper.specs.declared.lookup_error.LookupError.TheVariants as lookup
+use Rattle.dist_epmd_calls.specs.declared.lookup_error.LookupError.{LookupError}
+use Rattle.dist_epmd_calls.specs.declared.lookup_error.LookupError.TheVariants as lookup
 use Rattle.dist_probe.specs.declared.verdict.Verdict.{Verdict}
 use Rattle.dist_probe.specs.declared.verdict.Verdict.TheVariants as verdict
 use Rattle.distping.specs.declared.dialling.Place.{Place}

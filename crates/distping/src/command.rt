@@ -3,16 +3,10 @@
 use crate::fault::Fault;
 use clap::error::ErrorKind;
 use clap::{Arg, ArgAction, ArgMatches, Command};
-use dist_flag_names::{Dflag, Release};
-use dist_names::{Flags, NameError, NodeName};
-use dist_numerals::{number_16, number_in};
+use dist_flags::{Dflag, Release};
+use dist_names::{Flags, NameError, NodeName, number_16, number_in};
+use dist_program::CONNECT_SECONDS;
 use std::alloc::{AllocError, Global};
-
-/// Where a port mapper listens, unless the environment or the command line says otherwise. Source: ERTS User's Guide, epmd.
-const MAPPER_PORT: u16 = 4369;
-
-/// How many seconds a connect, a lookup and a talk may take each. A node gives up a handshake after 7. Our own choice.
-const USUAL_SECONDS: u16 = 8;
 
 // The turns of a talk beside those that pass in quiet seconds. A port mapper writes each line of its names by itself, so as
 // many reads may be needed as it knows nodes. Our own choice.
@@ -252,7 +246,7 @@ fn choices_in<'a>(matches: &ArgMatches<'a>, usual_port: u16) -> Result<Choices<'
         mapper_port: mapper_port.unwrap_or(usual_port),
         port,
         address: matches.get_str("address"),
-        seconds: seconds.unwrap_or(USUAL_SECONDS),
+        seconds: seconds.unwrap_or(CONNECT_SECONDS),
         listen,
         json: matches.get_flag("json"),
         takes_any_file: matches.get_flag("cookie-unsafe"),
@@ -314,13 +308,12 @@ fn instead_of(kind: ErrorKind) -> Instead {
     }
 }
 
-/// What these words ask for. `mapper_port` is the number of ERL_EPMD_PORT.
+/// What these words ask for. `usual_port` is the port mapper's port where they name none.
 pub fn wanted_of<'a>(
     alloc: Global,
     words: &'a [String],
-    mapper_port: Option<u16>,
+    usual_port: u16,
 ) -> Result<Wanted<'a>, Instead> {
-    let usual_port = mapper_port.unwrap_or(MAPPER_PORT);
     match program(alloc)?.try_get_matches_from(words) {
         Ok(matches) => wanted_in(alloc, &matches, usual_port),
         Err(error) => Err(instead_of(error.kind())),

@@ -1,14 +1,15 @@
-//! What ends the program before a verdict, and how that is told.
+//! What stops the program before a verdict, and how that is reported.
 
 ghost use Rattle.std.specs.Prelude.{◌≡◌};
 ghost use Rattle.distping.specs.Faults.{status_of};
 
 use dist_secret::CookieError;
 use std::alloc::{AllocError, AllocFailed};
-use std::io::{ErrorKind, Write};
+use std::io::ErrorKind;
 use std::{fmt, io};
 
-/// What ends the program before a verdict. Its `Display` is what stands after `distping: ` on standard error.
+/// What ends the program before a verdict, beside what `Refusal` has. Its `Display` is what stands after `distping: ` on standard
+/// error.
 #[derive(Clone, Copy)]
 pub enum Fault {
     /// The words of the command line ask for nothing.
@@ -66,7 +67,7 @@ impl<T: Drop> From<AllocFailed<T>> for Fault {
 }
 
 impl Fault {
-    // What is told of it, in a word or a sentence.
+    // What is printed of it, in a word or a sentence.
     fn text(self) -> &'static str {
         match self {
             Fault::BadCommandLine => "bad command line (distping --help)",
@@ -97,13 +98,5 @@ impl Fault {
             | Fault::ListenAlone => 2,
             _ => 1,
         }
-    }
-
-    /// Tells the fault on standard error and answers the exit status. Where it cannot be told nothing is lost but the text.
-    pub fn tell<E: Write>(self, err: &mut E) -> u8
-        ensures { result ≡ status_of self }
-    {
-        let _ = writeln!(err, "distping: {self}");
-        self.status()
     }
 }

@@ -5,9 +5,8 @@ use crate::lines::{Piece, push_flags, push_piece, release_texts, text_of};
 use crate::listening::{Caller, Listen, Taken};
 use crate::pairs::Pairing;
 use crate::probing::{Dial, Found, Registration};
-use dist_flag_names::{Dflag, Release, missing, release_of};
-use dist_names::{Flags, NodeName};
-use dist_numerals::escape;
+use dist_flags::{Dflag, Release, missing, release_of};
+use dist_names::{Flags, NodeName, escape};
 use dist_probe::{Peer, Verdict};
 use serde_json::Value;
 use std::alloc::{AllocError, Global};
@@ -68,7 +67,7 @@ fn push_members(
     Ok(())
 }
 
-// The flags that a node lacks, where it said its own, so that newer releases refuse it.
+// The flags that a node lacks, where it sent its own, so that newer releases refuse it.
 fn lacking_at(peer: &Option<Peer>) -> Flags {
     match peer {
         Some(peer) => missing(peer.flags, Release::Otp28.required()),
@@ -76,7 +75,7 @@ fn lacking_at(peer: &Option<Peer>) -> Flags {
     }
 }
 
-// The flags that lack: of the probe where the node refuses it for them, else of the node where newer releases refuse it.
+// The missing flags: of the probe where the node refuses it for them, else of the node where newer releases refuse it.
 fn lacking_of(verdict: Verdict, peer: &Option<Peer>) -> Flags {
     match verdict {
         Verdict::LacksFlags(flags) => flags,
@@ -105,7 +104,7 @@ fn address_of(address: Option<SocketAddr>) -> (&'static str, Piece<'static>, &'s
     }
 }
 
-// The status that the node said, where it said one.
+// The status that the node sent, where it sent one.
 fn status_member(found: &Found) -> Member<'static> {
     match found.status {
         Some(status) => Member::Text(text_of(status.text())),
@@ -150,7 +149,7 @@ fn push_names_of(
     push_members(alloc, line, &members)
 }
 
-// Puts the node's port and the status that it said behind a text.
+// Puts the node's port and the status that it sent behind a text.
 fn push_answer(alloc: Global, line: &mut String, found: &Found) -> Result<(), AllocError> {
     let members = [
         (",\"port\":", port_member(found.port)),
@@ -266,7 +265,7 @@ fn push_caller(
     push_outcome(alloc, line, lacking_at(&caller.peer), taken)
 }
 
-// Puts what can be told of two nodes behind a text.
+// Puts what can be said of two nodes behind a text.
 fn push_pair<'x>(
     alloc: Global,
     line: &mut String,
@@ -301,7 +300,7 @@ fn push_object(
     push_verdict(alloc, line, lacking_of(verdict, &found.peer), verdict)
 }
 
-/// What can be told of two nodes, as one line.
+/// What can be said of two nodes, as one line.
 pub fn pair_object(
     alloc: Global,
     first: &NodeName,

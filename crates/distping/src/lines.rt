@@ -1,7 +1,7 @@
 //! What is printed: a line for each step, each flushed at once, so that one sees where the program waits.
 
 ghost use Rattle.std.specs.Prelude.{◌≡◌, ◌++◌, IfOk, OnOk, string_bytes};
-ghost use Rattle.dist_numerals.specs.Escaped.{escaped, quoted};
+ghost use Rattle.dist_names.specs.Escaped.{escaped, quoted};
 ghost use Rattle.distping.specs.Texts.{Puts, TellsVerdict};
 
 use crate::dialling::Place;
@@ -9,11 +9,10 @@ use crate::fault::Fault;
 use crate::listening::Taken;
 use crate::pairs::Pairing;
 use dist_epmd::PortInfo;
-use dist_flag_names::{Dflag, Release, Told, missing, told_by};
-use dist_mapper::LookupError;
+use dist_epmd_calls::LookupError;
+use dist_flags::{Dflag, Release, Told, missing, told_by};
 use dist_messages::Status;
-use dist_names::{Flags, NodeName};
-use dist_numerals::{escape, escape_lines, quote};
+use dist_names::{Flags, NodeName, escape, escape_lines, quote};
 use dist_probe::{Peer, Verdict, style_of};
 use std::alloc::{AllocError, Global};
 use std::io::{Stdout, Write};
@@ -26,7 +25,7 @@ pub struct Lines {
     pub alloc: Global,
     /// What they are written to.
     pub out: Stdout,
-    /// No step is told.
+    /// No step is printed.
     pub quiet: bool,
 }
 
@@ -142,7 +141,7 @@ pub fn release_texts(release: Release) -> (&'static str, &'static str) {
     }
 }
 
-// What stands before the release that the flags tell, and the release.
+// What stands before the release that the flags show, and the release.
 fn told_texts(flags: Flags) -> (&'static str, &'static str) {
     let (before, release) = match told_by(flags) {
         Told::Just(release) => (": ", release),
@@ -171,7 +170,7 @@ fn cookie_text(verdict: Verdict) -> &'static str {
     }
 }
 
-// The mark before what can be told of two nodes.
+// The mark before what can be said of two nodes.
 fn pairing_mark(pairing: Pairing) -> &'static str {
     match pairing {
         Pairing::Agree => "✓",
@@ -237,7 +236,7 @@ impl Lines {
         }
     }
 
-    // A line of pieces, unless no step is told.
+    // A line of pieces, unless no step is printed.
     fn put(self, pieces: &[Piece<'_>]) -> Result<(), Fault> {
         if self.quiet {
             Ok(())
@@ -357,7 +356,7 @@ impl Lines {
         ])
     }
 
-    /// The status that the node said upon the own name.
+    /// The status that the node sent upon the own name.
     pub fn put_status(self, own: &NodeName, flags: Flags, status: Status) -> Result<(), Fault> {
         self.put(&[
             Piece::Text(mark_of(status)),
@@ -387,7 +386,7 @@ impl Lines {
         ])
     }
 
-    // The flags that releases from 26 on ask for and that these lack.
+    // The flags that releases from 26 on ask for and that are missing here.
     fn put_lacking(self, flags: Flags) -> Result<(), Fault> {
         let lacking = missing(flags, Release::Otp28.required());
         if lacking.0 == 0 {
@@ -444,7 +443,7 @@ impl Lines {
         ])
     }
 
-    // What two nodes have to tell of each other, in a line.
+    // What can be said of two nodes, in a line.
     fn put_pair_line<'x>(
         self,
         first: &'x NodeName,
@@ -466,7 +465,7 @@ impl Lines {
         ])
     }
 
-    /// What can be told of two nodes.
+    /// What can be said of two nodes.
     pub fn put_pair(
         self,
         first: &NodeName,

@@ -1,26 +1,20 @@
-//! One connection is taken as a node takes it, and what the other side says is told.
+//! One connection is taken as a node takes it, and what the other side sends is printed.
 
 ghost use Rattle.std.specs.Prelude.{◌≡◌};
-ghost use Rattle.distping.specs.Listening.{heard_verdict, reply_verdict, taken_status};
+ghost use Rattle.dist_messages.specs.Reading.{read};
+ghost use Rattle.dist_messages.specs.declared.message.Side.TheVariants.{Dialler};
+ghost use Rattle.distping.specs.Accepting.{AwaitsName, content_as};
+ghost use Rattle.distping.specs.Listening.{taken_status};
 
+use crate::accepting::{Content, END, Inbound, hear, open_node, refusal_verdict, talk};
 use crate::dialling::{Connection, talk_over};
 use crate::fault::Fault;
 use crate::lines::Lines;
-use dist_mapper::Arrived;
-use dist_messages::{Form, Message, MessageError, Side, Status, decode};
-use dist_names::{ByteString, NodeName};
-use dist_probe::{Heard, Peer, Service, heard_instead, read_frame_of, service_of};
-use dist_setup::{Setup, ack_frame, challenge_frame, own_digest, status_frame};
-use dist_streams::{Limited, SocketStream};
-use std::alloc::Global;
+use dist_core::Node;
+use dist_core_setup::Setup;
+use dist_probe::{Peer, Service};
+use dist_stream::{Limited, SocketStream};
 use std::net::{Ipv4Addr, SocketAddr, TcpListener, TcpStream};
-
-// A length above this one counts only before a tag, as at the dialling probe. Our own choice.
-const MOST: u16 = 1024;
-
-// The tags of the dialling side: an older name, a newer one, a status, a complement, a reply. Source: ERTS User's Guide,
-// Distribution Handshake.
-const TAGS: [u8; 5] = [0x6e, 0x4e, 0x73, 0x63, 0x72];
 
 /// What came of a connection that was taken.
 #[derive(Clone, Copy)]
@@ -84,168 +78,6 @@ impl Taken {
     }
 }
 
-// What a body of the dialling side says.
-fn heard_in(alloc: Global, body: &[u8]) -> Heard {
-    match decode(alloc, Side::Dialler, body) {
-        Ok(message) => Heard::Said(message),
-        Err(MessageError::NoMemory) => Heard::NoMemory,
-        Err(error) => Heard::NoMessage(error),
-    }
-}
-
-// The next message of the dialling side.
-fn hear(alloc: Global, limited: &mut Limited<'_, Connection>) -> Heard {
-    match read_frame_of(alloc, limited, MOST, &TAGS) {
-        Arrived::Body(body) => heard_in(alloc, body.as_slice()),
-        Arrived::Long(len) => Heard::Length(len),
-        Arrived::Stopped(fault) => heard_instead(fault),
-        Arrived::NoMemory => Heard::NoMemory,
-    }
-}
-
-// What anything means but the message that is awaited; `ended` where the stream gave no more.
-fn heard_verdict(ended: Taken, heard: &Heard) -> Taken
-    ensures { result ≡ heard_verdict ended heard.now }
-{
-    match heard {
-        Heard::Said(_) | Heard::NoMessage(_) => Taken::Unexpected,
-        Heard::Length(front) => Taken::Foreign(service_of(*front)),
-        Heard::Gone | Heard::Broken => ended,
-        Heard::Silent => Taken::Silent,
-        Heard::NoMemory => Taken::NoMemory,
-    }
-}
-
-// What the name was, where one was said.
-fn peer_in(heard: Heard) -> Result<Peer, Taken> {
-    match heard {
-        Heard::Said(
-            Message::NewName {
-                flags,
-                creation,
-                name,
-            },
-        ) => Ok(Peer {
-            flags,
-            creation,
-            name,
-        }),
-        other => Err(heard_verdict(Taken::NoName, &other)),
-    }
-}
-
-// The verdict upon a digest.
-fn reply_verdict(wanted: Option<[u8; 16]>, digest: [u8; 16]) -> Taken
-    ensures { result ≡ reply_verdict wanted digest }
-{
-    match wanted {
-        None => Taken::Answered,
-        Some(wanted) => {
-            if digest == wanted {
-                Taken::Up
-            } else {
-                Taken::WrongCookie
-            }
-        }
-    }
-}
-
-// Says a frame and hears what comes upon it.
-fn exchange(alloc: Global, limited: &mut Limited<'_, Connection>, text: &ByteString) -> Heard {
-    match limited.write_all(text.as_slice()) {
-        Ok(()) => hear(alloc, limited),
-        Err(fault) => heard_instead(fault),
-    }
-}
-
-// Takes the name with `ok`, and says the challenge, the second frame.
-fn welcomed(alloc: Global, limited: &mut Limited<'_, Connection>, challenge: &ByteString) -> Heard {
-    match status_frame(alloc, Status::Ok) {
-        Ok(status) => match limited.write_all(status.as_slice()) {
-            Ok(()) => exchange(alloc, limited, challenge),
-            Err(fault) => heard_instead(fault),
-        },
-        Err(_) => Heard::NoMemory,
-    }
-}
-
-// Takes the name with `ok`, says the challenge, and hears what comes upon it.
-fn challenged(
-    alloc: Global,
-    limited: &mut Limited<'_, Connection>,
-    setup: &Setup,
-    fresh: u32,
-) -> Heard {
-    match challenge_frame(alloc, setup, Form::New, fresh) {
-        Ok(challenge) => welcomed(alloc, limited, &challenge),
-        Err(_) => Heard::NoMemory,
-    }
-}
-
-// Acknowledges a reply whose digest is right.
-fn acknowledged(
-    alloc: Global,
-    limited: &mut Limited<'_, Connection>,
-    setup: &Setup,
-    peer: &NodeName,
-    challenge: u32,
-) -> Taken {
-    match ack_frame(alloc, setup, peer, challenge) {
-        Ok(text) => match limited.write_all(text.as_slice()) {
-            Ok(()) => Taken::Up,
-            Err(_) => Taken::Left,
-        },
-        Err(_) => Taken::NoMemory,
-    }
-}
-
-// What comes of a name that was said.
-fn talk(
-    alloc: Global,
-    limited: &mut Limited<'_, Connection>,
-    listen: &Listen<'_>,
-    peer: &NodeName,
-) -> Taken {
-    let heard = challenged(alloc, limited, listen.setup, listen.fresh);
-    upon_challenge(alloc, limited, listen, peer, &heard)
-}
-
-// What comes of what is heard upon the challenge.
-fn upon_challenge(
-    alloc: Global,
-    limited: &mut Limited<'_, Connection>,
-    listen: &Listen<'_>,
-    peer: &NodeName,
-    heard: &Heard,
-) -> Taken {
-    match heard {
-        Heard::Said(Message::Reply { challenge, digest }) => {
-            replied(alloc, limited, listen, peer, *challenge, *digest)
-        }
-        other => heard_verdict(Taken::Left, other),
-    }
-}
-
-// What comes of a reply.
-fn replied(
-    alloc: Global,
-    limited: &mut Limited<'_, Connection>,
-    listen: &Listen<'_>,
-    peer: &NodeName,
-    challenge: u32,
-    digest: [u8; 16],
-) -> Taken {
-    let wanted = if listen.compares {
-        Some(own_digest(listen.setup, peer, listen.fresh))
-    } else {
-        None
-    };
-    match reply_verdict(wanted, digest) {
-        Taken::Up => acknowledged(alloc, limited, listen.setup, peer, challenge),
-        other => other,
-    }
-}
-
 /// A node that listens.
 #[derive(Clone, Copy)]
 pub struct Listen<'a> {
@@ -283,20 +115,20 @@ impl Caller {
 }
 
 // Waits for one connection.
-fn accepted(
+fn accept(
     rt: &HostRuntime,
     listen: &Listen<'_>,
     lines: Lines,
     caller: &mut Caller,
 ) -> Result<Connection, Fault> {
     match TcpListener::bind(rt, (Ipv4Addr::UNSPECIFIED, listen.port)) {
-        Ok(listener) => accepted_at(rt, &listener, listen, lines, caller),
+        Ok(listener) => accept_at(rt, &listener, listen, lines, caller),
         Err(_) => Err(Fault::ListenFailed),
     }
 }
 
 // The same at this listener.
-fn accepted_at(
+fn accept_at(
     rt: &HostRuntime,
     listener: &TcpListener,
     listen: &Listen<'_>,
@@ -308,62 +140,87 @@ fn accepted_at(
         Ok((socket, address)) => {
             caller.address = Some(address);
             lines.put_taken(&address)?;
-            timed(rt, socket, listen.seconds)
+            limit_talk(rt, socket, listen.seconds)
         }
         Err(_) => Err(Fault::ListenFailed),
     }
 }
 
 // The stream over a socket, for a talk of so many seconds.
-fn timed(rt: &HostRuntime, socket: TcpStream, seconds: u16) -> Result<Connection, Fault> {
+fn limit_talk(rt: &HostRuntime, socket: TcpStream, seconds: u16) -> Result<Connection, Fault> {
     match talk_over(rt, SocketStream::new(socket), seconds) {
         Ok(stream) => Ok(stream),
         Err(_) => Err(Fault::ListenFailed),
     }
 }
 
-// Tells the name that was said, and goes on from there.
-fn greeted(
-    limited: &mut Limited<'_, Connection>,
-    listen: &Listen<'_>,
-    lines: Lines,
-    peer: &Peer,
-) -> Result<Taken, Fault> {
-    lines.put_peer(peer)?;
-    match NodeName::new(lines.alloc, peer.name.as_slice()) {
-        Ok(name) => Ok(talk(lines.alloc, limited, listen, &name)),
-        Err(_) => Ok(Taken::Unexpected),
+// Tells what a node says of itself, where it does.
+fn put_content(lines: Lines, content: &Content) -> Result<(), Fault> {
+    match content {
+        Content::Name(peer) => lines.put_peer(peer),
+        _ => Ok(()),
     }
 }
 
-// Hears the name, and goes on from there.
-fn heard(
+// What a node said of itself, where it did.
+fn peer_in(content: Content) -> Option<Peer> {
+    match content {
+        Content::Name(peer) => Some(peer),
+        _ => None,
+    }
+}
+
+// Tells what the first body says, and goes on from there.
+fn greet(
     limited: &mut Limited<'_, Connection>,
+    node: &mut Node,
+    listen: &Listen<'_>,
+    lines: Lines,
+    inbound: Inbound,
+    caller: &mut Caller,
+) -> Result<Taken, Fault>
+    // The node is one that `open_node` gave, and `hear` gave what came.
+    requires opened { AwaitsName listen.now.setup.now node.old }
+    requires content { inbound.content ≡ content_as (read Dialler inbound.body) }
+{
+    let Inbound { body, content } = inbound;
+    put_content(lines, &content)?;
+    let taken = talk(lines.alloc, limited, node, listen, body, &content);
+    caller.peer = peer_in(content);
+    Ok(taken)
+}
+
+// Hears the first body, and goes on from there.
+fn attend(
+    limited: &mut Limited<'_, Connection>,
+    node: &mut Node,
     listen: &Listen<'_>,
     lines: Lines,
     caller: &mut Caller,
-) -> Result<Taken, Fault> {
-    match peer_in(hear(lines.alloc, limited)) {
-        Ok(peer) => {
-            let taken = greeted(limited, listen, lines, &peer);
-            caller.peer = Some(peer);
-            taken
-        }
+) -> Result<Taken, Fault>
+    // The node is one that `open_node` gave.
+    requires { AwaitsName listen.now.setup.now node.old }
+{
+    match hear(lines.alloc, limited, node.awaits(END)) {
+        Ok(inbound) => greet(limited, node, listen, lines, inbound, caller),
         Err(taken) => Ok(taken),
     }
 }
 
-/// Takes one connection, tells what the other side says, and answers what came of it. What was found stands in `caller`.
+/// Takes one connection, prints what the other side sends, and returns what came of it. What was found stands in `caller`.
 pub fn take_connection(
     rt: &HostRuntime,
     listen: &Listen<'_>,
     lines: Lines,
     caller: &mut Caller,
 ) -> Result<Taken, Fault> {
-    let mut stream = accepted(rt, listen, lines, caller)?;
+    let mut stream = accept(rt, listen, lines, caller)?;
     let mut limited = Limited {
         stream: &mut stream,
         left: listen.turns,
     };
-    heard(&mut limited, listen, lines, caller)
+    match open_node(lines.alloc, listen.setup) {
+        Ok(mut node) => attend(&mut limited, &mut node, listen, lines, caller),
+        Err(error) => Ok(refusal_verdict(error)),
+    }
 }

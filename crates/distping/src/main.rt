@@ -1,4 +1,4 @@
-//! The program: dials a live node, and tells what happens, step by step, with the cause and what can be done.
+//! The program: dials a live node, and prints what happens, step by step, with the cause and what can be done.
 //!
 //! What it means is found by the crate of verdicts; here is what asks the system: the host's name, sockets, the cookie's
 //! file, random bytes, the command line, and what is printed.
@@ -7,6 +7,7 @@
 ghost use Rattle.std.specs.Prelude.{◌≡◌};
 ghost use Rattle.distping.specs.Faults.{first_of};
 
+mod accepting;
 mod command;
 mod cookie;
 mod dialling;
@@ -16,12 +17,13 @@ mod lines;
 mod listening;
 mod pairs;
 mod probing;
+mod refusal;
 
 use command::{Instead, Wanted, name_of, wanted_of};
-use cookie::{Refusal, cookie_of};
+use cookie::cookie_of;
 use dist_names::NodeName;
-use dist_numerals::number_16;
 use dist_probe::Verdict;
+use dist_program::{mapper_port, words_of};
 use dist_secret::Cookie;
 use fault::Fault;
 use json::{caller_object, object_of, pair_object};
@@ -29,9 +31,8 @@ use lines::Lines;
 use listening::{Caller, Listen, Taken, take_connection};
 use pairs::{Half, pairing_of};
 use probing::{Dial, Found, drawn, probe, setup_of};
+use refusal::Refusal;
 use std::alloc::Global;
-use std::env::{self, VarError};
-use std::io::ErrorKind;
 use std::process::ExitCode;
 
 /// How the program is called.
@@ -69,53 +70,27 @@ const VERSION: &str = "distping 0.2.0, distribution handshake of version 6\n";
 fn main(rt: HostRuntime) -> ExitCode {
     match perform(&rt) {
         Ok(status) => ExitCode::from(status),
-        Err(fault) => ExitCode::from(fault.tell(&mut rt.stderr())),
+        Err(refusal) => ExitCode::from(refusal.tell(&mut rt.stderr())),
     }
 }
 
-// The words behind the program's name. One that is no UTF-8 is no word of a command.
-fn words_of(rt: &HostRuntime, alloc: Global) -> Result<Vec<String>, Fault> {
-    match env::args(rt) {
-        Ok(words) => Ok(words.skip(1).collect(alloc)?),
-        Err(error) if error.kind() == ErrorKind::OutOfMemory => Err(Fault::NoMemory),
-        Err(_) => Err(Fault::BadCommandLine),
-    }
+fn perform(rt: &HostRuntime) -> Result<u8, Refusal> {
+    let words = words_of(rt)?;
+    let mapper_port = mapper_port(rt)?;
+    obey(rt, &words, mapper_port)
 }
 
-// What the environment says by this name. A text that is no UTF-8 says nothing.
-fn variable(rt: &HostRuntime, name: &str) -> Result<Option<String>, Fault> {
-    match env::var(rt, name) {
-        Ok(text) => Ok(Some(text)),
-        Err(VarError::OutOfMemory) => Err(Fault::NoMemory),
-        Err(_) => Ok(None),
-    }
-}
-
-// The port mapper's port that the environment names, as `erl` reads it.
-fn named_mapper_port(rt: &HostRuntime) -> Result<Option<u16>, Fault> {
-    Ok(match variable(rt, "ERL_EPMD_PORT")? {
-        Some(port) => number_16(port.as_bytes()),
-        None => None,
-    })
-}
-
-fn perform(rt: &HostRuntime) -> Result<u8, Fault> {
-    let words = words_of(rt, rt.alloc())?;
-    obey(rt, &words)
-}
-
-// Does what these words ask for.
-fn obey(rt: &HostRuntime, words: &[String]) -> Result<u8, Fault> {
-    let mapper_port = named_mapper_port(rt)?;
+// Does what these words ask for. `mapper_port` is the port mapper's port where they name none.
+fn obey(rt: &HostRuntime, words: &[String], mapper_port: u16) -> Result<u8, Refusal> {
     match wanted_of(rt.alloc(), words, mapper_port) {
         Ok(wanted) => follow(rt, &wanted),
-        Err(Instead::Help) => print(rt, HELP),
-        Err(Instead::Version) => print(rt, VERSION),
-        Err(Instead::Fault(fault)) => Err(fault),
+        Err(Instead::Help) => Ok(print(rt, HELP)?),
+        Err(Instead::Version) => Ok(print(rt, VERSION)?),
+        Err(Instead::Fault(fault)) => Err(Refusal::Fault(fault)),
     }
 }
 
-// Where steps are told, unless it is to be quiet.
+// Where steps are printed, unless it is to be quiet.
 fn lines_of(rt: &HostRuntime, quiet: bool) -> Lines {
     Lines {
         alloc: rt.alloc(),
@@ -131,17 +106,9 @@ fn print(rt: &HostRuntime, text: &str) -> Result<u8, Fault> {
 }
 
 // Does what is asked for, with the cookie that is.
-fn follow(rt: &HostRuntime, wanted: &Wanted<'_>) -> Result<u8, Fault> {
-    match cookie_in(rt, wanted) {
-        Ok(cookie) => follow_with(rt, wanted, cookie.as_ref()),
-        Err(refusal) => Ok(refusal.tell(&mut rt.stderr())),
-    }
-}
-
-// The cookie that is asked for.
-fn cookie_in(rt: &HostRuntime, wanted: &Wanted<'_>) -> Result<Option<Cookie>, Refusal> {
-    let home = variable(rt, "HOME")?;
-    cookie_of(rt, &wanted.choices, home.as_deref())
+fn follow(rt: &HostRuntime, wanted: &Wanted<'_>) -> Result<u8, Refusal> {
+    let cookie = cookie_of(rt, &wanted.choices)?;
+    Ok(follow_with(rt, wanted, cookie.as_ref())?)
 }
 
 // Does what is asked for, with this cookie.
@@ -173,7 +140,7 @@ fn usual_name(alloc: Global, host: &[u8]) -> Result<NodeName, Fault> {
     }
 }
 
-// Takes one connection, and answers the status of what came of it.
+// Takes one connection, and returns the status of what came of it.
 fn take_one(
     rt: &HostRuntime,
     wanted: &Wanted<'_>,
@@ -195,7 +162,7 @@ fn take_one(
     listen(rt, &one, lines_of(rt, choices.json))
 }
 
-// Takes one connection, tells what came of it, and answers its status.
+// Takes one connection, prints what came of it, and returns its status.
 fn listen(rt: &HostRuntime, one: &Listen<'_>, lines: Lines) -> Result<u8, Fault> {
     let mut caller = Caller::nobody();
     let taken = take_connection(rt, one, lines, &mut caller)?;
@@ -203,7 +170,7 @@ fn listen(rt: &HostRuntime, one: &Listen<'_>, lines: Lines) -> Result<u8, Fault>
     Ok(taken.status())
 }
 
-// Tells what came of a connection.
+// Prints what came of a connection.
 fn tell_outcome(
     one: &Listen<'_>,
     lines: Lines,
@@ -217,7 +184,7 @@ fn tell_outcome(
     }
 }
 
-// Tells what a probe came to.
+// Prints what a probe came to.
 fn tell(dial: &Dial<'_>, found: &Found, verdict: Verdict) -> Result<(), Fault> {
     let lines = dial.lines;
     if lines.quiet {
@@ -236,7 +203,7 @@ struct Round<'a> {
     cookie: Option<&'a Cookie>,
 }
 
-// Dials one node, and answers what is left of it.
+// Dials one node, and returns what is left of it.
 fn dial_one<'n>(round: &Round<'_>, node: &'n NodeName) -> Result<Half<'n>, Fault> {
     let own = own_name(round.lines.alloc, round.wanted, node)?;
     let dial = Dial {
@@ -250,7 +217,7 @@ fn dial_one<'n>(round: &Round<'_>, node: &'n NodeName) -> Result<Half<'n>, Fault
     probe_one(&dial, node)
 }
 
-// Probes a node, tells what it comes to, and answers what is left of it.
+// Probes a node, prints what it comes to, and returns what is left of it.
 fn probe_one<'n>(dial: &Dial<'_>, node: &'n NodeName) -> Result<Half<'n>, Fault> {
     let mut found = Found::nothing();
     match probed(dial, &mut found) {
@@ -259,7 +226,7 @@ fn probe_one<'n>(dial: &Dial<'_>, node: &'n NodeName) -> Result<Half<'n>, Fault>
     }
 }
 
-// Probes a node, and tells what it comes to. What was found stands in `found`.
+// Probes a node, and prints what it comes to. What was found stands in `found`.
 fn probed(dial: &Dial<'_>, found: &mut Found) -> Result<Verdict, Fault> {
     let verdict = probe(dial, found)?;
     tell(dial, found, verdict)?;
@@ -279,7 +246,7 @@ fn half_of<'n>(node: &'n NodeName, found: &Found, verdict: Verdict) -> Half<'n> 
     }
 }
 
-// Tells what can be told of two nodes, and answers the status of it.
+// Prints what can be said of two nodes, and returns the status of it.
 fn pair_one(lines: Lines, first: &Half<'_>, second: &Half<'_>) -> Result<u8, Fault> {
     let pairing = pairing_of(first, second);
     if lines.quiet {
@@ -297,7 +264,7 @@ fn first_of(first: u8, second: u8) -> u8
     if first == 0 { second } else { first }
 }
 
-// Tells of one node and each of others, and answers the first status that is not 0.
+// Prints what can be said of one node and each of others, and returns the first status that is not 0.
 fn pair_with(lines: Lines, first: &Half<'_>, others: &[Half<'_>]) -> Result<u8, Fault> {
     let mut status = 0;
     for second in others {
@@ -306,7 +273,7 @@ fn pair_with(lines: Lines, first: &Half<'_>, others: &[Half<'_>]) -> Result<u8, 
     Ok(status)
 }
 
-// Tells of each two nodes, and answers the first status that is not 0.
+// Prints what can be said of each two nodes, and returns the first status that is not 0.
 fn pair_all(lines: Lines, halves: &[Half<'_>]) -> Result<u8, Fault> {
     let mut status = 0;
     let mut rest = halves;
@@ -324,7 +291,7 @@ fn behind_the_first<'h, 'n>(halves: &'h [Half<'n>]) -> &'h [Half<'n>] {
     }
 }
 
-// Dials one node of several, keeps what is left of it, and answers its status.
+// Dials one node of several, keeps what is left of it, and returns its status.
 fn dial_next<'n>(
     round: &Round<'_>,
     node: &'n NodeName,
@@ -338,7 +305,7 @@ fn dial_next<'n>(
     Ok(half.verdict.status())
 }
 
-// Dials all nodes, one behind the other, and answers the first status that is not 0, and what is left of them.
+// Dials all nodes, one behind the other, and returns the first status that is not 0, and what is left of them.
 fn dial_each<'n>(
     round: &Round<'_>,
     nodes: &'n [NodeName],
@@ -351,7 +318,7 @@ fn dial_each<'n>(
     Ok(status)
 }
 
-// The same, and then tells of each two of them.
+// The same, and then prints what can be said of each two of them.
 fn dial_and_pair<'n>(
     round: &Round<'_>,
     nodes: &'n [NodeName],
@@ -361,7 +328,7 @@ fn dial_and_pair<'n>(
     Ok(first_of(status, pair_all(round.lines, halves)?))
 }
 
-// Dials all nodes, and tells of each two of them.
+// Dials all nodes, and prints what can be said of each two of them.
 fn dial_all(rt: &HostRuntime, wanted: &Wanted<'_>, cookie: Option<&Cookie>) -> Result<u8, Fault> {
     let round = Round {
         rt,

@@ -1,11 +1,11 @@
-//! What can be told of two nodes from outside, once both were dialled.
+//! What can be said of two nodes from outside, once both were dialled.
 
 ghost use Rattle.std.specs.Prelude.{◌≡◌};
 ghost use Rattle.dist_probe.specs.Styles.{style_of};
 ghost use Rattle.dist_names.specs.Order.{same_name};
 ghost use Rattle.distping.specs.Pairs.{behind_cookies, behind_flags, lacks, pairing_of, pair_status};
 
-use dist_flag_names::{missing, release_of};
+use dist_flags::{missing, release_of};
 use dist_names::{Flags, NodeName};
 use dist_probe::{Verdict, style_of};
 
@@ -14,20 +14,20 @@ use dist_probe::{Verdict, style_of};
 pub struct Half<'a> {
     /// Its name.
     pub node: &'a NodeName,
-    /// What it announces, where it said so under that name.
+    /// The flags that it announces, where it sent them under that name.
     pub flags: Option<Flags>,
     /// What the probe came to.
     pub verdict: Verdict,
 }
 
-/// What can be told of two nodes from outside: the first of these that holds.
+/// What can be said of two nodes from outside: the first of these that holds.
 #[derive(Clone, Copy)]
 pub enum Pairing {
     /// Both have one name.
     SameName,
     /// One has a long name, the other a short one.
     LongAndShort,
-    /// One of the two at least did not say its flags.
+    /// One of the two at least did not send its flags.
     NotReached,
     /// The first lacks flags that the second's release asks for, or the other way round.
     LacksFlags(Flags, Flags),
@@ -39,14 +39,14 @@ pub enum Pairing {
     Agree,
 }
 
-// Which of the flags the first lacks that the second's release asks for.
+// Which flags the first lacks of those that the second's release asks for.
 fn lacks(first: Flags, second: Flags) -> Flags
     ensures { result ≡ lacks first second }
 {
     missing(first, release_of(second).required())
 }
 
-// What the cookies tell.
+// What the cookies show.
 fn behind_cookies(first: Verdict, second: Verdict) -> Pairing
     ensures { result ≡ behind_cookies first second }
 {
@@ -59,7 +59,7 @@ fn behind_cookies(first: Verdict, second: Verdict) -> Pairing
     }
 }
 
-// What the flags tell, and behind them the cookies.
+// What the flags show, and behind them the cookies.
 fn behind_flags(first: Option<Flags>, second: Option<Flags>, cookies: Pairing) -> Pairing
     ensures { result ≡ behind_flags first second cookies }
 {
@@ -74,7 +74,7 @@ fn behind_flags(first: Option<Flags>, second: Option<Flags>, cookies: Pairing) -
     }
 }
 
-/// What can be told of two nodes.
+/// What can be said of two nodes.
 pub fn pairing_of(first: &Half<'_>, second: &Half<'_>) -> Pairing
     ensures { result ≡ pairing_of first.now second.now }
 {

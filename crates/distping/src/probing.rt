@@ -1,22 +1,22 @@
-//! One node is dialled, and each step is told.
+//! One node is dialled, and each step is printed.
 
 ghost use Rattle.std.specs.Prelude.{◌≡◌};
 ghost use Rattle.distping.specs.Places.{lookup_verdict, mapper_verdict, port_verdict};
 
 use crate::command::Choices;
-use crate::dialling::{Connection, Place, connected, connected_until, resolved, second_before};
+use crate::dialling::{Connection, Place, connected, connected_until, second_before};
 use crate::fault::Fault;
 use crate::lines::Lines;
+use dist_core_setup::{Limits, Setup, Version};
 use dist_epmd::PortInfo;
-use dist_mapper::{LookupError, ask_names, lookup};
+use dist_epmd_calls::{LookupError, ask_names, lookup};
 use dist_messages::Status;
 use dist_names::{ByteString, Creation, Flags, NodeName};
 use dist_probe::{Awaited, Peer, Report, Service, Verdict, ask_node, speaks_tls};
+use dist_program::{draw, resolve};
 use dist_secret::{Cookie, Cookies};
-use dist_setup::{Limits, Setup, Version};
 use std::alloc::Global;
 use std::net::SocketAddr;
-use std::random::RandomSource;
 use std::time::Instant;
 
 /// What the port mapper knows of a node.
@@ -39,7 +39,7 @@ pub struct Found {
     pub registration: Option<Registration>,
     /// The port that was dialled.
     pub port: Option<u16>,
-    /// The status that it said.
+    /// The status that it sent.
     pub status: Option<Status>,
     /// What it said of itself.
     pub peer: Option<Peer>,
@@ -67,7 +67,7 @@ enum Unknown {
     Lookup(LookupError, Instant),
 }
 
-/// What ends a probe.
+/// What stops a probe.
 #[derive(Clone, Copy)]
 enum Stop {
     /// A verdict before the talk.
@@ -93,7 +93,7 @@ impl From<Fault> for Stop {
 pub struct Dial<'a> {
     /// What is asked for addresses, sockets and random bytes.
     pub rt: &'a HostRuntime,
-    /// Where the steps are told.
+    /// Where the steps are printed.
     pub lines: Lines,
     /// The name that the probe gives itself.
     pub own: &'a NodeName,
@@ -107,14 +107,13 @@ pub struct Dial<'a> {
 
 /// A random number of 32 bits.
 pub fn drawn(rt: &HostRuntime) -> Result<u32, Fault> {
-    let mut bytes = [0u8; 4];
-    match rt.fill_bytes(&mut bytes) {
-        Ok(()) => Ok(u32::from_be_bytes(bytes)),
+    match draw(rt) {
+        Ok(number) => Ok(number),
         Err(_) => Err(Fault::NoRandomBytes),
     }
 }
 
-// The cookie that is tried. Without one there stands one that is never said.
+// The cookie that is tried. Without one there stands one that is never sent.
 fn cookie_of(alloc: Global, cookie: Option<&Cookie>) -> Result<Cookie, Fault> {
     match cookie {
         Some(cookie) => Ok(cookie.try_clone(alloc)?),
@@ -125,7 +124,7 @@ fn cookie_of(alloc: Global, cookie: Option<&Cookie>) -> Result<Cookie, Fault> {
     }
 }
 
-/// The setup of a node of this name that is only there to ask, of a creation by chance.
+/// The setup of a node of this name that is only there to ask, with a random creation.
 pub fn setup_of(
     rt: &HostRuntime,
     own: &NodeName,
@@ -149,7 +148,7 @@ pub fn setup_of(
 // The host's address.
 fn address_of(dial: &Dial<'_>) -> Result<SocketAddr, Stop> {
     let host = dial.choices.host(dial.node);
-    let address = resolved(dial.rt, host).ok_or(Verdict::NoHost)?;
+    let address = resolve(dial.rt, host).ok_or(Verdict::NoHost)?;
     dial.lines.put_address(host, &address)?;
     Ok(address)
 }
@@ -160,7 +159,7 @@ fn mapper_at(dial: &Dial<'_>, address: &SocketAddr) -> Result<Connection, Place>
     connected(dial.rt, address, choices.mapper_port, choices.seconds)
 }
 
-// The end of a probe by this verdict, unless telling it went wrong.
+// The end of a probe by this verdict, unless printing it failed.
 fn ended(told: Result<(), Fault>, verdict: Verdict) -> Stop {
     match told {
         Ok(()) => Stop::Verdict(verdict),
@@ -168,7 +167,7 @@ fn ended(told: Result<(), Fault>, verdict: Verdict) -> Stop {
     }
 }
 
-// Tells that the port mapper was not reached.
+// Prints that the port mapper was not reached.
 fn no_mapper(dial: &Dial<'_>, place: Place) -> Stop {
     let told = dial
         .lines
@@ -216,7 +215,7 @@ fn names_at(dial: &Dial<'_>, address: &SocketAddr, until: Instant) -> Option<Byt
     }
 }
 
-// Tells the names that are registered there, where the port mapper gives them by this time.
+// Prints the names that are registered there, where the port mapper gives them by this time.
 fn put_names(dial: &Dial<'_>, address: &SocketAddr, until: Instant) -> Result<(), Fault> {
     match names_at(dial, address, until) {
         Some(names) => dial.lines.put_names(names.as_slice()),
@@ -224,7 +223,7 @@ fn put_names(dial: &Dial<'_>, address: &SocketAddr, until: Instant) -> Result<()
     }
 }
 
-// Tells why there is no registration, with the names that are registered there. They are asked for only where they are
+// Prints why there is no registration, with the names that are registered there. They are asked for only where they are
 // printed.
 fn put_unregistered(
     dial: &Dial<'_>,
@@ -256,7 +255,7 @@ fn asked_for(dial: &Dial<'_>, stream: &mut Connection) -> Result<PortInfo, Unkno
     }
 }
 
-// Tells what the port mapper knows of the node.
+// Prints what the port mapper knows of the node.
 fn told_registration(dial: &Dial<'_>, info: &PortInfo) -> Result<Registration, Stop> {
     dial.lines.put_registration(dial.choices.mapper_port, info)?;
     Ok(Registration {
@@ -288,13 +287,13 @@ fn port_of(dial: &Dial<'_>, address: &SocketAddr, found: &mut Found) -> Result<u
     Ok(registration.port)
 }
 
-// Tells that the node was not reached.
+// Prints that the node was not reached.
 fn no_node(dial: &Dial<'_>, port: u16, place: Place) -> Stop {
     let told = dial.lines.put_unreached("connect  ", port, place);
     ended(told, port_verdict(place))
 }
 
-// Whether TLS is spoken there, which a second connection finds out: some servers close without a word upon a name. It takes a
+// Whether TLS is spoken there, which a second connection finds out: some servers close without an answer to a name. It takes a
 // second at most, and ends at this time at the latest.
 fn is_tls(dial: &Dial<'_>, address: &SocketAddr, port: u16, until: Instant) -> bool {
     match connected_until(dial.rt, address, port, second_before(dial.rt, until)) {
@@ -303,7 +302,7 @@ fn is_tls(dial: &Dial<'_>, address: &SocketAddr, port: u16, until: Instant) -> b
     }
 }
 
-// Tells the status that the node said, where it said one.
+// Prints the status that the node sent, where it sent one.
 fn put_said_status(dial: &Dial<'_>, status: Option<Status>) -> Result<(), Fault> {
     match status {
         Some(status) => dial.lines.put_status(dial.own, dial.choices.flags, status),
@@ -311,7 +310,7 @@ fn put_said_status(dial: &Dial<'_>, status: Option<Status>) -> Result<(), Fault>
     }
 }
 
-// Tells what the node said of itself, where it did.
+// Prints what the node said of itself, where it did.
 fn put_said_peer(lines: Lines, peer: &Option<Peer>) -> Result<(), Fault> {
     match peer {
         Some(peer) => lines.put_peer(peer),
@@ -319,7 +318,7 @@ fn put_said_peer(lines: Lines, peer: &Option<Peer>) -> Result<(), Fault> {
     }
 }
 
-// Tells what the node said, and answers the verdict upon it.
+// Prints what the node sent, and returns the verdict upon it.
 fn told_report(dial: &Dial<'_>, report: &Report) -> Result<Verdict, Stop> {
     put_said_status(dial, report.status)?;
     put_said_peer(dial.lines, &report.peer)?;
@@ -344,7 +343,7 @@ fn talk(dial: &Dial<'_>, stream: &mut Connection) -> Result<Report, Stop> {
     Ok(report)
 }
 
-// Tells that the node was reached, and talks with it.
+// Prints that the node was reached, and talks with it.
 fn talked_over(
     dial: &Dial<'_>,
     address: &SocketAddr,
@@ -357,7 +356,7 @@ fn talked_over(
     }
 }
 
-// Connects to the node, and talks with it. Beside what it said stands when the time of the talk ends.
+// Connects to the node, and talks with it. Beside what it sent stands when the time of the talk ends.
 fn talked(dial: &Dial<'_>, address: &SocketAddr, port: u16) -> Result<(Report, Instant), Stop> {
     match connected(dial.rt, address, port, dial.choices.seconds) {
         Ok(mut stream) => match talked_over(dial, address, port, &mut stream) {
@@ -368,7 +367,7 @@ fn talked(dial: &Dial<'_>, address: &SocketAddr, port: u16) -> Result<(Report, I
     }
 }
 
-// Asks the node at this place, and tells what it said.
+// Asks the node at this place, and prints what it sent.
 fn asked(
     dial: &Dial<'_>,
     address: &SocketAddr,
@@ -382,7 +381,7 @@ fn asked(
     Ok(behind_talk(dial, address, port, told?, until))
 }
 
-// What a verdict upon the talk means: TLS may close without a word upon a name.
+// What a verdict upon the talk means: TLS may close without an answer to a name.
 fn behind_talk(
     dial: &Dial<'_>,
     address: &SocketAddr,
@@ -398,7 +397,7 @@ fn behind_talk(
     }
 }
 
-// Dials the node, and tells each step.
+// Dials the node, and prints each step.
 fn steps(dial: &Dial<'_>, found: &mut Found) -> Result<Verdict, Stop> {
     dial.lines.put_styles(dial.own, dial.node)?;
     let address = address_of(dial)?;
@@ -408,7 +407,7 @@ fn steps(dial: &Dial<'_>, found: &mut Found) -> Result<Verdict, Stop> {
     asked(dial, &address, port, found)
 }
 
-/// Dials the node, tells each step, and answers what it comes to. What was found stands in `found`.
+/// Dials the node, prints each step, and returns what it comes to. What was found stands in `found`.
 pub fn probe(dial: &Dial<'_>, found: &mut Found) -> Result<Verdict, Fault> {
     match steps(dial, found) {
         Ok(verdict) | Err(Stop::Verdict(verdict)) => Ok(verdict),

@@ -1,9 +1,9 @@
-//! What a program needs that joins Erlang nodes, in one crate: everything here stands in a crate of its own below, and is only
+//! What a program that joins Erlang nodes needs, in one crate: everything here stands in a crate of its own below, and is only
 //! named here once more. docs/LIBRARY.md goes through a whole program, `joining`, line by line.
 //!
 //! # The order of the calls
 //!
-//! A node is a value, which is told events and answers what is to be written. The program has the socket, the clock and the
+//! A node is a value, which is given events and returns what is to be written. The program has the socket, the clock and the
 //! random numbers, and hands in what came of them.
 //!
 //! 1. Names, cookie, node. `Release::Otp28.required()` is what OTP 23 to 29 take; without `PUBLISHED` among the flags the node
@@ -25,7 +25,7 @@
 //! ```
 //!
 //! 2. The port mapper is asked where the node listens. A node that others are to find `register`s first, over a connection
-//!    that it keeps. A talk that has to end by the clock goes over a `DeadlineStream`, which is quiet once its deadline is
+//!    that it keeps. A talk that has to stop by the clock goes over a `DeadlineStream`, which is quiet once its deadline is
 //!    reached: then the turns that are left pass at once. Those of a lookup, of 4,096 bytes each, also bound the memory that an
 //!    answer takes.
 //!
@@ -35,8 +35,8 @@
 //! let info = lookup(alloc, &mut mapper, peer.short(), 4096)?;
 //! ```
 //!
-//! 3. The node is told to dial, then the connection is made, then the node is told that it is there. A connection that does
-//!    not come about is told as `Event::Lost` with `Why::DialFailed`, if the node is used on.
+//! 3. The node is asked to dial, then the connection is made, then the node is given the event that it is there. A connection
+//!    that does not come about is reported as `Event::Lost` with `Why::DialFailed`, if the node is used on.
 //!
 //! ```text
 //! let opening = opening_for(&info);
@@ -46,10 +46,10 @@
 //! let opened = node.step(alloc, &Event::Opened { end_, link: 0 }, 0)?;
 //! ```
 //!
-//! 4. `handshake` writes what the end says first, hands on each frame that comes, and writes all that the node says to one,
+//! 4. `handshake` writes what the end sends first, hands on each frame that comes, and writes all that the node sends upon one,
 //!    until the end is up or closed, or no turn is left. From here on the node is a desk's: `MemoryDesk` holds one, and a program
 //!    with many links has a desk that reaches the node they share. The challenge is a random number, drawn anew for each
-//!    connection; where no challenge is said, the last argument of `step` is ignored. `link` is a number for the caller alone.
+//!    connection; where no challenge is sent, the last argument of `step` is ignored. `link` is a number for the caller alone.
 //!
 //! ```text
 //! let mut desk = MemoryDesk::new(alloc, node, end_)?;
@@ -61,14 +61,14 @@
 //! ```
 //!
 //!    `rest` is what was read behind the last frame, with which `Packets::behind_handshake` begins. Where the connection fails
-//!    before the end is up, the steps in the desk's list tell which message was due: an acknowledgement, mostly, since the other
+//!    before the end is up, the steps in the desk's list show which message was due: an acknowledgement, mostly, since the other
 //!    side has another cookie. A program that reads its frames itself, by `Limited::read_exact` and `Node::step`, asks
-//!    `Node::awaits` before it tells the loss. `drive` does all of this for a node that only keeps its connections.
+//!    `Node::awaits` before it reports the loss. `drive` does all of this for a node that only keeps its connections.
 //!
 //! 5. The stream is the program's. The link has no deadline: `SocketStream::timed` makes of the socket a stream each read and
 //!    write of which waits for one turn. `Packets` parts what comes into packets; one of no bytes is a tick. `header` is what
 //!    stands before a packet that is written, and `tick` a whole one. `Ticker` says when a tick is due and when a silent peer is
-//!    given up; it is told the time, in milliseconds, whenever something was read or written.
+//!    given up; it is given the time, in milliseconds, whenever something was read or written.
 //!
 //! ```text
 //! let mut packets = Packets::new(alloc, 16_777_216);
@@ -84,7 +84,7 @@
 //! }
 //! ```
 //!
-//! 6. To leave, `stream.shut()`, and let the stream go; the node is told `Event::Lost`, if it is used on.
+//! 6. To leave, `stream.shut()`, and let the stream go; the node is given `Event::Lost`, if it is used on.
 //!
 //! Which errors come: `NameError`, `CookieError`, `LookupError`, `StepError`, `TurnError`, `PacketError`, and of `connect`,
 //! `connect_by` and `deadline_after` the system's `io::Error`; `Why` is the cause of an end that is closed.
@@ -92,19 +92,18 @@
 
 pub use dist_core::{
     Absent, Attempt, Awaited, Change, ChangeError, End, Event, Limits, NameList, Node, Note,
-    Opening, Phase, Reply, Setup, StepError, Still, UpRecord, Version, Why,
+    Opening, Phase, Prepared, Reply, Setup, StepError, Still, UpRecord, Version, Why,
 };
 pub use dist_drive::{Desk, Draws, MemoryDesk, Outcome, Reached, drive, handshake, opening_for};
 pub use dist_epmd::{AliveReq, NodeInfo, PortInfo};
-pub use dist_flag_names::{Dflag, Release, Told, expanded, missing, told_by};
+pub use dist_epmd_calls::{LookupError, ask_names, lookup, register};
+pub use dist_flags::{Dflag, Release, Told, expanded, missing, told_by};
 pub use dist_frames::Frames;
-pub use dist_mapper::{LookupError, ask_names, lookup, register};
+pub use dist_link::{Due, PacketError, Packets, Ticker, header, tick, write_packet};
 pub use dist_names::{ByteString, Creation, Flags, NameError, NodeName};
-pub use dist_packets::{PacketError, Packets, header, tick, write_packet};
 pub use dist_peers::{EndId, Entry};
 pub use dist_secret::{Cookie, CookieError, Cookies, CookiesError, read_cookie};
-pub use dist_streams::{
-    AMPLE_TURNS, DeadlineStream, FaultStream, Heard, Limited, SocketStream, Stream, Took,
-    TurnError, connect, connect_by, deadline_after, time_left,
+pub use dist_stream::{
+    AMPLE_TURNS, DeadlineStream, Heard, Limited, SocketStream, Stream, Took, TurnError, connect,
+    connect_by, deadline_after, time_left,
 };
-pub use dist_ticks::{Due, Ticker};

@@ -3,7 +3,7 @@
 use crate::fault::Fault;
 use clap::error::ErrorKind;
 use clap::{Arg, ArgAction, ArgMatches, Command};
-use dist_numerals::number_16;
+use dist_names::number_16;
 use std::alloc::{AllocError, Global};
 
 /// After how many seconds a silent peer is given up. Source: Erlang/OTP, application `kernel`, `net_ticktime`.
@@ -49,23 +49,38 @@ struct Matched<'a> {
 }
 
 // The program's words that take a value.
-const VALUES: [&str; 4] = ["name", "cookie-file", "epmd-port", "net-ticktime"];
+const VALUES: [&str; 3] = ["name", "epmd-port", "net-ticktime"];
+
+// So does this one, by which the other programs name the file of the cookie too, and its older form.
+const COOKIE: &str = "cookie";
+
+const COOKIE_FILE: &str = "cookie-file";
 
 // The program's word that takes none.
 const UNSAFE: &str = "cookie-unsafe";
 
-fn program<'a>(alloc: Global) -> Result<Command<'a>, AllocError> {
-    let mut program = Command::new(alloc, "joining")
+// A word that takes a value.
+fn value<'a>(alloc: Global, word: &'a str) -> Arg<'a> {
+    Arg::new(alloc, word).long(word).action(ArgAction::Set)
+}
+
+// The program with the node and the file of the cookie alone.
+fn bare<'a>(alloc: Global) -> Result<Command<'a>, AllocError> {
+    let cookie = value(alloc, COOKIE).alias(COOKIE_FILE)?;
+    Command::new(alloc, "joining")
         .no_binary_name(true)
         .version("0")
         .arg(Arg::new(alloc, "node").action(ArgAction::Set))?
-        .arg(
-            Arg::new(alloc, UNSAFE)
-                .long(UNSAFE)
-                .action(ArgAction::SetTrue),
-        )?;
-    for id in VALUES {
-        program = program.arg(Arg::new(alloc, id).long(id).action(ArgAction::Set))?;
+        .arg(cookie)
+}
+
+fn program<'a>(alloc: Global) -> Result<Command<'a>, AllocError> {
+    let unsafe_ = Arg::new(alloc, UNSAFE)
+        .long(UNSAFE)
+        .action(ArgAction::SetTrue);
+    let mut program = bare(alloc)?.arg(unsafe_)?;
+    for word in VALUES {
+        program = program.arg(value(alloc, word))?;
     }
     Ok(program)
 }
@@ -74,7 +89,7 @@ fn matched_in<'a>(matches: &ArgMatches<'a>) -> Matched<'a> {
     Matched {
         node: matches.get_str("node"),
         name: matches.get_str("name"),
-        cookie_file: matches.get_str("cookie-file"),
+        cookie_file: matches.get_str(COOKIE),
         is_unsafe: matches.get_flag(UNSAFE),
         mapper_port: matches.get_str("epmd-port"),
         net_ticktime: matches.get_str("net-ticktime"),

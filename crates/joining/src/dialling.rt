@@ -4,27 +4,20 @@
 use crate::fault::Fault;
 use crate::handshake::shaken;
 use crate::link::Link;
+use dist_program::{CONNECT_SECONDS, connect, draw, one_turn, resolve, talk_over};
 use distribution::{
-    DeadlineStream, EndId, Event, Node, NodeName, Opening, Packets, SocketStream, connect_by,
-    deadline_after, lookup, opening_for,
+    DeadlineStream, EndId, Event, Node, NodeName, Opening, Packets, SocketStream, lookup,
+    opening_for,
 };
 use std::alloc::Global;
-use std::net::{SocketAddr, ToSocketAddrs};
-use std::random::RandomSource;
-use std::time::{Duration, Instant};
+use std::net::SocketAddr;
 
-/// How long a connect may take.
-const CONNECT_IN_SECONDS: u64 = 8;
-
-/// How long a lookup and a handshake may take each, whatever comes meanwhile. A node gives up a handshake after 7.
-const TALK_IN_SECONDS: u64 = 8;
+/// How many seconds a lookup and a handshake may take each, whatever comes meanwhile. A node gives up a handshake after 7.
+const TALK_SECONDS: u16 = 8;
 
 /// The most reads and writes of a lookup, if its time is not over before: 4,096 reads of 4,096 bytes bound the memory that an
 /// answer takes.
 const TURNS_OF_A_LOOKUP: usize = 4096;
-
-/// How long a read or a write of the link waits: the length of a turn.
-const TURN_IN_MILLISECONDS: u64 = 50;
 
 /// The most bytes of a packet that is taken. Our own choice; Erlang nodes cut larger messages into fragments of 64 KiB where
 /// both sides announce `DFLAG_FRAGMENTS`, which this one does not.
@@ -42,43 +35,37 @@ struct Way {
 }
 
 /// A random number of 32 bits.
-pub fn drawn(rt: &HostRuntime) -> Result<u32, Fault> {
-    let mut bytes = [0u8; 4];
-    match rt.fill_bytes(&mut bytes) {
-        Ok(()) => Ok(u32::from_be_bytes(bytes)),
+pub fn draw_number(rt: &HostRuntime) -> Result<u32, Fault> {
+    match draw(rt) {
+        Ok(number) => Ok(number),
         Err(_) => Err(Fault::SystemFailed),
     }
 }
 
-// The first IPv4 address of a host. A node listens at one unless it is told otherwise.
-fn resolved(rt: &HostRuntime, host: &[u8]) -> Option<SocketAddr> {
+// The IPv4 address of a host. A node listens at one unless it is told otherwise.
+fn address_of(rt: &HostRuntime, host: &[u8]) -> Option<SocketAddr> {
     let host = std::str::from_utf8(host).ok()?;
-    let mut addresses = (host, 0u16).to_socket_addrs(rt).ok()?;
-    addresses.find(|address| address.is_ipv4())
-}
-
-// The time that is so many seconds from now.
-fn seconds_from_now(rt: &HostRuntime, seconds: u64) -> Result<Instant, Fault> {
-    match deadline_after(rt, Duration::from_secs(seconds)) {
-        Ok(time) => Ok(time),
-        Err(_) => Err(Fault::SystemFailed),
+    match resolve(rt, host) {
+        Some(address) if address.is_ipv4() => Some(address),
+        _ => None,
     }
 }
 
 // The connection, with the time of a lookup or a handshake from now on.
-fn talk_over(rt: &HostRuntime, stream: SocketStream) -> Result<Connection<'_>, Fault> {
-    let until = seconds_from_now(rt, TALK_IN_SECONDS)?;
-    Ok(DeadlineStream::new(stream, rt, until))
+fn talk_in_time(rt: &HostRuntime, stream: SocketStream) -> Result<Connection<'_>, Fault> {
+    match talk_over(rt, stream, TALK_SECONDS) {
+        Ok(connection) => Ok(connection),
+        Err(_) => Err(Fault::SystemFailed),
+    }
 }
 
 // A connection to this address, if it was made in time.
-fn connected<'a>(
+fn connect_in_time<'a>(
     rt: &'a HostRuntime,
     address: &SocketAddr,
 ) -> Result<Option<Connection<'a>>, Fault> {
-    let until = seconds_from_now(rt, CONNECT_IN_SECONDS)?;
-    match connect_by(rt, address, until) {
-        Ok(stream) => Ok(Some(talk_over(rt, stream.into_inner())?)),
+    match connect(rt, address, CONNECT_SECONDS) {
+        Ok(stream) => Ok(Some(talk_in_time(rt, stream)?)),
         Err(_) => Ok(None),
     }
 }
@@ -90,12 +77,12 @@ fn way_to(
     node: &NodeName,
     mapper_port: u16,
 ) -> Result<Way, Fault> {
-    let challenge = drawn(rt)?;
-    let Some(mut address) = resolved(rt, node.host()) else {
+    let challenge = draw_number(rt)?;
+    let Some(mut address) = address_of(rt, node.host()) else {
         return Err(Fault::NoHost);
     };
     address.set_port(mapper_port);
-    let Some(mut stream) = connected(rt, &address)? else {
+    let Some(mut stream) = connect_in_time(rt, &address)? else {
         return Err(Fault::NoMapper);
     };
     match lookup(alloc, &mut stream, node.short(), TURNS_OF_A_LOOKUP) {
@@ -120,8 +107,7 @@ fn dial(alloc: Global, node: &mut Node, peer: NodeName, opening: Opening) -> Res
 
 // The connection for the link: each read and write waits for one turn.
 fn with_turns(stream: Connection<'_>) -> Result<SocketStream, Fault> {
-    let turn = Duration::from_millis(TURN_IN_MILLISECONDS);
-    match SocketStream::timed(stream.into_inner().into_inner(), turn) {
+    match SocketStream::timed(stream.into_inner().into_inner(), one_turn()) {
         Ok(stream) => Ok(stream),
         Err(_) => Err(Fault::SystemFailed),
     }
@@ -154,7 +140,7 @@ fn join_by(
 ) -> Result<Link, Fault> {
     let mut node = node;
     let end_ = dial(alloc, &mut node, peer, way.opening)?;
-    match connected(rt, &way.address)? {
+    match connect_in_time(rt, &way.address)? {
         Some(stream) => linked(alloc, stream, node, end_, way.challenge),
         None => Err(Fault::NoNode),
     }

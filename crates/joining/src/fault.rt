@@ -1,15 +1,18 @@
-//! What ends the program, and how that is told.
+//! What stops the program, and how that is reported.
 
+use dist_program::{CookieFault, PortError, TextError};
 use distribution::{Awaited, CookieError, LookupError, PacketError, StepError, TurnError, Why};
 use std::alloc::{AllocError, AllocFailed};
-use std::io;
-use std::io::{ErrorKind, Write};
+use std::io::ErrorKind;
+use std::{fmt, io};
 
-/// What ends the program otherwise than at the end of its input.
+/// What ends the program otherwise than at the end of its input. Its `Display` is what stands after `joining: ` on standard error.
 #[derive(Drop)]
 pub enum Fault {
     /// The words of the command line ask for nothing.
     BadCommandLine,
+    /// ERL_EPMD_PORT names no port.
+    BadMapperPort(PortError),
     /// One of the words that should be a node's name is none.
     BadName,
     /// The cookie's file could not be opened.
@@ -51,7 +54,7 @@ pub fn lost(error: TurnError) -> Fault {
     })
 }
 
-// What is told of a handshake that did not come to its end. A node that finds another cookie says nothing, and closes.
+// What is printed of a handshake that did not come to its end. A node that finds another cookie sends nothing, and closes.
 fn not_up_text(awaited: Option<Awaited>) -> &'static str {
     match awaited {
         Some(Awaited::Status) =>
@@ -64,19 +67,12 @@ fn not_up_text(awaited: Option<Awaited>) -> &'static str {
     }
 }
 
-// What is told of a cookie's file that others can reach: the reason, in the words of `erl`, and the remedy.
-fn tell_not_private<E: Write>(path: &str, err: &mut E) -> io::Result<()> {
-    write!(
-        err,
-        ": cookie file {path} must be accessible by owner only (chmod 600 {path}, or --cookie-unsafe takes it)"
-    )
-}
-
 impl Fault {
     // What is told of it first.
-    fn text(&self) -> &'static str {
+    fn text(&self) -> &str {
         match self {
             Fault::BadCommandLine => "bad command line (joining --help)",
+            Fault::BadMapperPort(error) => error.text(),
             Fault::BadName =>
                 "a node's name has one @, something on both sides, and 3 to 255 bytes",
             Fault::OpenFailed => "OpenFailed: the cookie's file",
@@ -94,25 +90,10 @@ impl Fault {
         }
     }
 
-    // Tells what stands behind that.
-    fn tell_behind<E: Write>(&self, err: &mut E) -> io::Result<()> {
+    /// The exit status: 2 where the command line is at fault, 3 where the node was not joined, 4 where the link was lost, else 1.
+    pub fn status(&self) -> u8 {
         match self {
-            Fault::NotPrivate(path) => tell_not_private(path, err),
-            Fault::NoCookie(error) => write!(err, ": {error}"),
-            Fault::NotFound(LookupError::Limit) => err.write_all(
-                b": the port mapper gave no whole answer in time",
-            ),
-            Fault::NotFound(error) => write!(err, ": {error}"),
-            Fault::NotUp(_, awaited) => err.write_all(not_up_text(*awaited).as_bytes()),
-            Fault::Lost(_) => err.write_all(b": the link is lost"),
-            _ => Ok(()),
-        }
-    }
-
-    // The exit status: 2 where the command line is at fault, 3 where the node was not joined, 4 where the link was lost, else 1.
-    fn status(&self) -> u8 {
-        match self {
-            Fault::BadCommandLine | Fault::BadName => 2,
+            Fault::BadCommandLine | Fault::BadMapperPort(_) | Fault::BadName => 2,
             Fault::NoHost
             | Fault::NoMapper
             | Fault::NotFound(_)
@@ -122,14 +103,55 @@ impl Fault {
             _ => 1,
         }
     }
+}
 
-    /// Tells the fault on standard error and answers the exit status. Where it cannot be told nothing is lost but the text.
-    pub fn tell<E: Write>(self, err: &mut E) -> u8 {
-        let _ = err.write_all(b"joining: ");
-        let _ = err.write_all(self.text().as_bytes());
-        let _ = self.tell_behind(err);
-        let _ = err.write_all(b"\n");
-        self.status()
+impl fmt::Display for Fault {
+    fn fmt<W: fmt::Write>(&self, f: &mut fmt::Formatter<W>) -> fmt::Result {
+        let text = self.text();
+        match self {
+            // (the reason in the words of `erl`, and the remedy)
+            Fault::NotPrivate(path) => write!(
+                f,
+                "{text}: cookie file {path} must be accessible by owner only (chmod 600 {path}, or --cookie-unsafe takes it)"
+            ),
+            Fault::NoCookie(error) => write!(f, "{text}: {error}"),
+            Fault::NotFound(LookupError::Limit) => {
+                write!(f, "{text}: the port mapper gave no whole answer in time")
+            }
+            Fault::NotFound(error) => write!(f, "{text}: {error}"),
+            Fault::NotUp(_, awaited) => write!(f, "{text}{}", not_up_text(*awaited)),
+            Fault::Lost(_) => write!(f, "{text}: the link is lost"),
+            _ => f.write_str(text),
+        }
+    }
+}
+
+impl From<TextError> for Fault {
+    fn from(error: TextError) -> Fault {
+        match error {
+            TextError::NoText => Fault::BadCommandLine,
+            TextError::NoMemory => Fault::NoMemory,
+        }
+    }
+}
+
+impl From<PortError> for Fault {
+    fn from(error: PortError) -> Fault {
+        match error {
+            PortError::NoMemory => Fault::NoMemory,
+            bad => Fault::BadMapperPort(bad),
+        }
+    }
+}
+
+impl From<CookieFault> for Fault {
+    fn from(fault: CookieFault) -> Fault {
+        match fault {
+            CookieFault::OpenFailed => Fault::OpenFailed,
+            CookieFault::NotPrivate(path) => Fault::NotPrivate(path),
+            CookieFault::NoCookie(error) => Fault::NoCookie(error),
+            CookieFault::NoMemory => Fault::NoMemory,
+        }
     }
 }
 

@@ -7,10 +7,10 @@ use distribution::{
 };
 use std::alloc::Global;
 
-/// What a dialled end hears, in order.
+/// What a dialled end receives, in order.
 const HEARD: [Awaited; 3] = [Awaited::Status, Awaited::Challenge, Awaited::Ack];
 
-/// The challenge of one connection. A dialled end says one.
+/// The challenge of one connection. A dialled end sends one.
 #[derive(Drop)]
 struct Challenge {
     number: u32,
@@ -26,13 +26,14 @@ impl Draws for Challenge {
     }
 }
 
-// Tells the node that the connection is there. What the end says first.
+// Gives the node the event that the connection is there. What the end sends first.
 fn opened(alloc: Global, node: &mut Node, end_: EndId) -> Result<ByteString, Fault> {
     Ok(node.step(alloc, &Event::Opened { end_, link: 0 }, 0)?.say)
 }
 
-// Which message was awaited where the connection failed: `handshake` has told its loss, as the step behind those of the frames.
-// Where the turns ran out it told nothing, and the end is open. Else the end was closed upon a message, and awaited none.
+// Which message was awaited where the connection failed: `handshake` has reported its loss, as the step behind those of the
+// frames. Where the turns ran out it reported nothing, and the end is open. Else the end was closed upon a message, and awaited
+// none.
 fn awaited(desk: &MemoryDesk, end_: EndId) -> Option<Awaited> {
     match desk.list().split_last() {
         Some(((Event::Lost { .. }, _, _), frames)) => HEARD.get(frames.len()).copied(),
@@ -73,8 +74,8 @@ fn come_up<S: Stream>(
     }
 }
 
-/// Makes the handshake of a dialled end whose connection is there, for as long as the stream is not quiet for good. What is known of the peer, and the bytes that were read
-/// behind the last frame, with which the packets begin.
+/// Makes the handshake of a dialled end whose connection is there, for as long as the stream is not quiet for good. What is
+/// known of the peer, and the bytes that were read behind the last frame, with which the packets begin.
 pub fn shaken<S: Stream>(
     alloc: Global,
     stream: &mut S,

@@ -1,4 +1,4 @@
-//! The link, once it is up: what comes is told, a tick is said where nothing was said for a while, and a silent peer is given
+//! The link, once it is up: what comes is printed, a tick is sent where nothing was sent for a while, and a silent peer is given
 //! up.
 
 use crate::fault::{Fault, lost};
@@ -50,7 +50,7 @@ impl Link {
         }
     }
 
-    // Tells the next packet that came whole. Whether there was one.
+    // Prints the next packet that came whole. Whether there was one.
     fn tell_packet<W: Write>(&mut self, out: &mut W) -> Result<bool, Fault> {
         let len = match self.packets.front()? {
             Some(packet) => packet.len(),
@@ -61,7 +61,7 @@ impl Link {
         Ok(true)
     }
 
-    // Tells the packets that came whole. A piece has fewer than it has bytes.
+    // Prints the packets that came whole. A piece has fewer than it has bytes.
     fn tell_packets<W: Write>(&mut self, out: &mut W) -> Result<(), Fault> {
         for _ in 0..PIECE {
             if !self.tell_packet(out)? {
@@ -71,7 +71,7 @@ impl Link {
         Ok(out.flush()?)
     }
 
-    // Says a tick.
+    // Sends a tick.
     fn say_tick(&mut self, ticker: &mut Ticker, now: u64) -> Result<(), Fault> {
         let mut limited = Limited {
             stream: &mut self.stream,

@@ -1,11 +1,11 @@
-//! The program: joins a live Erlang node as a hidden node of its own, keeps the link until its input ends, tells each packet
+//! The program: joins a live Erlang node as a hidden node of its own, keeps the link until its input ends, prints each packet
 //! that comes, and leaves.
 //!
-//! It is the example of docs/LIBRARY.md. What it stands on is proved; of itself the check says that it is safe and ends.
+//! It is the example of docs/LIBRARY.md. What it stands on is proved; of itself the check says that it is safe and always
+//! terminates.
 #![tactic(auto)]
 
 mod command;
-mod cookie;
 mod dialling;
 mod fault;
 mod handshake;
@@ -13,28 +13,23 @@ mod link;
 mod telling;
 
 use command::{Asked, Wanted, asked_of};
-use cookie::cookie_at;
-use dialling::{drawn, join_node};
-use dist_numerals::number_16;
+use dialling::{draw_number, join_node};
+use dist_program::{cookie_at, home_cookie, mapper_port, report, words_of};
 use distribution::{
     Cookie, Cookies, Creation, Flags, Limits, NameError, Node, NodeName, Release, Setup, Version,
 };
 use fault::Fault;
 use link::Link;
 use std::alloc::{AllocError, Global};
-use std::env::{self, VarError};
-use std::io::{self, ErrorKind, Write};
+use std::io::{self, Write};
 use std::process::ExitCode;
 use std::sync::Arc;
 use std::sync::atomic::{AtomicBool, Ordering};
 use std::thread;
 use telling::tell_up;
 
-/// Where a port mapper listens, unless the environment or the command line says otherwise. Source: ERTS User's Guide, epmd.
-const MAPPER_PORT: u16 = 4369;
-
 /// How the program is called.
-const HELP: &str = "usage: joining NODE [--name NAME] [--cookie-file FILE] [--cookie-unsafe]
+const HELP: &str = "usage: joining NODE [--name NAME] [--cookie FILE] [--cookie-unsafe]
                     [--epmd-port N] [--net-ticktime N]
        joining --help | --version
 
@@ -42,7 +37,8 @@ Joins a live Erlang node as a hidden node, tells each packet that comes, and lea
 
   NODE               the node to join, NAME@HOST
   --name NAME        the own name (joining@ and the host part of NODE)
-  --cookie-file FILE the file of the cookie ($HOME/.erlang.cookie)
+  --cookie FILE      the file of the cookie ($HOME/.erlang.cookie)
+  --cookie-file FILE the same
   --cookie-unsafe    take a cookie's file that others than its owner can read
   --epmd-port N      the port of the port mapper (ERL_EPMD_PORT, else 4369)
   --net-ticktime N   after how many seconds a silent peer is given up (60), as the node's net_ticktime
@@ -66,7 +62,7 @@ fn main(rt: HostRuntime) -> ExitCode {
     };
     ExitCode::from(match done {
         Ok(()) => 0,
-        Err(fault) => fault.tell(&mut rt.stderr()),
+        Err(fault) => report(&mut rt.stderr(), "joining", &fault, fault.status()),
     })
 }
 
@@ -86,7 +82,8 @@ fn watch<R: Input + Drop>(rt: R, ended: &AtomicBool) {
 // Does what the command line asks for.
 fn perform(rt: &HostRuntime, ended: &AtomicBool) -> Result<(), Fault> {
     let words = words_of(rt)?;
-    let asked = asked_of(rt.alloc(), &words, usual_mapper_port(rt)?)?;
+    let mapper_port = mapper_port(rt)?;
+    let asked = asked_of(rt.alloc(), &words, mapper_port)?;
     follow(rt, asked, ended)
 }
 
@@ -97,32 +94,6 @@ fn follow(rt: &HostRuntime, asked: Asked<'_>, ended: &AtomicBool) -> Result<(), 
         Asked::Version => Ok(rt.stdout().write_all(VERSION.as_bytes())?),
         Asked::Joins(wanted) => join_and_stay(rt, &wanted, ended),
     }
-}
-
-// The words behind the program's name. One that is no UTF-8 is no word of a command.
-fn words_of(rt: &HostRuntime) -> Result<Vec<String>, Fault> {
-    match env::args(rt) {
-        Ok(words) => Ok(words.skip(1).collect(rt.alloc())?),
-        Err(error) if error.kind() == ErrorKind::OutOfMemory => Err(Fault::NoMemory),
-        Err(_) => Err(Fault::BadCommandLine),
-    }
-}
-
-// What the environment says by this name. A text that is no UTF-8 says nothing.
-fn variable(rt: &HostRuntime, name: &str) -> Result<Option<String>, Fault> {
-    match env::var(rt, name) {
-        Ok(text) => Ok(Some(text)),
-        Err(VarError::OutOfMemory) => Err(Fault::NoMemory),
-        Err(_) => Ok(None),
-    }
-}
-
-// The port mapper's port where the command line names none, as `erl` reads it.
-fn usual_mapper_port(rt: &HostRuntime) -> Result<u16, Fault> {
-    Ok(match variable(rt, "ERL_EPMD_PORT")? {
-        Some(port) => number_16(port.as_bytes()).unwrap_or(MAPPER_PORT),
-        None => MAPPER_PORT,
-    })
 }
 
 // The name that these bytes are.
@@ -149,19 +120,11 @@ fn own_name(alloc: Global, wanted: &Wanted<'_>, peer: &NodeName) -> Result<NodeN
     }
 }
 
-// The file of the home folder that has the cookie, as `erl` finds it.
-fn home_file(rt: &HostRuntime) -> Result<String, Fault> {
-    match variable(rt, "HOME")? {
-        Some(home) => Ok(format!(in rt.alloc(); "{home}/.erlang.cookie")?),
-        None => Err(Fault::OpenFailed),
-    }
-}
-
 // The cookie of the file that is named, else of the home folder's.
 fn cookie_of(rt: &HostRuntime, wanted: &Wanted<'_>) -> Result<Cookie, Fault> {
     match wanted.cookie_file {
-        Some(path) => cookie_at(rt, path, wanted.is_unsafe),
-        None => cookie_at(rt, &home_file(rt)?, wanted.is_unsafe),
+        Some(path) => Ok(cookie_at(rt, path, wanted.is_unsafe)?),
+        None => home_cookie(rt, wanted.is_unsafe)?.ok_or(Fault::OpenFailed),
     }
 }
 
@@ -182,7 +145,7 @@ fn setup_of(alloc: Global, name: NodeName, cookie: Cookie, creation: u32) -> Set
 // The node of this program.
 fn node_of(rt: &HostRuntime, wanted: &Wanted<'_>, peer: &NodeName) -> Result<Node, Fault> {
     let alloc = rt.alloc();
-    let creation = drawn(rt)?;
+    let creation = draw_number(rt)?;
     let name = own_name(alloc, wanted, peer)?;
     let cookie = cookie_of(rt, wanted)?;
     Ok(Node::new(alloc, setup_of(alloc, name, cookie, creation)))

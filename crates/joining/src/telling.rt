@@ -1,4 +1,4 @@
-//! What is told of a peer that is joined.
+//! What is printed of a peer that is joined.
 
 use distribution::{Dflag, Flags, UpRecord};
 use std::io::{self, Write};
@@ -22,7 +22,7 @@ fn tell_peer<W: Write>(out: &mut W, record: &UpRecord) -> io::Result<()> {
     }
 }
 
-/// Tells what is known of the peer.
+/// Prints what is known of the peer.
 pub fn tell_up<W: Write>(out: &mut W, record: &UpRecord) -> io::Result<()> {
     tell_peer(out, record)?;
     tell_flags(out, record.common)?;

@@ -1,18 +1,18 @@
 //! The eleven happenings.
 ghost use Rattle.std.specs.Prelude.{◌≡◌, Ok, slice_get, IfOk, OnErr, MatchOption};
 ghost use Rattle.std.specs.Option.{option_map};
-ghost use Rattle.dist_agreement.specs.World.{running};
-ghost use Rattle.dist_agreement.specs.Happenings.{told, told_of, unclosed, begun, halted, reset, reached, opened, accepted, deliver, take_next, applied, applied_at};
-ghost use Rattle.dist_lives.specs.Telling.{HasTold, Declines};
+ghost use Rattle.dist_world_model.specs.World.{running};
+ghost use Rattle.dist_world_model.specs.Happenings.{tell, tell_node, unclosed, begin, halt, reset, reach, tell_opened, accept, deliver, take_frame, applied, applied_at};
+ghost use Rattle.dist_world_lives.specs.Telling.{HasTold, Declines};
 ghost use Rattle.dist_world.specs.Doing.{Did, Happened};
 
 use crate::scene::{Scene, setup_at};
-use dist_agreement::Happening;
 use dist_core::{Change, Event, Opening, Why};
-use dist_laws::a_reply_is_of_its_end;
-use dist_lives::{Connections, Heard, Lives};
+use dist_core_laws::a_reply_is_of_its_end;
 use dist_names::{ByteString, Creation, NodeName};
 use dist_peers::EndId;
+use dist_world_lives::{Connections, Heard, Lives};
+use dist_world_model::Happening;
 use std::alloc::{AllocError, Global};
 
 /// The most begins.
@@ -34,7 +34,7 @@ fn closed_at(who: usize, closed: Option<(EndId, Why)>) -> Option<(usize, (EndId,
     }
 }
 
-// An incarnation is told an event, which is let go then.
+// An incarnation gets an event, which is dropped then.
 fn tell_once(
     lives: &mut Lives,
     conns: &mut Connections,
@@ -51,7 +51,7 @@ fn tell_once(
 }
 
 impl Scene {
-    // An incarnation is told an event.
+    // An incarnation gets an event.
     fn tell(
         &mut self,
         alloc: Global,
@@ -59,7 +59,7 @@ impl Scene {
         event: Event,
         fresh: u32,
     ) -> Result<bool, AllocError>
-        ensures { Did result (told (unclosed self.old) place event fresh) self.old self.new }
+        ensures { Did result (tell (unclosed self.old) place event fresh) self.old self.new }
     {
         match tell_once(
             &mut self.lives,
@@ -79,24 +79,18 @@ impl Scene {
     }
 
     // The running incarnation of a node is told an event.
-    fn tell_node(
-        &mut self,
-        alloc: Global,
-        node: usize,
-        event: Event,
-        fresh: u32,
-    ) -> Result<bool, AllocError>
-        ensures { Did result (told_of (unclosed self.old) (running self.old node) event fresh) self.old self.new }
+    fn tell_node(&mut self, alloc: Global, node: usize, event: Event) -> Result<bool, AllocError>
+        ensures { Did result (tell_node (unclosed self.old) node event) self.old self.new }
     {
         match self.running(node) {
-            Some(place) => self.tell(alloc, place, event, fresh),
+            Some(place) => self.tell(alloc, place, event, 0),
             None => Ok(false),
         }
     }
 
     // A node that does not run begins.
     fn begin(&mut self, alloc: Global, node: usize, creation: Creation) -> Result<bool, AllocError>
-        ensures { Did result (begun (unclosed self.old) node creation (slice_get self.old.setups node) (running self.old node)) self.old self.new }
+        ensures { Did result (begin (unclosed self.old) node creation) self.old self.new }
     {
         if self.running(node).is_some() {
             return Ok(false);
@@ -112,9 +106,9 @@ impl Scene {
         Ok(true)
     }
 
-    // A running node ends.
+    // A running node stops.
     fn halt(&mut self, node: usize) -> bool
-        ensures { Did (Ok result) (halted (unclosed self.old) (running self.old node)) self.old self.new }
+        ensures { Did (Ok result) (halt (unclosed self.old) node) self.old self.new }
     {
         if !self.lives.end(node, self.clock) {
             return false;
@@ -125,7 +119,7 @@ impl Scene {
 
     // A running node changes its setup, by a copy of the change.
     fn reset(&mut self, alloc: Global, node: usize, wanted: &Change) -> Result<bool, AllocError>
-        ensures { Did result (reset (unclosed self.old) (running self.old node) wanted.now) self.old self.new }
+        ensures { Did result (reset (unclosed self.old) node wanted.now) self.old self.new }
     {
         let Some(place) = self.running(node) else {
             return Ok(false);
@@ -146,7 +140,7 @@ impl Scene {
         id: EndId,
         target: usize,
     ) -> Result<bool, AllocError>
-        ensures { Did result (reached (unclosed self.old) id.0 (running self.old node) (running self.old target)) self.old self.new }
+        ensures { Did result (reach (unclosed self.old) node id target) self.old self.new }
     {
         let Some(place) = self.running(node) else {
             return Ok(false);
@@ -167,9 +161,9 @@ impl Scene {
         Ok(true)
     }
 
-    // An end that has a connection is told of it.
+    // An end that has a connection gets the event of it.
     fn open(&mut self, alloc: Global, node: usize, id: EndId) -> Result<bool, AllocError>
-        ensures { Did result (opened (unclosed self.old) id (running self.old node)) self.old self.new }
+        ensures { Did result (tell_opened (unclosed self.old) node id) self.old self.new }
     {
         let Some(place) = self.running(node) else {
             return Ok(false);
@@ -188,7 +182,7 @@ impl Scene {
 
     // A connection comes to the incarnation that it leads to.
     fn accept(&mut self, alloc: Global, conn: usize) -> Result<bool, AllocError>
-        ensures { Did result (accepted (unclosed self.old) conn (slice_get self.old.conns conn)) self.old self.new }
+        ensures { Did result (accept (unclosed self.old) conn) self.old self.new }
     {
         a_reply_is_of_its_end();
         let Some(target) = self.conns.unaccepted(conn) else {
@@ -213,9 +207,9 @@ impl Scene {
         }
     }
 
-    // Some of what the other side said comes to an open end.
+    // Some of what the other side sent comes to an open end.
     fn deliver(&mut self, node: usize, id: EndId, count: usize) -> Result<bool, AllocError>
-        ensures { Did result (deliver (unclosed self.old) id.0 count (running self.old node)) self.old self.new }
+        ensures { Did result (deliver (unclosed self.old) node id count) self.old self.new }
     {
         let Some(place) = self.running(node) else {
             return Ok(false);
@@ -241,7 +235,7 @@ impl Scene {
         id: EndId,
         fresh: u32,
     ) -> Result<bool, AllocError>
-        ensures { Did result (take_next (unclosed self.old) id fresh (running self.old node)) self.old self.new }
+        ensures { Did result (take_frame (unclosed self.old) node id fresh) self.old self.new }
     {
         a_reply_is_of_its_end();
         let Some(place) = self.running(node) else {
@@ -281,13 +275,13 @@ impl Scene {
         peer: &NodeName,
         opening: Opening,
     ) -> Result<bool, AllocError>
-        ensures { Did result (told_of (unclosed self.old) (running self.old node) (Event.Dial peer.now opening) 0) self.old self.new }
+        ensures { Did result (tell_node (unclosed self.old) node (Event.Dial peer.now opening)) self.old self.new }
     {
         let event = Event::Dial {
             peer: peer.try_clone(alloc)?,
             opening,
         };
-        self.tell_node(alloc, node, event, 0)
+        self.tell_node(alloc, node, event)
     }
 
     // One happening, but for the clock.
@@ -303,7 +297,7 @@ impl Scene {
                 opening,
             } => self.dial(alloc, *node, peer, *opening),
             Happening::Tick { node, end_ } => {
-                self.tell_node(alloc, *node, Event::Tick { end_: *end_ }, 0)
+                self.tell_node(alloc, *node, Event::Tick { end_: *end_ })
             }
             Happening::Reach { node, end_, target } => self.reach(alloc, *node, *end_, *target),
             Happening::Opened { node, end_ } => self.open(alloc, *node, *end_),
@@ -315,7 +309,7 @@ impl Scene {
                     end_: *end_,
                     why: *why,
                 };
-                self.tell_node(alloc, *node, event, 0)
+                self.tell_node(alloc, *node, event)
             }
             Happening::Reset { node, change } => self.reset(alloc, *node, change),
         }

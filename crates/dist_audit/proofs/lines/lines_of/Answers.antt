@@ -1,5 +1,11 @@
-use Rattle.dist_audit.proofs.Putting.{put_next}
+use Rattle.std.proofs.Common.{subst, rules}
+use Rattle.std.specs.List.Sorted.{IsPermutation}
+use Rattle.std.proofs.lemmas.List.Sorted.{IsNonDecreasingBy-from_sort_by_key}
+use Rattle.dist_audit.specs.Lines.{ticket_of}
 use Rattle.dist_audit.proofs.lines.lines_of.Goals as goal
 
-pub loop-node-preserved : goal.loop-node-preserved
-loop-node-preserved c = put_next c.loop-node.lines c.put_all.new.self _ c.loop-node.node c.args.closed.now c.index-closed-node.result c.deref.result.now c.loop-node-test.true c.deref.ensures.value c.in_ok-put_all.ensures c.loop-node.invariant
+pub returns : goal.returns
+returns c = record {
+  all = subst (λ ts. IsPermutation ts c.sort_unstable_by_key.new.self.items) c.in_ok-lines.ensures c.sort_unstable_by_key.ensures.permutation;
+  order = IsNonDecreasingBy-from_sort_by_key ticket_of _ c.sort_unstable_by_key.ensures.sorted (λ a r q k. search rules);
+}

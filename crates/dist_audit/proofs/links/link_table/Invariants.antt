@@ -3,6 +3,6 @@ use Rattle.dist_audit.specs.Faults.{links_repeat}
 use Rattle.dist_audit.specs.Kept.{Knows}
 use Rattle.dist_audit.proofs.links.link_table.Given as goal
 
--- what those passed tell is known, and no link of them stands twice
+-- what those passed say is known, and no link of them stands twice
 abbrev pub invariant-loop-i : goal.invariant-loop-i
 invariant-loop-i l = record { known : Knows (let t = l.table in t.diallers) (let t = l.table in t.acceptors) (drop l.i l.lines); once : links_repeat (drop l.i l.lines) ≡ false }

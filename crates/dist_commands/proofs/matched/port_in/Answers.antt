@@ -6,9 +6,9 @@ use Rattle.dist_commands.proofs.matched.port_in.Goals as goal
 pub returns-in-Some : goal.returns-in-Some
 returns-in-Some c =
     let value : first_of (codes "port") (rows_of (found_of c.args.matches.now)) ≡ Some c.in-Some.word.now = matched (λ b. b.now) (found_of c.args.matches.now) (codes "port") c.get_str.result (Some c.in-Some.word) c.get_str.ensures c.in-Some.is in
-    number_read 16 4369 _ c.as_bytes.result.now c.number_16.result (value ∙ ap Some (sym c.as_bytes.ensures.value)) c.number_16.ensures
+    number_read 16 c.args.usual _ c.as_bytes.result.now c.number_16.result (value ∙ ap Some (sym c.as_bytes.ensures.value)) c.number_16.ensures
 
 pub returns-in-None : goal.returns-in-None
 returns-in-None c =
     let value : first_of (codes "port") (rows_of (found_of c.args.matches.now)) ≡ None = matched (λ b. b.now) (found_of c.args.matches.now) (codes "port") c.get_str.result None c.get_str.ensures c.in-None.is in
-    number_left 16 4369 _ value
+    number_left 16 c.args.usual _ value

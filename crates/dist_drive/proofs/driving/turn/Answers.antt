@@ -1,6 +1,6 @@
 use Rattle.std.proofs.Common.{◌≡◌, Bool, arith, [], sym, subst}
 use Rattle.dist_peers.specs.declared.entry.EndId.{EndId}
-use Rattle.dist_ends.specs.declared.phase.Still.TheVariants as still
+use Rattle.dist_core_ends.specs.declared.phase.Still.TheVariants as still
 use Rattle.dist_frames.specs.Reader.{to_come}
 use Rattle.dist_drive.specs.declared.outcome.Ending.{Ending}
 use Rattle.dist_drive.specs.Driven.{Finish}

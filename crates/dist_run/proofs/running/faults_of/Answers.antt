@@ -3,7 +3,7 @@ use Rattle.std.proofs.Math.Seq.{take-append_seam}
 use Rattle.std.proofs.lemmas.Grind.{common_steps}
 use Rattle.std.specs.List.Sorted.{IsNonDecreasingBy}
 use Rattle.std.proofs.lemmas.List.Sorted.{IsNonDecreasingBy-from_sort_by_key}
-use Rattle.dist_hosts.specs.declared.order_fault.OrderFault.{OrderFault}
+use Rattle.dist_run_hosts.specs.declared.order_fault.OrderFault.{OrderFault}
 use Rattle.dist_run.proofs.running.faults_of.Goals as goal
 
 pub returns-clause-order : goal.returns-clause-order

@@ -1,5 +1,5 @@
 use Rattle.std.proofs.Common.{◌≡◌, ◌⊎◌, ℕ, suc, ◌+◌, List, length, Option, Err, ap, ◌∙◌, arith, Bor, option_copied}
-use Rattle.dist_words.specs.declared.fault.ScriptFault.TheVariants.{NoMemory}
+use Rattle.dist_script_words.specs.declared.fault.ScriptFault.TheVariants.{NoMemory}
 use Rattle.dist_script.specs.Scripts.{lines_of, nothing, with_lines}
 use Rattle.dist_script.proofs.Scripts.{lines_in, bytes_left, fewer_left, line_taken, line_bad, at_fault}
 use Rattle.dist_script.proofs.script.draft_of.Goals as goal

@@ -1,6 +1,6 @@
 -- What was read stands behind what was there.
 use Rattle.std.proofs.Common.{◌≡◌, ℕ, List, ◌++◌, None}
-use Rattle.dist_streams.specs.Turns.{Hears}
+use Rattle.dist_stream.specs.Turns.{Hears}
 use Rattle.distmapd.proofs.answer.read_rest.Given as goal
 
 abbrev pub invariant-loop-count : goal.invariant-loop-count

@@ -5,7 +5,7 @@ use Rattle.hex.specs.Hex.{encode_lower}
 use Rattle.distnode.specs.Printed.{cookie_line}
 use Rattle.distnode.proofs.cookie.print.Goals as goal
 
--- the line of so many bytes, a challenge and a digest
+-- the line of this many bytes, a challenge and a digest
 abbrev text : ℕ → ℕ → List ℕ → List ℕ
 text count challenge made = concat (codes "cookie of " ∷ decimal count ∷ codes " bytes, digest of " ∷ decimal challenge ∷ codes " is " ∷ encode_lower made ∷ codes "\n" ∷ [])
 

@@ -5,4 +5,4 @@ use Rattle.distnode_c.proofs.changes.set_usual_cookie.Goals as goal
 pub returns-in-Ok : goal.returns-in-Ok
 returns-in-Ok c =
     rw c.in-Ok.ensures.exact
-    (inl (c.amended.ensures (UsualCookie c.in-Ok.cookie) c.args.guest.now c.set_usual_cookie.new.self c.set_usual_cookie.ensures.change))
+    (inl (c.code_of_change.ensures (UsualCookie c.in-Ok.cookie) c.args.guest.now c.set_usual_cookie.new.self c.set_usual_cookie.ensures.change))

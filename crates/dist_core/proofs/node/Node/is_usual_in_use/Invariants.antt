@@ -2,7 +2,7 @@
 use Rattle.std.proofs.Common.{◌≡◌, drop}
 use Rattle.std.specs.List.{list_any}
 use Rattle.std.specs.FinMap as map
-use Rattle.dist_ends.specs.Ends.{table_of}
+use Rattle.dist_core_ends.specs.Ends.{table_of}
 use Rattle.dist_core.specs.Changing.{has_usual}
 use Rattle.dist_core.proofs.node.Node.is_usual_in_use.Given as goal
 

@@ -1,12 +1,12 @@
 use Rattle.std.proofs.Common.{◌≡◌, ◌∙◌, true, Option, Some, Ok, refl, sym, length, ap, arith, slice_get}
 use Rattle.std.proofs.lemmas.Option.{slice_get_within}
-use Rattle.dist_ends.specs.declared.known.End.{End}
-use Rattle.dist_ends.specs.declared.known.End.TheVariants as ends
-use Rattle.dist_ends.specs.Ends.{is_open}
+use Rattle.dist_core_ends.specs.declared.known.End.{End}
+use Rattle.dist_core_ends.specs.declared.known.End.TheVariants as ends
+use Rattle.dist_core_ends.specs.Ends.{is_open}
 use Rattle.dist_core.specs.declared.effect.Effect.{Effect}
 use Rattle.dist_core.specs.Step.{at_end}
 use Rattle.dist_core.specs.Effects.{closes}
-use Rattle.dist_ends.proofs.Fitting.{stays-closing}
+use Rattle.dist_core_ends.proofs.Fitting.{stays-closing}
 use Rattle.dist_core.proofs.Counts.{length-within}
 use Rattle.dist_core.proofs.node.Node.lose.Goals as goal
 

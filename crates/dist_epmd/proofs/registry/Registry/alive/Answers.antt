@@ -1,17 +1,17 @@
 use Rattle.std.proofs.Common.{◌≡◌, ◌+◌, rules, true, List, sym, subst}
 use Rattle.std.specs.BTreeMap.{values}
 use Rattle.dist_epmd.specs.declared.row.Row.{Row}
-use Rattle.dist_epmd.specs.Book.{Book, IsLegal, is_accepted, with_row}
+use Rattle.dist_epmd.specs.Registrations.{Registrations, IsLegal, is_accepted, with_row}
 use Rattle.dist_epmd.proofs.Legal.{registered_legal}
 use Rattle.dist_epmd.proofs.registry.Registry.alive.Goals as goal
 
 pub invariant_of-self-2 : goal.invariant_of-self-2
 invariant_of-self-2 c =
-    let book : Book = record { port = c.self.inside.port; next = c.self.inside.next; rows = values c.self.inside.rows } in
-    let ok : is_accepted c.args.conn c.args.request.now book ≡ true = search rules in
+    let registrations : Registrations = record { port = c.self.inside.port; next = c.self.inside.next; rows = values c.self.inside.rows } in
+    let ok : is_accepted c.args.conn c.args.request.now registrations ≡ true = search rules in
     let row : Row = record { conn = c.args.conn; info = c.args.request.now; creation = c.self.inside.next } in
     let rows : values c.register.new.rows ≡ with_row row (values c.self.inside.rows) = search rules in
-    (subst (λ (r : List Row). IsLegal (record { port = c.self.inside.port; next = c.self.inside.next + 1; rows = r })) (sym rows) (registered_legal c.args.conn c.args.request.now book c.self.invariant.0 ok), c.register.ensures.names)
+    (subst (λ (r : List Row). IsLegal (record { port = c.self.inside.port; next = c.self.inside.next + 1; rows = r })) (sym rows) (registered_legal c.args.conn c.args.request.now registrations c.self.invariant.0 ok), c.register.ensures.names)
 
 pub returns-then-not-accepts-clause-answer : goal.returns-then-not-accepts-clause-answer
 returns-then-not-accepts-clause-answer c = search rules

@@ -1,6 +1,6 @@
 use Rattle.std.proofs.Common.{◌≡◌, Some, slice_get, sym}
-use Rattle.dist_agreement.specs.World.{World}
-use Rattle.dist_lives.specs.Wires.{unaccepted}
+use Rattle.dist_world_model.specs.World.{World}
+use Rattle.dist_world_lives.specs.Wires.{unaccepted}
 use Rattle.dist_world.proofs.Marked.{accepted_is}
 use Rattle.dist_world.proofs.scene.Scene.accept.Goals as goal
 

@@ -1,6 +1,6 @@
 use Rattle.std.proofs.Common.{◌≡◌, ◌≤◌, take}
-use Rattle.dist_agreement.specs.Agreement.{AllFit}
-use Rattle.dist_agreement.specs.Run.{run, count_applied}
+use Rattle.dist_world_model.specs.Agreement.{AllFit}
+use Rattle.dist_world_model.specs.Run.{run, count_applied}
 use Rattle.dist_world.proofs.scene.Scene.run.Given as goal
 
 abbrev pub invariant-loop-i : goal.invariant-loop-i

@@ -1,5 +1,5 @@
 use Rattle.std.proofs.Common.{◌≡◌, Some, slice_get, sym, ap, ◌∙◌}
-use Rattle.dist_agreement.specs.World.{World}
+use Rattle.dist_world_model.specs.World.{World}
 use Rattle.dist_world.proofs.UpLinks.{peer_found, peer_only}
 use Rattle.dist_world.proofs.scene.Scene.up_with.Goals as goal
 

@@ -1,4 +1,4 @@
-use Rattle.dist_agreement.specs.Agreement.{IsReached}
+use Rattle.dist_world_model.specs.Agreement.{IsReached}
 use Rattle.dist_world.proofs.Agreed.{reached_after, decided_there}
 use Rattle.dist_world.proofs.world.World.run.Goals as goal
 

@@ -9,9 +9,9 @@ use denote.Param.Send.{IsSend, AllSend, owning_send, struct_send, sendable}
 use Rattle.std.specs.Prelude.{Option, Some, None}
 use Rattle.std_alloc.proofs.SendSync.{quiet, lies}
 use Rattle.libc.specs.Heap.{chunk-Keyless}
-use Rattle.dist_guest.specs.declared.guest.Guest.{Guest}
-use Rattle.dist_guest.specs.contracts.guest.Guest as guest
-use Rattle.dist_guest.proofs.guest.Guest.TheSendSync.{the_send}
+use Rattle.dist_c_guest.specs.declared.guest.Guest.{Guest}
+use Rattle.dist_c_guest.specs.contracts.guest.Guest as guest
+use Rattle.dist_c_guest.proofs.guest.Guest.TheSendSync.{the_send}
 use Rattle.distnode_c.specs.Kept.{kept}
 use Rattle.distnode_c.specs.contracts.slot.Slot.{the_row, the_type}
 

@@ -1,5 +1,0 @@
-use Rattle.dist_agreement.proofs.Connections.{in_order_worlds}
-use Rattle.dist_agreement.proofs.laws.connections_are_in_order.Goals as goal
-
-pub returns : goal.returns
-returns c = in_order_worlds c.nodes_keep_laws.ensures

@@ -1,5 +1,0 @@
-use Rattle.dist_agreement.proofs.Lifelong.{decided_lives}
-use Rattle.dist_agreement.proofs.laws.crossings_are_decided.Goals as goal
-
-pub returns : goal.returns
-returns c = decided_lives c.nodes_keep_laws.ensures

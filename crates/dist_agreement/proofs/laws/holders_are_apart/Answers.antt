@@ -1,5 +1,0 @@
-use Rattle.dist_agreement.proofs.Lifelong.{apart_lives}
-use Rattle.dist_agreement.proofs.laws.holders_are_apart.Goals as goal
-
-pub returns : goal.returns
-returns c = apart_lives c.nodes_keep_laws.ensures

@@ -1,5 +1,0 @@
-use Rattle.dist_agreement.proofs.Times.{alone_lives}
-use Rattle.dist_agreement.proofs.laws.replies_are_alone.Goals as goal
-
-pub returns : goal.returns
-returns c = alone_lives c.nodes_keep_laws.ensures

@@ -1,7 +1,0 @@
-use Rattle.std.proofs.Common.{◌≡◌, ◌<◌, ℕ, ◌==◌}
-use Rattle.std.specs.List.{count_by}
-use Rattle.dist_books.specs.History.{SeatState}
-use Rattle.dist_books.proofs.closing.are_once.Given as goal
-
-abbrev pub invariant-loop-number : goal.invariant-loop-number
-invariant-loop-number l = (k : ℕ) → k < l.number → count_by (λ (s : SeatState). s.number == k) l.seats ≡ 1

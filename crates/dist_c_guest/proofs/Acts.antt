@@ -1,0 +1,105 @@
+-- A history of calls of all kinds on a guest is a run of its node.
+use Rattle.std.proofs.Common.{◌≡◌, ℕ, List, [], ◌∷◌, ◌++◌, Option, Result, Ok, Err, refl, sym, ap, subst, ◌∙◌, if◌then◌else◌}
+use Rattle.dist_core.specs.declared.changing.ChangeError.{ChangeError}
+use Rattle.dist_core.specs.declared.changing.ChangeError.TheVariants as change_error
+use Rattle.dist_core.specs.declared.event.Event.{Event}
+use Rattle.dist_core.specs.declared.step_error.StepError.{StepError}
+use Rattle.dist_core.specs.declared.step_error.StepError.TheVariants as error
+use Rattle.dist_core.specs.Acts.{Act, act, changed_or, run_acts}
+use Rattle.dist_core.specs.Acts as acts
+use Rattle.dist_core.specs.declared.changing.Change.{Change}
+use Rattle.dist_core.specs.declared.changing.Change.TheVariants.{Allow}
+use Rattle.dist_core.specs.declared.reply.Reply.{Reply}
+use Rattle.dist_names.specs.Order.{Name}
+use Rattle.dist_core.specs.Changing.{change, IsChange}
+use Rattle.dist_core.specs.Node.{NodeState}
+use Rattle.dist_core.specs.Runs.{settled}
+use Rattle.dist_core.specs.Step.{step}
+use Rattle.dist_c_guest.specs.declared.guest.Guest.{Guest}
+use Rattle.dist_c_guest.specs.Calls.{IsCall, asked, given_back}
+use Rattle.dist_c_guest.specs.Histories.{AnyCall, Step_call, Change_call, Widened_call, Form_call, Forget_call, IsAnyHistory, IsMade, act_of, acts_of, change_lacked, guest_after, has_lacked, lacked}
+
+abbrev node_of : Guest → NodeState
+node_of g = g.node
+
+-- the acts of one call and of those after it
+abbrev begun : Result (Unit {0}) StepError → Act → List Act → List Act
+begun a x xs = if lacked a then xs else x ∷ xs
+
+abbrev begun_by : Result (Unit {0}) ChangeError → Act → List Act → List Act
+begun_by a x xs = if change_lacked a then xs else x ∷ xs
+
+module _ (xs : List Act) (first after last : Guest) (ih : last.node ≡ run_acts xs after.node) where
+  -- the node is after the act what the guest's is
+  goes : (x : Act) → act first.node x ≡ after.node → last.node ≡ run_acts (x ∷ xs) first.node
+  goes x e = ih ∙ ap (run_acts xs) (sym e)
+
+  -- nothing was done
+  lacks : after ≡ first → last.node ≡ run_acts xs first.node
+  lacks same = ih ∙ ap (λ (g : Guest). run_acts xs g.node) same
+
+  module _ (v : Event) (fresh : ℕ) where
+    refused : (e : StepError) → step first.node v fresh ≡ Err e → after ≡ first → last.node ≡ run_acts (acts.Steps v fresh ∷ xs) first.node
+    refused e is same = goes (acts.Steps v fresh) (ap (settled first.node) is ∙ ap node_of (sym same))
+
+    by_step : (a : Result (Unit {0}) StepError) → IsCall v a (step first.node v fresh) first after → last.node ≡ run_acts (begun a (acts.Steps v fresh) xs) first.node
+    by_step (Ok u) (r, is, kept, heard, same) = goes (acts.Steps v fresh) (ap (settled first.node) is)
+    by_step (Err error.NoMemory) (h, same) = lacks same
+    by_step (Err error.NoSuchEnd) (h, same) = refused error.NoSuchEnd h same
+    by_step (Err (error.Gone w)) (h, same) = refused (error.Gone w) h same
+    by_step (Err error.WrongPhase) (h, same) = refused error.WrongPhase h same
+    by_step (Err (error.Busy e)) (h, same) = refused (error.Busy e) h same
+    by_step (Err error.Spent) (h, same) = refused error.Spent h same
+    by_step (Err error.Full) (h, same) = refused error.Full h same
+
+  -- other names might connect for a step, and are given back
+  module _ (v : Event) (fresh : ℕ) (names : Option (List Name)) where
+    abbrev made_wide : Result (Reply × NodeState) StepError
+    made_wide = step (asked first.node names) v fresh
+
+    abbrev three : Option (List Name) → List Act → List Act
+    three back ys = acts.Changes (Allow names) ∷ acts.Steps v fresh ∷ acts.Changes (Allow back) ∷ ys
+
+    back_where : (s : Result (Reply × NodeState) StepError) → asked (settled (asked first.node names) s) first.node.setup.allow ≡ settled first.node (given_back first.node s)
+    back_where (Ok x) = refl
+    back_where (Err e) = refl
+
+    wide : settled first.node (given_back first.node made_wide) ≡ after.node → last.node ≡ run_acts (three first.node.setup.allow xs) first.node
+    wide e = ih ∙ ap (run_acts xs) (sym (back_where made_wide ∙ e))
+
+    refused_wide : (e : StepError) → given_back first.node made_wide ≡ Err e → after ≡ first → last.node ≡ run_acts (three first.node.setup.allow xs) first.node
+    refused_wide e is same = wide (ap (settled first.node) is ∙ ap node_of (sym same))
+
+    by_wide : (a : Result (Unit {0}) StepError) → IsCall v a (given_back first.node made_wide) first after → last.node ≡ run_acts (if lacked a then xs else three first.node.setup.allow xs) first.node
+    by_wide (Ok u) (r, is, kept, heard, same) = wide (ap (settled first.node) is)
+    by_wide (Err error.NoMemory) (h, same) = lacks same
+    by_wide (Err error.NoSuchEnd) (h, same) = refused_wide error.NoSuchEnd h same
+    by_wide (Err (error.Gone w)) (h, same) = refused_wide (error.Gone w) h same
+    by_wide (Err error.WrongPhase) (h, same) = refused_wide error.WrongPhase h same
+    by_wide (Err (error.Busy e)) (h, same) = refused_wide (error.Busy e) h same
+    by_wide (Err error.Spent) (h, same) = refused_wide error.Spent h same
+    by_wide (Err error.Full) (h, same) = refused_wide error.Full h same
+
+    by_wide_back : (back : Option (List Name)) (a : Result (Unit {0}) StepError) → back ≡ first.node.setup.allow → IsCall v a (given_back first.node made_wide) first after → last.node ≡ run_acts (if lacked a then xs else three back xs) first.node
+    by_wide_back back a is h = subst (λ (l : Option (List Name)). last.node ≡ run_acts (if lacked a then xs else three l xs) first.node) (sym is) (by_wide a h)
+
+  module _ (v : Change) where
+    unchanged : (e : ChangeError) → change first.node v ≡ Err e → after.node ≡ first.node → last.node ≡ run_acts (acts.Changes v ∷ xs) first.node
+    unchanged e is same = goes (acts.Changes v) (ap (changed_or first.node) is ∙ sym same)
+
+    by_change : (a : Result (Unit {0}) ChangeError) → IsChange a (change first.node v) first.node after.node → last.node ≡ run_acts (begun_by a (acts.Changes v) xs) first.node
+    by_change (Ok u) is = goes (acts.Changes v) (ap (changed_or first.node) is)
+    by_change (Err change_error.InUse) (h, same) = unchanged change_error.InUse h same
+    by_change (Err change_error.Full) (h, same) = unchanged change_error.Full h same
+    by_change (Err change_error.NoMemory) (h, same) = ih ∙ ap (run_acts xs) same
+
+made : (c : AnyCall) (xs : List Act) (first last : Guest) → IsMade c first → last.node ≡ run_acts xs (guest_after c).node → last.node ≡ run_acts (if has_lacked c then xs else act_of c ++ xs) first.node
+made (Step_call c) xs first last h ih = by_step xs first c.after last ih c.event c.fresh c.answer h
+made (Change_call v answer after) xs first last h ih = by_change xs first after last ih v answer h.0
+made (Widened_call names back c) xs first last h ih = by_wide_back xs first c.after last ih c.event c.fresh names back c.answer h.0 h.1
+made (Form_call names after) xs first last h ih = goes xs first after last ih (acts.Changes (Allow names)) (sym h)
+made (Forget_call below after) xs first last h ih = goes xs first after last ih (acts.Forgets below) (sym h.0)
+
+pub a-run-of-acts : (calls : List AnyCall) (first last : Guest) → IsAnyHistory calls first last → last.node ≡ run_acts (acts_of calls) first.node
+a-run-of-acts [] first last h = ap node_of h
+a-run-of-acts (c ∷ cs) first last (h, rest) = made c (acts_of cs) first last h (a-run-of-acts cs (guest_after c) last rest)

@@ -1,0 +1,114 @@
+-- Whether a frame is refused, and why, does not depend on its bytes.
+use Rattle.std.proofs.Common.{◌≡◌, ℕ, Bool, true, false, List, Option, Some, None, Result, Ok, Err, refl, ap, subst, slice_get, cond}
+use Rattle.std.proofs.lemmas.Bool.{false≢true}
+use Rattle.std.specs.Prelude.{IsOk}
+use Rattle.dist_messages.specs.declared.message.Side.{Side}
+use Rattle.dist_peers.specs.declared.entry.EndId.{EndId}
+use Rattle.dist_core_ends.specs.declared.known.End.{End}
+use Rattle.dist_core_ends.specs.declared.known.End.TheVariants as ends
+use Rattle.dist_core.specs.declared.effect.Effect.{Effect}
+use Rattle.dist_core.specs.declared.event.Event.{Event}
+use Rattle.dist_core.specs.declared.event.Event.TheVariants as event
+use Rattle.dist_core.specs.declared.reply.Reply.{Reply}
+use Rattle.dist_core.specs.declared.step_error.StepError.{StepError}
+use Rattle.dist_core.specs.declared.step_error.StepError.TheVariants as error
+use Rattle.dist_core.specs.Node.{NodeState, is_spent}
+use Rattle.dist_core.specs.Answers.{Refuses, reply_of}
+use Rattle.dist_names.specs.Order.{Name}
+use Rattle.dist_c_guest.specs.Calls.{answer_to, asked, given_back}
+use Rattle.dist_c_guest.specs.Forms.{widened}
+use Rattle.dist_c_guest.specs.Reading.{expanded}
+use Rattle.dist_c_guest.specs.declared.guest.Guest.{Guest}
+use Rattle.dist_core.specs.Step.{step, stepped, effect_of, at_end, framed_from, sender_to}
+
+abbrev Answer : Type 0
+Answer = Result (Reply × NodeState) StepError
+
+-- both are made, or both are refused for one reason
+abbrev Alike : Answer → Answer → Type 0
+Alike (Ok x) t = IsOk t
+Alike (Err e) t = t ≡ Err e
+
+module _ (n m : NodeState) (v w : Event) where
+  by_count : (b : Bool) (f g : Effect) → Alike (stepped n v (cond b (Err error.Spent) (Ok f))) (stepped m w (cond b (Err error.Spent) (Ok g)))
+  by_count true f g = refl
+  by_count false f g = refl
+
+module _ (n : NodeState) (names : Option (List Name)) (id : EndId) (empty body : List ℕ) (fresh : ℕ) where
+  -- the node whose names that may connect are others
+  abbrev m : NodeState
+  m = asked n names
+
+  abbrev v : Event
+  v = event.Frame id empty
+
+  abbrev w : Event
+  w = event.Frame id body
+
+  by_side : (e : End) (s : Option Side) → Alike (stepped n v (framed_from n id 0 empty e s)) (stepped m w (framed_from m id fresh body e s))
+  by_side e None = refl
+  by_side e (Some side) = by_count n m v w (is_spent n) _ _
+
+  by_end : (o : Option End) → Alike (stepped n v (at_end o (λ e. framed_from n id 0 empty e (sender_to e)))) (stepped m w (at_end o (λ e. framed_from m id fresh body e (sender_to e))))
+  by_end None = refl
+  by_end (Some (ends.Closed c)) = refl
+  by_end (Some ends.Unnamed) = by_side ends.Unnamed (sender_to ends.Unnamed)
+  by_end (Some (ends.Attempt a)) = by_side (ends.Attempt a) (sender_to (ends.Attempt a))
+  by_end (Some (ends.Up r)) = by_side (ends.Up r) (sender_to (ends.Up r))
+
+  alike : Alike (step n v 0) (step m w fresh)
+  unfolding effect_of
+  alike = by_end (slice_get n.ends id.0)
+
+made : (s t : Answer) (r : Reply) → reply_of s ≡ Ok r → Alike s t → IsOk t
+made (Ok x) t r e a = a
+made (Err x) t r e a = absurd cc
+
+at_want : (s t : Answer) → IsOk s → Alike s t → IsOk t
+at_want (Ok x) t o a = a
+at_want (Err x) t o a = absurd (false≢true o)
+
+told : (s t : Answer) (e : StepError) → s ≡ Err e → Alike s t → t ≡ Err e
+told s t e is a = subst (λ (z : Answer). Alike z t) is a
+
+refuses : (e : StepError) (s t : Answer) → Refuses e s → Alike s t → Refuses e t
+refuses error.NoMemory s t h a = at_want s t h a
+refuses error.NoSuchEnd s t h a = told s t error.NoSuchEnd h a
+refuses (error.Gone w) s t h a = told s t (error.Gone w) h a
+refuses error.WrongPhase s t h a = told s t error.WrongPhase h a
+refuses (error.Busy x) s t h a = told s t (error.Busy x) h a
+refuses error.Spent s t h a = told s t error.Spent h a
+refuses error.Full s t h a = told s t error.Full h a
+
+-- the answer with the names given back is refused alike
+ok-back : (n : NodeState) (s : Answer) → IsOk s → IsOk (given_back n s)
+ok-back n (Ok x) o = o
+ok-back n (Err e) o = absurd (false≢true o)
+
+err-back : (n : NodeState) (s : Answer) (e : StepError) → s ≡ Err e → given_back n s ≡ Err e
+err-back n s e is = ap (given_back n) is
+
+pub refuses-back : (n : NodeState) (e : StepError) (s : Answer) → Refuses e s → Refuses e (given_back n s)
+refuses-back n error.NoMemory s h = ok-back n s h
+refuses-back n error.NoSuchEnd s h = err-back n s error.NoSuchEnd h
+refuses-back n (error.Gone w) s h = err-back n s (error.Gone w) h
+refuses-back n error.WrongPhase s h = err-back n s error.WrongPhase h
+refuses-back n (error.Busy x) s h = err-back n s (error.Busy x) h
+refuses-back n error.Spent s h = err-back n s error.Spent h
+refuses-back n error.Full s h = err-back n s error.Full h
+
+module _ (g : Guest) (id : EndId) (empty body : List ℕ) (fresh : ℕ) where
+  abbrev came : List ℕ
+  came = expanded g.reading.mandatory.0 body
+
+  abbrev names : Option (List Name)
+  names = widened g.reading.forms came g.node.setup.allow
+
+  like : Alike (step g.node (event.Frame id empty) 0) (step (asked g.node names) (event.Frame id came) fresh)
+  like = alike g.node names id empty came fresh
+
+  pub no_memory : (r : Reply) → reply_of (step g.node (event.Frame id empty) 0) ≡ Ok r → Refuses error.NoMemory (answer_to g id body fresh)
+  no_memory r e = ok-back g.node (step (asked g.node names) (event.Frame id came) fresh) (made (step g.node (event.Frame id empty) 0) (step (asked g.node names) (event.Frame id came) fresh) r e like)
+
+  pub same_refusal : (x : StepError) → Refuses x (step g.node (event.Frame id empty) 0) → Refuses x (answer_to g id body fresh)
+  same_refusal x h = refuses-back g.node x (step (asked g.node names) (event.Frame id came) fresh) (refuses x (step g.node (event.Frame id empty) 0) (step (asked g.node names) (event.Frame id came) fresh) h like)

@@ -1,0 +1,8 @@
+use Rattle.std.proofs.Common.{rules, not, List, ap, ◌∙◌}
+use Rattle.std.proofs.lemmas.Fn.{filter_same}
+use Rattle.dist_names.specs.Order.{Name, same_name}
+use Rattle.dist_core_setup.specs.Changing.{without_name}
+use Rattle.dist_c_guest.proofs.forms.Forms.remove.Goals as goal
+
+pub returns : goal.returns
+returns c = filter_same _ (λ one. not (same_name c.args.form.now one)) _ (λ x b f k. search rules) _ _ c.retain.ensures.filtered ∙ ap (λ (names : List Name). without_name names c.args.form.now) c.self.view_is

@@ -1,0 +1,5 @@
+use Rattle.dist_c_guest.proofs.Runs.{a-run}
+use Rattle.dist_c_guest.proofs.laws.a_history_is_a_run.Goals as goal
+
+pub returns : goal.returns
+returns c = a-run

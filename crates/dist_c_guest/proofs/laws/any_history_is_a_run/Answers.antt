@@ -1,0 +1,5 @@
+use Rattle.dist_c_guest.proofs.Acts.{a-run-of-acts}
+use Rattle.dist_c_guest.proofs.laws.any_history_is_a_run.Goals as goal
+
+pub returns : goal.returns
+returns c = a-run-of-acts

@@ -1,0 +1,82 @@
+-- Forms: texts that each let many names connect, as OTP's net_kernel:allow/1 takes them. A text without an `@` is a host, and
+-- stands for every node of that host. One whose last byte is its only `@` is a node's name without its host, and stands for
+-- that node at any host.
+use Rattle.std.specs.Prelude.{ℕ, ◌+◌, Bool, ◌||◌, not, ◌==◌, nat_lt, nat_le, if◌then◌else◌, List, [], length, take, Option, Some, None, option_and_then, Result, Ok, Err}
+use Rattle.std.specs.List.{list_all}
+use Rattle.dist_names.specs.declared.name_error.NameError.{NameError}
+use Rattle.dist_names.specs.declared.name_error.NameError.TheVariants.{TooShort, TooLong, BadByte}
+use Rattle.dist_names.specs.Bytes.{is_visible}
+use Rattle.dist_names.specs.NodeName.{host_of, named, short_of}
+use Rattle.dist_names.specs.Order.{Name, is_listed}
+use Rattle.dist_messages.specs.declared.message.Side.TheVariants.{Dialler}
+use Rattle.dist_messages.specs.declared.message.Message.{Message}
+use Rattle.dist_messages.specs.declared.message.Message.TheVariants as message
+use Rattle.dist_messages.specs.declared.message_error.MessageError.{MessageError}
+use Rattle.dist_messages.specs.Reading.{read}
+use Rattle.dist_core_setup.specs.Changing.{with_name}
+
+-- ---- which texts are forms
+
+-- no `@` stands in the text, or its last byte is its only one
+abbrev pub has_form : List ℕ → Bool
+has_form text = nat_le (length text) (length (short_of text) + 1)
+
+-- a text of this kind, or the first reason why no name can have such a host or such a short name
+abbrev pub formed : List ℕ → Result (List ℕ) NameError
+formed text =
+    if length (short_of text) == 0 then Err TooShort else (
+    if nat_lt 253 (length (short_of text)) then Err TooLong else (
+    if not (list_all is_visible text) then Err BadByte else Ok text))
+
+-- ---- which names they stand for
+
+-- a name up to its `@`
+abbrev pub short_form : Name → List ℕ
+short_form p = take (length (short_of p) + 1) p
+
+-- THE HOST OF A NAME, OR THE NAME UP TO ITS `@`, is one of these forms
+abbrev pub stand_for : List (List ℕ) → Name → Bool
+stand_for forms p = is_listed forms (host_of p) || is_listed forms (short_form p)
+
+-- ---- the name in a body
+
+-- the bytes that a message sends as a name to the side that accepts
+abbrev pub said : Message → Option (List ℕ)
+said (message.NewName f c p) = Some p
+said (message.OldName f p) = Some p
+said _ = None
+
+abbrev pub said_in : Result Message MessageError → Option (List ℕ)
+said_in (Ok m) = said m
+said_in (Err e) = None
+
+abbrev pub good : Result Name NameError → Option Name
+good (Ok p) = Some p
+good (Err e) = None
+
+-- the name that a body brings, where it brings one
+abbrev pub name_in : List ℕ → Option Name
+name_in body = option_and_then (λ p. good (named p)) (said_in (read Dialler body))
+
+-- ---- the list with which the node is asked
+
+-- these names, or others in their place
+abbrev pub instead : Option (List Name) → Option (List Name) → Option (List Name)
+instead None allow = allow
+instead (Some names) allow = Some names
+
+-- the names that may connect, and this one where a form stands for it; where all may, all still may
+abbrev pub letting : List (List ℕ) → Option (List Name) → Option Name → Option (List Name)
+letting forms None o = None
+letting forms (Some names) None = Some names
+letting forms (Some names) (Some p) = if stand_for forms p then Some (with_name names p) else Some names
+
+-- THE NAMES THAT MAY CONNECT, as the node is asked of a body: those that may, and the one that the body brings where a form
+-- stands for it. Without forms those that may
+abbrev pub widened : List (List ℕ) → List ℕ → Option (List Name) → Option (List Name)
+widened forms body allow = if length forms == 0 then allow else letting forms allow (name_in body)
+
+-- some names may connect and no other, where it was not so
+abbrev pub limited : Option (List Name) → Option (List Name)
+limited None = Some []
+limited (Some names) = Some names

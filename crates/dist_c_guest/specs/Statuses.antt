@@ -1,0 +1,36 @@
+-- The statuses that a step received and sent.
+use Rattle.std.specs.Prelude.{ℕ, List, Option, Some, None, Result, Ok, option_and_then}
+use Rattle.std.specs.Int.{w16}
+use Rattle.dist_frames.specs.Stream.{first_body}
+use Rattle.dist_messages.specs.declared.message.Side.TheVariants.{Dialler, Acceptor}
+use Rattle.dist_messages.specs.declared.message.Status.{Status}
+use Rattle.dist_messages.specs.declared.message.Message.{Message}
+use Rattle.dist_messages.specs.declared.message.Message.TheVariants as message
+use Rattle.dist_messages.specs.declared.message_error.MessageError.{MessageError}
+use Rattle.dist_messages.specs.Reading.{read}
+use Rattle.dist_core.specs.declared.event.Event.{Event}
+use Rattle.dist_core.specs.declared.event.Event.TheVariants as event
+use Rattle.dist_core.specs.declared.reply.Reply.{Reply}
+
+-- the status that was read, where a message was read that is one
+abbrev pub status_in : Result Message MessageError → Option Status
+status_in (Ok (message.Status s)) = Some s
+status_in _ = None
+
+-- what the accepting side sends, or else what the dialling side does
+abbrev pub either : Option Status → Option Status → Option Status
+either (Some s) o = Some s
+either None o = o
+
+-- THE STATUS THAT A BODY SPELLS, sent by either side: no text is that of a status of both
+abbrev pub status_of : List ℕ → Option Status
+status_of body = either (status_in (read Acceptor body)) (status_in (read Dialler body))
+
+-- the status that a step receives: that of the frame which it takes
+abbrev pub heard_in : Event → Option Status
+heard_in (event.Frame id body) = status_of body
+heard_in _ = None
+
+-- the status that a reply sends: that of its first frame, since none sends a status behind another message
+abbrev pub said_in : Reply → Option Status
+said_in r = option_and_then status_of (first_body w16 r.say)

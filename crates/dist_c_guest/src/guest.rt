@@ -1,0 +1,159 @@
+//! A node, and its newest reply.
+ghost use Rattle.std.specs.Prelude.{◌≡◌, ◌≢◌, ℕ, List, None, Err, IfOk};
+ghost use Rattle.dist_core.specs.Answers.{GivesReply, IsLoss, Refuses};
+ghost use Rattle.std.specs.Int.{w16};
+ghost use Rattle.dist_core.specs.Step.{step};
+ghost use Rattle.dist_frames.specs.Stream.{first_body};
+ghost use Rattle.dist_c_guest.specs.Forms.{instead, widened};
+ghost use Rattle.dist_c_guest.specs.Reading.{expanded};
+ghost use Rattle.dist_c_guest.specs.Calls.{IsCall, IsForeseen, IsReceived, answer_to, first_guest, frame_to};
+
+use crate::asking::wider;
+use crate::call_error::CallError;
+use crate::reading::{Reading, expanded};
+use crate::statuses::heard_in;
+use dist_core::{Event, NameList, Node, Reply, Setup, StepError};
+use dist_frames::first_body;
+use dist_messages::Status;
+use dist_names::ByteString;
+use dist_peers::EndId;
+use std::alloc::{AllocError, Global};
+
+/// A node, and what its newest step that was not refused returned and received.
+#[derive(Drop)]
+pub struct Guest {
+    /// The node.
+    pub node: Node,
+    /// The newest reply, and none before the first step.
+    pub last: Option<Reply>,
+    /// The status in the frame that the newest step took, where it took one and that is one.
+    pub heard: Option<Status>,
+    /// How it reads the frames that come to `take` and `received`.
+    pub reading: Reading,
+}
+
+impl Guest {
+    /// A guest of a node without ends, which reads bodies as they come. It takes no memory.
+    pub fn new(alloc: Global, setup: Setup) -> Guest
+        ensures { result ≡ first_guest setup }
+    {
+        Guest {
+            node: Node::new(alloc, setup),
+            last: None,
+            heard: None,
+            reading: Reading::plain(alloc),
+        }
+    }
+
+    /// Makes the definition's step, and keeps its reply. A refusal changes nothing, and a loss never runs out of memory.
+    pub fn step(&mut self, alloc: Global, event: &Event, fresh: u32) -> Result<(), StepError>
+        ensures step { IsCall event.now result (step self.old.node event.now fresh) self.old self.new }
+        ensures loss { IsLoss event.now → result ≢ Err StepError.NoMemory }
+    {
+        let reply = self.node.step(alloc, event, fresh)?;
+        self.last = Some(reply);
+        self.heard = heard_in(alloc, event);
+        Ok(())
+    }
+
+    // Why a frame on this end is refused, whatever it is, and out of memory where nothing else refuses one.
+    fn refusal(&self, alloc: Global, id: EndId) -> StepError
+        ensures { (body : List ℕ) (fresh : ℕ) → Refuses result (answer_to self.now id body fresh) }
+    {
+        let event = Event::Frame {
+            end_: id,
+            body: ByteString::new(alloc),
+        };
+        match self.node.answer(alloc, &event, 0) {
+            Ok(_) => StepError::NoMemory,
+            Err(error) => error,
+        }
+    }
+
+    // The body as it is read, and the names that may connect where they aren't the node's own.
+    fn read(&self, alloc: Global, body: &[u8]) -> Result<(ByteString, Option<NameList>), AllocError>
+        ensures { IfOk result (λ x. (x.0 ≡ expanded self.now.reading.mandatory.0 body.now) × (instead x.1 self.now.node.setup.allow ≡ widened self.now.reading.forms x.0 self.now.node.setup.allow)) }
+    {
+        let body = expanded(alloc, self.reading.mandatory, body)?;
+        let names = wider(
+            alloc,
+            &self.reading.forms,
+            &self.node.setup().allow,
+            body.as_slice(),
+        )?;
+        Ok((body, names))
+    }
+
+    /// Makes the step of a frame with this body, as the guest reads it. A refusal changes nothing.
+    pub fn take(
+        &mut self,
+        alloc: Global,
+        id: EndId,
+        body: &[u8],
+        fresh: u32,
+    ) -> Result<(), StepError>
+        ensures { IsCall (frame_to self.old id body.now) result (answer_to self.old id body.now fresh) self.old self.new }
+    {
+        let Ok((body, names)) = self.read(alloc, body) else {
+            return Err(self.refusal(alloc, id));
+        };
+        self.step_with(alloc, names, &Event::Frame { end_: id, body }, fresh)
+    }
+
+    /// What `take` would return, which changes nothing.
+    pub fn foresee(
+        &mut self,
+        alloc: Global,
+        id: EndId,
+        body: &[u8],
+        fresh: u32,
+    ) -> Result<Reply, StepError>
+        ensures reply { GivesReply result (answer_to self.old id body.now fresh) }
+        ensures same { self.new ≡ self.old }
+    {
+        let Ok((body, names)) = self.read(alloc, body) else {
+            return Err(self.refusal(alloc, id));
+        };
+        self.answer_with(alloc, names, &Event::Frame { end_: id, body }, fresh)
+    }
+
+    /// Makes the step of the frame at the front of these bytes, and returns how many bytes it has with its length. Where
+    /// none is whole yet, or the step is refused, nothing changes.
+    pub fn received(
+        &mut self,
+        alloc: Global,
+        id: EndId,
+        bytes: &[u8],
+        fresh: u32,
+    ) -> Result<usize, CallError>
+        ensures { IsReceived result id fresh (first_body w16 bytes.now) self.old self.new }
+    {
+        let Some(body) = first_body(bytes) else {
+            return Err(CallError::Awaits);
+        };
+        match self.take(alloc, id, body, fresh) {
+            Ok(()) => Ok(2 + body.len()),
+            Err(error) => Err(CallError::Step(error)),
+        }
+    }
+
+    /// What `received` would return, which changes nothing: the reply, and how many bytes the frame has with its length.
+    pub fn ready(
+        &mut self,
+        alloc: Global,
+        id: EndId,
+        bytes: &[u8],
+        fresh: u32,
+    ) -> Result<(Reply, usize), CallError>
+        ensures reply { IsForeseen result id fresh (first_body w16 bytes.now) self.old }
+        ensures same { self.new ≡ self.old }
+    {
+        let Some(body) = first_body(bytes) else {
+            return Err(CallError::Awaits);
+        };
+        match self.foresee(alloc, id, body, fresh) {
+            Ok(reply) => Ok((reply, 2 + body.len())),
+            Err(error) => Err(CallError::Step(error)),
+        }
+    }
+}

@@ -1,0 +1,113 @@
+//! How a guest reads the bodies of the frames that come.
+ghost use Rattle.std.specs.Prelude.{◌≡◌, ◌++◌, IfOk, slice_index, take, drop};
+ghost use Rattle.std.specs.Int.{w32, w64};
+ghost use Rattle.dist_c_guest.specs.Reading.{expanded, in_place, plain};
+
+use crate::forms::Forms;
+use dist_names::{ByteString, Flags};
+use std::alloc::{AllocError, Global};
+
+/// `DFLAG_MANDATORY_25_DIGEST`: OTP 25 and later read it as all the flags that they ask for, so that a later release may
+/// announce it alone.
+const DIGEST_25: Flags = Flags(0x4000000);
+
+/// How a guest reads what comes.
+#[derive(Drop)]
+pub struct Reading {
+    /// The flags that `DFLAG_MANDATORY_25_DIGEST` stands for in the flags of a peer, and none where it stands for nothing.
+    pub mandatory: Flags,
+    /// The forms of names that may connect beside the names in the node's own list.
+    pub forms: Forms,
+}
+
+impl Reading {
+    /// Bodies are read as they came, and no forms are kept. It takes no memory.
+    pub fn plain(alloc: Global) -> Reading
+        ensures { result ≡ plain }
+    {
+        Reading {
+            mandatory: Flags(0),
+            forms: Forms::none(alloc),
+        }
+    }
+}
+
+// The first byte, and 0 where there is none.
+fn tag_of(body: &[u8]) -> u8
+    ensures { result ≡ slice_index body.now 0 }
+{
+    match body {
+        [tag, ..] => *tag,
+        [] => 0,
+    }
+}
+
+// Three rows of bytes, one behind another.
+fn joined(
+    alloc: Global,
+    front: &[u8],
+    field: &[u8],
+    behind: &[u8],
+) -> Result<ByteString, AllocError>
+    ensures { IfOk result (λ row. row ≡ front.now ++ field.now ++ behind.now) }
+{
+    let mut row = ByteString::from_slice(alloc, front)?;
+    row.append(field)?;
+    row.append(behind)?;
+    Ok(row)
+}
+
+/// The bytes before a place, and those from it on.
+pub fn parted(body: &[u8], place: usize) -> (&[u8], &[u8])
+    ensures { (result.0.now ≡ take place body.now) × (result.1.now ≡ drop place body.now) }
+{
+    if body.len() < place {
+        return (body, &[]);
+    }
+    body.split_at(place)
+}
+
+// A body whose flags are 8 bytes behind the tag.
+fn in_new(alloc: Global, mask: u64, body: &[u8]) -> Result<ByteString, AllocError>
+    ensures { IfOk result (λ row. row ≡ in_place w64 1 mask body.now) }
+{
+    let (front, rest) = parted(body, 1);
+    let Some((field, behind)) = rest.split_first_chunk::<8>() else {
+        return ByteString::from_slice(alloc, body);
+    };
+    let flags = u64::from_be_bytes(*field);
+    if !Flags(flags).has(DIGEST_25) {
+        return ByteString::from_slice(alloc, body);
+    }
+    joined(alloc, front, &(flags | mask).to_be_bytes(), behind)
+}
+
+// A body whose flags are 4 bytes behind the tag and the version.
+fn in_old(alloc: Global, mask: u32, body: &[u8]) -> Result<ByteString, AllocError>
+    ensures { IfOk result (λ row. row ≡ in_place w32 3 mask body.now) }
+{
+    let (front, rest) = parted(body, 3);
+    let Some((field, behind)) = rest.split_first_chunk::<4>() else {
+        return ByteString::from_slice(alloc, body);
+    };
+    let flags = u32::from_be_bytes(*field);
+    if !Flags(flags as u64).has(DIGEST_25) {
+        return ByteString::from_slice(alloc, body);
+    }
+    joined(alloc, front, &(flags | mask).to_be_bytes(), behind)
+}
+
+/// The body, with the flags of the mask among those of a name or a challenge in which the digest is set. All others are as they
+/// came.
+pub fn expanded(alloc: Global, mask: Flags, body: &[u8]) -> Result<ByteString, AllocError>
+    ensures { IfOk result (λ row. row ≡ expanded mask.0 body.now) }
+{
+    if mask.0 == 0 {
+        return ByteString::from_slice(alloc, body);
+    }
+    match tag_of(body) {
+        b'N' => in_new(alloc, mask.0, body),
+        b'n' => in_old(alloc, mask.low(), body),
+        _ => ByteString::from_slice(alloc, body),
+    }
+}

@@ -1,0 +1,55 @@
+//! The status that a body spells.
+ghost use Rattle.std.specs.Prelude.{◌≡◌, ◌∷◌, ℕ, List};
+ghost use Rattle.dist_messages.specs.Reading.{read};
+ghost use Rattle.dist_c_guest.specs.Statuses.{status_in, status_of, heard_in, said_in};
+
+use dist_core::{Event, Reply};
+use dist_frames::first_body;
+use dist_messages::{Message, Side, Status, decode};
+use std::alloc::Global;
+
+// The status of this side that a body spells whose first byte is that of a status. A status takes no memory.
+#[tactic(auto, using(crate::proofs::Spelled::no_name))]
+fn status_by(alloc: Global, side: Side, body: &[u8]) -> Option<Status>
+    requires { (text : List ℕ) × (body.now ≡ 115 ∷ text) }
+    ensures { result ≡ status_in (read side body.now) }
+{
+    match decode(alloc, side, body) {
+        Ok(Message::Status(status)) => Some(status),
+        _ => None,
+    }
+}
+
+/// The status that a body spells, sent by either side.
+
+pub fn status_of(alloc: Global, body: &[u8]) -> Option<Status>
+    ensures { result ≡ status_of body.now }
+{
+    let [tag, ..] = body else {
+        return None;
+    };
+    if *tag != b's' {
+        return None;
+    }
+    match status_by(alloc, Side::Acceptor, body) {
+        Some(status) => Some(status),
+        None => status_by(alloc, Side::Dialler, body),
+    }
+}
+
+/// The status that an event brings.
+pub fn heard_in(alloc: Global, event: &Event) -> Option<Status>
+    ensures { result ≡ heard_in event.now }
+{
+    match event {
+        Event::Frame { end_: _, body } => status_of(alloc, body.as_slice()),
+        _ => None,
+    }
+}
+
+/// The status that a reply sends.
+pub fn said_in(alloc: Global, reply: &Reply) -> Option<Status>
+    ensures { result ≡ said_in reply.now }
+{
+    status_of(alloc, first_body(reply.say.as_slice())?)
+}

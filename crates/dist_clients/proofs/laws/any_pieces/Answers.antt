@@ -1,5 +1,0 @@
-use Rattle.dist_clients.proofs.Pieces.{pieces_ask}
-use Rattle.dist_clients.proofs.laws.any_pieces.Goals as goal
-
-pub returns : goal.returns
-returns g c = pieces_ask {S = g.row.S.Denot}

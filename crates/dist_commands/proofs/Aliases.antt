@@ -1,0 +1,17 @@
+-- Arguments with several names.
+use Rattle.std.proofs.Common.{◌≡◌, ◌∙◌, ℕ, Bool, ap, List, ◌++◌, map}
+use Rattle.std.proofs.lemmas.List.{map-append}
+use Rattle.std.specs.Borrow.{Bor}
+use Rattle.clap.specs.Words.{AddsAliases, Rule, Text, rule_of}
+use Rattle.clap.specs.declared.builder.arg.Arg.{Arg}
+
+-- an argument that gets more names has those behind the ones that it had
+pub aliased : (old new : Arg) (xs : List (Bor (List ℕ) × Bool)) (r : Rule) → AddsAliases old new xs → rule_of old ≡ r → rule_of new ≡ record r { aliases = r.aliases ++ map (λ a. a.0.now) xs }
+aliased old new xs r adds is =
+    ap rule_of adds.0
+    ∙ ap (λ (names : List Text). record (rule_of old) { aliases = names }) (ap (map (λ a. a.0.now)) adds.1 ∙ map-append (λ a. a.0.now) old.aliases.items xs)
+    ∙ ap (λ (s : Rule). record s { aliases = s.aliases ++ map (λ a. a.0.now) xs }) is
+
+-- and is as local as it was
+pub still_local : (old new : Arg) (xs : List (Bor (List ℕ) × Bool)) → AddsAliases old new xs → new.global ≡ old.global
+still_local old new xs adds = ap (λ (a : Arg). a.global) adds.0

@@ -1,0 +1,191 @@
+//! A step in two halves: what it will do, and that it is made.
+ghost use Rattle.std.specs.Prelude.{◌≡◌, ◌≢◌, ℕ, true, slice_get, IfOk, IfErr, IsOk, OnErr, Ok, Err, Some, None};
+ghost use Rattle.dist_core_ends.specs.Ends.{AreLegal, is_open};
+ghost use Rattle.dist_core.specs.Clauses.{end_of, loss_reply};
+ghost use Rattle.dist_core.specs.Losses.{IsGone, IsSilent};
+ghost use Rattle.dist_core.specs.Step.{effect_of, step, cost_of, at_end, ticked};
+ghost use Rattle.dist_core.specs.Answers.{IsStep, IsLoss, Refuses, reply_of};
+ghost use Rattle.dist_core.specs.Preparing.{IsPrepared, FitsNode, GivesPrepared, made};
+
+use crate::effect::Effect;
+use crate::end_change::EndChange;
+use crate::event::Event;
+use crate::finding::{cost, open_end};
+use crate::node::{Node, reply_that_says};
+use crate::reply::Reply;
+use crate::step_error::StepError;
+use dist_core_ends::{End, Why};
+use dist_frames::tick;
+use dist_names::ByteString;
+use dist_peers::EndId;
+use std::alloc::Global;
+use std::marker::Model;
+
+/// What a step will do at the node that prepared it: [`Node::prepare`] gives it, and [`Node::commit`] makes the step. Until then
+/// the node is as it was, and whoever lets it go makes no step.
+#[derive(Drop)]
+pub struct Prepared {
+    reply: Reply,
+    change: EndChange,
+    cost: u64,
+}
+
+impl Model for Prepared {
+    ghost use Rattle.dist_core.specs.Preparing.{PreparedStep};
+
+    ghost Value = { PreparedStep };
+
+    ghost view = { λ p. record { reply = p.reply; change = p.change; cost = p.cost } };
+}
+
+impl Prepared {
+    /// What the step will answer.
+    pub fn reply(&self) -> &Reply
+        ensures { result.now ≡ self.now.reply }
+    {
+        &self.reply
+    }
+
+    // The same, where the step is not made.
+    pub(crate) fn into_reply(self) -> Reply
+        ensures { result ≡ self.reply }
+    {
+        let Prepared {
+            reply,
+            change: _,
+            cost: _,
+        } = self;
+        reply
+    }
+}
+
+// An effect that is to be had, of this cost.
+fn of_effect(effect: Effect, cost: u64) -> Prepared
+    ensures { result ≡ record { reply = effect.reply; change = EndChange.Become effect.this effect.other; cost = cost } }
+{
+    let Effect { reply, this, other } = effect;
+    Prepared {
+        reply,
+        change: EndChange::Become { this, other },
+        cost,
+    }
+}
+
+impl Node {
+    /// What a step will do, or the refusal that it will have. It changes nothing. [`Node::commit`] makes the step, where the node
+    /// was not changed meanwhile.
+    ///
+    /// For a caller that has to see the reply before the step is made, as to make room for a copy: `answer` and then `step` would
+    /// work out the same twice.
+    pub fn prepare(&self, alloc: Global, event: &Event, fresh: u32) -> Result<Prepared, StepError>
+        ensures prepared { IfOk result (IsPrepared self.now event.now fresh) }
+        ensures reply { IfOk result (λ p. reply_of (step self.now event.now fresh) ≡ Ok p.reply) }
+        ensures refused { IfErr result (λ e. Refuses e (step self.now event.now fresh)) }
+
+        ensures unknown { (x : EndId) → end_of event.now ≡ Some x → slice_get self.now.ends x.0 ≡ None → result ≡ Err StepError.NoSuchEnd }
+        ensures gone { (x : EndId) (w : Why) → end_of event.now ≡ Some x → slice_get self.now.ends x.0 ≡ Some (End.Closed w) → result ≡ Err (StepError.Gone w) }
+        ensures loss { IsLoss event.now → result ≢ Err StepError.NoMemory }
+        ensures lost { (x : EndId) (w : Why) (e : End) → event.now ≡ Event.Lost x w → slice_get self.now.ends x.0 ≡ Some e → is_open e ≡ true → IsOk result }
+        ensures silent { (x : EndId) (w : Why) → event.now ≡ Event.Lost x w → IfOk result (λ p. p.reply ≡ loss_reply x w) }
+        ensures alone { IsLoss event.now → IfErr result IsGone }
+        ensures quiet { IsLoss event.now → IfOk result (λ p. IsSilent p.reply) }
+    {
+        self.work_out(alloc, event, fresh)
+    }
+
+    /// Makes a step that was prepared. Where memory is short for it, it is refused as `NoMemory`, and changes nothing; a loss
+    /// takes none.
+    pub fn commit(&mut self, prepared: Prepared) -> Result<Reply, StepError>
+        // What `prepare` gave at this node is so, where the node was not changed since.
+        requires { FitsNode self.old prepared }
+
+        // It is the very step of the event for which it was prepared.
+        ensures step { (v : Event) (fresh : ℕ) → IsPrepared self.old v fresh prepared → IsStep result (step self.old v fresh) self.old self.new }
+        ensures reply { IfOk result (λ r. r ≡ prepared.reply) }
+
+        ensures err { IfErr result (λ e. e ≡ StepError.NoMemory) }
+        ensures loss { (v : Event) (fresh : ℕ) → IsPrepared self.old v fresh prepared → IsLoss v → IsOk result }
+        ensures unchanged { OnErr result (self.new ≡ self.old) }
+    {
+        let Prepared {
+            reply,
+            change,
+            cost,
+        } = prepared;
+        self.carry_out(reply, change, cost)
+    }
+
+    // What a step will do, with what is shown of it at once.
+    #[tactic(auto, unfolding(crate::specs::Step::effect_of))]
+    pub(crate) fn work_out(
+        &self,
+        alloc: Global,
+        event: &Event,
+        fresh: u32,
+    ) -> Result<Prepared, StepError>
+        ensures prepared { GivesPrepared result self.now.ends (cost_of event.now) (effect_of self.now event.now fresh) }
+        ensures loss { IsLoss event.now → result ≢ Err StepError.NoMemory }
+    {
+        match event {
+            Event::Tick { end_: id } => self.work_out_tick(alloc, *id),
+            _ => self.work_out_change(alloc, event, fresh),
+        }
+    }
+
+    // What a tick will do, which leaves all ends as they are.
+    #[tactic(auto, using(crate::proofs::Prepares::ticks_prepared))]
+    fn work_out_tick(&self, alloc: Global, id: EndId) -> Result<Prepared, StepError>
+        ensures { GivesPrepared result self.now.ends 1 (at_end (slice_get self.now.ends id.0) (ticked self.now id)) }
+    {
+        let End::Up(_) = open_end(&self.ends, id)? else {
+            return Err(StepError::WrongPhase);
+        };
+        if self.is_spent() {
+            return Err(StepError::Spent);
+        }
+        let Ok(say) = ByteString::from_slice(alloc, &tick()) else {
+            return Err(StepError::NoMemory);
+        };
+        Ok(Prepared {
+            reply: reply_that_says(id, say),
+            change: EndChange::Stay,
+            cost: 1,
+        })
+    }
+
+    // What an event will do that is no tick.
+    fn work_out_change(
+        &self,
+        alloc: Global,
+        event: &Event,
+        fresh: u32,
+    ) -> Result<Prepared, StepError>
+        ensures prepared { GivesPrepared result self.now.ends (cost_of event.now) (effect_of self.now event.now fresh) }
+        ensures loss { IsLoss event.now → result ≢ Err StepError.NoMemory }
+    {
+        let effect = self.effect(alloc, event, fresh)?;
+        Ok(of_effect(effect, cost(event)))
+    }
+
+    // Makes a step of which it is known what it does.
+    fn carry_out(&mut self, reply: Reply, change: EndChange, cost: u64) -> Result<Reply, StepError>
+        requires { FitsNode self.old (record { reply = reply; change = change; cost = cost }) }
+        ensures ok { IfOk result (λ r. (r ≡ reply) × (self.new ≡ made self.old (record { reply = reply; change = change; cost = cost }))) }
+        ensures err { IfErr result (λ e. (e ≡ StepError.NoMemory) × (self.new ≡ self.old)) }
+        ensures loss { (v : Event) (fresh : ℕ) → IsPrepared self.old v fresh (record { reply = reply; change = change; cost = cost }) → IsLoss v → IsOk result }
+    {
+        // These tell what every node keeps.
+        let _ = self.open_ends();
+        let _ = self.counted_steps();
+        match change {
+            EndChange::Stay => {
+                self.count(cost);
+                Ok(reply)
+            }
+            EndChange::Become { this, other } => self.apply_effect(
+                Effect { reply, this, other },
+                cost,
+            ),
+        }
+    }
+}

@@ -1,0 +1,27 @@
+-- The ends that hold a peer are those that make an entry.
+use Rattle.std.proofs.Common.{◌≡◌, List, [], Option, refl, sym, ap, ◌∙◌, subst}
+use Rattle.std.specs.FinMap as map
+use Rattle.dist_names.specs.Order.{Name}
+use Rattle.dist_peers.specs.declared.entry.Entry.{Entry}
+use Rattle.dist_peers.specs.Table.{Table}
+use Rattle.dist_core_ends.specs.declared.known.End.{End}
+use Rattle.dist_core_ends.specs.Ends.{Agree, AreLegal, table_of, names}
+use Rattle.dist_core_ends.proofs.Agreement.{entry-agreed}
+use Rattle.dist_core_ends.proofs.Tables.{get-table, agree-empty}
+
+-- what agrees with the same entries and ends
+pub agreed : (t u : Table) (es fs : List End) → t ≡ u → es ≡ fs → Agree (map.get u) fs → Agree (map.get t) es
+agreed t u es fs e f h =
+    let P : List End → Type 0 = λ xs. Agree (map.get t) xs in
+    let Q : Table → Type 0 = λ x. Agree (map.get x) fs in
+    subst P (sym f) (subst Q (sym e) h)
+
+-- what agrees with the ends makes them legal
+pub legal : (t : Name → Option Entry) (es : List End) → Agree t es → AreLegal es
+legal t es h p k i = h p k i ∙ ap (names k i) (sym (entry-agreed t es h p))
+
+pub table-legal : (es : List End) → AreLegal es → Agree (map.get (table_of es)) es
+table-legal es h p k i = h p k i ∙ ap (names k i) (sym (get-table es p))
+
+pub none-legal : AreLegal []
+none-legal = legal (map.get map.empty) [] (agree-empty map.empty [] refl refl)

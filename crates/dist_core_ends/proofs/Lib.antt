@@ -1,0 +1,14 @@
+pub mod Agreement
+pub mod Tables
+pub mod Changes
+pub mod Fitting
+pub mod Opens
+pub mod Legal
+pub mod Keeping
+pub mod UpPeers
+pub mod Naming
+pub mod Oldest
+pub mod Forgotten
+pub mod Places
+pub mod Recent
+pub mod Settled

@@ -1,0 +1,108 @@
+-- The table that the ends make.
+use Rattle.std.proofs.Common.{◌≡◌, ℕ, zero, suc, Bool, true, false, cond, ◌&&◌, ◌||◌, List, [], ◌∷◌, Option, Some, None, refl, sym, ap, ◌∙◌, slice_get}
+use Rattle.std.specs.Option.{option_map}
+use Rattle.std.specs.List.{filter_map, cons_option}
+use Rattle.std.specs.Ordering.{is_eq}
+use Rattle.std.specs.declared.cmp.Ordering.{Ordering}
+use Rattle.std.specs.declared.cmp.Ordering.TheVariants.{Less, Equal, Greater}
+use Rattle.std.specs.Cmp.{IsTotalOrder}
+use Rattle.std.specs.Cmp.Lexicographic.{nat_list_cmp_total}
+use Rattle.std.specs.FinMap as map
+use Rattle.std.specs.FinMap.{get-from_entries, get-empty, same_map, IsAntisymmetric, slice_cmp-IsAntisymmetric, nat_cmp-IsAntisymmetric}
+use Rattle.std.specs.FinMap.Entries.{find}
+use Rattle.dist_names.specs.Order.{Name, name_cmp, same_name}
+use Rattle.dist_peers.specs.Table.{Table}
+use Rattle.dist_peers.specs.declared.entry.Entry.{Entry}
+use Rattle.dist_core_ends.specs.declared.known.End.{End}
+use Rattle.dist_core_ends.specs.declared.phase.Kind.{Kind}
+use Rattle.dist_core_ends.specs.declared.phase.Kind.TheVariants.{Out, In, Up}
+use Rattle.dist_core_ends.specs.Ends.{Claim, claim_of, is_claim, same_kind, holds, holds_at, names, entry_in, entry_from, row_in, table_of, Agree, first_of}
+use Rattle.dist_core_ends.proofs.Agreement.{none-first, passes, entry-agreed}
+
+pub order : IsTotalOrder name_cmp
+order = nat_list_cmp_total
+
+pub exact : IsAntisymmetric name_cmp
+exact = slice_cmp-IsAntisymmetric nat_cmp-IsAntisymmetric
+
+equal : (o : Ordering) → is_eq o ≡ true → o ≡ Equal
+equal Less e = cc
+equal Equal e = refl
+equal Greater e = cc
+
+-- two names that the test finds alike are one
+pub same-name : (p q : Name) → same_name p q ≡ true → p ≡ q
+same-name p q e = exact p q (equal (name_cmp p q) e)
+
+abbrev pub is_of : Name → Option Claim → Bool
+is_of q None = false
+is_of q (Some c) = same_name q c.peer
+
+abbrev claimed : Name → List End → Bool
+claimed q [] = false
+claimed q (e ∷ es) = is_of q (claim_of e) || claimed q es
+
+either_none : (b : Bool) (o : Option Entry) → o ≡ None → cond b o None ≡ None
+either_none true o e = e
+either_none false o e = refl
+
+one-row : (es : List End) (q : Name) (c : Option Claim) (rest : List (Name × Entry)) (b : Bool) → find name_cmp q rest ≡ cond b (entry_in es q) None → find name_cmp q (cons_option (row_in es c) rest) ≡ cond (is_of q c || b) (entry_in es q) None
+one-row es q None rest b h = h
+one-row es q (Some c) rest b h =
+    elim (same_name q c.peer) as (λ s. same_name q c.peer ≡ s → find name_cmp q (cons_option (option_map (λ x. (c.peer, x)) (entry_in es c.peer)) rest) ≡ cond (s || b) (entry_in es q) None) [
+      | true ↦ λ s. let same : entry_in es c.peer ≡ entry_in es q = ap (entry_in es) (sym (same-name q c.peer s)) in
+          elim (entry_in es c.peer) as (λ o. o ≡ entry_in es q → find name_cmp q (cons_option (option_map (λ x. (c.peer, x)) o) rest) ≡ entry_in es q) [
+            | None ↦ λ e. h ∙ either_none b (entry_in es q) (sym e) ∙ e
+            | Some x ↦ λ e. ap (λ t. cond t (Some x) (find name_cmp q rest)) s ∙ e
+          ] same
+      | false ↦ λ s.
+          elim (entry_in es c.peer) as (λ o. find name_cmp q (cons_option (option_map (λ x. (c.peer, x)) o) rest) ≡ cond b (entry_in es q) None) [
+            | None ↦ h
+            | Some x ↦ ap (λ t. cond t (Some x) (find name_cmp q rest)) s ∙ h
+          ]
+    ] refl
+
+find-rows : (es : List End) (q : Name) (xs : List End) → find name_cmp q (filter_map (λ e. row_in es (claim_of e)) xs) ≡ cond (claimed q xs) (entry_in es q) None
+find-rows es q [] = refl
+find-rows es q (e ∷ xs) = one-row es q (claim_of e) (filter_map (λ e. row_in es (claim_of e)) xs) (claimed q xs) (find-rows es q xs)
+
+not-held : (q : Name) (k : Kind) (c : Option Claim) → is_of q c ≡ false → is_claim q k c ≡ false
+not-held q k None h = refl
+not-held q k (Some c) h = ap (λ b. same_kind k c.kind && b) h ∙ both (same_kind k c.kind)
+  where
+    both : (b : Bool) → (b && false) ≡ false
+    both true = refl
+    both false = refl
+
+no-first : (a b : Bool) → (a || b) ≡ false → (a ≡ false) × (b ≡ false)
+no-first true b h = cc
+no-first false b h = (refl, h)
+
+unclaimed-at : (q : Name) (es : List End) → claimed q es ≡ false → (k : Kind) (i : ℕ) → passes (holds q k) (slice_get es i) ≡ false
+unclaimed-at q [] h k i = refl
+unclaimed-at q (e ∷ es) h k zero = not-held q k (claim_of e) ((no-first (is_of q (claim_of e)) (claimed q es) h).0)
+unclaimed-at q (e ∷ es) h k (suc i) = unclaimed-at q es ((no-first (is_of q (claim_of e)) (claimed q es) h).1) k i
+
+unclaimed : (q : Name) (es : List End) → claimed q es ≡ false → entry_in es q ≡ None
+unclaimed q es h =
+    let at : (k : Kind) → first_of (holds q k) es ≡ None = λ k. none-first (holds q k) es (unclaimed-at q es h k) in
+    λ j. entry_from (at Up j) (at In j) (at Out j)
+
+whole : (q : Name) (es : List End) → cond (claimed q es) (entry_in es q) None ≡ entry_in es q
+whole q es = elim (claimed q es) as (λ b. claimed q es ≡ b → cond b (entry_in es q) None ≡ entry_in es q) [ true ↦ λ e. refl | false ↦ λ e. sym (unclaimed q es e) ] refl
+
+-- the table has the entries of the ends
+pub get-table : (es : List End) (q : Name) → map.get (table_of es) q ≡ entry_in es q
+get-table es q = get-from_entries order _ q ∙ find-rows es q es ∙ whole q es
+
+-- a table that agrees with the ends is the one that they make
+pub table-agreed : (t : Table) (es : List End) → Agree (map.get t) es → t ≡ table_of es
+table-agreed t es h = same_map order exact t (table_of es) (λ q. sym (entry-agreed (map.get t) es h q) ∙ sym (get-table es q))
+
+no-names : (k : Kind) (i : ℕ) → names k i None ≡ false
+no-names Out i = refl
+no-names In i = refl
+no-names Up i = refl
+
+pub agree-empty : (t : Table) (es : List End) → t ≡ map.empty → es ≡ [] → Agree (map.get t) es
+agree-empty t es e f p k i = ap (λ xs. holds_at xs p k i) f ∙ sym (ap (names k i) (ap (λ m. map.get m p) e ∙ get-empty name_cmp p) ∙ no-names k i)

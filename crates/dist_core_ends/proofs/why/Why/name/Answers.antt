@@ -1,0 +1,5 @@
+use Rattle.std.proofs.Common.{rules}
+use Rattle.dist_core_ends.proofs.why.Why.name.Goals as goal
+
+pub returns-in-Crossed : goal.returns-in-Crossed
+returns-in-Crossed c = search rules

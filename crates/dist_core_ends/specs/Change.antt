@@ -1,0 +1,111 @@
+-- What a change of one end, and of another with it, makes of the ends and of the table of entries.
+use Rattle.std.specs.Prelude.{◌≡◌, ℕ, ◌==◌, Bool, ◌<◌, ◌≤◌, true, false, nat_lt, if◌then◌else◌, length, List, [], ◌∷◌, ◌++◌, Option, Some, None, slice_get, slice_set}
+use Rattle.std.specs.FinMap as map
+use Rattle.dist_names.specs.Order.{Name, same_name}
+use Rattle.dist_peers.specs.declared.entry.EndId.{EndId}
+use Rattle.dist_peers.specs.declared.entry.Entry.TheVariants as entry
+use Rattle.dist_peers.specs.Table.{Table, entry_of, with_entry, left_by, is_waiting}
+use Rattle.dist_peers.specs.Verdicts.{ruling, is_greater}
+use Rattle.dist_core_ends.specs.declared.phase.Kind.{Kind}
+use Rattle.dist_core_ends.specs.declared.phase.Kind.TheVariants.{Out, In, Up}
+use Rattle.dist_core_ends.specs.declared.known.End.{End}
+use Rattle.dist_core_ends.specs.declared.known.End.TheVariants as ends
+use Rattle.dist_core_ends.specs.Ends.{Claim, claim_of, is_pending, Agree}
+
+-- the ends with this one at place i, which may be the place after the last
+abbrev pub put_end : List End → ℕ → End → List End
+put_end es i e = if nat_lt i (length es) then slice_set es i e else es ++ e ∷ []
+
+abbrev pub put_other : List End → Option (EndId × End) → List End
+put_other es None = es
+put_other es (Some x) = slice_set es (let y = x.0 in y.0) x.1
+
+-- WHAT A STEP CHANGES: one end, and at most one other
+abbrev pub changed : List End → EndId → End → Option (EndId × End) → List End
+changed es id this other = put_other (put_end es id.0 this) other
+
+-- what stands at place i where the end of another change stands there, or else what stood there
+abbrev pub other_view : Option (EndId × End) → (ℕ → Option End) → ℕ → Option End
+other_view None g i = g i
+other_view (Some x) g i = if (let y = x.0 in y.0) == i then Some x.1 else g i
+
+-- WHAT STANDS AT EACH PLACE AFTER A CHANGE
+abbrev pub view_after : List End → EndId → End → Option (EndId × End) → ℕ → Option End
+view_after es id this other = other_view other (λ i. if id.0 == i then Some this else slice_get es i)
+
+-- a truth, as a number
+abbrev pub one_if : Bool → ℕ
+one_if true = 1
+one_if false = 0
+
+-- ---- the entries
+
+-- an end begins to hold a peer
+abbrev pub entered : Table → Name → EndId → Name → Kind → Table
+entered t me id p Out = map.insert t p (entry.Out id)
+entered t me id p In = map.insert t p (let r = ruling (is_greater me p) id (entry_of t p) in r.entry)
+entered t me id p Up = t
+
+-- an end holds its peer in another way
+abbrev pub raised : Table → EndId → Name → Kind → Kind → Table
+raised t id p Out Up = map.insert t p (entry.Up id)
+raised t id p In Up = map.insert t p (entry.Up id)
+raised t id p old new = t
+
+-- the table once what this end holds has changed
+abbrev pub shifted : Table → Name → EndId → Option Claim → Option Claim → Table
+shifted t me id None None = t
+shifted t me id None (Some c) = entered t me id c.peer c.kind
+shifted t me id (Some d) None = with_entry t d.peer (left_by id (entry_of t d.peer))
+shifted t me id (Some d) (Some c) = raised t id c.peer d.kind c.kind
+
+abbrev pub AsksEnter : Table → Name → Name → Kind → Type 0
+AsksEnter t me p In = same_name me p ≡ false
+AsksEnter t me p Out = entry_of t p ≡ None
+AsksEnter t me p Up = Unit {0}
+
+abbrev pub AsksRaise : Table → EndId → Name → Kind → Kind → Type 0
+AsksRaise t id p Out Up = is_waiting id (entry_of t p) ≡ true
+AsksRaise t id p In Up = is_waiting id (entry_of t p) ≡ true
+AsksRaise t id p old new = Unit {0}
+
+-- what such a change asks for
+abbrev pub AsksShift : Table → Name → EndId → Option Claim → Option Claim → Type 0
+AsksShift t me id None None = Unit {0}
+AsksShift t me id None (Some c) = AsksEnter t me c.peer c.kind
+AsksShift t me id (Some d) None = Unit {0}
+AsksShift t me id (Some d) (Some c) = AsksRaise t id c.peer d.kind c.kind
+
+-- what an end held, where it is there already
+abbrev pub claim_at : Option End → Option Claim
+claim_at None = None
+claim_at (Some e) = claim_of e
+
+-- the table after end id became this
+abbrev pub table_after : Name → List End → Table → EndId → End → Table
+table_after me es t id this = shifted t me id (claim_at (slice_get es id.0)) (claim_of this)
+
+abbrev pub IsThere : List End → Option (EndId × End) → Type 0
+IsThere es None = Unit {0}
+IsThere es (Some x) = (let y = x.0 in y.0) < length es
+
+-- an end that is closed stays as it is, and one that is up stays so until it is closed
+abbrev pub StaysClosed : Option End → End → Type 0
+StaysClosed None e = Unit {0}
+StaysClosed (Some ends.Unnamed) e = Unit {0}
+StaysClosed (Some (ends.Attempt a)) e = Unit {0}
+StaysClosed (Some (ends.Up r)) e = is_pending e ≡ false
+StaysClosed (Some (ends.Closed w)) e = e ≡ ends.Closed w
+
+abbrev pub OtherStaysClosed : List End → Option (EndId × End) → Type 0
+OtherStaysClosed es None = Unit {0}
+OtherStaysClosed es (Some x) = StaysClosed (slice_get es (let y = x.0 in y.0)) x.1
+
+-- a change that a node of name me, with these ends and the table that they make, can have
+pub record Fits (me : Name) (es : List End) (t : Table) (id : EndId) (this : End) (other : Option (EndId × End)) : Type 0 where
+  pub place : id.0 ≤ length es
+  pub other_there : IsThere es other
+  pub stays : StaysClosed (slice_get es id.0) this
+  pub other_stays : OtherStaysClosed (put_end es id.0 this) other
+  pub asks : AsksShift t me id (claim_at (slice_get es id.0)) (claim_of this)
+  pub agree : Agree (map.get (table_after me es t id this)) (changed es id this other)

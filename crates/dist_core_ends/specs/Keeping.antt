@@ -1,0 +1,81 @@
+-- Where ends are kept: open ones in slots, and of a closed one its cause alone. No public contract speaks of it.
+use Rattle.std.specs.Prelude.{◌≡◌, ◌≢◌, ℕ, zero, suc, ◌+◌, ◌<◌, Bool, true, false, List, [], ◌∷◌, Option, Some, None, is_some, slice_get, slice_index_or, count_by}
+use Rattle.slab.specs.Slab.{Slab, slab_len}
+use Rattle.dist_core_ends.specs.declared.why.Why.TheVariants as why
+use Rattle.dist_core_ends.specs.declared.known.End.{End}
+use Rattle.dist_core_ends.specs.declared.known.End.TheVariants as ends
+use Rattle.dist_core_ends.specs.declared.slots.Row.{Row}
+use Rattle.dist_core_ends.specs.declared.slots.Row.TheVariants as row
+use Rattle.dist_core_ends.specs.Ends.{is_open, is_pending}
+
+abbrev pub Slots : Type 0
+Slots = List (Option End)
+
+-- what stands in a slot
+abbrev pub in_slot : Slots → ℕ → Option End
+in_slot slots k = slice_index_or slots k None
+
+-- the end that was found; none is missing
+abbrev pub found_end : Option End → End
+found_end None = ends.Unnamed
+found_end (Some e) = e
+
+-- the end of a row
+abbrev pub end_of_row : Slots → Row → End
+end_of_row slots (row.Slot k) = found_end (in_slot slots k)
+end_of_row slots (row.Closed w) = ends.Closed w
+
+-- THE ENDS, by their numbers
+abbrev pub shown : List Row → Slots → List End
+shown [] slots = []
+shown (r ∷ rows) slots = end_of_row slots r ∷ shown rows slots
+
+-- an open end stands in the slot
+pub record IsFull (slots : Slots) (k : ℕ) : Type 0 where
+  pub kept : End
+  pub there : in_slot slots k ≡ Some kept
+  pub opened : is_open kept ≡ true
+
+-- each row's slot has an open end, no two rows have one slot, and nothing else is kept
+pub record AreKept (rows : List Row) (slots : Slots) : Type 0 where
+  pub full : (i k : ℕ) → slice_get rows i ≡ Some (row.Slot k) → IsFull slots k
+  pub apart : (i j k : ℕ) → slice_get rows i ≡ Some (row.Slot k) → slice_get rows j ≡ Some (row.Slot k) → i ≡ j
+  pub counted : count_by is_some slots ≡ count_by is_open (shown rows slots)
+
+-- the slot has this, and each other has what it had
+pub record Puts (old new : Slots) (k : ℕ) (o : Option End) : Type 0 where
+  pub here : in_slot new k ≡ o
+  pub others : (other : ℕ) → other ≢ k → in_slot new other ≡ in_slot old other
+
+-- the slot has another end
+abbrev pub Refills : Slab End → Slab End → ℕ → End → Type 0
+Refills old new k e = Puts old.slots new.slots k (Some e) × (slab_len new ≡ slab_len old)
+
+-- the slot has no end
+abbrev pub Empties : Slab End → Slab End → ℕ → Type 0
+Empties old new k = Puts old.slots new.slots k None × (slab_len new + 1 ≡ slab_len old)
+
+-- the row of a further end, and the slots with it
+abbrev pub Gives : Slots → Slots → End → Row → Type 0
+Gives old new e (row.Slot k) = (in_slot old k ≡ None) × Puts old new k (Some e) × (count_by is_some new ≡ count_by is_some old + 1) × (is_open e ≡ true)
+Gives old new e (row.Closed w) = (new ≡ old) × (e ≡ ends.Closed w)
+
+-- the row of an end of which it is forgotten why it was closed
+abbrev pub without_row_cause : Row → Row
+without_row_cause (row.Slot k) = row.Slot k
+without_row_cause (row.Closed w) = row.Closed why.Ended
+
+-- the rows, once it is forgotten why the ends below a number were closed
+abbrev pub rows_forgotten : ℕ → List Row → List Row
+rows_forgotten b [] = []
+rows_forgotten zero (r ∷ rows) = r ∷ rows
+rows_forgotten (suc b) (r ∷ rows) = without_row_cause r ∷ rows_forgotten b rows
+
+-- the end is open and not up
+abbrev pub waits : Option End → Bool
+waits None = false
+waits (Some e) = is_pending e
+
+-- none of the ends before this number is pending
+abbrev pub AreSettled : List End → ℕ → Type 0
+AreSettled es n = (i : ℕ) → i < n → waits (slice_get es i) ≡ false

@@ -1,0 +1,291 @@
+//! All ends of a node, and who holds whom.
+ghost use Rattle.std.specs.Prelude.{◌≡◌, ℕ, ◌<◌, ◌+◌, ◌^◌, [], length, IsOk, OnOk, OnErr, Ok, Err, Some, None, slice_get, count_by};
+ghost use Rattle.std.specs.Option.{option_map, option_and_then};
+ghost use Rattle.std.specs.FinMap as map;
+ghost use Rattle.dist_peers.specs.Verdicts.{is_full};
+ghost use Rattle.dist_core_ends.specs.Ends.{AreLegal, FindsUp, record_in, up_from, up_pair, up_id, up_ids, claim_of, is_open, is_dialing, entry_in, table_of, oldest_pending, still_of, awaited_of, end_id, verdict_of, Finds};
+ghost use Rattle.dist_core_ends.specs.Change.{Fits, StaysClosed, changed};
+ghost use Rattle.dist_core_ends.specs.Forgetting.{forgotten};
+
+use crate::known::{End, UpRecord};
+use crate::phase::{Absent, Awaited, Phase, Still};
+use crate::rows::Rows;
+use crate::slots::{find, first_waiting};
+use crate::table::{add, apply, close_end};
+use crate::why::Why;
+use dist_names::NodeName;
+use dist_peers::{EndId, Entry, Peers, Verdict};
+use slab::Slab;
+use std::alloc::{AllocError, Global};
+use std::marker::Model;
+
+/// The ends of a node, by their numbers from 0, and who holds whom. Contracts see the list of all ends.
+#[derive(Drop)]
+pub struct Ends {
+    /// The entries that the ends make: from a peer to its ends.
+    peers: Peers,
+    /// For each number that was given out, the slot of its end or the cause of its closing.
+    rows: Rows,
+    /// The open ends.
+    slots: Slab<End>,
+    /// No end before this number is pending, and none will be: it only rises.
+    passed: usize,
+}
+
+impl Model for Ends {
+    ghost use Rattle.std.specs.Prelude.{List};
+    ghost use Rattle.dist_core_ends.specs.declared.known.End.{End};
+    ghost use Rattle.dist_core_ends.specs.Kept.{IsKept};
+    ghost use Rattle.dist_core_ends.specs.Keeping.{shown};
+
+    ghost Value = { List End };
+
+    ghost view = { λ b. shown b.rows.items b.slots.slots };
+
+    ghost invariant = { λ b. IsKept b.peers b.rows.items b.slots.slots b.passed };
+}
+
+impl Ends {
+    /// No ends. It takes no memory.
+    pub fn new(alloc: Global) -> Ends
+        ensures { result ≡ [] }
+    {
+        Ends {
+            peers: Peers::new(alloc),
+            rows: Rows::new(alloc),
+            slots: Slab::new(alloc),
+            passed: 0,
+        }
+    }
+
+    /// How many numbers were given out: one for each end, open or closed.
+    pub fn len(&self) -> usize
+        ensures { result ≡ length self.now }
+    {
+        self.rows.len()
+    }
+
+    /// The number of the next end that is given out.
+    pub fn next_id(&self) -> EndId
+        requires { length self.now < 2 ^ 32 }
+        ensures { result ≡ end_id (length self.now) }
+    {
+        EndId(self.rows.len() as u32)
+    }
+
+    /// How many ends are open.
+    pub fn open_ends(&self) -> usize
+        ensures count { result ≡ count_by is_open self.now }
+        ensures legal { AreLegal self.now }
+    {
+        self.slots.len()
+    }
+
+    /// How an end stands.
+    pub fn still(&self, id: EndId) -> Still
+        ensures { result ≡ still_of (slice_get self.now id.0) }
+    {
+        match self.open_end(id) {
+            Err(Absent::NoSuchEnd) => Still::NoSuchEnd,
+            Err(Absent::Gone(why)) => Still::Gone(why),
+            Ok(End::Up(_)) => Still::Up,
+            Ok(_) => Still::Pending,
+        }
+    }
+
+    /// What an end awaits, where it is open.
+    pub fn awaits(&self, id: EndId) -> Option<Awaited>
+        ensures { result ≡ awaited_of (slice_get self.now id.0) }
+    {
+        match self.open_end(id) {
+            Ok(End::Unnamed) => Some(Awaited::Name),
+            Ok(End::Attempt(attempt)) => Some(attempt.phase.awaits()),
+            Ok(End::Up(_)) => Some(Awaited::Nothing),
+            _ => None,
+        }
+    }
+
+    /// Whether the end was dialled and awaits its connection, also where it was superseded meanwhile.
+    pub fn is_dialing(&self, id: EndId) -> bool
+        ensures { result ≡ is_dialing (slice_get self.now id.0) }
+    {
+        match self.open_end(id) {
+            Ok(End::Attempt(attempt)) => {
+                matches!(attempt.phase, Phase::Dialing | Phase::DoomedDialing)
+            }
+            _ => false,
+        }
+    }
+
+    /// The end of this number, where it is open.
+    pub fn open_end(&self, id: EndId) -> Result<&End, Absent>
+        ensures { Finds result (slice_get self.now id.0) }
+    {
+        find(&self.rows, &self.slots, id)
+    }
+
+    /// The entry of a peer, where it isn't idle.
+    pub fn entry_of(&self, peer: &NodeName) -> Option<Entry>
+        ensures { result ≡ entry_in self.now peer.now }
+    {
+        self.peers.entry(peer)
+    }
+
+    /// How many peers have an entry.
+    pub fn entries(&self) -> usize
+        ensures { result ≡ map.len (table_of self.now) }
+    {
+        self.peers.len()
+    }
+
+    /// The entry at this place, in the order of the peers' names.
+    pub fn entry_at(&self, i: usize) -> Option<(&NodeName, Entry)>
+        ensures { option_map (λ r. (r.0.now, r.1)) result ≡ slice_get (map.entries (table_of self.now)) i }
+    {
+        self.peers.at(i)
+    }
+
+    /// Whether `most` entries or more are there, and this peer has none of them.
+    pub fn is_full_for(&self, peer: &NodeName, most: u32) -> bool
+        ensures { result ≡ is_full most (table_of self.now) (entry_in self.now peer.now) }
+    {
+        self.peers.is_full_for(peer, most)
+    }
+
+    /// The verdict on a peer's name that comes on this end, at a node of name `me`.
+    pub fn verdict(&self, me: &NodeName, peer: &NodeName, id: EndId) -> Verdict
+        ensures { result ≡ verdict_of me.now self.now id peer.now }
+    {
+        self.peers.verdict(me, peer, id)
+    }
+
+    /// How many ends are up.
+    pub fn ups(&self) -> usize
+        ensures { result ≡ length (up_ids (map.entries (table_of self.now))) }
+    {
+        self.peers.ups()
+    }
+
+    /// The up end at this place, in the order of the peers' names. It walks the entries once.
+    pub fn up_at(&self, i: usize) -> Option<(EndId, &UpRecord)>
+        ensures { option_map (λ r. (r.0, r.1.now)) result ≡ up_from self.now (slice_get (up_ids (map.entries (table_of self.now))) i) }
+    {
+        self.with_record(self.up_id_at(i))
+    }
+
+    // The number of that end.
+    fn up_id_at(&self, i: usize) -> Option<EndId>
+        ensures { result ≡ slice_get (up_ids (map.entries (table_of self.now))) i }
+    {
+        self.peers.up_at(i)
+    }
+
+    /// The up end whose peer has this name, and its record. There is at most one.
+    pub fn up_of(&self, peer: &NodeName) -> Option<(EndId, &UpRecord)>
+        ensures found { FindsUp self.now peer.now (option_map (λ r. (r.0, r.1.now)) result) }
+        ensures only { (i : ℕ) (kept : UpRecord) → slice_get self.now i ≡ Some (End.Up kept) → kept.peer ≡ peer.now → option_map (λ r. (r.0, r.1.now)) result ≡ up_pair i kept }
+    {
+        // This shows that the entries are those of the ends.
+        let _ = self.open_ends();
+        self.with_record(self.up_id_of(peer))
+    }
+
+    // The end that the peer's entry has up.
+    fn up_id_of(&self, peer: &NodeName) -> Option<EndId>
+        ensures { result ≡ option_and_then up_id (entry_in self.now peer.now) }
+    {
+        self.entry_of(peer)?.up()
+    }
+
+    // An end that is up, if one is meant, and its record.
+    fn with_record(&self, id: Option<EndId>) -> Option<(EndId, &UpRecord)>
+        ensures { option_map (λ r. (r.0, r.1.now)) result ≡ up_from self.now id }
+    {
+        let id = id?;
+        Some((id, self.record_of(id)?))
+    }
+
+    /// The record of an end that is up.
+    pub fn record_of(&self, id: EndId) -> Option<&UpRecord>
+        ensures { option_map (λ r. (id, r.now)) result ≡ record_in id (slice_get self.now id.0) }
+    {
+        match self.open_end(id) {
+            Ok(End::Up(kept)) => Some(kept),
+            _ => None,
+        }
+    }
+
+    /// The end that has been open and not up for the longest: the one of the lowest number, since numbers are given out in
+    /// order. `None` where none is. No end changes, and no memory is taken.
+    ///
+    /// An end that was up or closed once is never pending again, so what was passed over once is never looked at again: all
+    /// calls together take time for each end once.
+    pub fn oldest_pending(&mut self) -> Option<EndId>
+        ensures oldest { result ≡ oldest_pending self.old }
+        ensures same { self.new ≡ self.old }
+    {
+        self.passed = first_waiting(&self.rows, &self.slots, self.passed);
+        if self.passed < self.rows.len() {
+            Some(EndId(self.passed as u32))
+        } else {
+            None
+        }
+    }
+
+    /// Forgets why the ends below this number were closed: they answer from now on as if the other side had ended each
+    /// connection. What is open stays as it is, and so does every end from the number on; the number may be one that was
+    /// never given out. It takes no memory, and what the causes took is used again for later ends.
+    pub fn forget(&mut self, below: EndId)
+        ensures { self.new ≡ forgotten below.0 self.old }
+    {
+        self.rows.forget(below.0 as usize);
+    }
+
+    /// Closes an end that is open. It takes no memory.
+    pub fn close(&mut self, id: EndId, why: Why)
+        // `still` is the test.
+        requires there { id.0 < length self.old }
+
+        // It holds where `still` returns that the end is open.
+        requires stays { StaysClosed (slice_get self.old id.0) (End.Closed why) }
+        ensures { self.new ≡ changed self.old id (End.Closed why) None }
+    {
+        close_end(&mut self.peers, &mut self.rows, &mut self.slots, id, why);
+    }
+
+    /// Gives out the next end, of which nothing is known yet.
+    pub fn add(&mut self) -> Result<(), AllocError>
+        requires { length self.old < 2 ^ 32 }
+        ensures ok { OnOk result (self.new ≡ changed self.old (end_id (length self.old)) End.Unnamed None) }
+        ensures err { OnErr result (self.new ≡ self.old) }
+    {
+        add(&mut self.rows, &mut self.slots)
+    }
+
+    /// Changes an end, or gives out the next one, and at most one other with it, at a node of name `me`.
+    pub fn change(
+        &mut self,
+        me: &NodeName,
+        id: EndId,
+        this: End,
+        other: Option<(EndId, End)>,
+    ) -> Result<(), AllocError>
+        requires fits { AreLegal self.old → Fits me.now self.old (table_of self.old) id this other }
+        requires few { length self.old < 2 ^ 32 }
+        ensures ok { OnOk result (self.new ≡ changed self.old id this other) }
+        ensures err { OnErr result (self.new ≡ self.old) }
+
+        // An end that holds no peer afterwards takes no memory.
+        ensures loss { claim_of this ≡ None → id.0 < length self.old → IsOk result }
+    {
+        apply(
+            &mut self.peers,
+            &mut self.rows,
+            &mut self.slots,
+            me,
+            id,
+            this,
+            other,
+        )
+    }
+}

@@ -1,0 +1,16 @@
+//! Laws of the lists of ends: each is a function that does nothing, and whose contract is the law.
+ghost use Rattle.std.specs.Prelude.{◌≡◌, ◌≤◌, ℕ, List, [], Option, length, slice_get};
+ghost use Rattle.dist_peers.specs.declared.entry.EndId.{EndId};
+ghost use Rattle.dist_core_ends.specs.declared.known.End.{End};
+ghost use Rattle.dist_core_ends.specs.Ends.{AreLegal};
+ghost use Rattle.dist_core_ends.specs.Change.{IsThere, changed, view_after};
+
+/// What stands at each number once an end was changed or the next one was given out, and another one with it.
+pub fn ends_after_a_change()
+    ensures { (es : List End) (id : EndId) (this : End) (other : Option (EndId × End)) (i : ℕ) → id.0 ≤ length es → IsThere es other → slice_get (changed es id this other) i ≡ view_after es id this other i }
+{}
+
+/// Where there are no ends, none holds a peer, and no peer has an entry.
+pub fn no_ends_are_legal()
+    ensures { AreLegal [] }
+{}

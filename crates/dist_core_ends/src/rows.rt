@@ -1,0 +1,153 @@
+//! Where each end is, by its number.
+ghost use Rattle.std.specs.Prelude.{◌≡◌, ◌<◌, ◌≤◌, ◌+◌, ◌^◌, ◌++◌, ◌∷◌, [], length, slice_get, slice_set, Some, OnOk, vec_capacity};
+ghost use Rattle.dist_core_ends.specs.Keeping.{rows_forgotten, without_row_cause};
+ghost use Rattle.dist_core_ends.specs.Places.{IsSlot};
+
+use crate::past_rows::PastRows;
+use crate::slots::Row;
+use crate::why::Why;
+use std::alloc::{AllocError, Global};
+use std::marker::Model;
+
+/// How many rows stand in an array at most, before all of them are moved to the past ones.
+const MOST_RECENT: usize = 1_024;
+
+/// Where each end is, by its number. Contracts see the list of rows, and for how many more there is room.
+///
+/// Most ends are closed soon after they were given out, so the rows of the last ones stand in an array, where one is found by
+/// its number alone. When the array is full, its rows become past ones: a closed end costs a byte from then on, and only an
+/// end that is still open takes a place in a map.
+#[derive(Drop)]
+pub struct Rows {
+    /// The rows of the numbers before those of `recent`.
+    past: PastRows,
+    /// The rows of the numbers that were given out last.
+    recent: Vec<Row>,
+}
+
+impl Model for Rows {
+    ghost use Rattle.std.specs.Prelude.{◌≤◌, ◌-◌, ◌^◌, ◌++◌, length, vec_capacity};
+    ghost use Rattle.dist_core_ends.specs.Places.{RowList};
+
+    ghost Value = { RowList };
+
+    ghost view = { λ r. record { items = r.past.items ++ r.recent.items; room = vec_capacity r.recent - length r.recent.items } };
+
+    ghost invariant = { λ r. length (r.past.items ++ r.recent.items) ≤ 2 ^ 32 };
+}
+
+impl Rows {
+    /// No rows. It takes no memory.
+    pub fn new(alloc: Global) -> Rows
+        ensures { result.items ≡ [] }
+    {
+        Rows {
+            past: PastRows::new(alloc),
+            recent: Vec::new(alloc),
+        }
+    }
+
+    /// How many there are.
+    pub fn len(&self) -> usize
+        ensures len { result ≡ length self.now.items }
+        ensures few { result ≤ 2 ^ 32 }
+    {
+        self.past.len() + self.recent.len()
+    }
+
+    /// The row of this number.
+    pub fn at(&self, i: usize) -> Row
+        requires { i < length self.now.items }
+        ensures { slice_get self.now.items i ≡ Some result }
+    {
+        let before = self.past.len();
+        if i < before {
+            self.past.at(i)
+        } else {
+            self.recent[i - before]
+        }
+    }
+
+    /// Closes the open end of this number. It takes no memory.
+    pub fn close(&mut self, i: usize, why: Why)
+        requires { IsSlot (slice_get self.old.items i) }
+        ensures { self.new.items ≡ slice_set self.old.items i (Row.Closed why) }
+    {
+        let before = self.past.len();
+        if i < before {
+            self.past.close(i, why);
+        } else {
+            self.recent[i - before] = Row::Closed(why);
+        }
+    }
+
+    /// Makes room for one row more.
+    pub fn reserve(&mut self) -> Result<(), AllocError>
+        ensures same { self.new.items ≡ self.old.items }
+        ensures ok { OnOk result (0 < self.new.room) }
+    {
+        if self.recent.len() >= MOST_RECENT {
+            self.past.reserve(self.recent.len())?;
+            move_rows(&mut self.recent, &mut self.past);
+        }
+        self.recent.reserve(1)
+    }
+
+    /// Adds the row of the next number, for which room was made.
+    pub fn push(&mut self, row: Row)
+        requires room { 0 < self.old.room }
+        requires few { length self.old.items < 2 ^ 32 }
+        ensures { self.new.items ≡ self.old.items ++ row ∷ [] }
+    {
+        self.recent.push_reserved(row);
+    }
+
+    /// Forgets why the ends below a number were closed. It takes no memory, and what their causes took is used again.
+    pub fn forget(&mut self, below: usize)
+        ensures { self.new.items ≡ rows_forgotten below self.old.items }
+    {
+        let before = self.past.len();
+        self.past.forget(below);
+        forget_first(&mut self.recent, below.saturating_sub(before));
+    }
+}
+
+// Moves all rows of an array behind the past ones.
+fn move_rows(recent: &mut Vec<Row>, past: &mut PastRows)
+    requires room { length recent.old.items ≤ past.old.room }
+    requires few { length (past.old.items ++ recent.old.items) ≤ 2 ^ 32 }
+    ensures moved { past.new.items ≡ past.old.items ++ recent.old.items }
+    ensures empty { recent.new.items ≡ [] }
+{
+    push_all(past, recent);
+    recent.clear();
+}
+
+// Adds all rows of an array to the past ones.
+fn push_all(past: &mut PastRows, rows: &[Row])
+    requires room { length rows.now ≤ past.old.room }
+    requires few { length (past.old.items ++ rows.now) ≤ 2 ^ 32 }
+    ensures { past.new.items ≡ past.old.items ++ rows.now }
+{
+    for row in rows {
+        past.push(*row);
+    }
+}
+
+// Forgets the causes among the first rows of an array.
+fn forget_first(rows: &mut Vec<Row>, count: usize)
+    ensures { rows.new.items ≡ rows_forgotten count rows.old.items }
+{
+    for i in 0..count.min(rows.len()) {
+        rows[i] = without_cause(rows[i]);
+    }
+}
+
+fn without_cause(row: Row) -> Row
+    ensures { result ≡ without_row_cause row }
+{
+    match row {
+        Row::Slot(slot) => Row::Slot(slot),
+        Row::Closed(_) => Row::Closed(Why::Ended),
+    }
+}

@@ -1,0 +1,150 @@
+//! Where ends are kept: open ones in slots that are used again, and of a closed one its cause alone.
+ghost use Rattle.std.specs.Prelude.{◌≡◌, ◌<◌, ◌≤◌, ◌+◌, ◌++◌, ◌∷◌, [], length, slice_get, slice_set, true, false, Ok, Err, Some, None};
+ghost use Rattle.slab.specs.Slab.{ContainsKey, HasRoomFor, slab_len};
+ghost use Rattle.dist_core_ends.specs.Ends.{is_open, Finds};
+ghost use Rattle.dist_core_ends.specs.Change.{put_end, put_other, StaysClosed, OtherStaysClosed, IsThere};
+ghost use Rattle.dist_core_ends.specs.Keeping.{shown, AreKept, Refills, Empties, Gives, AreSettled, waits};
+
+use crate::known::End;
+use crate::phase::Absent;
+use crate::rows::Rows;
+use crate::why::Why;
+use dist_peers::EndId;
+use slab::Slab;
+
+/// Where an end is, by its number.
+#[derive(Clone, Copy, PartialEq, Eq)]
+pub enum Row {
+    /// The end is open, and stands in this slot.
+    Slot(usize),
+    /// The end is closed, for this cause.
+    Closed(Why),
+}
+
+// The end of this number, where it is open.
+pub fn find<'a>(rows: &Rows, slots: &'a Slab<End>, id: EndId) -> Result<&'a End, Absent>
+    requires { AreKept rows.now.items slots.now.slots }
+    ensures { Finds result (slice_get (shown rows.now.items slots.now.slots) id.0) }
+{
+    let i = id.0 as usize;
+    if rows.len() <= i {
+        return Err(Absent::NoSuchEnd);
+    }
+    match rows.at(i) {
+        Row::Slot(slot) => Ok(&slots[slot]),
+        Row::Closed(why) => Err(Absent::Gone(why)),
+    }
+}
+
+// The slot has another end.
+fn refill(slots: &mut Slab<End>, slot: usize, end: End)
+    requires { ContainsKey slots.old slot }
+    ensures { Refills slots.old slots.new slot end }
+{
+    if let Some(place) = slots.get_mut(slot) {
+        *place = end;
+    }
+}
+
+// The slot has no end.
+fn empty(slots: &mut Slab<End>, slot: usize)
+    requires { ContainsKey slots.old slot }
+    ensures { Empties slots.old slots.new slot }
+{
+    let _closed = slots.try_remove(slot);
+}
+
+// Closes the end of a number, or leaves it closed for the cause that it had.
+pub fn close(rows: &mut Rows, slots: &mut Slab<End>, i: usize, why: Why)
+    requires place { i < length rows.old.items }
+    requires stays { StaysClosed (slice_get (shown rows.old.items slots.old.slots) i) (End.Closed why) }
+    requires kept { AreKept rows.old.items slots.old.slots }
+    ensures ends { shown rows.new.items slots.new.slots ≡ slice_set (shown rows.old.items slots.old.slots) i (End.Closed why) }
+    ensures kept { AreKept rows.new.items slots.new.slots }
+    ensures len { length rows.new.items ≡ length rows.old.items }
+{
+    if let Row::Slot(slot) = rows.at(i) {
+        empty(slots, slot);
+        rows.close(i, why);
+    }
+}
+
+// Changes the open end of a number.
+fn fill(rows: &Rows, slots: &mut Slab<End>, i: usize, end: End)
+    requires place { i < length rows.now.items }
+    requires kept { AreKept rows.now.items slots.old.slots }
+    requires open_ { is_open end ≡ true }
+    requires stays { StaysClosed (slice_get (shown rows.now.items slots.old.slots) i) end }
+    ensures ends { shown rows.now.items slots.new.slots ≡ slice_set (shown rows.now.items slots.old.slots) i end }
+    ensures kept { AreKept rows.now.items slots.new.slots }
+{
+    if let Row::Slot(slot) = rows.at(i) {
+        refill(slots, slot, end);
+    }
+}
+
+// Puts an end in its place.
+pub fn put(rows: &mut Rows, slots: &mut Slab<End>, i: usize, end: End)
+    requires place { i < length rows.old.items }
+    requires kept { AreKept rows.old.items slots.old.slots }
+    requires stays { StaysClosed (slice_get (shown rows.old.items slots.old.slots) i) end }
+    ensures ends { shown rows.new.items slots.new.slots ≡ put_end (shown rows.old.items slots.old.slots) i end }
+    ensures kept { AreKept rows.new.items slots.new.slots }
+{
+    match end {
+        End::Closed(why) => close(rows, slots, i, why),
+        end => fill(rows, slots, i, end),
+    }
+}
+
+pub fn put_second(rows: &mut Rows, slots: &mut Slab<End>, other: Option<(EndId, End)>)
+    requires there { IsThere (shown rows.old.items slots.old.slots) other }
+    requires kept { AreKept rows.old.items slots.old.slots }
+    requires stays { OtherStaysClosed (shown rows.old.items slots.old.slots) other }
+    ensures ends { shown rows.new.items slots.new.slots ≡ put_other (shown rows.old.items slots.old.slots) other }
+    ensures kept { AreKept rows.new.items slots.new.slots }
+{
+    if let Some((x, end)) = other {
+        put(rows, slots, x.0 as usize, end);
+    }
+}
+
+// The row of a further end, which stands in a slot where it is open.
+pub fn keep(slots: &mut Slab<End>, end: End) -> Row
+    requires { HasRoomFor slots.old 1 }
+    ensures { Gives slots.old.slots slots.new.slots end result }
+{
+    match end {
+        End::Closed(why) => Row::Closed(why),
+        end => Row::Slot(slots.insert_reserved(end)),
+    }
+}
+
+// Whether the end of this number is open and not up.
+fn waits(rows: &Rows, slots: &Slab<End>, id: EndId) -> bool
+    requires { AreKept rows.now.items slots.now.slots }
+    ensures { result ≡ waits (slice_get (shown rows.now.items slots.now.slots) id.0) }
+{
+    match find(rows, slots, id) {
+        Ok(End::Up(_)) => false,
+        Ok(_) => true,
+        Err(_) => false,
+    }
+}
+
+// The number of the first end that is open and not up, from a number on before which none is, or how many ends there are.
+pub fn first_waiting(rows: &Rows, slots: &Slab<End>, from: usize) -> usize
+    requires kept { AreKept rows.now.items slots.now.slots }
+    requires from { from ≤ length rows.now.items }
+    requires before { AreSettled (shown rows.now.items slots.now.slots) from }
+    ensures within { result ≤ length rows.now.items }
+    ensures before { AreSettled (shown rows.now.items slots.now.slots) result }
+    ensures here { result < length rows.now.items → waits (slice_get (shown rows.now.items slots.now.slots) result) ≡ true }
+{
+    for i in from..rows.len() {
+        if waits(rows, slots, EndId(i as u32)) {
+            return i;
+        }
+    }
+    rows.len()
+}

@@ -1,0 +1,256 @@
+//! The ends and the table of peers, changed together.
+ghost use Rattle.std.specs.Prelude.{◌≡◌, ◌≤◌, ◌<◌, length, IfOk, IsOk, OnOk, OnErr, true, false, Ok, Err, Some, None, slice_get, ◌+◌, ◌++◌, ◌∷◌, [], ◌^◌, count_by};
+ghost use Rattle.std.specs.Option.{option_map};
+ghost use Rattle.dist_core_ends.specs.Ends.{Claim, claim_of, kind_in, end_id};
+ghost use Rattle.dist_core_ends.specs.Keeping.{shown, AreKept};
+ghost use Rattle.dist_core_ends.specs.Change.{put_end, put_other, changed, StaysClosed, OtherStaysClosed, shifted, claim_at, IsThere, AsksShift, entered, AsksEnter, raised, AsksRaise};
+
+use crate::known::End;
+use crate::phase::{Kind, Phase};
+use crate::rows::Rows;
+use crate::slots::{close, find, keep, put, put_second};
+use crate::why::Why;
+use dist_names::NodeName;
+use dist_peers::{EndId, Peers};
+use slab::Slab;
+use std::alloc::AllocError;
+
+// How an end holds its peer, and which.
+fn claim(end: &End) -> Option<(Kind, &NodeName)>
+    ensures { option_map (λ r. record { peer = r.1.now; kind = r.0 }) result ≡ claim_of end.now }
+{
+    match end {
+        End::Unnamed => None,
+        End::Attempt(attempt) => match kind(attempt.phase) {
+            Some(kind) => Some((kind, &attempt.peer)),
+            None => None,
+        },
+        End::Up(record) => Some((Kind::Up, &record.peer)),
+        End::Closed(_) => None,
+    }
+}
+
+fn kind(phase: Phase) -> Option<Kind>
+    ensures { result ≡ kind_in phase }
+{
+    match phase {
+        Phase::Dialing | Phase::AwaitStatus | Phase::AwaitChallenge | Phase::AwaitAck => {
+            Some(Kind::Out)
+        }
+        Phase::AwaitTrue | Phase::AwaitComplement | Phase::AwaitReply => Some(Kind::In),
+        Phase::DoomedDialing | Phase::Doomed => None,
+    }
+}
+
+// Keeps the table in step with an end that changes.
+fn shift(
+    peers: &mut Peers,
+    me: &NodeName,
+    id: EndId,
+    old: &End,
+    new: &End,
+) -> Result<(), AllocError>
+    requires { AsksShift peers.old me.now id (claim_of old.now) (claim_of new.now) }
+    ensures ok { OnOk result (peers.new ≡ shifted peers.old me.now id (claim_of old.now) (claim_of new.now)) }
+    ensures err { OnErr result (peers.new ≡ peers.old) }
+    ensures loss { claim_of new.now ≡ None → IsOk result }
+{
+    match (claim(old), claim(new)) {
+        (None, None) => Ok(()),
+        (None, Some((kind, peer))) => enter(peers, me, id, kind, peer),
+        (Some((_, peer)), None) => {
+            peers.lost(peer, id);
+            Ok(())
+        }
+        (Some((was, _)), Some((is, peer))) => {
+            raise(peers, id, was, is, peer);
+            Ok(())
+        }
+    }
+}
+
+fn enter(
+    peers: &mut Peers,
+    me: &NodeName,
+    id: EndId,
+    kind: Kind,
+    peer: &NodeName,
+) -> Result<(), AllocError>
+    requires { AsksEnter peers.old me.now peer.now kind }
+    ensures ok { OnOk result (peers.new ≡ entered peers.old me.now id peer.now kind) }
+    ensures err { OnErr result (peers.new ≡ peers.old) }
+{
+    match kind {
+        Kind::Out => peers.dial_idle(peer, id),
+        Kind::In => peers.take_name(me, peer, id),
+        Kind::Up => Ok(()),
+    }
+}
+
+fn raise(peers: &mut Peers, id: EndId, was: Kind, is: Kind, peer: &NodeName)
+    requires { AsksRaise peers.old id peer.now was is }
+    ensures { peers.new ≡ raised peers.old id peer.now was is }
+{
+    match (was, is) {
+        (Kind::Out, Kind::Up) | (Kind::In, Kind::Up) => {
+            let _ = peers.came_up(peer, id);
+        }
+        _ => {}
+    }
+}
+
+// What an end held is held no longer.
+fn leave(peers: &mut Peers, id: EndId, old: &End)
+    ensures { peers.new ≡ shifted peers.old [] id (claim_of old.now) None }
+{
+    if let Some((_, peer)) = claim(old) {
+        peers.lost(peer, id);
+    }
+}
+
+// The same, of the end of a number.
+fn leave_at(peers: &mut Peers, rows: &Rows, slots: &Slab<End>, id: EndId)
+    requires { AreKept rows.now.items slots.now.slots }
+    ensures { peers.new ≡ shifted peers.old [] id (claim_at (slice_get (shown rows.now.items slots.now.slots) id.0)) None }
+{
+    if let Ok(end) = find(rows, slots, id) {
+        leave(peers, id, end);
+    }
+}
+
+// Closes an end.
+pub fn close_end(peers: &mut Peers, rows: &mut Rows, slots: &mut Slab<End>, id: EndId, why: Why)
+    requires place { id.0 < length rows.old.items }
+    requires stays { StaysClosed (slice_get (shown rows.old.items slots.old.slots) id.0) (End.Closed why) }
+    requires kept { AreKept rows.old.items slots.old.slots }
+    ensures peers { peers.new ≡ shifted peers.old [] id (claim_at (slice_get (shown rows.old.items slots.old.slots) id.0)) None }
+    ensures ends { shown rows.new.items slots.new.slots ≡ changed (shown rows.old.items slots.old.slots) id (End.Closed why) None }
+    ensures kept { AreKept rows.new.items slots.new.slots }
+{
+    leave_at(peers, rows, slots, id);
+    close(rows, slots, id.0 as usize, why);
+}
+
+// Adds an end of which nothing is known.
+pub fn add(rows: &mut Rows, slots: &mut Slab<End>) -> Result<(), AllocError>
+    requires few { length rows.old.items < 2 ^ 32 }
+    requires kept { AreKept rows.old.items slots.old.slots }
+    ensures ends { OnOk result (shown rows.new.items slots.new.slots ≡ changed (shown rows.old.items slots.old.slots) (end_id (length (shown rows.old.items slots.old.slots))) End.Unnamed None) }
+    ensures kept { AreKept rows.new.items slots.new.slots }
+    ensures err { OnErr result (shown rows.new.items slots.new.slots ≡ shown rows.old.items slots.old.slots) }
+{
+    rows.reserve()?;
+    slots.reserve(1)?;
+    let row = keep(slots, End::Unnamed);
+    rows.push(row);
+    Ok(())
+}
+
+// Adds an end.
+fn apply_new(
+    peers: &mut Peers,
+    rows: &mut Rows,
+    slots: &mut Slab<End>,
+    me: &NodeName,
+    id: EndId,
+    this: End,
+    other: Option<(EndId, End)>,
+) -> Result<(), AllocError>
+    requires place { id.0 ≡ length rows.old.items }
+    requires other { IsThere (shown rows.old.items slots.old.slots) other }
+    requires other_stays { OtherStaysClosed (put_end (shown rows.old.items slots.old.slots) id.0 this) other }
+    requires few { length rows.old.items < 2 ^ 32 }
+    requires kept { AreKept rows.old.items slots.old.slots }
+    requires asks { AsksShift peers.old me.now id None (claim_of this) }
+    ensures peers { OnOk result (peers.new ≡ shifted peers.old me.now id None (claim_of this)) }
+    ensures ends { OnOk result (shown rows.new.items slots.new.slots ≡ changed (shown rows.old.items slots.old.slots) id this other) }
+    ensures kept { AreKept rows.new.items slots.new.slots }
+    ensures err { OnErr result ((peers.new ≡ peers.old) × (shown rows.new.items slots.new.slots ≡ shown rows.old.items slots.old.slots)) }
+{
+    rows.reserve()?;
+    slots.reserve(1)?;
+    shift(peers, me, id, &End::Unnamed, &this)?;
+    let row = keep(slots, this);
+    rows.push(row);
+    put_second(rows, slots, other);
+    Ok(())
+}
+
+// What an end changes in the table.
+fn shift_at(
+    peers: &mut Peers,
+    rows: &Rows,
+    slots: &Slab<End>,
+    me: &NodeName,
+    id: EndId,
+    this: &End,
+) -> Result<(), AllocError>
+    requires kept { AreKept rows.now.items slots.now.slots }
+    requires asks { AsksShift peers.old me.now id (claim_at (slice_get (shown rows.now.items slots.now.slots) id.0)) (claim_of this.now) }
+    ensures ok { OnOk result (peers.new ≡ shifted peers.old me.now id (claim_at (slice_get (shown rows.now.items slots.now.slots) id.0)) (claim_of this.now)) }
+    ensures err { OnErr result (peers.new ≡ peers.old) }
+    ensures loss { claim_of this.now ≡ None → IsOk result }
+{
+    match find(rows, slots, id) {
+        Ok(old) => shift(peers, me, id, old, this),
+        Err(_) => shift(peers, me, id, &End::Unnamed, this),
+    }
+}
+
+// Changes an end.
+fn apply_at(
+    peers: &mut Peers,
+    rows: &mut Rows,
+    slots: &mut Slab<End>,
+    me: &NodeName,
+    id: EndId,
+    this: End,
+    other: Option<(EndId, End)>,
+) -> Result<(), AllocError>
+    requires place { id.0 < length rows.old.items }
+    requires other { IsThere (shown rows.old.items slots.old.slots) other }
+    requires stays { StaysClosed (slice_get (shown rows.old.items slots.old.slots) id.0) this }
+    requires other_stays { OtherStaysClosed (put_end (shown rows.old.items slots.old.slots) id.0 this) other }
+    requires kept { AreKept rows.old.items slots.old.slots }
+    requires asks { AsksShift peers.old me.now id (claim_at (slice_get (shown rows.old.items slots.old.slots) id.0)) (claim_of this) }
+    ensures peers { OnOk result (peers.new ≡ shifted peers.old me.now id (claim_at (slice_get (shown rows.old.items slots.old.slots) id.0)) (claim_of this)) }
+    ensures ends { OnOk result (shown rows.new.items slots.new.slots ≡ changed (shown rows.old.items slots.old.slots) id this other) }
+    ensures kept { AreKept rows.new.items slots.new.slots }
+    ensures err { OnErr result ((peers.new ≡ peers.old) × (shown rows.new.items slots.new.slots ≡ shown rows.old.items slots.old.slots)) }
+    ensures loss { claim_of this ≡ None → IsOk result }
+{
+    shift_at(peers, rows, slots, me, id, &this)?;
+    put(rows, slots, id.0 as usize, this);
+    put_second(rows, slots, other);
+    Ok(())
+}
+
+// Changes an end, or adds one.
+pub fn apply(
+    peers: &mut Peers,
+    rows: &mut Rows,
+    slots: &mut Slab<End>,
+    me: &NodeName,
+    id: EndId,
+    this: End,
+    other: Option<(EndId, End)>,
+) -> Result<(), AllocError>
+    requires place { id.0 ≤ length rows.old.items }
+    requires other { IsThere (shown rows.old.items slots.old.slots) other }
+    requires stays { StaysClosed (slice_get (shown rows.old.items slots.old.slots) id.0) this }
+    requires other_stays { OtherStaysClosed (put_end (shown rows.old.items slots.old.slots) id.0 this) other }
+    requires few { length rows.old.items < 2 ^ 32 }
+    requires kept { AreKept rows.old.items slots.old.slots }
+    requires asks { AsksShift peers.old me.now id (claim_at (slice_get (shown rows.old.items slots.old.slots) id.0)) (claim_of this) }
+    ensures peers { OnOk result (peers.new ≡ shifted peers.old me.now id (claim_at (slice_get (shown rows.old.items slots.old.slots) id.0)) (claim_of this)) }
+    ensures ends { OnOk result (shown rows.new.items slots.new.slots ≡ changed (shown rows.old.items slots.old.slots) id this other) }
+    ensures kept { AreKept rows.new.items slots.new.slots }
+    ensures err { OnErr result ((peers.new ≡ peers.old) × (shown rows.new.items slots.new.slots ≡ shown rows.old.items slots.old.slots)) }
+    ensures loss { claim_of this ≡ None → id.0 < length rows.old.items → IsOk result }
+{
+    if (id.0 as usize) < rows.len() {
+        apply_at(peers, rows, slots, me, id, this, other)
+    } else {
+        apply_new(peers, rows, slots, me, id, this, other)
+    }
+}

@@ -1,0 +1,43 @@
+-- What becomes of a dialled end that a crossing name supersedes, by where its handshake stands.
+use Rattle.std.proofs.Common.{◌≡◌, ℕ, true, List, Option, Some, None, refl, ap, ◌∙◌, slice_get}
+use Rattle.std.proofs.lemmas.Bool.{false≢true, eq-eqb}
+use Rattle.std.specs.Option.{option_map}
+use Rattle.dist_peers.specs.declared.entry.EndId.{EndId}
+use Rattle.dist_peers.specs.declared.entry.Entry.TheVariants as entry
+use Rattle.dist_core_ends.specs.declared.known.Attempt.{Attempt}
+use Rattle.dist_core_ends.specs.declared.known.End.{End}
+use Rattle.dist_core_ends.specs.declared.known.End.TheVariants as ends
+use Rattle.dist_core_ends.specs.declared.phase.Kind.TheVariants.{Out}
+use Rattle.dist_core_ends.specs.declared.phase.Phase.{Phase}
+use Rattle.dist_core_ends.specs.declared.phase.Phase.TheVariants as phase
+use Rattle.dist_core_ends.specs.Ends.{AreLegal, entry_in, is_claim, is_held, kind_in, names}
+use Rattle.dist_core.specs.declared.effect.Effect.{Effect}
+use Rattle.dist_core.specs.Effects.{superseded, superseded_in, supersedes}
+use Rattle.dist_core_laws.specs.Laws.{Supersedes, Dooms, Drops, doomed_as, was_let_on}
+use Rattle.dist_core.specs.Node.{NodeState}
+
+module _ (n : NodeState) (id : EndId) (say : List ℕ) (b : Attempt) (x : EndId) (f : Effect) where
+  by-phase : (d : Attempt) (ph : Phase) → slice_get n.ends x.0 ≡ Some (ends.Attempt d) → d.phase ≡ ph
+      → is_claim b.peer Out (option_map (λ k. record { peer = d.peer; kind = k }) (kind_in ph)) ≡ true
+      → f ≡ supersedes id say b x (superseded_in d ph) → Supersedes n id say b x f
+  by-phase d phase.Dialing at ph held k = Dooms d phase.DoomedDialing at (ap (λ (q : Phase). doomed_as q) ph) k
+  by-phase d phase.AwaitStatus at ph held k = Dooms d phase.Doomed at (ap (λ (q : Phase). doomed_as q) ph) k
+  by-phase d phase.AwaitChallenge at ph held k = Drops d at (ap (λ (q : Phase). was_let_on q) ph) k
+  by-phase d phase.AwaitAck at ph held k = Drops d at (ap (λ (q : Phase). was_let_on q) ph) k
+  by-phase d phase.DoomedDialing at ph held k = absurd (false≢true held)
+  by-phase d phase.Doomed at ph held k = absurd (false≢true held)
+  by-phase d phase.AwaitTrue at ph held k = absurd (false≢true held)
+  by-phase d phase.AwaitComplement at ph held k = absurd (false≢true held)
+  by-phase d phase.AwaitReply at ph held k = absurd (false≢true held)
+
+  by-end : (o : Option End) → slice_get n.ends x.0 ≡ o → is_held b.peer Out o ≡ true → f ≡ supersedes id say b x (superseded o) → Supersedes n id say b x f
+  by-end None at held k = absurd (false≢true held)
+  by-end (Some ends.Unnamed) at held k = absurd (false≢true held)
+  by-end (Some (ends.Attempt d)) at held k = by-phase d d.phase at refl held k
+  by-end (Some (ends.Up r)) at held k = absurd (false≢true held)
+  by-end (Some (ends.Closed w)) at held k = absurd (false≢true held)
+
+pub dooms-or-closes : (n : NodeState) (id : EndId) (say : List ℕ) (b : Attempt) (x : EndId) (f : Effect) → AreLegal n.ends → entry_in n.ends b.peer ≡ Some (entry.Out x)
+    → f ≡ supersedes id say b x (superseded (slice_get n.ends x.0)) → Supersedes n id say b x f
+dooms-or-closes n id say b x f legal is k =
+    by-end n id say b x f (slice_get n.ends x.0) refl (legal b.peer Out x.0 ∙ ap (names Out x.0) is ∙ eq-eqb x.0 x.0 refl) k

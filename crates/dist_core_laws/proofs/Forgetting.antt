@@ -1,0 +1,207 @@
+-- Why ends were closed changes no step.
+use Rattle.std.proofs.Common.{◌≡◌, ℕ, ◌||◌, not, nat_lt, cond, List, [], ◌∷◌, map, Option, Some, None, Result, Ok, Err, refl, sym, ap, ◌∙◌, subst, slice_get}
+use Rattle.std.specs.Option.{option_map}
+use Rattle.dist_names.specs.Order.{Name}
+use Rattle.dist_names.specs.declared.flags.Flags.{Flags}
+use Rattle.dist_names.specs.declared.creation.Creation.{Creation}
+use Rattle.dist_messages.specs.Reading.{read}
+use Rattle.dist_messages.specs.declared.form.Form.{Form}
+use Rattle.dist_messages.specs.declared.form.Form.TheVariants as form
+use Rattle.dist_messages.specs.declared.message.Message.{Message}
+use Rattle.dist_messages.specs.declared.message.Message.TheVariants as message
+use Rattle.dist_messages.specs.declared.message.Side.{Side}
+use Rattle.dist_messages.specs.declared.message.Status.TheVariants as status
+use Rattle.dist_messages.specs.declared.message_error.MessageError.{MessageError}
+use Rattle.dist_messages.specs.declared.opening.Opening.{Opening}
+use Rattle.dist_peers.specs.Verdicts.{is_full, is_greater, ruling}
+use Rattle.dist_peers.specs.declared.entry.EndId.{EndId}
+use Rattle.dist_peers.specs.declared.entry.Entry.{Entry}
+use Rattle.dist_peers.specs.declared.entry.Verdict.{Verdict}
+use Rattle.dist_peers.specs.declared.entry.Verdict.TheVariants as verdict
+use Rattle.dist_core_setup.specs.Rules.{form_of_old, is_refused, knows_six, required_of}
+use Rattle.dist_core_setup.specs.Saying.{greeting_text, status_text}
+use Rattle.dist_core_setup.specs.declared.setup.Setup.{Setup}
+use Rattle.dist_core_ends.specs.Ends.{end_id, entry_in}
+use Rattle.dist_core_ends.specs.Forgetting.{forgotten, without_cause}
+use Rattle.dist_core_ends.specs.declared.known.Attempt.{Attempt}
+use Rattle.dist_core_ends.specs.declared.known.End.{End}
+use Rattle.dist_core_ends.specs.declared.known.End.TheVariants as ends
+use Rattle.dist_core_ends.specs.declared.phase.Phase.{Phase}
+use Rattle.dist_core_ends.specs.declared.phase.Phase.TheVariants as phase
+use Rattle.dist_core_ends.specs.declared.why.Why.TheVariants as why
+use Rattle.dist_core.specs.Accepted.{in_await_name, in_await_reply, name_came, name_taken, named_attempt, verdict_in}
+use Rattle.dist_core.specs.Dialled.{in_await_ack}
+use Rattle.dist_core.specs.Effects.{closes, fresh_attempt, goes_on, shuts, supersedes}
+use Rattle.dist_core.specs.Node.{NodeState, is_crowded, is_full_for, is_given_out, is_spent, new_id}
+use Rattle.dist_core.specs.Runs.{run, settled}
+use Rattle.dist_core.specs.Step.{after, at_end, came_in, counted, dialled, effect_of, framed_from, heard, in_attempt, opened, sender_to, step, stepped, ticked}
+use Rattle.dist_core.specs.declared.effect.Effect.{Effect}
+use Rattle.dist_core.specs.declared.event.Event.{Event}
+use Rattle.dist_core.specs.declared.event.Event.TheVariants as event
+use Rattle.dist_core.specs.declared.reply.Note.TheVariants as note
+use Rattle.dist_core.specs.declared.reply.Reply.{Reply}
+use Rattle.dist_core.specs.declared.step_error.StepError.{StepError}
+use Rattle.dist_core.specs.declared.step_error.StepError.TheVariants as error
+use Rattle.dist_core_laws.specs.Forgetting.{AreAlike, AreAlikeAnswers, Both_gone, Same_refusal, Same_reply}
+use Rattle.dist_core_laws.proofs.Causes.{changed-alike, end-alike, entry-alike, forgotten-alike, length-alike, opens-alike, superseded-alike, table-alike}
+
+-- a refusal, whatever the cause that it names
+abbrev told : StepError → StepError
+told (error.Gone w) = error.Gone why.Ended
+told e = e
+
+-- an effect, or a refusal whatever the cause that it names
+abbrev seen : Result Effect StepError → Result Effect StepError
+seen (Ok f) = Ok f
+seen (Err e) = Err (told e)
+
+-- an end that is closed is refused, whatever the cause
+at-forgotten : (o : Option End) (f : End → Result Effect StepError) → seen (at_end (option_map without_cause o) f) ≡ seen (at_end o f)
+at-forgotten None f = refl
+at-forgotten (Some ends.Unnamed) f = refl
+at-forgotten (Some (ends.Attempt a)) f = refl
+at-forgotten (Some (ends.Up r)) f = refl
+at-forgotten (Some (ends.Closed w)) f = refl
+
+at-alike : (o q : Option End) (f g : End → Result Effect StepError) → option_map without_cause o ≡ option_map without_cause q → ((e : End) → f e ≡ g e) → seen (at_end o f) ≡ seen (at_end q g)
+at-alike o q f g same each =
+    sym (at-forgotten o f)
+    ∙ ap (λ x. seen (at_end x f)) same
+    ∙ at-forgotten q f
+    ∙ (λ i. seen (at_end q (λ e. each e i)))
+
+-- two nodes of one setup and one count of steps, whose ends differ in causes alone
+module _ (s : Setup) (k : ℕ) (es ds : List End) (alike : map without_cause es ≡ map without_cause ds) where
+  abbrev m : NodeState
+  m = record { setup = s; steps = k; ends = es }
+
+  abbrev n : NodeState
+  n = record { setup = s; steps = k; ends = ds }
+
+  full : (o q : Option Entry) → o ≡ q → is_full_for m o ≡ is_full_for n q
+  full o q same = λ i. is_full (let l = s.limits in l.entries) (table-alike es ds alike i) (same i)
+
+  given : is_given_out m ≡ is_given_out n
+  given = ap (λ c. not (nat_lt c (let l = s.limits in l.ends))) (length-alike es ds alike)
+
+  crowded : is_crowded m ≡ is_crowded n
+  crowded = ap (λ c. not (nat_lt c (let l = s.limits in l.open_ends))) (opens-alike es ds alike)
+
+  fresh-id : new_id m ≡ new_id n
+  fresh-id = ap end_id (length-alike es ds alike)
+
+  -- ---- a name
+
+  taken-as : (id : EndId) (b : Attempt) (v : Verdict) → name_taken s es id b v ≡ name_taken s ds id b v
+  taken-as id b verdict.Ok = refl
+  taken-as id b (verdict.OkSimultaneous x) = ap (supersedes id (greeting_text s status.OkSimultaneous b.form b.challenge) b x) (superseded-alike es ds alike x.0)
+  taken-as id b verdict.Nok = refl
+  taken-as id b verdict.Alive = refl
+  taken-as id b (verdict.Replaces x again) = refl
+
+  taken : (id : EndId) (b : Attempt) (p : Name) → name_taken s es id b (verdict_in m id p) ≡ name_taken s ds id b (verdict_in n id p)
+  taken id b p =
+      taken-as id b (verdict_in m id p)
+      ∙ ap (λ o. name_taken s ds id b (let r = ruling (is_greater s.name p) id o in r.verdict)) (entry-alike es ds alike p)
+
+  came : (id : EndId) (fresh : ℕ) (o : Form) (f : Flags) (c : Option Creation) (p : Name) → name_came m id fresh o f c p ≡ name_came n id fresh o f c p
+  came id fresh o f c p =
+      let room = full (entry_in es p) (entry_in ds p) (entry-alike es ds alike p) in
+      let named = taken id (named_attempt o f c p fresh) p in
+      λ i. cond (is_refused s (required_of s o) (room i) f p) (shuts id (status_text status.NotAllowed) why.Refused note.Nothing) (named i)
+
+  names : (id : EndId) (fresh : ℕ) (x : Message) → in_await_name m id fresh x ≡ in_await_name n id fresh x
+  names id fresh (message.NewName f c p) = ap (λ e. cond (knows_six s) e (closes id why.Unexpected)) (came id fresh form.New f (Some c) p)
+  names id fresh (message.OldName f p) = came id fresh (form_of_old s f) (record { 0 = f }) None p
+  names id fresh x = refl
+
+  -- ---- a frame
+
+  attempts : (id : EndId) (fresh : ℕ) (b : Attempt) (ph : Phase) (x : Message) → in_attempt m id fresh b ph x ≡ in_attempt n id fresh b ph x
+  attempts id fresh b phase.AwaitAck x = ap (λ o. in_await_ack s o id b x) (entry-alike es ds alike b.peer)
+  attempts id fresh b phase.AwaitReply x = ap (λ o. in_await_reply s o id b x) (entry-alike es ds alike b.peer)
+  attempts id fresh b ph x = refl
+
+  hears : (id : EndId) (fresh : ℕ) (e : End) (r : Result Message MessageError) → heard m id fresh e r ≡ heard n id fresh e r
+  hears id fresh e (Err x) = refl
+  hears id fresh ends.Unnamed (Ok x) = names id fresh x
+  hears id fresh (ends.Attempt b) (Ok x) = attempts id fresh b b.phase x
+  hears id fresh (ends.Up r) (Ok x) = refl
+  hears id fresh (ends.Closed w) (Ok x) = refl
+
+  framed : (id : EndId) (fresh : ℕ) (body : List ℕ) (e : End) (side : Option Side) → framed_from m id fresh body e side ≡ framed_from n id fresh body e side
+  framed id fresh body e None = refl
+  framed id fresh body e (Some side) = ap (counted m) (hears id fresh e (read side body))
+
+  -- ---- the events
+
+  dials : (p : Name) (o : Opening) (q : Option Entry) → dialled m p o q ≡ dialled n p o q
+  dials p o (Some e) = refl
+  dials p o None =
+      λ i. cond (is_spent m || given i) (Err error.Spent) (cond (full None None refl i || crowded i) (Err error.Full) (Ok (goes_on (fresh-id i) [] (ends.Attempt (fresh_attempt p o)) note.Nothing)))
+
+  comes : came_in m ≡ came_in n
+  comes = λ i. cond (is_spent m || given i) (Err error.Spent) (cond (crowded i) (Err error.Full) (Ok (goes_on (fresh-id i) [] ends.Unnamed note.Nothing)))
+
+  opens : (id : EndId) (e : End) → opened m id e ≡ opened n id e
+  opens id e = refl
+
+  ticks : (id : EndId) (e : End) → ticked m id e ≡ ticked n id e
+  ticks id e = refl
+
+  effects : (v : Event) (fresh : ℕ) → seen (effect_of m v fresh) ≡ seen (effect_of n v fresh)
+  unfolding effect_of
+  effects (event.Dial p o) fresh = ap seen (ap (dialled m p o) (entry-alike es ds alike p) ∙ dials p o (entry_in ds p))
+  effects (event.Opened id link) fresh = at-alike (slice_get es id.0) (slice_get ds id.0) (opened m id) (opened n id) (end-alike es ds alike id.0) (opens id)
+  effects (event.Incoming link) fresh = ap seen comes
+  effects (event.Frame id body) fresh =
+      at-alike (slice_get es id.0) (slice_get ds id.0) (λ e. framed_from m id fresh body e (sender_to e)) (λ e. framed_from n id fresh body e (sender_to e)) (end-alike es ds alike id.0) (λ e. framed id fresh body e (sender_to e))
+  effects (event.Lost id w) fresh = at-alike (slice_get es id.0) (slice_get ds id.0) (λ e. Ok (closes id w)) (λ e. Ok (closes id w)) (end-alike es ds alike id.0) (λ e. refl)
+  effects (event.Tick id) fresh = at-alike (slice_get es id.0) (slice_get ds id.0) (ticked m id) (ticked n id) (end-alike es ds alike id.0) (ticks id)
+
+  refusals : (d e : StepError) → told d ≡ told e → AreAlikeAnswers (Err d) (Err e)
+  refusals (error.Gone v) (error.Gone w) same = Both_gone v w refl refl
+  refusals (error.Gone v) e same = absurd cc
+  refusals d (error.Gone w) same = absurd cc
+  refusals d e same = Same_refusal d refl (ap Err (sym same))
+
+  answers : (v : Event) (a b : Result Effect StepError) → seen a ≡ seen b → AreAlikeAnswers (stepped m v a) (stepped n v b)
+  answers v (Ok f) (Ok g) same =
+      let one : g ≡ f = cc in
+      Same_reply f.reply (after m v f) (after n v f) refl (ap (λ (e : Effect). Ok (e.reply, after n v e)) one) (record { setup = refl; steps = refl; ends = changed-alike es ds alike f.reply.end_ f.this f.other })
+  answers v (Ok f) (Err e) same = absurd cc
+  answers v (Err d) (Ok g) same = absurd cc
+  answers v (Err d) (Err e) same = let one : told d ≡ told e = cc in refusals d e one
+
+  steps-alike : (v : Event) (fresh : ℕ) → AreAlikeAnswers (step m v fresh) (step n v fresh)
+  steps-alike v fresh = answers v (effect_of m v fresh) (effect_of n v fresh) (effects v fresh)
+
+pub same_step : (m n : NodeState) (v : Event) (fresh : ℕ) → AreAlike m n → AreAlikeAnswers (step m v fresh) (step n v fresh)
+same_step m n v fresh a =
+    let P : NodeState → Type 0 = λ q. AreAlikeAnswers (step q v fresh) (step n v fresh) in
+    subst P (λ i. record { setup = sym a.setup i; steps = sym a.steps i; ends = m.ends }) (steps-alike n.setup n.steps m.ends n.ends a.ends v fresh)
+
+pub forgets_alike : (n : NodeState) (below : ℕ) → AreAlike n (record n { ends = forgotten below n.ends })
+forgets_alike n below = record { setup = refl; steps = refl; ends = forgotten-alike below n.ends }
+
+pub forgets_still_alike : (m n : NodeState) (below : ℕ) → AreAlike m n → AreAlike (record m { ends = forgotten below m.ends }) n
+forgets_still_alike m n below a = record { setup = a.setup; steps = a.steps; ends = sym (forgotten-alike below m.ends) ∙ a.ends }
+
+settled-alike : (m n : NodeState) (a b : Result (Reply × NodeState) StepError) → AreAlike m n → AreAlikeAnswers a b → AreAlike (settled m a) (settled n b)
+settled-alike m n a b alike (Same_reply r x y is was after) =
+    let P : Result (Reply × NodeState) StepError → Type 0 = λ q. AreAlike (settled m q) (settled n b) in
+    let Q : Result (Reply × NodeState) StepError → Type 0 = λ q. AreAlike x (settled n q) in
+    subst P (sym is) (subst Q (sym was) after)
+settled-alike m n a b alike (Both_gone v w is was) =
+    let P : Result (Reply × NodeState) StepError → Type 0 = λ q. AreAlike (settled m q) (settled n b) in
+    let Q : Result (Reply × NodeState) StepError → Type 0 = λ q. AreAlike m (settled n q) in
+    subst P (sym is) (subst Q (sym was) alike)
+settled-alike m n a b alike (Same_refusal e is was) =
+    let P : Result (Reply × NodeState) StepError → Type 0 = λ q. AreAlike (settled m q) (settled n b) in
+    let Q : Result (Reply × NodeState) StepError → Type 0 = λ q. AreAlike m (settled n q) in
+    subst P (sym is) (subst Q (sym was) alike)
+
+pub same_run : (xs : List (Event × ℕ)) (m n : NodeState) → AreAlike m n → AreAlike (run xs m) (run xs n)
+same_run [] m n alike = alike
+same_run (x ∷ xs) m n alike =
+    same_run xs (settled m (step m x.0 x.1)) (settled n (step n x.0 x.1)) (settled-alike m n (step m x.0 x.1) (step n x.0 x.1) alike (same_step m n x.0 x.1 alike))

@@ -1,0 +1,118 @@
+-- The other end that a step changes: it is open, and not the event's own.
+use Rattle.std.proofs.Common.{◌≡◌, ℕ, true, false, eqb, Option, Some, None, Ok, refl, sym, ap, ◌∙◌, subst, slice_get}
+use Rattle.std.proofs.lemmas.Bool.{false≢true}
+use Rattle.std.proofs.lemmas.Option.{some_pair_parts}
+use Rattle.std.specs.Option.{option_map}
+use Rattle.dist_names.specs.Order.{Name}
+use Rattle.dist_messages.specs.declared.message.Message.{Message}
+use Rattle.dist_peers.specs.Table.{replaced_by}
+use Rattle.dist_peers.specs.declared.entry.EndId.{EndId}
+use Rattle.dist_peers.specs.declared.entry.Entry.{Entry}
+use Rattle.dist_peers.specs.declared.entry.Entry.TheVariants as entry
+use Rattle.dist_core_ends.specs.declared.phase.Kind.{Kind}
+use Rattle.dist_core_ends.specs.declared.phase.Kind.TheVariants.{Out, In, Up}
+use Rattle.dist_core_ends.specs.declared.phase.Phase.{Phase}
+use Rattle.dist_core_ends.specs.declared.phase.Phase.TheVariants as phase
+use Rattle.dist_core_ends.specs.declared.why.Why.TheVariants as why
+use Rattle.dist_core_ends.specs.declared.known.Attempt.{Attempt}
+use Rattle.dist_core_ends.specs.declared.known.End.{End}
+use Rattle.dist_core_ends.specs.declared.known.End.TheVariants as ends
+use Rattle.dist_core.specs.declared.event.Event.{Event}
+use Rattle.dist_core.specs.declared.effect.Effect.{Effect}
+use Rattle.dist_core_ends.specs.Ends.{AreLegal, is_claim, is_held, is_open, kind_in, names, entry_in}
+use Rattle.dist_core.specs.Node.{NodeState}
+use Rattle.dist_core.specs.Accepted.{named_attempt}
+use Rattle.dist_core.specs.Effects.{superseded}
+use Rattle.dist_core_laws.specs.Laws.{IsOther}
+use Rattle.dist_core.specs.Rows.{Row, Heard, Taken, Dials, Comes_in, Begins, Ceases, Loses, Ticks, Fails, Hears, Closes, Names, Goes_on, Insists, Replies, Challenges, Complements, Acknowledged, Replied, Accepts, Crosses, Declines, Comes_again, Asks_alive, Asks_again}
+use Rattle.dist_core.specs.Step.{effect_of}
+use Rattle.dist_core.proofs.Closings.{heard-end}
+use Rattle.dist_core.proofs.Counts.{of_ok}
+use Rattle.dist_core_ends.proofs.Fitting.{same}
+use Rattle.dist_core.proofs.Replies.{other-of}
+use Rattle.dist_core.proofs.Rows.{row_of}
+
+-- what holds a peer is there, and open
+holder : (p : Name) (k : Kind) (o : Option End) → is_held p k o ≡ true → (e : End) × (o ≡ Some e) × (is_open e ≡ true)
+holder p k None h = absurd (false≢true h)
+holder p k (Some ends.Unnamed) h = absurd (false≢true h)
+holder p k (Some (ends.Attempt b)) h = (ends.Attempt b, refl, refl)
+holder p k (Some (ends.Up r)) h = (ends.Up r, refl, refl)
+holder p k (Some (ends.Closed w)) h = absurd (false≢true h)
+
+first : (y x : EndId) (d s : End) → ◌≡◌ {A = Option (EndId × End)} (Some (y, d)) (Some (x, s)) → y ≡ x
+first y x d s e = (some_pair_parts y x d s e).0
+
+nothing : (f : Effect) (x : EndId) (s : End) → f.other ≡ None → f.other ≡ Some (x, s) → ⊥
+nothing f x s is e = let bad : ◌≡◌ {A = Option (EndId × End)} None (Some (x, s)) = sym is ∙ e in absurd cc
+
+module _ (n : NodeState) (legal : AreLegal n.ends) (x : EndId) (s : End) where
+  -- an end that the entry of p names as k, and that the event's own end is not
+  apart-from : (id : EndId) (p : Name) (k : Kind) (o : Option Entry) → entry_in n.ends p ≡ o → names k x.0 o ≡ true → is_held p k (slice_get n.ends id.0) ≡ false → IsOther n id x
+  apart-from id p k o e h own =
+      let held : is_held p k (slice_get n.ends x.0) ≡ true = legal p k x.0 ∙ ap (names k x.0) e ∙ h in
+      let g = holder p k (slice_get n.ends x.0) held in
+      record {
+        kept = g.0;
+        there = g.1;
+        opened = g.2;
+        peer = p;
+        kind = k;
+        held = sym (ap (is_held p k) g.1) ∙ held;
+        apart = λ at. absurd (false≢true (sym own ∙ ap (λ (y : EndId). is_held p k (slice_get n.ends y.0)) (sym at) ∙ held));
+      }
+
+  names-it : (y : EndId) → y ≡ x → eqb y.0 x.0 ≡ true
+  names-it y at = ap (λ (z : EndId). eqb y.0 z.0) (sym at) ∙ same y.0
+
+  by-taken : (id : EndId) (b : Attempt) (f : Effect) → slice_get n.ends id.0 ≡ Some ends.Unnamed → Taken n id b f → f.other ≡ Some (x, s) → IsOther n id x
+  by-taken id b f un (Accepts is k) o = absurd (nothing f x s (ap (λ (f : Effect). f.other) k) o)
+  by-taken id b f un (Crosses y is g k) o =
+      let at : y ≡ x = other-of id _ b y (superseded (slice_get n.ends y.0)) x s (ap (λ (f : Effect). f.other) (sym k) ∙ o) in
+      apart-from id b.peer Out _ is (names-it y at) (ap (is_held b.peer Out) un)
+  by-taken id b f un (Declines y is g k) o = absurd (nothing f x s (ap (λ (f : Effect). f.other) k) o)
+  by-taken id b f un (Comes_again y is k) o =
+      let at : y ≡ x = first y x _ s (ap (λ (f : Effect). f.other) (sym k) ∙ o) in
+      apart-from id b.peer In _ is (names-it y at) (ap (is_held b.peer In) un)
+  by-taken id b f un (Asks_alive y is k) o = absurd (nothing f x s (ap (λ (f : Effect). f.other) k) o)
+  by-taken id b f un (Asks_again y z is k) o =
+      let at : z ≡ x = first z x _ s (ap (λ (f : Effect). f.other) (sym k) ∙ o) in
+      apart-from id b.peer In _ is (names-it z at) (ap (is_held b.peer In) un)
+
+  -- an end that comes up replaces another
+  by-rising : (id : EndId) (b : Attempt) (ph : Phase) → slice_get n.ends id.0 ≡ Some (ends.Attempt b) → b.phase ≡ ph → ((q : Name) → is_claim q Up (option_map (λ l. record { peer = b.peer; kind = l }) (kind_in ph)) ≡ false)
+      → (u : Option Entry) → entry_in n.ends b.peer ≡ u → option_map {U = EndId × End} (λ (y : EndId). (y, ends.Closed why.Replaced)) (replaced_by u) ≡ Some (x, s) → IsOther n id x
+  by-rising id b ph at is low None before o = absurd cc
+  by-rising id b ph at is low (Some (entry.Out y)) before o = absurd cc
+  by-rising id b ph at is low (Some (entry.In y)) before o = absurd cc
+  by-rising id b ph at is low (Some (entry.Up y)) before o = absurd cc
+  by-rising id b ph at is low (Some (entry.Challenged u y)) before o =
+      apart-from id b.peer Up _ before (names-it u (first u x _ s o))
+      (ap (is_held b.peer Up) at ∙ ap (λ q. is_claim b.peer Up (option_map (λ l. record { peer = b.peer; kind = l }) (kind_in q))) is ∙ low b.peer)
+
+  by-heard : (id : EndId) (fresh : ℕ) (d : End) (m : Message) (f : Effect) → slice_get n.ends id.0 ≡ Some d → Heard n id fresh d m f → f.other ≡ Some (x, s) → IsOther n id x
+  by-heard id fresh d m f at (Closes say w cause k) o = absurd (nothing f x s (ap (λ (f : Effect). f.other) k) o)
+  by-heard id fresh d m f at (Names nm flags c p un mm ok t) o = by-taken id (named_attempt nm flags c p fresh) f (at ∙ ap Some un) t o
+  by-heard id fresh d m f at (Goes_on st b un ph mm go k) o = absurd (nothing f x s (ap (λ (f : Effect). f.other) k) o)
+  by-heard id fresh d m f at (Insists b un ph mm k) o = absurd (nothing f x s (ap (λ (f : Effect). f.other) k) o)
+  by-heard id fresh d m f at (Replies o0 r0 flags challenge c p b un ph mm sn fl k) o = absurd (nothing f x s (ap (λ (f : Effect). f.other) k) o)
+  by-heard id fresh d m f at (Challenges b un ph mm k) o = absurd (nothing f x s (ap (λ (f : Effect). f.other) k) o)
+  by-heard id fresh d m f at (Complements high c b un ph mm fl k) o = absurd (nothing f x s (ap (λ (f : Effect). f.other) k) o)
+  by-heard id fresh d m f at (Acknowledged digest b un ph mm right k) o = by-rising id b phase.AwaitAck (at ∙ ap Some un) ph (λ q. refl) (entry_in n.ends b.peer) refl (ap (λ (f : Effect). f.other) (sym k) ∙ o)
+  by-heard id fresh d m f at (Replied challenge digest b un ph mm right k) o = by-rising id b phase.AwaitReply (at ∙ ap Some un) ph (λ q. refl) (entry_in n.ends b.peer) refl (ap (λ (f : Effect). f.other) (sym k) ∙ o)
+
+  pub other-row : (v : Event) (fresh : ℕ) (f : Effect) → Row n v fresh f → f.other ≡ Some (x, s) → IsOther n f.reply.end_ x
+  other-row v fresh f (Dials p nm is idle sp full cr k) o = absurd (nothing f x s (ap (λ (f : Effect). f.other) k) o)
+  other-row v fresh f (Comes_in link is sp cr k) o = absurd (nothing f x s (ap (λ (f : Effect). f.other) k) o)
+  other-row v fresh f (Begins id link b is at ph sp k) o = absurd (nothing f x s (ap (λ (f : Effect). f.other) k) o)
+  other-row v fresh f (Ceases id link b is at ph sp k) o = absurd (nothing f x s (ap (λ (f : Effect). f.other) k) o)
+  other-row v fresh f (Loses id w e is at opened k) o = absurd (nothing f x s (ap (λ (f : Effect). f.other) k) o)
+  other-row v fresh f (Ticks id r is at sp k) o = absurd (nothing f x s (ap (λ (f : Effect). f.other) k) o)
+  other-row v fresh f (Fails id body e side y is at to sp says k) o = absurd (nothing f x s (ap (λ (f : Effect). f.other) k) o)
+  other-row v fresh f (Hears id body e side m is at to sp says h) o = subst-end (sym (heard-end n id fresh e m f h)) (by-heard id fresh e m f at h o)
+    where
+      subst-end : {y z : EndId} → y ≡ z → IsOther n y x → IsOther n z x
+      subst-end e h = let P : EndId → Type 0 = λ (y : EndId). IsOther n y x in subst P e h
+
+pub another : (n : NodeState) → AreLegal n.ends → (v : Event) (fresh : ℕ) (f : Effect) (x : EndId) (s : End) → effect_of n v fresh ≡ Ok f → f.other ≡ Some (x, s) → IsOther n f.reply.end_ x
+another n legal v fresh f x s is o = other-row n legal x s v fresh f (of_ok (Row n v fresh) (effect_of n v fresh) f is (row_of n v fresh)) o

@@ -1,0 +1,341 @@
+-- The records of ends that are up stay right, over steps and changes.
+use Rattle.std.proofs.Common.{◌≡◌, ℕ, Bool, true, false, cond, not, ◌||◌, eqb, List, [], ◌∷◌, Option, Some, None, Result, Ok, Err, refl, sym, ap, ◌∙◌, subst, slice_get, arith}
+use Rattle.std.proofs.lemmas.Bool.{false≢true}
+use Rattle.std.specs.Prelude.{is_some}
+use Rattle.std.specs.List.{list_any}
+use Rattle.std.specs.Option.{option_map}
+use Rattle.std.specs.Cmp.Lexicographic.{same_text}
+use Rattle.std.specs.FinMap as map
+use Rattle.std.specs.FinMap.{get-entries}
+use Rattle.std.specs.FinMap.Entries.{find}
+use Rattle.dist_names.specs.Order.{Name, name_cmp, same_name}
+use Rattle.dist_names.proofs.Orders.{one_lem}
+use Rattle.dist_messages.specs.declared.message.Message.{Message}
+use Rattle.dist_peers.specs.declared.entry.EndId.{EndId}
+use Rattle.dist_peers.specs.declared.entry.Entry.{Entry}
+use Rattle.dist_peers.specs.Table.{replaced_by}
+use Rattle.dist_core_ends.specs.declared.phase.Kind.TheVariants.{Up}
+use Rattle.dist_core_ends.specs.declared.phase.Phase.{Phase}
+use Rattle.dist_core_ends.specs.declared.phase.Phase.TheVariants as phase
+use Rattle.dist_core_ends.specs.declared.known.Attempt.{Attempt}
+use Rattle.dist_core_ends.specs.declared.known.End.{End}
+use Rattle.dist_core_ends.specs.declared.known.End.TheVariants as ends
+use Rattle.dist_core_ends.specs.declared.known.UpRecord.{UpRecord}
+use Rattle.dist_core_ends.specs.Change.{other_view}
+use Rattle.dist_core_ends.specs.Ends.{AreLegal, entry_in, is_held, names, table_of}
+use Rattle.dist_core_ends.proofs.Fitting.{self-same}
+use Rattle.dist_core_ends.specs.Forgetting.{forgotten, without_cause}
+use Rattle.dist_core_ends.proofs.Forgotten.{agree-forgotten}
+use Rattle.dist_core_ends.proofs.Legal.{legal, table-legal}
+use Rattle.dist_core_ends.proofs.Tables.{get-table}
+use Rattle.dist_core_setup.specs.Rules.{own_digest, same_bytes}
+use Rattle.dist_core_setup.specs.Saying.{ack_text}
+use Rattle.dist_core_setup.specs.declared.setup.Setup.{Setup}
+use Rattle.dist_core_setup.specs.Changing.{DigestsStay, has_own_cookie}
+use Rattle.dist_core_setup.proofs.Keys.{others-stay, owners-stay, all-stay}
+use Rattle.dist_core.specs.declared.changing.Change.{Change}
+use Rattle.dist_core.specs.declared.changing.Change.TheVariants.{Cookie, UsualCookie, Allow}
+use Rattle.dist_core.specs.declared.changing.ChangeError.TheVariants as error
+use Rattle.dist_core.specs.declared.event.Event.{Event}
+use Rattle.dist_core.specs.declared.effect.Effect.{Effect}
+use Rattle.dist_core.specs.declared.step_error.StepError.{StepError}
+use Rattle.dist_core.specs.Accepted.{named_attempt}
+use Rattle.dist_core.specs.Acts.{Act, Steps, Changes, Forgets, act, changed_or, run_acts}
+use Rattle.dist_core.specs.Changing.{after_change, change, finds_no_room, has_usual, is_in_use}
+use Rattle.dist_core.specs.Effects.{comes_up, supersedes, superseded, superseded_in, record_of}
+use Rattle.dist_core.specs.Node.{NodeState, limits_of}
+use Rattle.dist_core.specs.Rows.{Row, Heard, Taken, Dials, Comes_in, Begins, Ceases, Loses, Ticks, Fails, Hears, Closes, Names, Goes_on, Insists, Replies, Challenges, Complements, Acknowledged, Replied, Accepts, Crosses, Declines, Comes_again, Asks_alive, Asks_again}
+use Rattle.dist_core.specs.Runs.{settled, opening}
+use Rattle.dist_core.specs.Step.{effect_of, step, stepped, after}
+use Rattle.dist_core.proofs.Counts.{of_ok}
+use Rattle.dist_core.proofs.Rows.{row_of}
+use Rattle.dist_core_laws.specs.Laws.{IsWithinLimits}
+use Rattle.dist_core_laws.specs.Records.{AreRight}
+use Rattle.dist_core_laws.proofs.Causes.{forgotten-alike, table-alike, opens-alike, length-alike, end-alike}
+use Rattle.dist_core_laws.proofs.Constant.{setup_step}
+use Rattle.dist_core_laws.proofs.Legal.{legal_opening, legal_step}
+use Rattle.dist_core_laws.proofs.Limits.{within_first, within_step}
+use Rattle.dist_core_laws.proofs.Succeeding.{stands-after}
+
+-- an end is up only with a right record
+abbrev RightEnd : Setup → End → Type 0
+RightEnd s ends.Unnamed = Unit {0}
+RightEnd s (ends.Attempt a) = Unit {0}
+RightEnd s (ends.Up r) = r.digest_received ≡ own_digest s r.peer r.challenge
+RightEnd s (ends.Closed w) = Unit {0}
+
+abbrev RightOther : Setup → Option (EndId × End) → Type 0
+RightOther s None = Unit {0}
+RightOther s (Some x) = RightEnd s x.1
+
+abbrev RightEffect : Setup → Effect → Type 0
+RightEffect s f = RightEnd s f.this × RightOther s f.other
+
+-- ---- steps
+
+module _ (n : NodeState) (rights : AreRight n) where
+  each-end : (i : ℕ) (e : End) → slice_get n.ends i ≡ Some e → RightEnd n.setup e
+  each-end i ends.Unnamed at = tt
+  each-end i (ends.Attempt a) at = tt
+  each-end i (ends.Up r) at = rights i r at
+  each-end i (ends.Closed w) at = tt
+
+  over : (id : EndId) (say : List ℕ) (a : Attempt) (x : EndId) (d : End) → RightEnd n.setup d → RightEffect n.setup (supersedes id say a x d)
+  over id say a x (ends.Closed w) h = (tt, tt)
+  over id say a x ends.Unnamed h = (tt, tt)
+  over id say a x (ends.Attempt b) h = (tt, tt)
+  over id say a x (ends.Up r) h = (tt, h)
+
+  superseded-right : (o : Option End) → RightEnd n.setup (superseded o)
+  superseded-right None = tt
+  superseded-right (Some ends.Unnamed) = tt
+  superseded-right (Some (ends.Up r)) = tt
+  superseded-right (Some (ends.Closed w)) = tt
+  superseded-right (Some (ends.Attempt a)) = by a.phase
+    where
+      by : (q : Phase) → RightEnd n.setup (superseded_in a q)
+      by phase.Dialing = tt
+      by phase.DoomedDialing = tt
+      by phase.AwaitStatus = tt
+      by phase.Doomed = tt
+      by phase.AwaitChallenge = tt
+      by phase.AwaitAck = tt
+      by phase.AwaitTrue = tt
+      by phase.AwaitComplement = tt
+      by phase.AwaitReply = tt
+
+  taken : (id : EndId) (a : Attempt) (f : Effect) → Taken n id a f → RightEffect n.setup f
+  taken id a f (Accepts e k) = subst (RightEffect n.setup) (sym k) (tt, tt)
+  taken id a f (Crosses x e g k) = subst (RightEffect n.setup) (sym k) (over id _ a x (superseded (slice_get n.ends x.0)) (superseded-right (slice_get n.ends x.0)))
+  taken id a f (Declines x e g k) = subst (RightEffect n.setup) (sym k) (tt, tt)
+  taken id a f (Comes_again x e k) = subst (RightEffect n.setup) (sym k) (tt, tt)
+  taken id a f (Asks_alive x e k) = subst (RightEffect n.setup) (sym k) (tt, tt)
+  taken id a f (Asks_again x z e k) = subst (RightEffect n.setup) (sym k) (tt, tt)
+
+  risen : (id : EndId) (say : List ℕ) (b : Attempt) (digest : List ℕ) (o : Option EndId) → same_bytes digest (own_digest n.setup b.peer b.challenge) ≡ true → RightEffect n.setup (comes_up id say (record_of n.setup b digest) o)
+  risen id say b digest None h = (same_text _ _ (sym h), tt)
+  risen id say b digest (Some x) h = (same_text _ _ (sym h), tt)
+
+  heard : (id : EndId) (fresh : ℕ) (e : End) (m : Message) (f : Effect) → Heard n id fresh e m f → RightEffect n.setup f
+  heard id fresh e m f (Closes say w cause k) = subst (RightEffect n.setup) (sym k) (tt, tt)
+  heard id fresh e m f (Names o flags c p un mm ok t) = taken id (named_attempt o flags c p fresh) f t
+  heard id fresh e m f (Goes_on s b un ph mm go k) = subst (RightEffect n.setup) (sym k) (tt, tt)
+  heard id fresh e m f (Insists b un ph mm k) = subst (RightEffect n.setup) (sym k) (tt, tt)
+  heard id fresh e m f (Replies o r flags challenge c p b un ph mm sn fl k) = subst (RightEffect n.setup) (sym k) (tt, tt)
+  heard id fresh e m f (Challenges b un ph mm k) = subst (RightEffect n.setup) (sym k) (tt, tt)
+  heard id fresh e m f (Complements high c b un ph mm fl k) = subst (RightEffect n.setup) (sym k) (tt, tt)
+  heard id fresh e m f (Acknowledged digest b un ph mm right k) = subst (RightEffect n.setup) (sym k) (risen id [] b digest (replaced_by (entry_in n.ends b.peer)) right)
+  heard id fresh e m f (Replied challenge digest b un ph mm right k) = subst (RightEffect n.setup) (sym k) (risen id (ack_text n.setup b.peer challenge) b digest (replaced_by (entry_in n.ends b.peer)) right)
+
+  row : (v : Event) (fresh : ℕ) (f : Effect) → Row n v fresh f → RightEffect n.setup f
+  row v fresh f (Dials p o is idle sp full cr k) = subst (RightEffect n.setup) (sym k) (tt, tt)
+  row v fresh f (Comes_in link is sp cr k) = subst (RightEffect n.setup) (sym k) (tt, tt)
+  row v fresh f (Begins id link b is at ph sp k) = subst (RightEffect n.setup) (sym k) (tt, tt)
+  row v fresh f (Ceases id link b is at ph sp k) = subst (RightEffect n.setup) (sym k) (tt, tt)
+  row v fresh f (Loses id w e is at op k) = subst (RightEffect n.setup) (sym k) (tt, tt)
+  row v fresh f (Ticks id r is at sp k) = subst (RightEffect n.setup) (sym k) (rights id.0 r at, tt)
+  row v fresh f (Fails id body e side x is at to sp says k) = subst (RightEffect n.setup) (sym k) (tt, tt)
+  row v fresh f (Hears id body e side m is at to sp says h) = heard id fresh e m f h
+
+  module _ (legal : AreLegal n.ends) (v : Event) (fresh : ℕ) (f : Effect) (is : effect_of n v fresh ≡ Ok f) where
+    effect-right : RightEffect n.setup f
+    effect-right = row v fresh f (of_ok (Row n v fresh) (effect_of n v fresh) f is (row_of n v fresh))
+
+    module _ (i : ℕ) (e : End) where
+      own : cond (eqb f.reply.end_.0 i) (Some f.this) (slice_get n.ends i) ≡ Some e → RightEnd n.setup e
+      own = elim (eqb f.reply.end_.0 i) as (λ b. cond b (Some f.this) (slice_get n.ends i) ≡ Some e → RightEnd n.setup e) [
+        | true ↦ λ q. let z : f.this ≡ e = cc in subst (RightEnd n.setup) z effect-right.0
+        | false ↦ λ q. each-end i e q
+      ]
+
+      by-other : (o : Option (EndId × End)) → RightOther n.setup o → other_view o (λ i. cond (eqb f.reply.end_.0 i) (Some f.this) (slice_get n.ends i)) i ≡ Some e → RightEnd n.setup e
+      by-other None h q = own q
+      by-other (Some x) h q = (elim (eqb (let y = x.0 in y.0) i) as (λ b. cond b (Some x.1) (cond (eqb f.reply.end_.0 i) (Some f.this) (slice_get n.ends i)) ≡ Some e → RightEnd n.setup e) [
+        | true ↦ λ q. let z : x.1 ≡ e = cc in subst (RightEnd n.setup) z h
+        | false ↦ λ q. own q
+      ]) q
+
+    right-after : AreRight (after n v f)
+    right-after i r at = by-other i (ends.Up r) f.other effect-right.1 (sym (stands-after n v fresh f i legal is) ∙ at)
+
+pub right_step : (n : NodeState) (v : Event) (fresh : ℕ) → AreLegal n.ends → AreRight n → AreRight (settled n (step n v fresh))
+right_step n v fresh legal h = by (effect_of n v fresh) refl
+  where
+    by : (r : Result Effect StepError) → effect_of n v fresh ≡ r → AreRight (settled n (step n v fresh))
+    by (Ok f) e = subst (λ (r : Result Effect StepError). AreRight (settled n (stepped n v r))) (sym e) (right-after n h legal v fresh f e)
+    by (Err x) e = subst (λ (r : Result Effect StepError). AreRight (settled n (stepped n v r))) (sym e) h
+
+-- ---- changes
+
+module _ (s : Setup) (q : Name) (x : Entry) where
+  own-at : (e : Name × Entry) (es : List (Name × Entry)) (b own : Bool) → same_name q e.0 ≡ b → has_own_cookie s e.0 ≡ own → (find name_cmp q es ≡ Some x → list_any (has_usual s) es ≡ false → has_own_cookie s q ≡ true)
+      → cond b (Some e.1) (find name_cmp q es) ≡ Some x → (not own || list_any (has_usual s) es) ≡ false → has_own_cookie s q ≡ true
+  own-at e es true true same own more at none = ap (has_own_cookie s) (one_lem q e.0 same) ∙ own
+  own-at e es false true same own more at none = more at none
+  own-at e es true false same own more at none = absurd (false≢true (sym none))
+  own-at e es false false same own more at none = absurd (false≢true (sym none))
+
+  -- one that is found among rows of which none has the usual cookie has its own
+  own-in : (rows : List (Name × Entry)) → find name_cmp q rows ≡ Some x → list_any (has_usual s) rows ≡ false → has_own_cookie s q ≡ true
+  own-in [] at none = absurd cc
+  own-in (e ∷ es) at none = own-at e es (same_name q e.0) (has_own_cookie s e.0) refl refl (own-in es) at none
+
+module _ (n : NodeState) (p : Name) (known : is_some (entry_in n.ends p) ≡ true) where
+  -- a peer that has an entry is none of those that have none
+  apart : (q : Name) → is_some (entry_in n.ends q) ≡ false → (b : Bool) → same_name q p ≡ b → same_name q p ≡ false
+  apart q idle false is = is
+  apart q idle true is = absurd (false≢true (sym idle ∙ ap (λ (x : Name). is_some (entry_in n.ends x)) (one_lem q p is) ∙ known))
+
+  has-own : list_any (has_usual n.setup) (map.entries (table_of n.ends)) ≡ false → (o : Option Entry) → entry_in n.ends p ≡ o → is_some o ≡ true → has_own_cookie n.setup p ≡ true
+  has-own none (Some x) is some = own-in n.setup p x (map.entries (table_of n.ends)) (sym (get-entries (table_of n.ends) p) ∙ get-table n.ends p ∙ is) none
+  has-own none None is some = absurd (false≢true some)
+
+  stays-after : (v : Change) → is_in_use n v ≡ false → DigestsStay n.setup (after_change n v).setup p
+  stays-after (Cookie q cookie) idle = others-stay n.setup q p cookie (apart q idle (same_name q p) refl)
+  stays-after (UsualCookie cookie) idle = owners-stay n.setup p cookie (has-own idle (entry_in n.ends p) refl known)
+  stays-after (Allow allowed) idle = all-stay n.setup allowed p
+
+  stays : (v : Change) → DigestsStay n.setup (changed_or n (change n v)).setup p
+  stays v = by (is_in_use n v) (finds_no_room n v) refl
+    where
+      by : (b full : Bool) → is_in_use n v ≡ b → DigestsStay n.setup (changed_or n (cond b (Err error.InUse) (cond full (Err error.Full) (Ok (after_change n v))))).setup p
+      by true full e = λ challenge. refl
+      by false true e = λ challenge. refl
+      by false false e = stays-after v e
+
+pub in-use-stays : (n : NodeState) (v : Change) (p : Name) → is_some (entry_in n.ends p) ≡ true → DigestsStay n.setup (changed_or n (change n v)).setup p
+in-use-stays n v p known = stays n p known v
+
+-- a change leaves the ends, and how many steps were made
+pub ends_stay : (n : NodeState) (v : Change) → (changed_or n (change n v)).ends ≡ n.ends
+ends_stay n v = by (is_in_use n v) (finds_no_room n v)
+  where
+    by : (b full : Bool) → (changed_or n (cond b (Err error.InUse) (cond full (Err error.Full) (Ok (after_change n v))))).ends ≡ n.ends
+    by true full = refl
+    by false true = refl
+    by false false = refl
+
+pub steps_stay : (n : NodeState) (v : Change) → (changed_or n (change n v)).steps ≡ n.steps
+steps_stay n v = by (is_in_use n v) (finds_no_room n v)
+  where
+    by : (b full : Bool) → (changed_or n (cond b (Err error.InUse) (cond full (Err error.Full) (Ok (after_change n v))))).steps ≡ n.steps
+    by true full = refl
+    by false true = refl
+    by false false = refl
+
+module _ (n : NodeState) (legal : AreLegal n.ends) (i : ℕ) (r : UpRecord) (up : slice_get n.ends i ≡ Some (ends.Up r)) where
+  -- the peer of an end that is up has an entry
+  has-entry : (o : Option Entry) → entry_in n.ends r.peer ≡ o → is_some o ≡ true
+  has-entry (Some x) is = refl
+  has-entry None is = absurd (false≢true (sym (ap (names Up i) is) ∙ sym (legal r.peer Up i) ∙ ap (is_held r.peer Up) up ∙ self-same r.peer))
+
+pub right_change : (n : NodeState) (v : Change) → AreLegal n.ends → AreRight n → AreRight (changed_or n (change n v))
+right_change n v legal rights i r at =
+    let up : slice_get n.ends i ≡ Some (ends.Up r) = sym (ap (λ (es : List End). slice_get es i) (ends_stay n v)) ∙ at in
+    rights i r up ∙ sym (in-use-stays n v r.peer (has-entry n legal i r up (entry_in n.ends r.peer) refl) r.challenge)
+
+-- ... and the limits
+within_after : (n : NodeState) (v : Change) → IsWithinLimits n → IsWithinLimits (after_change n v)
+within_after n (Cookie p cookie) h = record { steps = h.steps; given_out = h.given_out; open_ends = h.open_ends; entries = h.entries }
+within_after n (UsualCookie cookie) h = record { steps = h.steps; given_out = h.given_out; open_ends = h.open_ends; entries = h.entries }
+within_after n (Allow allowed) h = record { steps = h.steps; given_out = h.given_out; open_ends = h.open_ends; entries = h.entries }
+
+within_change : (n : NodeState) (v : Change) → IsWithinLimits n → IsWithinLimits (changed_or n (change n v))
+within_change n v h = by (is_in_use n v) (finds_no_room n v)
+  where
+    by : (b full : Bool) → IsWithinLimits (changed_or n (cond b (Err error.InUse) (cond full (Err error.Full) (Ok (after_change n v)))))
+    by true full = h
+    by false true = h
+    by false false = within_after n v h
+
+limits_change : (n : NodeState) (v : Change) → limits_of (changed_or n (change n v)) ≡ limits_of n
+limits_change n v = by (is_in_use n v) (finds_no_room n v)
+  where
+    same : (v : Change) → limits_of (after_change n v) ≡ limits_of n
+    same (Cookie p cookie) = refl
+    same (UsualCookie cookie) = refl
+    same (Allow allowed) = refl
+
+    by : (b full : Bool) → limits_of (changed_or n (cond b (Err error.InUse) (cond full (Err error.Full) (Ok (after_change n v))))) ≡ limits_of n
+    by true full = refl
+    by false true = refl
+    by false false = same v
+
+-- ---- forgetting
+
+abbrev forgets : NodeState → ℕ → NodeState
+forgets n below = record n { ends = forgotten below n.ends }
+
+-- an end that is up now was up before
+was-up : (o : Option End) (r : UpRecord) → option_map without_cause o ≡ Some (ends.Up r) → o ≡ Some (ends.Up r)
+was-up None r e = absurd cc
+was-up (Some ends.Unnamed) r e = absurd cc
+was-up (Some (ends.Attempt a)) r e = absurd cc
+was-up (Some (ends.Up x)) r e = e
+was-up (Some (ends.Closed w)) r e = absurd cc
+
+legal_forgets : (n : NodeState) (below : ℕ) → AreLegal n.ends → AreLegal (forgets n below).ends
+legal_forgets n below h = legal (map.get (table_of n.ends)) (forgotten below n.ends) (agree-forgotten (table_of n.ends) below n.ends (table-legal n.ends h))
+
+right_forgets : (n : NodeState) (below : ℕ) → AreRight n → AreRight (forgets n below)
+right_forgets n below h i r at =
+    let alike = forgotten-alike below n.ends in
+    h i r (was-up (slice_get n.ends i) r (end-alike n.ends (forgotten below n.ends) alike i ∙ ap (option_map without_cause) at))
+
+within_forgets : (n : NodeState) (below : ℕ) → IsWithinLimits n → IsWithinLimits (forgets n below)
+within_forgets n below h =
+    let alike = forgotten-alike below n.ends in
+    let opened = opens-alike n.ends (forgotten below n.ends) alike in
+    let given = length-alike n.ends (forgotten below n.ends) alike in
+    let rows = ap map.len (table-alike n.ends (forgotten below n.ends) alike) in
+    record { steps = h.steps; given_out = omega (arith, given, h.given_out); open_ends = omega (arith, opened, h.open_ends); entries = omega (arith, rows, h.entries) }
+
+-- ---- runs of all these
+
+legal_act : (n : NodeState) (x : Act) → AreLegal n.ends → AreLegal (act n x).ends
+legal_act n (Steps v fresh) h = legal_step n v fresh h
+legal_act n (Changes v) h = subst AreLegal (sym (ends_stay n v)) h
+legal_act n (Forgets below) h = legal_forgets n below h
+
+pub right_act : (n : NodeState) (x : Act) → AreLegal n.ends → AreRight n → AreRight (act n x)
+right_act n (Steps v fresh) legal h = right_step n v fresh legal h
+right_act n (Changes v) legal h = right_change n v legal h
+right_act n (Forgets below) legal h = right_forgets n below h
+
+within_act : (n : NodeState) (x : Act) → AreLegal n.ends → IsWithinLimits n → IsWithinLimits (act n x)
+within_act n (Steps v fresh) legal h = within_step n v fresh legal h
+within_act n (Changes v) legal h = within_change n v h
+within_act n (Forgets below) legal h = within_forgets n below h
+
+limits_act : (n : NodeState) (x : Act) → limits_of (act n x) ≡ limits_of n
+limits_act n (Steps v fresh) = ap (λ (s : Setup). s.limits) (setup_step n v fresh)
+limits_act n (Changes v) = limits_change n v
+limits_act n (Forgets below) = refl
+
+legal_acts : (xs : List Act) (n : NodeState) → AreLegal n.ends → AreLegal (run_acts xs n).ends
+legal_acts [] n h = h
+legal_acts (x ∷ xs) n h = legal_acts xs (act n x) (legal_act n x h)
+
+right_acts : (xs : List Act) (n : NodeState) → AreLegal n.ends → AreRight n → AreRight (run_acts xs n)
+right_acts [] n legal h = h
+right_acts (x ∷ xs) n legal h = right_acts xs (act n x) (legal_act n x legal) (right_act n x legal h)
+
+within_acts : (xs : List Act) (n : NodeState) → AreLegal n.ends → IsWithinLimits n → IsWithinLimits (run_acts xs n)
+within_acts [] n legal h = h
+within_acts (x ∷ xs) n legal h = within_acts xs (act n x) (legal_act n x legal) (within_act n x legal h)
+
+pub right_first : (s : Setup) → AreRight (opening s)
+right_first s i r at = absurd cc
+
+pub right_runs : (s : Setup) (xs : List Act) → AreRight (run_acts xs (opening s))
+right_runs s xs = right_acts xs (opening s) (legal_opening s) (right_first s)
+
+pub legal_runs : (s : Setup) (xs : List Act) → AreLegal (run_acts xs (opening s)).ends
+legal_runs s xs = legal_acts xs (opening s) (legal_opening s)
+
+pub within_runs : (s : Setup) (xs : List Act) → IsWithinLimits (run_acts xs (opening s))
+within_runs s xs = within_acts xs (opening s) (legal_opening s) (within_first s)
+
+pub limits_runs : (n : NodeState) (xs : List Act) → limits_of (run_acts xs n) ≡ limits_of n
+limits_runs n [] = refl
+limits_runs n (x ∷ xs) = limits_runs (act n x) xs ∙ limits_act n x

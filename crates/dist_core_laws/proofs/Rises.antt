@@ -1,0 +1,67 @@
+-- An end comes up only with the digest of the own cookie and its own challenge.
+use Rattle.std.proofs.Common.{◌≡◌, ℕ, List, Option, Some, None, Ok, refl, sym, ap, ◌∙◌, subst, slice_get}
+use Rattle.dist_messages.specs.declared.message.Message.{Message}
+use Rattle.dist_peers.specs.declared.entry.EndId.{EndId}
+use Rattle.dist_core_ends.specs.declared.known.Attempt.{Attempt}
+use Rattle.dist_core_ends.specs.declared.known.UpRecord.{UpRecord}
+use Rattle.dist_core_ends.specs.declared.known.End.{End}
+use Rattle.dist_core_ends.specs.declared.known.End.TheVariants as ends
+use Rattle.dist_core.specs.declared.event.Event.{Event}
+use Rattle.dist_core.specs.declared.effect.Effect.{Effect}
+use Rattle.dist_core.specs.Node.{NodeState}
+use Rattle.dist_core.specs.Accepted.{named_attempt}
+use Rattle.dist_core.specs.Effects.{supersedes, superseded, record_of}
+use Rattle.dist_core.specs.Rows.{Row, Heard, Taken, Dials, Comes_in, Begins, Ceases, Loses, Ticks, Fails, Hears, Closes, Names, Goes_on, Insists, Replies, Challenges, Complements, Acknowledged, Replied, Accepts, Crosses, Declines, Comes_again, Asks_alive, Asks_again}
+use Rattle.dist_core.specs.Step.{effect_of}
+use Rattle.dist_core_laws.specs.Laws.{IsRightRecord}
+use Rattle.dist_core.proofs.Counts.{of_ok}
+use Rattle.dist_core.proofs.Rows.{row_of}
+
+abbrev or_else : UpRecord → Option UpRecord → UpRecord
+or_else d None = d
+or_else d (Some x) = x
+
+superseding : (id : EndId) (say : List ℕ) (b : Attempt) (y : EndId) (d : End) → (let f = supersedes id say b y d in f.reply.up) ≡ None
+superseding id say b y (ends.Closed c) = refl
+superseding id say b y ends.Unnamed = refl
+superseding id say b y (ends.Attempt c) = refl
+superseding id say b y (ends.Up c) = refl
+
+module _ (n : NodeState) (r : UpRecord) where
+  none : (f : Effect) → f.reply.up ≡ None → f.reply.up ≡ Some r → IsRightRecord n.setup r
+  none f is e = let bad : ◌≡◌ {A = Option UpRecord} None (Some r) = sym is ∙ e in absurd cc
+
+  rises : (f : Effect) (s : UpRecord) → f.reply.up ≡ Some s → IsRightRecord n.setup s → f.reply.up ≡ Some r → IsRightRecord n.setup r
+  rises f s is right e = let same : s ≡ r = ap (or_else r) (sym is ∙ e) in subst (IsRightRecord n.setup) same right
+
+  by-taken : (id : EndId) (b : Attempt) (f : Effect) → Taken n id b f → f.reply.up ≡ Some r → IsRightRecord n.setup r
+  by-taken id b f (Accepts is k) e = none f (ap (λ (f : Effect). f.reply.up) k) e
+  by-taken id b f (Crosses y is g k) e = none f (ap (λ (f : Effect). f.reply.up) k ∙ superseding id _ b y (superseded (slice_get n.ends y.0))) e
+  by-taken id b f (Declines y is g k) e = none f (ap (λ (f : Effect). f.reply.up) k) e
+  by-taken id b f (Comes_again y is k) e = none f (ap (λ (f : Effect). f.reply.up) k) e
+  by-taken id b f (Asks_alive y is k) e = none f (ap (λ (f : Effect). f.reply.up) k) e
+  by-taken id b f (Asks_again y z is k) e = none f (ap (λ (f : Effect). f.reply.up) k) e
+
+  by-heard : (id : EndId) (fresh : ℕ) (d : End) (m : Message) (f : Effect) → Heard n id fresh d m f → f.reply.up ≡ Some r → IsRightRecord n.setup r
+  by-heard id fresh d m f (Closes say c cause k) e = none f (ap (λ (f : Effect). f.reply.up) k) e
+  by-heard id fresh d m f (Names o flags c p un mm ok t) e = by-taken id (named_attempt o flags c p fresh) f t e
+  by-heard id fresh d m f (Goes_on s b un ph mm go k) e = none f (ap (λ (f : Effect). f.reply.up) k) e
+  by-heard id fresh d m f (Insists b un ph mm k) e = none f (ap (λ (f : Effect). f.reply.up) k) e
+  by-heard id fresh d m f (Replies o0 r0 flags challenge c p b un ph mm sn fl k) e = none f (ap (λ (f : Effect). f.reply.up) k) e
+  by-heard id fresh d m f (Challenges b un ph mm k) e = none f (ap (λ (f : Effect). f.reply.up) k) e
+  by-heard id fresh d m f (Complements high c b un ph mm fl k) e = none f (ap (λ (f : Effect). f.reply.up) k) e
+  by-heard id fresh d m f (Acknowledged digest b un ph mm right k) e = rises f (record_of n.setup b digest) (ap (λ (f : Effect). f.reply.up) k) right e
+  by-heard id fresh d m f (Replied challenge digest b un ph mm right k) e = rises f (record_of n.setup b digest) (ap (λ (f : Effect). f.reply.up) k) right e
+
+  by-row : (v : Event) (fresh : ℕ) (f : Effect) → Row n v fresh f → f.reply.up ≡ Some r → IsRightRecord n.setup r
+  by-row v fresh f (Dials p o is idle sp full cr k) e = none f (ap (λ (f : Effect). f.reply.up) k) e
+  by-row v fresh f (Comes_in link is sp cr k) e = none f (ap (λ (f : Effect). f.reply.up) k) e
+  by-row v fresh f (Begins id link b is at ph sp k) e = none f (ap (λ (f : Effect). f.reply.up) k) e
+  by-row v fresh f (Ceases id link b is at ph sp k) e = none f (ap (λ (f : Effect). f.reply.up) k) e
+  by-row v fresh f (Loses id w d is at opened k) e = none f (ap (λ (f : Effect). f.reply.up) k) e
+  by-row v fresh f (Ticks id s is at sp k) e = none f (ap (λ (f : Effect). f.reply.up) k) e
+  by-row v fresh f (Fails id body d side x is at to sp says k) e = none f (ap (λ (f : Effect). f.reply.up) k) e
+  by-row v fresh f (Hears id body d side m is at to sp says h) e = by-heard id fresh d m f h e
+
+pub right_record : (n : NodeState) (v : Event) (fresh : ℕ) (f : Effect) (r : UpRecord) → effect_of n v fresh ≡ Ok f → f.reply.up ≡ Some r → IsRightRecord n.setup r
+right_record n v fresh f r is e = by-row n r v fresh f (of_ok (Row n v fresh) (effect_of n v fresh) f is (row_of n v fresh)) e

@@ -1,0 +1,122 @@
+-- What follows of a step that succeeds.
+use Rattle.std.proofs.Common.{◌≡◌, ℕ, ◌+◌, ◌<◌, ◌≤◌, true, cond, List, length, Some, None, Result, Ok, Err, refl, sym, ap, ◌∙◌, subst, slice_get, arith}
+use Rattle.std.proofs.lemmas.Bool.{eq-eqb}
+use Rattle.std.specs.List.{count_by}
+use Rattle.dist_peers.specs.declared.entry.EndId.{EndId}
+use Rattle.dist_core_ends.specs.declared.why.Why.{Why}
+use Rattle.dist_core_ends.specs.declared.known.End.{End}
+use Rattle.dist_core_ends.specs.declared.known.End.TheVariants as ends
+use Rattle.dist_core_ends.specs.Change.{IsThere, put_end, view_after}
+use Rattle.dist_core_ends.specs.Ends.{AreLegal, claim_of, is_open, table_of}
+use Rattle.dist_core.specs.declared.effect.Effect.{Effect}
+use Rattle.dist_core.specs.declared.event.Event.{Event}
+use Rattle.dist_core.specs.declared.event.Event.TheVariants as event
+use Rattle.dist_core.specs.declared.reply.Reply.{Reply}
+use Rattle.dist_core.specs.declared.step_error.StepError.{StepError}
+use Rattle.dist_core_laws.specs.Laws.{HasEffect, IsOfItsEnd, closed_by, given_by}
+use Rattle.dist_core.specs.Losses.{is_loss}
+use Rattle.dist_core.specs.Node.{NodeState, ends_after}
+use Rattle.dist_core.specs.Rows.{Row, Dials, Comes_in, Begins, Ceases, Loses, Ticks, Fails, Hears}
+use Rattle.dist_core.specs.Runs.{settled}
+use Rattle.dist_core.specs.Step.{effect_of, step, stepped, after}
+use Rattle.dist_core_ends.proofs.Changes.{get-put, get-after}
+use Rattle.dist_core_ends.proofs.Legal.{table-legal}
+use Rattle.dist_core.proofs.Closings.{heard-end}
+use Rattle.dist_core.proofs.Counts.{of_ok, loses}
+use Rattle.dist_core_laws.proofs.Legal.{legal_step}
+use Rattle.dist_core_laws.proofs.OpenCounts.{open_change, loss_change}
+use Rattle.dist_core.proofs.Rows.{row_of}
+use Rattle.dist_core.proofs.Steps.{fits}
+
+-- ---- the effect
+
+pub has-effect : (n : NodeState) (v : Event) (fresh : ℕ) (r : Reply) (m : NodeState) → step n v fresh ≡ Ok (r, m) → HasEffect n v fresh r m
+has-effect n v fresh r m is = by (effect_of n v fresh) refl is
+  where
+    by : (s : Result Effect StepError) → effect_of n v fresh ≡ s → stepped n v s ≡ Ok (r, m) → HasEffect n v fresh r m
+    by (Ok f) at e =
+        let told : ◌≡◌ {A = Reply × NodeState} (f.reply, after n v f) (r, m) = cc in
+        record { effect = f; is = at; reply = ap (λ (x : Reply × NodeState). x.0) told; node = sym (ap (λ (x : Reply × NodeState). x.1) told) }
+    by (Err x) at e = absurd cc
+
+pub keeps-setup : (n : NodeState) (v : Event) (fresh : ℕ) (r : Reply) (m : NodeState) → step n v fresh ≡ Ok (r, m) → m.setup ≡ n.setup
+keeps-setup n v fresh r m is = let h = has-effect n v fresh r m is in ap (λ (k : NodeState). k.setup) h.node
+
+pub keeps-legal : (n : NodeState) (v : Event) (fresh : ℕ) (r : Reply) (m : NodeState) → AreLegal n.ends → step n v fresh ≡ Ok (r, m) → AreLegal m.ends
+keeps-legal n v fresh r m legal is = subst (λ (s : Result (Reply × NodeState) StepError). AreLegal (settled n s).ends) is (legal_step n v fresh legal)
+
+-- ---- the places
+
+pub places : (n : NodeState) (v : Event) (fresh : ℕ) (f : Effect) → AreLegal n.ends → effect_of n v fresh ≡ Ok f → (f.reply.end_.0 ≤ length n.ends) × IsThere n.ends f.other
+places n v fresh f legal is = let g = fits n (table_of n.ends) (table-legal n.ends legal) v fresh f is in (g.place, g.other_there)
+
+pub stands-after : (n : NodeState) (v : Event) (fresh : ℕ) (f : Effect) (i : ℕ) → AreLegal n.ends → effect_of n v fresh ≡ Ok f → slice_get (ends_after n.ends f) i ≡ view_after n.ends f.reply.end_ f.this f.other i
+stands-after n v fresh f i legal is = let p = places n v fresh f legal is in get-after n.ends f.reply.end_ f.this f.other i p.0 p.1
+
+-- ---- the end of a reply
+
+abbrev end_in : Effect → EndId
+end_in f = f.reply.end_
+
+abbrev said_in : Effect → List ℕ
+said_in f = f.reply.say
+
+row-end : (n : NodeState) (v : Event) (fresh : ℕ) (f : Effect) → Row n v fresh f → IsOfItsEnd n v f.reply
+row-end n v fresh f (Dials p o is e s u d k) = subst (λ (v : Event). IsOfItsEnd n v f.reply) (sym is) (ap end_in k, ap said_in k)
+row-end n v fresh f (Comes_in link is s d k) = subst (λ (v : Event). IsOfItsEnd n v f.reply) (sym is) (ap end_in k, ap said_in k)
+row-end n v fresh f (Begins id link b is e ph s k) = subst (λ (v : Event). IsOfItsEnd n v f.reply) (sym is) (ap end_in k)
+row-end n v fresh f (Ceases id link b is e ph s k) = subst (λ (v : Event). IsOfItsEnd n v f.reply) (sym is) (ap end_in k)
+row-end n v fresh f (Loses id w e is at op k) = subst (λ (v : Event). IsOfItsEnd n v f.reply) (sym is) (ap end_in k)
+row-end n v fresh f (Ticks id r is at s k) = subst (λ (v : Event). IsOfItsEnd n v f.reply) (sym is) (ap end_in k)
+row-end n v fresh f (Fails id body e side x is at to s rd k) = subst (λ (v : Event). IsOfItsEnd n v f.reply) (sym is) (ap end_in k)
+row-end n v fresh f (Hears id body e side m is at to s rd h) = subst (λ (v : Event). IsOfItsEnd n v f.reply) (sym is) (heard-end n id fresh e m f h)
+
+pub effect-end : (n : NodeState) (v : Event) (fresh : ℕ) (f : Effect) → effect_of n v fresh ≡ Ok f → IsOfItsEnd n v f.reply
+effect-end n v fresh f is = row-end n v fresh f (of_ok (Row n v fresh) (effect_of n v fresh) f is (row_of n v fresh))
+
+pub reply-end : (n : NodeState) (v : Event) (fresh : ℕ) (r : Reply) (m : NodeState) → step n v fresh ≡ Ok (r, m) → IsOfItsEnd n v r
+reply-end n v fresh r m is = let h = has-effect n v fresh r m is in subst (λ (q : Reply). IsOfItsEnd n v q) h.reply (effect-end n v fresh h.effect h.is)
+
+-- ---- open ends
+
+abbrev opens : List End → ℕ
+opens es = count_by is_open es
+
+one-given : (v : Event) → given_by v ≤ 1
+one-given (event.Dial p o) = omega arith
+one-given (event.Incoming link) = omega arith
+one-given (event.Opened x link) = omega arith
+one-given (event.Frame x body) = omega arith
+one-given (event.Lost x w) = omega arith
+one-given (event.Tick x) = omega arith
+
+pub open-exact : (n : NodeState) (v : Event) (fresh : ℕ) (r : Reply) (m : NodeState) → AreLegal n.ends → step n v fresh ≡ Ok (r, m) → opens m.ends + closed_by r ≡ opens n.ends + given_by v
+open-exact n v fresh r m legal is =
+    let h = has-effect n v fresh r m is in
+    let count = open_change n legal v fresh h.effect h.is in
+    omega (arith, count, ap (λ (k : NodeState). opens k.ends) h.node, ap (λ (q : Reply). closed_by q) h.reply)
+
+pub open-most : (n : NodeState) (v : Event) (fresh : ℕ) (r : Reply) (m : NodeState) → AreLegal n.ends → step n v fresh ≡ Ok (r, m) → opens m.ends ≤ opens n.ends + 1
+open-most n v fresh r m legal is = omega (arith, open-exact n v fresh r m legal is, one-given v)
+
+pub open-lost : (n : NodeState) (v : Event) (fresh : ℕ) (r : Reply) (m : NodeState) → is_loss v ≡ true → step n v fresh ≡ Ok (r, m) → opens m.ends + 1 ≡ opens n.ends
+open-lost n (event.Lost x w) fresh r m loss is =
+    let h = has-effect n (event.Lost x w) fresh r m is in
+    let count = (loss_change n x w fresh h.effect h.is).1 in
+    omega (arith, count, ap (λ (k : NodeState). opens k.ends) h.node)
+open-lost n (event.Dial p o) fresh r m loss is = absurd cc
+open-lost n (event.Opened x link) fresh r m loss is = absurd cc
+open-lost n (event.Incoming link) fresh r m loss is = absurd cc
+open-lost n (event.Frame x body) fresh r m loss is = absurd cc
+open-lost n (event.Tick x) fresh r m loss is = absurd cc
+
+pub lost-closed : (n : NodeState) (x : EndId) (w : Why) (fresh : ℕ) (r : Reply) (m : NodeState) → step n (event.Lost x w) fresh ≡ Ok (r, m) → slice_get m.ends x.0 ≡ Some (ends.Closed w)
+lost-closed n x w fresh r m is =
+    let h = has-effect n (event.Lost x w) fresh r m is in
+    let own : h.effect.reply.end_ ≡ x = effect-end n (event.Lost x w) fresh h.effect h.is in
+    let kept = of_ok (λ (f : Effect). (claim_of f.this ≡ None) × (f.reply.end_.0 < length n.ends)) _ h.effect h.is (loses n (event.Lost x w) fresh tt) in
+    let within : x.0 < length n.ends = subst (λ (y : EndId). y.0 < length n.ends) own kept.1 in
+    let put : m.ends ≡ put_end n.ends x.0 (ends.Closed w) = ap (λ (k : NodeState). k.ends) h.node ∙ (loss_change n x w fresh h.effect h.is).0 in
+    ap (λ (es : List End). slice_get es x.0) put
+    ∙ get-put n.ends x.0 (ends.Closed w) x.0 (omega (arith, within))
+    ∙ ap (λ b. cond b (Some (ends.Closed w)) (slice_get n.ends x.0)) (eq-eqb x.0 x.0 refl)

@@ -1,0 +1,24 @@
+-- Nodes that differ in why their closed ends were closed, and in nothing else.
+use Rattle.std.specs.Prelude.{◌≡◌, map, Result, Ok, Err}
+use Rattle.dist_core_ends.specs.declared.why.Why.{Why}
+use Rattle.dist_core_ends.specs.Forgetting.{without_cause}
+use Rattle.dist_core.specs.declared.reply.Reply.{Reply}
+use Rattle.dist_core.specs.declared.step_error.StepError.{StepError}
+use Rattle.dist_core.specs.declared.step_error.StepError.TheVariants as error
+use Rattle.dist_core.specs.Node.{NodeState}
+
+-- THE TWO NODES ARE ALIKE: they have the same setup and made as many steps, and their ends are the same but for why the closed
+-- ones were closed
+pub record AreAlike (m n : NodeState) : Type 0 where
+  pub setup : m.setup ≡ n.setup
+  pub steps : m.steps ≡ n.steps
+  pub ends : map without_cause m.ends ≡ map without_cause n.ends
+
+-- THE TWO ANSWERS OF A STEP ARE ALIKE: they differ in the cause that a refusal names for a closed end, and in nothing else
+pub data AreAlikeAnswers (a b : Result (Reply × NodeState) StepError) : Type 0 where
+  -- both give the same reply, and the nodes after it are alike
+  Same_reply : (r : Reply) → (m n : NodeState) → a ≡ Ok (r, m) → b ≡ Ok (r, n) → AreAlike m n → AreAlikeAnswers a b
+  -- both refuse since the end is closed, for whatever cause
+  Both_gone : (v w : Why) → a ≡ Err (error.Gone v) → b ≡ Err (error.Gone w) → AreAlikeAnswers a b
+  -- both refuse in the same way
+  Same_refusal : (e : StepError) → a ≡ Err e → b ≡ Err e → AreAlikeAnswers a b

@@ -1,0 +1,26 @@
+//! Laws of what a node may forget: each is a function that does nothing, and whose contract is the law.
+ghost use Rattle.std.specs.Prelude.{ℕ, List};
+ghost use Rattle.dist_core_ends.specs.Forgetting.{forgotten};
+ghost use Rattle.dist_core.specs.declared.event.Event.{Event};
+ghost use Rattle.dist_core.specs.Node.{NodeState};
+ghost use Rattle.dist_core.specs.Runs.{run};
+ghost use Rattle.dist_core.specs.Step.{step};
+ghost use Rattle.dist_core_laws.specs.Forgetting.{AreAlike, AreAlikeAnswers};
+
+/// Why ends were closed changes no step: nodes that differ in that alone give the same reply to each event, or refuse it in the
+/// same way, and differ in that alone afterwards. Only the cause that a refusal names for a closed end may be another.
+pub fn forgetting_changes_no_step()
+    ensures { (m n : NodeState) (v : Event) (fresh : ℕ) → AreAlike m n → AreAlikeAnswers (step m v fresh) (step n v fresh) }
+{}
+
+/// A node that forgets why its ends below a number were closed is alike to what it was, and to each node to which it was alike.
+pub fn a_node_that_forgets_is_alike()
+    ensures itself { (n : NodeState) (below : ℕ) → AreAlike n (record n { ends = forgotten below n.ends }) }
+    ensures other { (m n : NodeState) (below : ℕ) → AreAlike m n → AreAlike (record m { ends = forgotten below m.ends }) n }
+{}
+
+/// Nodes that are alike stay so, whatever events both are given. So a node that forgets from time to time, however often, goes
+/// on as one that never does.
+pub fn alike_nodes_stay_alike()
+    ensures { (m n : NodeState) (events : List (Event × ℕ)) → AreAlike m n → AreAlike (run events m) (run events n) }
+{}

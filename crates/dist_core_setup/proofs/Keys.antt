@@ -1,0 +1,59 @@
+-- Which digests a change of cookies leaves.
+use Rattle.std.proofs.Common.{◌≡◌, ℕ, Bool, true, false, cond, List, [], ◌∷◌, Option, Some, None, refl, sym, ap, ◌∙◌, subst}
+use Rattle.std.proofs.lemmas.Bool.{false≢true}
+use Rattle.std.specs.Prelude.{is_some, unwrap_or}
+use Rattle.std.specs.BTreeMap.{is_at, insert_entry}
+use Rattle.std.specs.Map.{lookup}
+use Rattle.std.specs.Ordering.{match_ordering, is_eq}
+use Rattle.std.specs.declared.cmp.Ordering.{Ordering}
+use Rattle.std.specs.declared.cmp.Ordering.TheVariants.{Less, Equal, Greater}
+use Rattle.dist_names.specs.Order.{Name, name_cmp, same_name}
+use Rattle.dist_names.proofs.Orders.{one_lem, itself_lem}
+use Rattle.dist_secret.specs.Digest.{digest_of}
+use Rattle.dist_secret.specs.Cookies.{CookieTable, held, cookie_for, with_cookie}
+use Rattle.dist_core_setup.specs.declared.setup.Setup.{Setup}
+use Rattle.dist_core_setup.specs.Rules.{own_digest}
+use Rattle.dist_core_setup.specs.Changing.{DigestsStay, has_own_cookie, keyed, keyed_usually, letting_in}
+
+abbrev Row : Type 0
+Row = Name × List ℕ
+
+apart : (p q : Name) → same_name p q ≡ false → same_name q p ≡ false
+apart p q h = by (same_name q p) refl
+  where
+    by : (b : Bool) → same_name q p ≡ b → same_name q p ≡ false
+    by false e = e
+    by true e = absurd (false≢true (sym h ∙ subst (λ (x : Name). same_name p x ≡ true) (sym (one_lem q p e)) (itself_lem p)))
+
+-- what a name finds is what it found, where another is put among the rows
+found-before : (q k : Name) (v : List ℕ) (e : Row) (es : List Row) (o : Ordering) → name_cmp k e.0 ≡ o → same_name q k ≡ false
+    → lookup (is_at (name_cmp q)) (insert_entry name_cmp es k v) ≡ lookup (is_at (name_cmp q)) es
+    → lookup (is_at (name_cmp q)) (match_ordering o ((k, v) ∷ e ∷ es) ((e.0, v) ∷ es) (e ∷ insert_entry name_cmp es k v)) ≡ lookup (is_at (name_cmp q)) (e ∷ es)
+found-before q k v e es Less at h more = ap (λ b. cond b (Some v) (lookup (is_at (name_cmp q)) (e ∷ es))) h
+found-before q k v e es Equal at h more =
+    let off : same_name q e.0 ≡ false = subst (λ (x : Name). same_name q x ≡ false) (one_lem k e.0 (ap is_eq at)) h in
+    ap (λ b. cond b (Some v) (lookup (is_at (name_cmp q)) es)) off ∙ sym (ap (λ b. cond b (Some e.1) (lookup (is_at (name_cmp q)) es)) off)
+found-before q k v e es Greater at h more = ap (λ found. cond (same_name q e.0) (Some e.1) found) more
+
+found : (q k : Name) (v : List ℕ) (es : List Row) → same_name q k ≡ false → lookup (is_at (name_cmp q)) (insert_entry name_cmp es k v) ≡ lookup (is_at (name_cmp q)) es
+found q k v [] h = ap (λ b. cond b (Some v) None) h
+found q k v (e ∷ es) h = found-before q k v e es (name_cmp k e.0) refl h (found q k v es h)
+
+cookie-stays : (t : CookieTable) (p q : Name) (cookie : List ℕ) → same_name p q ≡ false → cookie_for (with_cookie t p cookie) q ≡ cookie_for t q
+cookie-stays t p q cookie h = ap (λ (o : Option (List ℕ)). unwrap_or o t.usual) (found q p cookie t.own (apart p q h))
+
+some-either : (o : Option (List ℕ)) (x y : List ℕ) → is_some o ≡ true → unwrap_or o x ≡ unwrap_or o y
+some-either (Some c) x y h = refl
+some-either None x y h = absurd (false≢true h)
+
+pub others-stay : (s : Setup) (p q : Name) (cookie : List ℕ) → same_name p q ≡ false → DigestsStay s (keyed s p cookie) q
+unfolding own_digest
+others-stay s p q cookie h challenge = ap (λ c. digest_of c challenge) (cookie-stays s.cookies p q cookie h)
+
+pub owners-stay : (s : Setup) (p : Name) (cookie : List ℕ) → has_own_cookie s p ≡ true → DigestsStay s (keyed_usually s cookie) p
+unfolding own_digest
+owners-stay s p cookie h challenge = ap (λ c. digest_of c challenge) (some-either (let t = s.cookies in held t p) cookie (let t = s.cookies in t.usual) h)
+
+pub all-stay : (s : Setup) (names : Option (List Name)) (p : Name) → DigestsStay s (letting_in s names) p
+unfolding own_digest
+all-stay s names p challenge = refl

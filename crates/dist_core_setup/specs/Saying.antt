@@ -1,0 +1,88 @@
+-- What a node sends, as messages and as the frames in which they go.
+use Rattle.std.specs.Prelude.{◌≡◌, ℕ, ◌<◌, ◌^◌, if◌then◌else◌, List, [], ◌∷◌, ◌++◌, length, Ok}
+use Rattle.std.specs.Int.{w16, w32}
+use Rattle.dist_names.specs.Flags.{low_half, high_half}
+use Rattle.dist_frames.specs.Stream.{framed}
+use Rattle.dist_messages.specs.Canonical.{canonical, written}
+use Rattle.dist_messages.specs.declared.message.Side.{Side}
+use Rattle.dist_messages.specs.declared.message.Status.{Status}
+use Rattle.dist_messages.specs.declared.message.Message.{Message}
+use Rattle.dist_messages.specs.declared.message.Message.TheVariants as message
+use Rattle.dist_messages.specs.declared.form.Form.{Form}
+use Rattle.dist_messages.specs.declared.form.Form.TheVariants as form
+use Rattle.dist_core_setup.specs.declared.setup.Setup.{Setup}
+use Rattle.dist_core_setup.specs.Rules.{announced_by, opens_new, own_digest}
+
+-- the frame of the one spelling in which a message is sent
+unfoldable pub frame_of : Message → List ℕ
+frame_of m = framed w16 (canonical m)
+
+-- this side has a spelling for the message, and it fits a frame
+abbrev pub CanBeSaid : Side → Message → Type 0
+CanBeSaid side m = (written side m ≡ Ok (canonical m)) × (length (canonical m) < 2 ^ 16)
+
+-- these messages, one frame after another
+abbrev pub said : List Message → List ℕ
+said [] = []
+said (m ∷ []) = frame_of m
+said (m ∷ n ∷ ms) = frame_of m ++ said (n ∷ ms)
+
+-- ---- the messages of a node that is set up so
+
+abbrev pub new_name_message : Setup → Message
+new_name_message s = message.NewName (record { 0 = announced_by s }) s.creation s.name
+
+abbrev pub old_name_message : Setup → Message
+old_name_message s = message.OldName (low_half (announced_by s)) s.name
+
+abbrev pub name_message : Setup → Form → Message
+name_message s o = if opens_new s o then new_name_message s else old_name_message s
+
+abbrev pub new_challenge_message : Setup → ℕ → Message
+new_challenge_message s fresh = message.NewChallenge (record { 0 = announced_by s }) fresh s.creation s.name
+
+abbrev pub old_challenge_message : Setup → ℕ → Message
+old_challenge_message s fresh = message.OldChallenge (low_half (announced_by s)) fresh s.name
+
+abbrev pub challenge_message : Setup → Form → ℕ → Message
+challenge_message s form.New fresh = new_challenge_message s fresh
+challenge_message s form.Old fresh = new_challenge_message s fresh
+challenge_message s form.Five fresh = old_challenge_message s fresh
+
+abbrev pub complement_message : Setup → Message
+complement_message s = message.Complement (high_half (announced_by s)) s.creation
+
+-- the reply to a peer's challenge, with the own challenge
+abbrev pub reply_message : Setup → List ℕ → ℕ → ℕ → Message
+reply_message s peer fresh challenge = message.Reply fresh (own_digest s peer challenge)
+
+abbrev pub ack_message : Setup → List ℕ → ℕ → Message
+ack_message s peer challenge = message.Ack (own_digest s peer challenge)
+
+-- ---- what is sent
+
+abbrev pub status_text : Status → List ℕ
+status_text s = said (message.Status s ∷ [])
+
+abbrev pub name_text : Setup → Form → List ℕ
+name_text s o = said (name_message s o ∷ [])
+
+abbrev pub challenge_text : Setup → Form → ℕ → List ℕ
+challenge_text s o fresh = said (challenge_message s o fresh ∷ [])
+
+-- a status, and the challenge after it
+abbrev pub greeting_text : Setup → Status → Form → ℕ → List ℕ
+greeting_text s status o fresh = said (message.Status status ∷ challenge_message s o fresh ∷ [])
+
+-- the reply, after the complement in a handshake that has one
+abbrev pub reply_text : Setup → Form → List ℕ → ℕ → ℕ → List ℕ
+reply_text s form.New peer fresh challenge = said (reply_message s peer fresh challenge ∷ [])
+reply_text s form.Old peer fresh challenge = said (complement_message s ∷ reply_message s peer fresh challenge ∷ [])
+reply_text s form.Five peer fresh challenge = said (reply_message s peer fresh challenge ∷ [])
+
+abbrev pub ack_text : Setup → List ℕ → ℕ → List ℕ
+ack_text s peer challenge = said (ack_message s peer challenge ∷ [])
+
+-- a packet of no bytes
+abbrev pub tick_text : List ℕ
+tick_text = framed w32 []

@@ -1,0 +1,67 @@
+//! Laws of what a node sends: each is a function whose contract is the law.
+ghost use Rattle.std.specs.Prelude.{◌≡◌, ℕ, ◌<◌, ◌^◌, ◌&&◌, List, [], Option, length, map, true, false, Ok};
+ghost use Rattle.std.specs.List.{AllByRecursion};
+ghost use Rattle.std.specs.Int.{w16};
+ghost use Rattle.dist_names.specs.Order.{Name, same_name};
+ghost use Rattle.dist_names.specs.NodeName.{IsNodeName};
+ghost use Rattle.dist_names.specs.Flags.{low_half, common, has_all, handshake_23};
+ghost use Rattle.dist_names.specs.declared.flags.Flags.{Flags};
+ghost use Rattle.dist_names.specs.declared.creation.Creation.{Creation};
+ghost use Rattle.dist_frames.specs.Stream.{Splits};
+ghost use Rattle.dist_messages.specs.declared.message.Side.{Side};
+ghost use Rattle.dist_messages.specs.declared.message.Side.TheVariants.{Dialler, Acceptor};
+ghost use Rattle.dist_messages.specs.declared.message.Status.{Status};
+ghost use Rattle.dist_messages.specs.declared.message.Message.{Message};
+ghost use Rattle.dist_messages.specs.declared.message.Message.TheVariants as message;
+ghost use Rattle.dist_messages.specs.Spelling.{Fits, is_said_by};
+ghost use Rattle.dist_messages.specs.Canonical.{canonical};
+ghost use Rattle.dist_messages.specs.Reading.{read};
+ghost use Rattle.dist_core_setup.specs.declared.setup.Setup.{Setup};
+ghost use Rattle.dist_core_setup.specs.Rules.{announced_by, knows_six};
+ghost use Rattle.dist_core_setup.specs.Changing.{DigestsStay, has_own_cookie, keyed, keyed_usually, letting_in};
+ghost use Rattle.dist_core_setup.specs.Saying.{CanBeSaid, said};
+
+use dist_messages::written_is_read;
+
+/// Each message that a node sends has a spelling of its side, and it fits a frame.
+pub fn messages_can_be_said()
+    ensures status { (side : Side) (s : Status) → is_said_by s side ≡ true → CanBeSaid side (message.Status s) }
+    ensures new_name { (flags : Flags) (c : Creation) (name : Name) → IsNodeName name → CanBeSaid Dialler (message.NewName flags c name) }
+    ensures old_name { (flags : ℕ) (name : Name) → IsNodeName name → CanBeSaid Dialler (message.OldName flags name) }
+    ensures challenge { (flags : Flags) (n : ℕ) (c : Creation) (name : Name) → IsNodeName name → CanBeSaid Acceptor (message.NewChallenge flags n c name) }
+    ensures old_challenge { (flags n : ℕ) (name : Name) → IsNodeName name → CanBeSaid Acceptor (message.OldChallenge flags n name) }
+    ensures complement { (high : ℕ) (c : Creation) → CanBeSaid Dialler (message.Complement high c) }
+    ensures reply { (n : ℕ) (digest : List ℕ) → length digest ≡ 16 → CanBeSaid Dialler (message.Reply n digest) }
+    ensures ack { (digest : List ℕ) → length digest ≡ 16 → CanBeSaid Acceptor (message.Ack digest) }
+{}
+
+/// What is sent is whole frames, one for each message, and each body is read as the message that was sent.
+pub fn what_is_said_is_read()
+    ensures whole { (side : Side) (ms : List Message) → AllByRecursion (CanBeSaid side) ms → Splits w16 (said ms) (map canonical ms) [] }
+    ensures read { (side : Side) (m : Message) → Fits m → CanBeSaid side m → read side (canonical m) ≡ Ok m }
+{
+    written_is_read();
+}
+
+/// The flags that a node announces fit a field of 64 bits.
+pub fn announced_flags_fit()
+    ensures { (s : Setup) → announced_by s < 2 ^ 64 }
+{}
+
+/// The lower half of what a node announces shows whether it knows version 6.
+pub fn flags_tell_versions()
+    ensures { (s : Setup) → has_all (low_half (announced_by s)) handshake_23 ≡ knows_six s }
+{}
+
+/// Where one of two nodes knows version 5 alone, they have no flags in common but those of the lower half.
+pub fn low_halves_suffice()
+    ensures { (own other : Setup) → (knows_six own && knows_six other) ≡ false → common (announced_by own) (low_half (announced_by other)) ≡ common (announced_by own) (announced_by other) }
+{}
+
+/// Which digests a change of cookies leaves: for every other peer those that were, where one peer's cookie changes; for each peer
+/// that has its own those that were, where the usual one does; and all, where the names change that may connect.
+pub fn other_digests_stay()
+    ensures peer { (s : Setup) (p q : Name) (cookie : List ℕ) → same_name p q ≡ false → DigestsStay s (keyed s p cookie) q }
+    ensures usual { (s : Setup) (p : Name) (cookie : List ℕ) → has_own_cookie s p ≡ true → DigestsStay s (keyed_usually s cookie) p }
+    ensures allowed { (s : Setup) (names : Option (List Name)) (p : Name) → DigestsStay s (letting_in s names) p }
+{}

@@ -1,5 +1,0 @@
-use Rattle.std.proofs.Common.{rules}
-use Rattle.dist_ends.proofs.ends.Ends.is_dialing.Goals as goal
-
-pub returns-in_default-matches : goal.returns-in_default-matches
-returns-in_default-matches c = search rules

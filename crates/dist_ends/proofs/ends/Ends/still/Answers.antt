@@ -1,5 +1,0 @@
-use Rattle.std.proofs.Common.{rules}
-use Rattle.dist_ends.proofs.ends.Ends.still.Goals as goal
-
-pub returns-in-Ok-Up : goal.returns-in-Ok-Up
-returns-in-Ok-Up c = search rules

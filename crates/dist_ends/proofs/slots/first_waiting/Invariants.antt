@@ -1,5 +1,0 @@
-use Rattle.dist_ends.specs.Keeping.{shown, AreSettled}
-use Rattle.dist_ends.proofs.slots.first_waiting.Given as goal
-
-abbrev pub invariant-loop-i : goal.invariant-loop-i
-invariant-loop-i l = AreSettled (shown l.rows.items l.slots.slots) l.i

@@ -1,6 +1,0 @@
-use Rattle.std.proofs.Common.{◌∙◌}
-use Rattle.dist_epmd.proofs.Named.{found_at_name}
-use Rattle.dist_epmd.proofs.rows.row_named.Goals as goal
-
-pub returns : goal.returns
-returns c = c.get.ensures.value ∙ found_at_name c.args.name.now c.args.rows.now.entries c.requires

@@ -1,0 +1,122 @@
+-- Who is registered with the port mapper, and what it answers.
+use Rattle.std.specs.Prelude.{◌≡◌, ◌≢◌, ℕ, ◌+◌, ◌%◌, ◌^◌, ◌<◌, ◌≤◌, Bool, ◌&&◌, not, List, [], ◌∷◌, ◌++◌, length, codes, decimal, filter, find, insert, flat_map, Option, option_map, nat_lt, nat_le, ◌==◌, if◌then◌else◌}
+use Rattle.std.specs.List.{list_all, list_any, position_or_len, AllByRecursion}
+use Rattle.std.specs.Int.{w32}
+use Rattle.std.specs.Str.{bytes_eq}
+use Rattle.std.specs.Ordering.{nat_cmp, is_lt}
+use Rattle.std.specs.Cmp.Lexicographic.{slice_cmp}
+use Rattle.std.specs.declared.cmp.Ordering.TheVariants.{Less}
+use Rattle.dist_names.specs.Bytes.{is_visible, number}
+use Rattle.dist_epmd.specs.declared.message.NodeInfo.{NodeInfo}
+use Rattle.dist_epmd.specs.declared.message.Answer.{Answer}
+use Rattle.dist_epmd.specs.declared.message.Answer.TheVariants as answer
+use Rattle.dist_epmd.specs.declared.row.Row.{Row}
+
+-- THE REGISTRATIONS of a port mapper
+pub record Registrations : Type 0 where
+  -- the port mapper's own port
+  pub port : ℕ
+  -- the creation that is given next
+  pub next : ℕ
+  -- the accepted registrations whose connections are not closed, in byte order of their names
+  pub rows : List Row
+
+abbrev pub opening : ℕ → ℕ → Registrations
+opening port first = record { port = port; next = first; rows = [] }
+
+-- ---- which registrations are accepted
+
+-- a printable ASCII character, and neither a space nor '@'
+abbrev pub is_short_byte : ℕ → Bool
+is_short_byte byte = is_visible byte && not (byte == 0x40)
+
+-- the part of a node's name before the '@'
+abbrev pub is_short_name : List ℕ → Bool
+is_short_name name = nat_lt 0 (length name) && (nat_le (length name) 255 && list_all is_short_byte name)
+
+abbrev pub is_named : List ℕ → Row → Bool
+is_named name row = bytes_eq row.info.name name
+
+abbrev pub is_of : ℕ → Row → Bool
+is_of conn row = row.conn == conn
+
+abbrev pub is_accepted : ℕ → NodeInfo → Registrations → Bool
+is_accepted conn info registrations =
+    is_short_name info.name
+    && (not (list_any (is_named info.name) registrations.rows)
+    && (not (list_any (is_of conn) registrations.rows)
+    && (nat_lt (length registrations.rows) 1024
+    && nat_lt registrations.next (2 ^ 32))))
+
+-- ---- what changes
+
+-- whether the row's name is not below this one
+abbrev pub is_behind : List ℕ → Row → Bool
+is_behind name row = not (is_lt (slice_cmp nat_cmp row.info.name name))
+
+abbrev pub with_row : Row → List Row → List Row
+with_row row rows = insert rows (position_or_len (is_behind row.info.name) rows) row
+
+abbrev pub registered : ℕ → NodeInfo → Registrations → Registrations
+registered conn info registrations = record registrations { next = registrations.next + 1; rows = with_row (record { conn = conn; info = info; creation = registrations.next }) registrations.rows }
+
+abbrev pub after_request : ℕ → NodeInfo → Registrations → Registrations
+after_request conn info registrations = if is_accepted conn info registrations then registered conn info registrations else registrations
+
+abbrev pub after_closed : ℕ → Registrations → Registrations
+after_closed conn registrations = record registrations { rows = filter (λ row. not (is_of conn row)) registrations.rows }
+
+-- ---- what is answered
+
+-- the creation that a node of version 5 is given: one of 1 to 3
+abbrev pub short_creation : ℕ → ℕ
+short_creation creation = (creation + 2) % 3 + 1
+
+-- the answer that carries this creation, by the node's highest version
+abbrev pub given : NodeInfo → ℕ → Answer
+given info creation = if nat_lt info.highest 6 then answer.Alive 0 (short_creation creation) else answer.AliveX 0 creation
+
+-- the answer that refuses
+abbrev pub refused : NodeInfo → Answer
+refused info = if nat_lt info.highest 6 then answer.Alive 1 0 else answer.AliveX 1 0
+
+abbrev pub answer_to : ℕ → NodeInfo → Registrations → Answer
+answer_to conn info registrations = if is_accepted conn info registrations then given info registrations.next else refused info
+
+abbrev pub found : List ℕ → Registrations → Option NodeInfo
+found name registrations = option_map (λ row. row.info) (find (is_named name) registrations.rows)
+
+abbrev pub line_of : Row → List ℕ
+line_of row = codes "name " ++ row.info.name ++ codes " at port " ++ decimal row.info.port ++ codes "\n"
+
+abbrev pub names_text : Registrations → List ℕ
+names_text registrations = number w32 registrations.port ++ flat_map line_of registrations.rows
+
+-- ---- what always holds
+
+abbrev pub Differ : Row → Row → Type 0
+Differ a b = (a.info.name ≢ b.info.name) × (a.conn ≢ b.conn) × (a.creation ≢ b.creation)
+
+-- no two rows share a name, a connection or a creation
+abbrev pub Apart : List Row → Type 0
+Apart [] = Unit {0}
+Apart (row ∷ rows) = AllByRecursion (Differ row) rows × Apart rows
+
+abbrev pub IsBelow : Row → Row → Type 0
+IsBelow a b = slice_cmp nat_cmp a.info.name b.info.name ≡ Less
+
+-- the names rise in byte order
+abbrev pub InOrder : List Row → Type 0
+InOrder [] = Unit {0}
+InOrder (row ∷ rows) = AllByRecursion (IsBelow row) rows × InOrder rows
+
+abbrev pub IsGiven : ℕ → Row → Type 0
+IsGiven next row = row.creation < next
+
+pub record IsLegal (registrations : Registrations) : Type 0 where
+  pub apart : Apart registrations.rows
+  pub ordered : InOrder registrations.rows
+  pub few : length registrations.rows ≤ 1024
+  -- the next creation is above all that are held
+  pub given : AllByRecursion (IsGiven registrations.next) registrations.rows
+  pub left : registrations.next ≤ 2 ^ 32

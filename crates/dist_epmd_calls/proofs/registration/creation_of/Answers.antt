@@ -1,0 +1,13 @@
+use Rattle.std.proofs.Common.{Result, sym, subst}
+use Rattle.dist_names.specs.declared.creation.Creation.{Creation}
+use Rattle.dist_epmd.specs.declared.message.Asked.TheVariants as asked
+use Rattle.dist_epmd.specs.Reading.{read_answer}
+use Rattle.dist_epmd_calls.specs.declared.lookup_error.LookupError.{LookupError}
+use Rattle.dist_epmd_calls.specs.Asking.{Settles, creation_meant}
+use Rattle.dist_epmd_calls.proofs.Creations.{creation_settles}
+use Rattle.dist_epmd_calls.proofs.registration.creation_of.Goals as goal
+
+pub returns : goal.returns
+returns c =
+    let read = read_answer asked.Alive c.args.bytes.now in
+    subst (λ (r : Result Creation LookupError). Settles r (creation_meant c.args.bytes.now) read) (sym c.creation_in.ensures) (creation_settles c.decode_answer.result read c.decode_answer.ensures.exact c.decode_answer.ensures.lacks)

@@ -1,0 +1,149 @@
+-- What a client of the port mapper writes and reads, and what the answer means to it.
+use Rattle.std.specs.Prelude.{◌≡◌, ℕ, ◌+◌, ◌<◌, ◌≤◌, ◌⊎◌, List, [], ◌∷◌, ◌++◌, length, Option, Some, None, Result, Ok, Err, ◌==◌, if◌then◌else◌}
+use Rattle.std.specs.Int.{w16}
+use Rattle.std.specs.Io.KnownBytes.{prepend_known, append_known}
+use Rattle.dist_names.specs.declared.creation.Creation.{Creation}
+use Rattle.dist_frames.specs.Stream.{framed}
+use Rattle.dist_epmd.specs.declared.epmd_error.EpmdError.{EpmdError}
+use Rattle.dist_epmd.specs.declared.message.NodeInfo.{NodeInfo}
+use Rattle.dist_epmd.specs.declared.message.Request.{Request}
+use Rattle.dist_epmd.specs.declared.message.Request.TheVariants as request
+use Rattle.dist_epmd.specs.declared.message.Answer.{Answer}
+use Rattle.dist_epmd.specs.declared.message.Answer.TheVariants as answer
+use Rattle.dist_epmd.specs.declared.message.Asked.{Asked}
+use Rattle.dist_epmd.specs.declared.message.Asked.TheVariants as asked
+use Rattle.dist_epmd.specs.Answering.{BearsText}
+use Rattle.dist_epmd.specs.Layout.{written_request}
+use Rattle.dist_epmd.specs.Reading.{read_answer}
+use Rattle.dist_stream.specs.declared.turn_error.TurnError.{TurnError}
+use Rattle.dist_stream.specs.declared.turn_error.TurnError.TheVariants as fault
+use Rattle.dist_stream.specs.Stream.{StreamState}
+use Rattle.dist_stream.specs.Turns.{Spends}
+use Rattle.dist_epmd_calls.specs.declared.lookup_error.LookupError.{LookupError}
+use Rattle.dist_epmd_calls.specs.declared.lookup_error.LookupError.TheVariants as error
+use Rattle.dist_epmd_calls.specs.Refusals.{lookup_error, whole_refusal, end_refusal}
+
+-- ---- what an answer means
+
+-- what a lookup makes of the answer
+abbrev pub info_in : Result Answer EpmdError → Result NodeInfo LookupError
+info_in (Ok (answer.Port (Ok info))) = Ok info
+info_in (Ok (answer.Port (Err code))) = Err error.NotThere
+info_in (Ok other) = Err error.Malformed
+info_in (Err why) = Err (end_refusal why)
+
+-- what a question for all names makes of the answer
+abbrev pub names_in : Result Answer EpmdError → Result (ℕ × List ℕ) LookupError
+names_in (Ok (answer.Names port text)) = Ok (port, text)
+names_in (Ok other) = Err error.Malformed
+names_in (Err why) = Err (end_refusal why)
+
+-- the creation, unless the result is above 0
+abbrev pub creation_unless : ℕ → ℕ → Result Creation LookupError
+creation_unless code creation = if code == 0 then Ok (record { 0 = creation }) else Err (error.Refused code)
+
+-- what a registration makes of the answer
+abbrev pub creation_in : Result Answer EpmdError → Result Creation LookupError
+creation_in (Ok (answer.AliveX code creation)) = creation_unless code creation
+creation_in (Ok (answer.Alive code creation)) = creation_unless code creation
+creation_in (Ok other) = Err error.Malformed
+creation_in (Err why) = Err (whole_refusal why)
+
+-- what the bytes that came mean to a lookup
+abbrev pub info_meant : List ℕ → Result NodeInfo LookupError
+info_meant bytes = info_in (read_answer asked.Port bytes)
+
+-- what the bytes that came mean to a question for all names
+abbrev pub names_meant : List ℕ → Result (ℕ × List ℕ) LookupError
+names_meant bytes = names_in (read_answer asked.Names bytes)
+
+-- what the bytes that came mean to a registration
+abbrev pub creation_meant : List ℕ → Result Creation LookupError
+creation_meant bytes = creation_in (read_answer asked.Alive bytes)
+
+-- The answer is the one expected. Memory runs out only where the bytes are an answer that carries a name or a text.
+abbrev pub Settles : {X : Type 0} → Result X LookupError → Result X LookupError → Result Answer EpmdError → Type 0
+Settles (Err error.NoMemory) expected read = BearsText read
+Settles result expected read = result ≡ expected
+
+-- ---- one question
+
+-- which answer is awaited
+abbrev pub question_of : Request → Asked
+question_of (request.Alive info) = asked.Alive
+question_of (request.PortPlease name) = asked.Port
+question_of request.Names = asked.Names
+
+-- A front of the frame was written, and bytes were read: none before the whole frame was written. The fault is the one
+-- that stopped it.
+pub record Talks (old new : StreamState) (limit : ℕ) (stop : Option TurnError) (frame said heard : List ℕ) : Type 0 where
+  pub unsaid : List ℕ
+  pub front : frame ≡ said ++ unsaid
+  pub first : (unsaid ≡ []) ⊎ (heard ≡ [])
+  pub written : new.written ≡ append_known old.written said
+  pub unread : old.unread ≡ prepend_known heard new.unread
+  pub left : ℕ
+  pub spends : Spends old new limit left stop
+
+-- What is returned, by what stopped the talk: a fault other than the end is returned as it is, and without a fault memory ran
+-- out.
+abbrev pub TellsBy : {X : Type 0} → Option TurnError → Result X LookupError → Type 0 → Type 0
+TellsBy (Some fault.Ended) result AtEnd = AtEnd
+TellsBy (Some other) result AtEnd = result ≡ Err (lookup_error other)
+TellsBy None result AtEnd = result ≡ Err error.NoMemory
+
+-- One question whose answer is all that comes to the end of the stream, once the whole frame was written.
+pub record Asks {X : Type 0} (old new : StreamState) (limit : ℕ) (frame : List ℕ) (asked : Asked) (means : List ℕ → Result X LookupError) (result : Result X LookupError) : Type 0 where
+  pub said : List ℕ
+  pub heard : List ℕ
+  pub stop : Option TurnError
+  pub talks : Talks old new limit stop frame said heard
+  pub tells : TellsBy stop result ((said ≡ frame) × Settles result (means heard) (read_answer asked heard))
+
+-- A request that fits no frame is refused, and the stream is as it was.
+abbrev pub AsksWritten : {X : Type 0} → Result (List ℕ) EpmdError → StreamState → StreamState → ℕ → Asked → (List ℕ → Result X LookupError) → Result X LookupError → Type 0
+AsksWritten (Ok body) old new limit asked means result = Asks old new limit (framed w16 body) asked means result
+AsksWritten (Err why) old new limit asked means result = (result ≡ Err error.Malformed) × (new ≡ old)
+
+-- ONE QUESTION OF A CLIENT: what it writes, what it reads, how many turns it takes, and what the bytes mean
+abbrev pub AsksFor : {X : Type 0} → Request → StreamState → StreamState → ℕ → (List ℕ → Result X LookupError) → Result X LookupError → Type 0
+AsksFor request old new limit means result = AsksWritten (written_request request) old new limit (question_of request) means result
+
+-- ---- a registration
+
+-- how many bytes stand behind this tag
+abbrev pub rest_len : ℕ → ℕ
+rest_len tag = if tag == 0x76 then 5 else (if tag == 0x79 then 3 else 0)
+
+-- how many bytes an answer to a registration has that begins so
+abbrev pub answer_len : List ℕ → ℕ
+answer_len [] = 1
+answer_len (tag ∷ rest) = 1 + rest_len tag
+
+-- What is returned, by what stopped the registration. A write fails before anything is read; a read fails, the stream ends, or
+-- the turns run out inside the answer or before it. Without a fault memory ran out before anything was written, or the answer
+-- came whole, and what it means is returned.
+abbrev pub TellsWhole : Option TurnError → Result Creation LookupError → List ℕ → List ℕ → Type 0
+TellsWhole (Some fault.WriteFailed) result said heard = (result ≡ Err error.WriteFailed) × (heard ≡ [])
+TellsWhole (Some other) result said heard = (result ≡ Err (lookup_error other)) × (length heard < answer_len heard)
+TellsWhole None result said heard =
+    ((result ≡ Err error.NoMemory) × (said ≡ []) × (heard ≡ []))
+    ⊎ ((length heard ≡ answer_len heard) × Settles result (creation_meant heard) (read_answer asked.Alive heard))
+
+-- One registration. No byte behind its answer is read.
+pub record Registers (old new : StreamState) (limit : ℕ) (frame : List ℕ) (result : Result Creation LookupError) : Type 0 where
+  pub said : List ℕ
+  pub heard : List ℕ
+  pub stop : Option TurnError
+  pub most : length heard ≤ answer_len heard
+  pub talks : Talks old new limit stop frame said heard
+  pub tells : TellsWhole stop result said heard
+
+-- A request that fits no frame is refused, and the stream is as it was.
+abbrev pub RegistersWritten : Result (List ℕ) EpmdError → StreamState → StreamState → ℕ → Result Creation LookupError → Type 0
+RegistersWritten (Ok body) old new limit result = Registers old new limit (framed w16 body) result
+RegistersWritten (Err why) old new limit result = (result ≡ Err error.Malformed) × (new ≡ old)
+
+-- ONE REGISTRATION OF A CLIENT: what it writes, what it reads, how many turns it takes, and what the answer means
+abbrev pub RegistersFor : NodeInfo → StreamState → StreamState → ℕ → Result Creation LookupError → Type 0
+RegistersFor info old new limit result = RegistersWritten (written_request (request.Alive info)) old new limit result

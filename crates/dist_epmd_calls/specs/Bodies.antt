@@ -1,0 +1,30 @@
+-- One frame that is read off a stream: its length in 2 bytes, and as many bytes.
+use Rattle.std.specs.Prelude.{◌≡◌, ℕ, ◌<◌, ◌≤◌, List, length, Option, Some, None}
+use Rattle.std.specs.Int.{w16}
+use Rattle.dist_names.specs.Bytes.{number}
+use Rattle.dist_frames.specs.Stream.{framed}
+use Rattle.dist_stream.specs.Stream.{StreamState}
+use Rattle.dist_stream.specs.Turns.{Hears}
+use Rattle.dist_stream.specs.declared.turn_error.TurnError.{TurnError}
+use Rattle.dist_epmd_calls.specs.Serving.{IsInside, IsLength}
+use Rattle.dist_epmd_calls.specs.declared.bodies.Arrived.{Arrived}
+use Rattle.dist_epmd_calls.specs.declared.bodies.Arrived.TheVariants as arrived
+
+-- the fault of the stream that stopped it, if one did
+abbrev pub stop_of : Arrived → Option TurnError
+stop_of (arrived.Stopped fault) = Some fault
+stop_of other = None
+
+-- What these bytes are that came, where a body has at most this many bytes: the frame of the body, a length above the most, a
+-- part of a frame, or the length of one.
+abbrev pub IsArrived : ℕ → Arrived → List ℕ → Type 0
+IsArrived most (arrived.Body body) heard = (heard ≡ framed w16 body) × (length body ≤ most)
+IsArrived most (arrived.Long len) heard = (heard ≡ number w16 len) × (most < len)
+IsArrived most (arrived.Stopped fault) heard = IsInside heard
+IsArrived most arrived.NoMemory heard = IsLength heard
+
+-- ONE FRAME WAS READ, or why none was, within the turns that were there; nothing was written.
+pub record HearsFrame (old new : StreamState) (turns left most : ℕ) (a : Arrived) : Type 0 where
+  pub heard : List ℕ
+  pub hears : Hears old new turns left (stop_of a) heard
+  pub means : IsArrived most a heard

@@ -1,0 +1,40 @@
+-- What the refusals of the port mapper's calls are called, and where they come from.
+use Rattle.std.specs.Prelude.{ℕ, List, codes}
+use Rattle.dist_stream.specs.declared.turn_error.TurnError.{TurnError}
+use Rattle.dist_stream.specs.declared.turn_error.TurnError.TheVariants as fault
+use Rattle.dist_epmd.specs.declared.epmd_error.EpmdError.{EpmdError}
+use Rattle.dist_epmd.specs.declared.epmd_error.EpmdError.TheVariants as epmd
+use Rattle.dist_epmd_calls.specs.declared.lookup_error.LookupError.{LookupError}
+use Rattle.dist_epmd_calls.specs.declared.lookup_error.LookupError.TheVariants as error
+
+-- the variant's name
+abbrev pub error_name : LookupError → List ℕ
+error_name error.NotThere = codes "NotThere"
+error_name error.Malformed = codes "Malformed"
+error_name error.ReadFailed = codes "ReadFailed"
+error_name error.WriteFailed = codes "WriteFailed"
+error_name error.Ended = codes "Ended"
+error_name error.NoMemory = codes "NoMemory"
+error_name error.Limit = codes "Limit"
+error_name (error.Refused code) = codes "Refused"
+
+-- a fault of the stream, as it is returned
+abbrev pub lookup_error : TurnError → LookupError
+lookup_error fault.ReadFailed = error.ReadFailed
+lookup_error fault.WriteFailed = error.WriteFailed
+lookup_error fault.Ended = error.Ended
+lookup_error fault.Limit = error.Limit
+
+-- why bytes that stand whole, as in a frame, are no message
+abbrev pub whole_refusal : EpmdError → LookupError
+whole_refusal epmd.Malformed = error.Malformed
+whole_refusal epmd.Short = error.Malformed
+whole_refusal epmd.Trailing = error.Malformed
+whole_refusal epmd.NoMemory = error.NoMemory
+
+-- why bytes that came to the end of the stream are no answer
+abbrev pub end_refusal : EpmdError → LookupError
+end_refusal epmd.Malformed = error.Malformed
+end_refusal epmd.Short = error.Ended
+end_refusal epmd.Trailing = error.Malformed
+end_refusal epmd.NoMemory = error.NoMemory

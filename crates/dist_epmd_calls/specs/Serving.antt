@@ -1,0 +1,150 @@
+-- What is read and written where one request is served, and what becomes of the mapper.
+use Rattle.std.specs.Prelude.{◌≡◌, ◌≢◌, ℕ, ◌^◌, ◌<◌, ◌⊎◌, List, [], ◌++◌, length, Option, Some, None, Result, Ok, Err, IsOk, IsErr, ◌==◌, if◌then◌else◌}
+use Rattle.std.specs.Int.{w16}
+use Rattle.dist_names.specs.Bytes.{number}
+use Rattle.std.specs.Io.KnownBytes.{prepend_known, append_known}
+use Rattle.dist_frames.specs.Stream.{framed}
+use Rattle.dist_epmd.specs.declared.epmd_error.EpmdError.{EpmdError}
+use Rattle.dist_epmd.specs.declared.message.Request.{Request}
+use Rattle.dist_epmd.specs.declared.message.Request.TheVariants as request
+use Rattle.dist_epmd.specs.declared.message.Answer.{Answer}
+use Rattle.dist_epmd.specs.declared.message.Answer.TheVariants as answer
+use Rattle.dist_epmd.specs.Layout.{written_answer}
+use Rattle.dist_epmd.specs.Reading.{read_request}
+use Rattle.dist_stream.specs.declared.turn_error.TurnError.{TurnError}
+use Rattle.dist_stream.specs.Stream.{StreamState}
+use Rattle.dist_stream.specs.Turns.{Spends}
+use Rattle.dist_epmd_calls.specs.declared.lookup_error.LookupError.{LookupError}
+use Rattle.dist_epmd_calls.specs.declared.lookup_error.LookupError.TheVariants as error
+use Rattle.dist_epmd_calls.specs.declared.serve.Served.{Served}
+use Rattle.dist_epmd_calls.specs.declared.serve.Served.TheVariants as served
+use Rattle.dist_epmd_calls.specs.Refusals.{lookup_error}
+
+-- ---- the request
+
+-- The bytes are the frame of this request.
+pub record BringsRequest (heard : List ℕ) (request : Request) : Type 0 where
+  pub body : List ℕ
+  pub framed : heard ≡ framed w16 body
+  pub read : read_request body ≡ Ok request
+
+-- The bytes are the frame of no request.
+pub record BringsNone (heard : List ℕ) : Type 0 where
+  pub body : List ℕ
+  pub framed : heard ≡ framed w16 body
+  pub read : IsErr (read_request body)
+
+-- The bytes end inside a frame: in its length, or before as many bytes came as that says.
+abbrev pub IsInside : List ℕ → Type 0
+IsInside heard = (length heard < 2) ⊎ ((len : ℕ) × (rest : List ℕ) × (len < 2 ^ 16) × (heard ≡ number w16 len ++ rest) × (length rest < len))
+
+-- The bytes are the length of a frame alone.
+abbrev pub IsLength : List ℕ → Type 0
+IsLength heard = (len : ℕ) × (len < 2 ^ 16) × (heard ≡ number w16 len)
+
+-- The bytes are the length of a frame alone, or the frame of a request.
+abbrev pub IsLengthOrFrame : List ℕ → Type 0
+IsLengthOrFrame heard = IsLength heard ⊎ ((body : List ℕ) × (heard ≡ framed w16 body) × IsOk (read_request body))
+
+-- What the bytes that came ask for, or why no request came: the fault of the stream, and it came inside a frame; or
+-- without one a frame that asks for nothing, or memory that ran out.
+abbrev pub Came : Option TurnError → Result Request LookupError → List ℕ → Type 0
+Came (Some fault) result heard = (result ≡ Err (lookup_error fault)) × IsInside heard
+Came None (Ok request) heard = BringsRequest heard request
+Came None (Err error.Malformed) heard = BringsNone heard
+Came None (Err error.NoMemory) heard = IsLengthOrFrame heard
+Came None (Err other) heard = ⊥
+
+-- ---- the answer
+
+-- A front of the bytes of the answer was written, and not all.
+pub record SaysPart (written : Result (List ℕ) EpmdError) (said : List ℕ) : Type 0 where
+  pub text : List ℕ
+  pub unsaid : List ℕ
+  pub bytes : written ≡ Ok text
+  pub front : text ≡ said ++ unsaid
+  pub lacks : unsaid ≢ []
+
+-- What was written of an answer: a part, and the fault of the stream is returned; or all; or nothing, since memory ran out or
+-- the answer has no bytes.
+abbrev pub IsSaid : Option TurnError → Result (List ℕ) EpmdError → Result (Unit {0}) LookupError → List ℕ → Type 0
+IsSaid (Some fault) written result said = (result ≡ Err (lookup_error fault)) × SaysPart written said
+IsSaid None written (Ok done) said = written ≡ Ok said
+IsSaid None written (Err error.Malformed) said = IsErr written × (said ≡ [])
+IsSaid None written (Err error.NoMemory) said = IsOk written × (said ≡ [])
+IsSaid None written (Err other) said = ⊥
+
+-- ---- the mapper
+
+-- whether a registration was answered with result 0
+abbrev pub served_as : Request → Answer → Served
+served_as (request.Alive info) (answer.AliveX code creation) = if code == 0 then served.Registered else served.Answered
+served_as (request.Alive info) (answer.Alive code creation) = if code == 0 then served.Registered else served.Answered
+served_as other given = served.Answered
+
+-- After an answer that wasn't written whole, a registration's connection counts as closed.
+abbrev pub AfterCut : {M : Type 0} → (M → ℕ → M → Type 0) → Request → ℕ → M → M → Type 0
+AfterCut leaves (request.Alive info) conn between after = leaves between conn after
+AfterCut leaves other conn between after = after ≡ between
+
+-- The mapper answered, and its answer was written whole.
+pub record AnswersWhole {M : Type 0} (allows : M → ℕ → Request → Answer → M → Type 0) (conn : ℕ) (before after : M) (request : Request) (stop : Option TurnError) (how : Served) (said : List ℕ) : Type 0 where
+  pub answer : Answer
+  pub allowed : allows before conn request answer after
+  pub text : written_answer answer ≡ Ok said
+  pub fine : stop ≡ None
+  pub how_is : how ≡ served_as request answer
+
+abbrev pub bad : LookupError → Result (Unit {0}) LookupError
+bad why = Err why
+
+-- The mapper answered, and its answer was written in part or not at all.
+pub record AnswersCut {M : Type 0} (allows : M → ℕ → Request → Answer → M → Type 0) (leaves : M → ℕ → M → Type 0) (conn : ℕ) (before after : M) (request : Request) (stop : Option TurnError) (why : LookupError) (said : List ℕ) : Type 0 where
+  pub answer : Answer
+  pub between : M
+  pub allowed : allows before conn request answer between
+  pub part : IsSaid stop (written_answer answer) (bad why) said
+  pub closed : AfterCut leaves request conn between after
+
+-- The mapper had no memory to answer. It is as it was, and nothing is written.
+pub record AnswersNone {M : Type 0} (before after : M) (stop : Option TurnError) (why : LookupError) (said : List ℕ) : Type 0 where
+  pub lacks : why ≡ error.NoMemory
+  pub fine : stop ≡ None
+  pub nothing : said ≡ []
+  pub same : after ≡ before
+
+-- what becomes of a request that came
+abbrev pub Replies : {M : Type 0} → (M → ℕ → Request → Answer → M → Type 0) → (M → ℕ → M → Type 0) → ℕ → M → M → Request → Option TurnError → Result Served LookupError → List ℕ → Type 0
+Replies allows leaves conn before after request stop (Ok how) said = AnswersWhole allows conn before after request stop how said
+Replies allows leaves conn before after request stop (Err why) said = AnswersNone before after stop why said ⊎ AnswersCut allows leaves conn before after request stop why said
+
+-- ---- the whole
+
+-- why no request came
+abbrev pub CameNone : Option TurnError → Result Served LookupError → List ℕ → Type 0
+CameNone stop (Ok how) heard = ⊥
+CameNone stop (Err why) heard = Came stop (Err why) heard
+
+-- No request came. The mapper is as it was, and nothing is written.
+pub record Unrequested {M : Type 0} (before after : M) (stop : Option TurnError) (result : Result Served LookupError) (said heard : List ℕ) : Type 0 where
+  pub came : CameNone stop result heard
+  pub nothing : said ≡ []
+  pub same : after ≡ before
+
+-- One request that came was answered, or the call was refused on the way.
+pub record Requested {M : Type 0} (allows : M → ℕ → Request → Answer → M → Type 0) (leaves : M → ℕ → M → Type 0) (conn : ℕ) (before after : M) (stop : Option TurnError) (result : Result Served LookupError) (said heard : List ℕ) : Type 0 where
+  pub request : Request
+  pub came : BringsRequest heard request
+  pub replies : Replies allows leaves conn before after request stop result said
+
+-- ONE REQUEST SERVED: what was written and read, how many turns it took, and what became of the mapper
+pub record Serves {M : Type 0} (allows : M → ℕ → Request → Answer → M → Type 0) (leaves : M → ℕ → M → Type 0) (conn limit : ℕ) (old new : StreamState) (before after : M) (result : Result Served LookupError) : Type 0 where
+  pub said : List ℕ
+  pub heard : List ℕ
+  pub written : new.written ≡ append_known old.written said
+  pub unread : old.unread ≡ prepend_known heard new.unread
+  pub left : ℕ
+  -- the fault of the stream that stopped it, if one did
+  pub stop : Option TurnError
+  pub spends : Spends old new limit left stop
+  pub outcome : Unrequested before after stop result said heard ⊎ Requested allows leaves conn before after stop result said heard

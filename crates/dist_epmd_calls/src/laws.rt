@@ -1,0 +1,19 @@
+//! Laws of the calls, over the definitions alone.
+
+ghost use Rattle.std.specs.Prelude.{◌≡◌, ℕ, Ok, Result};
+ghost use Rattle.dist_epmd.specs.Registrations.{Registrations, IsLegal};
+ghost use Rattle.dist_epmd.specs.History.{IsIn};
+ghost use Rattle.dist_epmd.specs.declared.row.Row.{Row};
+ghost use Rattle.dist_stream.specs.Stream.{StreamState};
+ghost use Rattle.dist_epmd_calls.specs.Mapping.{Allows, Leaves};
+ghost use Rattle.dist_epmd_calls.specs.Serving.{Serves};
+ghost use Rattle.dist_epmd_calls.specs.declared.lookup_error.LookupError.{LookupError};
+ghost use Rattle.dist_epmd_calls.specs.declared.serve.Served.{Served};
+ghost use Rattle.dist_epmd_calls.specs.declared.serve.Served.TheVariants.{Registered};
+
+/// However the serving of a request ends, the registrations that were lent keep their invariant, and none is new but one
+/// that was answered whole with result 0.
+pub fn registrations_that_are_lent()
+    ensures legal { (conn limit : ℕ) (old new : StreamState) (before after : Registrations) (result : Result Served LookupError) → Serves Allows Leaves conn limit old new before after result → IsLegal before → IsLegal after }
+    ensures answered { (conn limit : ℕ) (old new : StreamState) (before after : Registrations) (result : Result Served LookupError) → Serves Allows Leaves conn limit old new before after result → ¬ (result ≡ Ok Registered) → (row : Row) → IsIn row after.rows → IsIn row before.rows }
+{}

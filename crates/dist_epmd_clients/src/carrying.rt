@@ -1,0 +1,74 @@
+//! What came on a connection, and what is written on it, where its stream is held.
+
+ghost use Rattle.std.specs.Prelude.{◌≡◌, ◌<◌, IfSome, IfNone, None, length};
+ghost use Rattle.std.specs.Ordering.{nat_cmp};
+ghost use Rattle.std.specs.BTreeMap.{get, IsUnchanged};
+ghost use Rattle.dist_stream.specs.Stream.{Reads, Writes};
+ghost use Rattle.dist_epmd_clients.specs.Carrying.{Carries, Moves};
+ghost use Rattle.dist_epmd_clients.specs.Clients.{client_of, next_of, IsSame};
+
+use crate::client::Client;
+use crate::holding::Clients;
+use dist_stream::{Heard, Stream, Took};
+use std::collections::BTreeMap;
+
+fn read_in<S: Stream>(
+    clients: &mut BTreeMap<u64, Client<S>>,
+    conn: u64,
+    room: &mut [u8],
+) -> Option<Heard>
+    // The caller's.
+    requires { 0 < length room.old }
+    ensures some { IfSome result (λ heard. Moves (λ a b. Reads (S.meaning a) (S.meaning b) room.new heard) conn clients.old clients.new) }
+    ensures none { IfNone result (get nat_cmp clients.old conn ≡ None) }
+    ensures unchanged { IfNone result (IsUnchanged clients.old clients.new) }
+{
+    match clients.get_mut(&conn) {
+        Some(client) => Some(client.stream.read(room)),
+        None => None,
+    }
+}
+
+fn write_in<S: Stream>(
+    clients: &mut BTreeMap<u64, Client<S>>,
+    conn: u64,
+    bytes: &[u8],
+) -> Option<Took>
+    // The caller's.
+    requires { 0 < length bytes.now }
+    ensures some { IfSome result (λ took. Moves (λ a b. Writes (S.meaning a) (S.meaning b) bytes.now took) conn clients.old clients.new) }
+    ensures none { IfNone result (get nat_cmp clients.old conn ≡ None) }
+    ensures unchanged { IfNone result (IsUnchanged clients.old clients.new) }
+{
+    match clients.get_mut(&conn) {
+        Some(client) => Some(client.stream.write(bytes)),
+        None => None,
+    }
+}
+
+impl<S: Stream + Drop> Clients<S> {
+    /// Reads what has come on a connection, by one read. What the bytes come to is for `hear` to say. `None`: no such client
+    /// is here, and nothing is read.
+    pub fn read(&mut self, conn: u64, room: &mut [u8]) -> Option<Heard>
+        // The caller has room for bytes.
+        requires { 0 < length room.old }
+        ensures some { IfSome result (λ heard. Carries (λ a b. Reads (S.meaning a) (S.meaning b) room.new heard) conn self.old self.new) }
+        ensures none { IfNone result (client_of self.old conn ≡ None) }
+        ensures unchanged { IfNone result (IsSame self.old self.new) }
+        ensures next { next_of self.new ≡ next_of self.old }
+    {
+        read_in(&mut self.clients, conn, room)
+    }
+
+    /// Writes some bytes on a connection, by one write. `None`: no such client is here, and nothing is written.
+    pub fn write(&mut self, conn: u64, bytes: &[u8]) -> Option<Took>
+        // The caller has something to write.
+        requires { 0 < length bytes.now }
+        ensures some { IfSome result (λ took. Carries (λ a b. Writes (S.meaning a) (S.meaning b) bytes.now took) conn self.old self.new) }
+        ensures none { IfNone result (client_of self.old conn ≡ None) }
+        ensures unchanged { IfNone result (IsSame self.old self.new) }
+        ensures next { next_of self.new ≡ next_of self.old }
+    {
+        write_in(&mut self.clients, conn, bytes)
+    }
+}

@@ -1,0 +1,218 @@
+//! All clients of a port mapper, and its registry.
+
+ghost use Rattle.std.specs.Prelude.{◌≡◌, ◌↔◌, ◌+◌, ◌^◌, ℕ, false, IfOk, IsOk, IsErrOf, OnOk, OnErr};
+ghost use Rattle.std.specs.Prelude.{IfSome, None, Some, IsSome, option_map, option_copied, length, slice_get};
+ghost use Rattle.std.specs.List.{list_any, filter_map};
+ghost use Rattle.dist_epmd.specs.Registrations.{opening, after_closed, is_of};
+ghost use Rattle.dist_epmd_clients.specs.Standing.{asking_since, is_registered};
+ghost use Rattle.dist_epmd_clients.specs.Replying.{after_piece, asks, leaves};
+ghost use Rattle.dist_epmd_clients.specs.Clients.{registrations_of, client_of, clients_of, next_of, came, Becomes, CanLack, Drops, IsKept, IsSame};
+
+use crate::client::{Client, Talk};
+use crate::holding::Clients;
+use crate::open_error::OpenError;
+use crate::question::{Question, question_of};
+use crate::replying::{drop_registration, reply_to};
+use crate::table::{client_in, first_asking, put_client, registered_in, set_talk, take_client};
+use crate::turn::Turn;
+use dist_epmd::{Registry, Request};
+use dist_epmd_calls::Served;
+use dist_names::ByteString;
+use std::alloc::{AllocError, Global};
+use std::collections::BTreeMap;
+
+impl<S: Drop> Clients<S> {
+    /// No clients, and a registry without nodes, of the port mapper at this port. It takes no memory.
+    ///
+    /// The first node that is registered gets the creation `first`, each later one the next number.
+    pub fn new(alloc: Global, port: u16, first: u32) -> Clients<S>
+        ensures registrations { registrations_of result ≡ opening port first }
+        ensures none { (conn : ℕ) → client_of result conn ≡ None }
+        ensures next { next_of result ≡ 0 }
+    {
+        Clients {
+            registry: Registry::new(alloc, port, first),
+            next: 0,
+            clients: BTreeMap::new(alloc),
+        }
+    }
+
+    /// How many clients are connected.
+    pub fn len(&self) -> usize
+        ensures { result ≡ length (clients_of self.now) }
+    {
+        self.clients.len()
+    }
+
+    /// A registration stands exactly while its client is here: the law of every value of this type.
+    pub fn registrations_stand(&self)
+        ensures { (conn : ℕ) → list_any (is_of conn) (registrations_of self.now).rows ≡ is_registered (client_of self.now conn) }
+    {}
+
+    /// The registry of the clients' nodes.
+    pub fn registry(&self) -> &Registry
+        ensures { result.now ≡ registrations_of self.now }
+    {
+        &self.registry
+    }
+
+    /// What carries the bytes of a connection, where its client is here.
+    pub fn stream(&self, conn: u64) -> Option<&S>
+        ensures { option_copied result ≡ option_map (λ client. client.stream) (client_of self.now conn) }
+    {
+        match client_in(&self.clients, conn) {
+            Some(client) => Some(&client.stream),
+            None => None,
+        }
+    }
+
+    /// The connection that is here for the longest of those that have not asked yet, and when it came.
+    pub fn oldest(&self) -> Option<(u64, u64)>
+        ensures { result ≡ slice_get (filter_map asking_since (clients_of self.now)) 0 }
+    {
+        first_asking(&self.clients)
+    }
+
+    /// A client connects, and its connection gets the next number. `since` is when it came, in any unit.
+    ///
+    /// Refused as `Numbers` where all numbers were given, then `NoMemory`. Then nothing is changed, and the stream is dropped.
+    pub fn open(
+        &mut self,
+        alloc: Global,
+        stream: S,
+        local: bool,
+        since: u64,
+    ) -> Result<u64, OpenError>
+        ensures ok { IfOk result (λ conn. (conn ≡ next_of self.old)
+            × Becomes (Some (came stream local since)) (registrations_of self.old) conn self.old self.new) }
+        ensures next { OnOk result (next_of self.new ≡ next_of self.old + 1) }
+
+        // No client had the number.
+        ensures fresh { IfOk result (λ conn. client_of self.old conn ≡ None) }
+
+        ensures numbers { IsErrOf result OpenError.Numbers ↔ (next_of self.old + 1 ≡ 2 ^ 64) }
+
+        ensures unchanged { OnErr result (IsSame self.old self.new) }
+    {
+        let conn = self.next;
+        let Some(next) = conn.checked_add(1) else {
+            return Err(OpenError::Numbers);
+        };
+        let client = Client {
+            stream,
+            local,
+            since,
+            talk: Talk::Asking(ByteString::new(alloc)),
+        };
+        if put_client(&mut self.clients, conn, client).is_err() {
+            return Err(OpenError::NoMemory);
+        }
+        self.next = next;
+        Ok(conn)
+    }
+
+    /// A connection is over, or is to be: its client leaves, and its registration with it. Gives back what carried its
+    /// bytes. It takes no memory.
+    pub fn close(&mut self, conn: u64) -> Option<S>
+        ensures stream { result ≡ option_map (λ client. client.stream) (client_of self.old conn) }
+        ensures after { Becomes None (after_closed conn (registrations_of self.old)) conn self.old self.new }
+        ensures next { next_of self.new ≡ next_of self.old }
+    {
+        drop_registration(&mut self.registry, conn, registered_in(&self.clients, conn));
+        match take_client(&mut self.clients, conn) {
+            Some(client) => {
+                let Client { stream, .. } = client;
+                Some(stream)
+            }
+            None => None,
+        }
+    }
+
+    /// Bytes came on a connection. All that the client sent decides what is to be done, and what is left of the client and of
+    /// the registry.
+    ///
+    /// It fails only where memory runs out: then the client has left, its stream is dropped, and everything else stands, but
+    /// that a creation may be used up. That comes only where bytes came from a client that has not asked yet.
+    pub fn hear(&mut self, alloc: Global, conn: u64, piece: &[u8]) -> Result<Turn<S>, AllocError>
+        ensures ok { IfOk result (λ turn. let after = after_piece conn (client_of self.old conn) piece.now (registrations_of self.old) in
+            (turn ≡ after.turn) × Becomes after.client after.registrations conn self.old self.new) }
+        ensures lacks { OnErr result (CanLack (client_of self.old conn) piece.now) }
+        ensures err { OnErr result (Drops conn self.old self.new) }
+        ensures next { next_of self.new ≡ next_of self.old }
+    {
+        match self.take_piece(alloc, conn, piece) {
+            Ok(turn) => Ok(turn),
+            Err(error) => {
+                let _ = self.close(conn);
+                Err(error)
+            }
+        }
+    }
+
+    // The same, but that the client is still here after an `Err`.
+    fn take_piece(&mut self, alloc: Global, conn: u64, piece: &[u8]) -> Result<Turn<S>, AllocError>
+        ensures ok { IfOk result (λ turn. let after = after_piece conn (client_of self.old conn) piece.now (registrations_of self.old) in
+            (turn ≡ after.turn) × Becomes after.client after.registrations conn self.old self.new) }
+        ensures lacks { OnErr result (CanLack (client_of self.old conn) piece.now) }
+        ensures err { OnErr result (IsKept self.old self.new) }
+        ensures next { next_of self.new ≡ next_of self.old }
+    {
+        let Some(client) = client_in(&self.clients, conn) else {
+            return Ok(Turn::Wait);
+        };
+        if piece.is_empty() {
+            return Ok(Turn::Wait);
+        }
+        let Talk::Asking(said) = &client.talk else {
+            return Ok(self.leave(alloc, conn));
+        };
+        let mut all = said.try_clone(alloc)?;
+        all.append(piece)?;
+        match question_of(alloc, client.local, all.as_slice())? {
+            Question::Inside => {
+                set_talk(&mut self.clients, conn, Talk::Asking(all));
+                Ok(Turn::Wait)
+            }
+            Question::Nothing => Ok(self.leave(alloc, conn)),
+            Question::Asks(request) => self.reply(alloc, conn, &request),
+        }
+    }
+
+    // A client leaves, and nothing is sent to it.
+    fn leave(&mut self, alloc: Global, conn: u64) -> Turn<S>
+        // The caller looked it up.
+        requires there { IsSome (client_of self.old conn) }
+        ensures after { IfSome (client_of self.old conn) (λ client. let after = leaves conn client (registrations_of self.old) in
+            (result ≡ after.turn) × Becomes after.client after.registrations conn self.old self.new) }
+        ensures next { next_of self.new ≡ next_of self.old }
+    {
+        match self.close(conn) {
+            Some(stream) => Turn::Leave(stream, ByteString::new(alloc)),
+            None => Turn::Wait,
+        }
+    }
+
+    // Answers the request of a client that has not asked before.
+    fn reply(&mut self, alloc: Global, conn: u64, request: &Request) -> Result<Turn<S>, AllocError>
+        // The caller looked it up.
+        requires there { IsSome (client_of self.old conn) }
+        requires asking { is_registered (client_of self.old conn) ≡ false }
+        ensures ok { IfOk result (λ turn. IfSome (client_of self.old conn) (λ client. let after = asks conn client request.now (registrations_of self.old) in
+            (turn ≡ after.turn) × Becomes after.client after.registrations conn self.old self.new)) }
+        ensures err { OnErr result (IsKept self.old self.new) }
+        ensures next { next_of self.new ≡ next_of self.old }
+    {
+        let (served, text) = reply_to(&mut self.registry, alloc, conn, request)?;
+        if let Served::Registered = served {
+            set_talk(&mut self.clients, conn, Talk::Registered);
+            return Ok(Turn::Stay(text));
+        }
+        match take_client(&mut self.clients, conn) {
+            Some(client) => {
+                let Client { stream, .. } = client;
+                Ok(Turn::Leave(stream, text))
+            }
+            None => Ok(Turn::Wait),
+        }
+    }
+}

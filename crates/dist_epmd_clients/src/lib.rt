@@ -1,0 +1,26 @@
+//! The clients of a port mapper, as values: which are connected, what each has sent of its request, and which keep a node
+//! registered (ERTS User's Guide, Distribution Protocol, EPMD Protocol). Bytes that came go in, and bytes to be sent come out.
+//!
+//! It opens no socket, and it knows no clock: the carrier of a connection is any type, held here as long as the connection
+//! stands, and a time is a number that the caller gives.
+#![tactic(auto)]
+
+mod carrying;
+mod client;
+mod clients;
+mod front;
+mod holding;
+mod laws;
+mod open_error;
+mod question;
+mod replying;
+mod sweeping;
+mod table;
+mod turn;
+
+pub use client::{Client, Talk};
+pub use holding::Clients;
+pub use laws::{a_frame_asks_once, a_front_asks, any_pieces};
+pub use open_error::OpenError;
+pub use question::Question;
+pub use turn::Turn;

@@ -1,0 +1,59 @@
+//! What the registry answers to a client that asks.
+
+ghost use Rattle.std.specs.Prelude.{◌≡◌, false, IfOk, OnOk, OnErr};
+ghost use Rattle.std.specs.List.{list_any};
+ghost use Rattle.dist_epmd.specs.Registrations.{after_closed, is_of};
+ghost use Rattle.dist_epmd_calls.specs.Serving.{served_as};
+ghost use Rattle.dist_epmd_clients.specs.Replying.{answered, registrations_after, text_of};
+ghost use Rattle.dist_epmd_clients.specs.Clients.{Keeps};
+
+use dist_epmd::{Answer, EpmdError, Registry, Request, encode_answer};
+use dist_epmd_calls::{Mapper, Served, served_as};
+use dist_names::ByteString;
+use std::alloc::{AllocError, Global};
+
+// The bytes of an answer, and none where it has no spelling.
+fn text_of(alloc: Global, answer: &Answer) -> Result<ByteString, AllocError>
+    ensures { IfOk result (λ text. text ≡ text_of answer.now) }
+{
+    match encode_answer(alloc, answer) {
+        Ok(bytes) => Ok(ByteString::from_vec(bytes)),
+        Err(EpmdError::NoMemory) => Err(AllocError),
+        Err(_) => Ok(ByteString::new(alloc)),
+    }
+}
+
+/// Asks the registry. Returns how the request is served, and the bytes of the answer.
+///
+/// After an `Err` the registrations are those that there were. A creation may be used up.
+pub fn reply_to(
+    registry: &mut Registry,
+    alloc: Global,
+    conn: u64,
+    request: &Request,
+) -> Result<(Served, ByteString), AllocError>
+    // The client of this connection has not asked yet.
+    requires { list_any (is_of conn) registry.old.rows ≡ false }
+    ensures served { IfOk result (λ r. r.0 ≡ served_as request.now (answered conn request.now registry.old)) }
+    ensures text { IfOk result (λ r. r.1 ≡ text_of (answered conn request.now registry.old)) }
+    ensures after { OnOk result (registry.new ≡ registrations_after conn request.now registry.old) }
+    ensures err { OnErr result (Keeps registry.old registry.new) }
+{
+    let answer = registry.ask(alloc, conn, request)?;
+    let Ok(text) = text_of(alloc, &answer) else {
+        registry.closed(conn);
+        return Err(AllocError);
+    };
+    Ok((served_as(request, &answer), text))
+}
+
+/// Drops the registration of a connection, where it has one.
+pub fn drop_registration(registry: &mut Registry, conn: u64, has_one: bool)
+    // The caller knows it from the client of the connection.
+    requires { list_any (is_of conn) registry.old.rows ≡ has_one }
+    ensures { registry.new ≡ after_closed conn registry.old }
+{
+    if has_one {
+        registry.closed(conn);
+    }
+}

@@ -1,0 +1,87 @@
+//! What is done for a connection when it is ready: its client is served, or what is owed on it goes on.
+
+ghost use Rattle.dist_epmd_clients.specs.Clients.{OthersStay};
+ghost use Rattle.dist_epmd_server.specs.Attending.{Attends, GoesOnOwed, IsHeard, Settles, WatchIsOf};
+
+use crate::owing::Owing;
+use crate::turns::{Step, read_all};
+use dist_epmd_clients::Clients;
+use dist_stream::Stream;
+use std::alloc::Global;
+
+/// What a connection is to be watched for, also again.
+#[derive(Clone, Copy, Debug, PartialEq, Eq)]
+pub enum Watch {
+    /// Nothing that was not asked for already.
+    Nothing,
+    /// More may have come than was read.
+    Reading,
+    /// Something is owed, and its stream took no more.
+    Writing,
+}
+
+fn watch_of(is_left: bool) -> Watch
+    ensures { WatchIsOf is_left result }
+{
+    if is_left {
+        Watch::Writing
+    } else {
+        Watch::Nothing
+    }
+}
+
+// Does what a step of a connection asks for.
+fn settle<S: Stream + Drop>(owing: &mut Owing<S>, conn: u64, step: Step<S>, now: u64) -> Watch
+    ensures { Settles S.meaning step conn now owing.old owing.new result }
+{
+    match step {
+        Step::More => Watch::Reading,
+        Step::Leaves(stream, text) => watch_of(owing.leave(conn, stream, text, now)),
+        Step::Quiet | Step::Closed => Watch::Nothing,
+    }
+}
+
+// Reads what came from a client that is here.
+fn hear<S: Stream + Drop>(
+    clients: &mut Clients<S>,
+    owing: &mut Owing<S>,
+    alloc: Global,
+    conn: u64,
+    room: &mut [u8],
+    now: u64,
+) -> Watch
+    ensures heard { IsHeard S.meaning conn now clients.old clients.new owing.old owing.new result }
+    ensures others { OthersStay conn clients.old clients.new }
+{
+    let step = read_all(clients, alloc, conn, room);
+    settle(owing, conn, step, now)
+}
+
+// Goes on to send what is owed on a connection.
+fn go_on<S: Stream + Drop>(owing: &mut Owing<S>, conn: u64) -> Watch
+    ensures { GoesOnOwed S.meaning conn owing.old owing.new result }
+{
+    watch_of(owing.go_on(conn))
+}
+
+/// Does what is to be done for a connection that is ready, and returns what it is to be watched for. A client that is here is
+/// served: some reads are made, and what the table answers is sent. Where it has left, what is owed to it goes on. Where the
+/// room is empty nothing is read, and the connection is to be watched again; where nobody is here and nothing is owed, nothing
+/// happens.
+pub fn attend<S: Stream + Drop>(
+    clients: &mut Clients<S>,
+    owing: &mut Owing<S>,
+    alloc: Global,
+    conn: u64,
+    room: &mut [u8],
+    now: u64,
+) -> Watch
+    ensures attends { Attends S.meaning conn now clients.old clients.new owing.old owing.new result }
+    ensures others { OthersStay conn clients.old clients.new }
+{
+    if clients.stream(conn).is_some() {
+        hear(clients, owing, alloc, conn, room, now)
+    } else {
+        go_on(owing, conn)
+    }
+}

@@ -1,0 +1,23 @@
+//! Serves the clients of a port mapper at sockets, all of them at once on one thread: readiness is waited for, and what
+//! is ready is read, given to the clients' table, answered and closed.
+//!
+//! No client is waited for. One that sends nothing is closed after a time, or earlier where its place is needed. What moves
+//! bytes is generic over the stream; sockets stand in `server` and `serving` alone.
+#![tactic(auto)]
+
+mod attending;
+mod owed;
+mod owing;
+mod places;
+mod saying;
+mod server;
+mod serving;
+mod turns;
+
+pub use attending::{Watch, attend};
+pub use owed::Owed;
+pub use owing::Owing;
+pub use saying::{Said, say};
+pub use server::{Limits, Server};
+pub use serving::serve;
+pub use turns::{Step, read_all};

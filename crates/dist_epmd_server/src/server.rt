@@ -1,0 +1,276 @@
+//! The sockets of a port mapper and their clients.
+
+ghost use Rattle.std.specs.Prelude.{◌≡◌, ◌<◌, ◌≤◌, ◌-◌, not, filter, nat_le};
+ghost use Rattle.dist_epmd_clients.specs.Clients.{registrations_of, clients_of};
+ghost use Rattle.dist_epmd_clients.specs.Sweeping.{is_late};
+ghost use Rattle.dist_epmd_server.specs.Attending.{Attends};
+ghost use Rattle.dist_epmd_server.specs.declared.attending.Watch.{Watch};
+ghost use Rattle.dist_epmd_server.specs.Owed.{since_of};
+ghost use Rattle.dist_epmd_server.specs.Owing.{all_owed};
+ghost use Rattle.dist_epmd_server.specs.Serving.{clients_at, oldest_of, owing_at, most_of, seconds_of, swept_at, ComesTo, MakesRoom};
+
+use crate::attending::{Watch, attend};
+use crate::owing::Owing;
+use crate::places::{make_room, take_in};
+use dist_epmd_clients::Clients;
+use dist_stream::{SocketStream, Stream};
+use mio::net::{TcpListener, TcpStream};
+use mio::unix::SourceFd;
+use mio::{Events, Interest, Poll, Token};
+use std::alloc::Global;
+use std::io::{self, ErrorKind};
+use std::net::{self, IpAddr, Net};
+use std::os::fd::AsRawFd;
+use std::time::Duration;
+
+// The most connections that are accepted at one listener before the others are looked at.
+const ACCEPTS: usize = 256;
+
+// The most listeners.
+const LISTENERS: usize = 16;
+
+/// The limits of a port mapper.
+#[derive(Clone, Copy, Debug, PartialEq, Eq)]
+pub struct Limits {
+    /// The most clients at once, with those that have left and are owed something.
+    pub clients: usize,
+    /// After how many seconds a client is closed that has not asked, or does not read its answer.
+    pub seconds: u64,
+}
+
+/// A port mapper at its sockets.
+#[derive(Drop)]
+pub struct Server {
+    alloc: Global,
+    poll: Poll,
+    listeners: Vec<TcpListener>,
+    clients: Clients<SocketStream>,
+    // What is sent to those that have left.
+    owing: Owing<SocketStream>,
+    limits: Limits,
+    // Connections may wait at a listener, and none could be accepted.
+    stuck: bool,
+    // When the clients were looked through for late ones.
+    swept: u64,
+}
+
+// Whether a client at this address is on this host. At a socket for addresses of both kinds one of IPv4 comes as one of IPv6.
+fn is_local(stream: &TcpStream, from: IpAddr) -> bool {
+    if from.to_canonical().is_loopback() {
+        return true;
+    }
+    match stream.local_addr() {
+        Ok(own) => own.ip() == from,
+        Err(_) => false,
+    }
+}
+
+// Which listener a token is of.
+fn listener_of(token: Token) -> Option<usize> {
+    let place = usize::MAX - token.0;
+    if place < LISTENERS { Some(place) } else { None }
+}
+
+fn token_of(conn: u64) -> Option<Token> {
+    match usize::try_from(conn) {
+        Ok(number) => Some(Token(number)),
+        Err(_) => None,
+    }
+}
+
+impl Server {
+    /// A port mapper without listeners. `port` is reported to clients as its own, and `first` is the first creation.
+    pub fn new(
+        net: &impl Net,
+        alloc: Global,
+        port: u16,
+        first: u32,
+        limits: Limits,
+    ) -> io::Result<Server> {
+        Ok(Server {
+            alloc,
+            poll: Poll::new(net)?,
+            listeners: Vec::new(alloc),
+            clients: Clients::new(alloc, port, first),
+            owing: Owing::new(alloc),
+            limits,
+            stuck: false,
+            swept: 0,
+        })
+    }
+
+    /// Listens at one more socket, which does not block.
+    pub fn add_listener(&mut self, mut listener: TcpListener) -> io::Result<()> {
+        let place = self.listeners.len();
+        if place >= LISTENERS {
+            return Err(io::Error::from(ErrorKind::InvalidInput));
+        }
+        let token = Token(usize::MAX - place);
+        self.poll
+            .registry()
+            .register(&mut listener, token, Interest::READABLE)?;
+        self.listeners.push(listener)?;
+        Ok(())
+    }
+
+    /// Waits until something is ready, and puts that into the events.
+    pub fn wait(&mut self, events: &mut Events, most: Duration) -> io::Result<()> {
+        self.poll.poll(events, Some(most))
+    }
+
+    // Asks to be notified again of a listener at which connections may wait.
+    fn rearm(&self, place: usize) {
+        if let Some(listener) = self.listeners.get(place) {
+            let fd = listener.as_raw_fd();
+            let token = Token(usize::MAX - place);
+            let registry = self.poll.registry();
+            let _ = registry.reregister(&mut SourceFd(&fd), token, Interest::READABLE);
+        }
+    }
+
+    // Makes room for one connection more. Returns whether there was some to make.
+    fn drop_oldest(&mut self) -> bool
+        ensures { MakesRoom (oldest_of (clients_at self.old)) (clients_at self.old) (clients_at self.new) (owing_at self.old) (owing_at self.new) result }
+    {
+        make_room(&mut self.clients, &mut self.owing)
+    }
+
+    // Takes a connection in. Where all places are taken, the oldest client that has not asked makes room; where there is
+    // none, the new one is closed.
+    fn take(&mut self, stream: TcpStream, from: IpAddr, now: u64)
+        ensures { ComesTo now (most_of self.old) (clients_at self.old) (clients_at self.new) (owing_at self.old) (owing_at self.new) }
+    {
+        let local = is_local(&stream, from);
+        let fd = stream.as_raw_fd();
+        let stream = SocketStream::new(net::TcpStream::from(stream));
+        let most = self.limits.clients;
+        let (clients, owing) = (&mut self.clients, &mut self.owing);
+        let Some(conn) = take_in(clients, owing, self.alloc, stream, local, now, most) else {
+            return;
+        };
+        if !self.watch(fd, conn) {
+            let _ = self.clients.close(conn);
+        }
+    }
+
+    fn watch(&self, fd: i32, conn: u64) -> bool {
+        match token_of(conn) {
+            Some(token) => self
+                .poll
+                .registry()
+                .register(&mut SourceFd(&fd), token, Interest::READABLE)
+                .is_ok(),
+            None => false,
+        }
+    }
+
+    // Accepts what waits at a listener.
+    fn accept_all(&mut self, place: usize, now: u64) {
+        for _ in 0..ACCEPTS {
+            let Some(listener) = self.listeners.get(place) else {
+                return;
+            };
+            match listener.accept() {
+                Ok((stream, from)) => self.take(stream, from.ip(), now),
+                Err(error) => match error.kind() {
+                    ErrorKind::WouldBlock => return,
+                    ErrorKind::Interrupted | ErrorKind::ConnectionAborted => {}
+                    // No descriptor is left, or no memory.
+                    _ => {
+                        if !self.drop_oldest() {
+                            self.stuck = true;
+                            return;
+                        }
+                    }
+                },
+            }
+        }
+        self.rearm(place);
+    }
+
+    // Asks to be notified, also again, when a connection is ready for this.
+    fn rewatch(&self, conn: u64, fd: i32, interest: Interest) {
+        if let Some(token) = token_of(conn) {
+            let registry = self.poll.registry();
+            let _ = registry.reregister(&mut SourceFd(&fd), token, interest);
+        }
+    }
+
+    // Asks for what a connection is to be watched for.
+    fn watch_again(&self, conn: u64, watch: Watch) {
+        match watch {
+            Watch::Nothing => {}
+            Watch::Reading => {
+                if let Some(stream) = self.clients.stream(conn) {
+                    self.rewatch(conn, stream.get_ref().as_raw_fd(), Interest::READABLE);
+                }
+            }
+            Watch::Writing => {
+                if let Some(stream) = self.owing.stream(conn) {
+                    self.rewatch(conn, stream.get_ref().as_raw_fd(), Interest::WRITABLE);
+                }
+            }
+        }
+    }
+
+    // Does what is to be done for a connection that is ready.
+    fn attend(&mut self, conn: u64, room: &mut [u8], now: u64)
+        ensures { (watch : Watch) × Attends ⟦<SocketStream as Stream>⟧.meaning conn now
+            (clients_at self.old) (clients_at self.new) (owing_at self.old) (owing_at self.new) watch }
+    {
+        let (clients, owing) = (&mut self.clients, &mut self.owing);
+        let watch = attend(clients, owing, self.alloc, conn, room, now);
+        self.watch_again(conn, watch);
+    }
+
+    /// Serves the clients among what is ready. They come before the listeners: the end of a connection is noticed before a
+    /// later connection asks.
+    pub fn serve_client(&mut self, token: Token, room: &mut [u8], now: u64) {
+        if listener_of(token).is_none() {
+            self.attend(token.0 as u64, room, now);
+        }
+    }
+
+    /// Serves the listeners among what is ready.
+    pub fn serve_listener(&mut self, token: Token, now: u64) {
+        if let Some(place) = listener_of(token) {
+            self.accept_all(place, now);
+        }
+    }
+
+    // Looks at the listeners again where none could be accepted.
+    fn wake(&mut self)
+        ensures clients { clients_at self.new ≡ clients_at self.old }
+        ensures owing { owing_at self.new ≡ owing_at self.old }
+    {
+        if !self.stuck {
+            return;
+        }
+        self.stuck = false;
+        for place in 0..LISTENERS {
+            self.rearm(place);
+        }
+    }
+
+    /// Once a second: closes whoever is late, and looks at the listeners again where none could be accepted.
+    pub fn sweep(&mut self, now: u64)
+        ensures clients { swept_at self.old < now →
+            clients_of (clients_at self.new) ≡ filter (λ e. not (is_late now (seconds_of self.old) e.1)) (clients_of (clients_at self.old)) }
+        ensures owed { swept_at self.old < now →
+            all_owed (owing_at self.new) ≡ filter (λ e. not (nat_le (seconds_of self.old) (now - since_of e.1))) (all_owed (owing_at self.old)) }
+
+        // A registration is never late.
+        ensures registry { registrations_of (clients_at self.new) ≡ registrations_of (clients_at self.old) }
+
+        ensures again { now ≤ swept_at self.old → (clients_at self.new ≡ clients_at self.old) × (owing_at self.new ≡ owing_at self.old) }
+    {
+        if now <= self.swept {
+            return;
+        }
+        self.swept = now;
+        let seconds = self.limits.seconds;
+        self.clients.drop_late(now, seconds);
+        self.owing.drop_late(now, seconds);
+        self.wake();
+    }
+}

@@ -1,0 +1,62 @@
+-- What releases of Erlang/OTP announce and ask of a peer, and which release a node's flags are those of (dist.hrl of the
+-- application kernel, and erts_internal:get_dflags/0, in OTP 23, 25, 27 and 29).
+use Rattle.std.specs.Prelude.{ℕ, ◌-◌, ◌^◌, ◌==◌, Bool, false, bit_and, bit_or, Option, Some, None, if◌then◌else◌}
+use Rattle.dist_names.specs.Flags.{has_all}
+use Rattle.dist_names.specs.declared.flags.Flags.{Flags}
+use Rattle.dist_flags.specs.declared.release.Release.{Release}
+use Rattle.dist_flags.specs.declared.release.Release.TheVariants as release
+use Rattle.dist_flags.specs.declared.release.Told.{Told}
+use Rattle.dist_flags.specs.declared.release.Told.TheVariants as told
+
+-- what OTP 25 asks for: EXTENDED_REFERENCES, FUN_TAGS, NEW_FUN_TAGS, EXTENDED_PIDS_PORTS, EXPORT_PTR_TAG, BIT_BINARIES,
+-- NEW_FLOATS, UTF8_ATOMS, MAP_TAG, BIG_CREATION, HANDSHAKE_23
+abbrev pub mandatory_25 : ℕ
+mandatory_25 = 0x1070f94
+
+-- what a node of a release asks of each peer
+abbrev pub required_by : Release → ℕ
+required_by release.Before23 = 0x50184
+required_by release.Otp23 = 0x50184
+required_by release.Otp24 = 0x1070f94
+required_by release.Otp25 = 0x1070f94
+required_by release.Otp28 = 0x403070f94
+required_by release.Otp29 = 0x403070f94
+
+-- these flags show this one
+abbrev pub shows : ℕ → ℕ → Bool
+shows flags one = has_all flags one
+
+-- the flags with those for which MANDATORY_25_DIGEST stands
+abbrev pub expanded : ℕ → ℕ
+expanded flags = if shows flags 0x4000000 then bit_or flags mandatory_25 else flags
+
+-- which of the wanted flags are absent
+abbrev pub missing : ℕ → ℕ → ℕ
+missing flags wanted = bit_and wanted (2 ^ 64 - 1 - expanded flags)
+
+-- the newest release one of whose own flags is there
+abbrev pub release_of : ℕ → Release
+release_of flags =
+    if shows flags 0x4000000000 then release.Otp29 else
+    if shows flags 0x2000000000 then release.Otp28 else
+    if shows flags 0x4000000 then release.Otp25 else
+    if shows flags 0x400000000 then release.Otp24 else
+    if shows flags 0x1000000 then release.Otp23 else release.Before23
+
+-- what a node of a release announces where it is not hidden, where that is known
+abbrev pub announced_by : Release → Option Flags
+announced_by release.Before23 = None
+announced_by release.Otp23 = Some (record { 0 = 0x101df7fbd })
+announced_by release.Otp24 = None
+announced_by release.Otp25 = Some (record { 0 = 0xd07df7fbd })
+announced_by release.Otp28 = None
+announced_by release.Otp29 = Some (record { 0 = 0x6d07df7fbd })
+
+-- the flags, with PUBLISHED, are all that is announced and no other
+abbrev pub is_just : Option Flags → ℕ → Bool
+is_just None flags = false
+is_just (Some all) flags = bit_or flags 1 == all.0
+
+-- the release, and whether the flags are just those of it
+abbrev pub told_by : ℕ → Told
+told_by flags = if is_just (announced_by (release_of flags)) flags then told.Just (release_of flags) else told.UpTo (release_of flags)

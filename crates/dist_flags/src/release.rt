@@ -1,0 +1,126 @@
+//! What releases of Erlang/OTP announce and ask of a peer, and which release a node's flags are those of.
+
+ghost use Rattle.std.specs.Prelude.{◌≡◌};
+ghost use Rattle.dist_flags.specs.Releases.{announced_by, expanded, is_just, missing, release_of, required_by, told_by};
+
+use dist_names::Flags;
+
+/// The release that a node's flags are those of: of those that add a flag, the newest whose flag it announces.
+#[derive(Clone, Copy, PartialEq, Eq)]
+pub enum Release {
+    /// Before OTP 23: no handshake of version 6.
+    Before23,
+    /// OTP 23.
+    Otp23,
+    /// OTP 24.
+    Otp24,
+    /// OTP 25, 26 or 27, which announce the same flags.
+    Otp25,
+    /// OTP 28.
+    Otp28,
+    /// OTP 29, or a newer one.
+    Otp29,
+}
+
+/// What a node's flags show of its release.
+#[derive(Clone, Copy, PartialEq, Eq)]
+pub enum Told {
+    /// They are just those that this release announces, `PUBLISHED` apart.
+    Just(Release),
+    /// They are others, and this is the newest release one of whose own flags is there: a release whose flags are not known
+    /// here, or no node of Erlang/OTP.
+    UpTo(Release),
+}
+
+impl Release {
+    /// The flags that a node of this release announces where it is not hidden, where they are known.
+    ///
+    /// Source: seen of OTP 23, 25, 27 and 29; 26 announces the same as these two. Those of OTP 24 and 28 are not known here.
+    pub fn announced(self) -> Option<Flags>
+        ensures { result ≡ announced_by self }
+    {
+        match self {
+            Release::Otp23 => Some(Flags(0x101df7fbd)),
+            Release::Otp25 => Some(Flags(0xd07df7fbd)),
+            Release::Otp29 => Some(Flags(0x6d07df7fbd)),
+            Release::Before23 | Release::Otp24 | Release::Otp28 => None,
+        }
+    }
+
+    /// The flags that a node of this release asks of each peer, spelled out. What a release before 23 asks is not known here,
+    /// and reported as that of 23; what OTP 24 asks as that of 25.
+    ///
+    /// Source: `dist.hrl` and `erts_internal:get_dflags/0` of OTP 23, 25, 27 and 29.
+    pub fn required(self) -> Flags
+        ensures { result.0 ≡ required_by self }
+    {
+        match self {
+            Release::Before23 | Release::Otp23 => Flags(0x50184),
+            Release::Otp24 | Release::Otp25 => Flags(0x1070f94),
+            Release::Otp28 | Release::Otp29 => Flags(0x403070f94),
+        }
+    }
+}
+
+/// The flags, and those for which DFLAG_MANDATORY_25_DIGEST stands where it is one of them. OTP reads them so from release
+/// 25 on.
+pub fn expanded(flags: Flags) -> Flags
+    ensures { result.0 ≡ expanded flags.0 }
+{
+    if flags.has(Flags(0x4000000)) {
+        Flags(flags.0 | 0x1070f94)
+    } else {
+        flags
+    }
+}
+
+/// Which of the wanted flags are absent, as a node reads the others.
+pub fn missing(flags: Flags, wanted: Flags) -> Flags
+    ensures { result.0 ≡ missing flags.0 wanted.0 }
+{
+    Flags(wanted.0 & !expanded(flags).0)
+}
+
+/// The release that a node's flags are those of.
+pub fn release_of(flags: Flags) -> Release
+    ensures { result ≡ release_of flags.0 }
+{
+    if flags.has(Flags(0x4000000000)) {
+        return Release::Otp29;
+    }
+    if flags.has(Flags(0x2000000000)) {
+        return Release::Otp28;
+    }
+    if flags.has(Flags(0x4000000)) {
+        return Release::Otp25;
+    }
+    if flags.has(Flags(0x400000000)) {
+        return Release::Otp24;
+    }
+    if flags.has(Flags(0x1000000)) {
+        return Release::Otp23;
+    }
+    Release::Before23
+}
+
+// Whether the flags, `PUBLISHED` apart, are just those that a release announces.
+fn is_just(announced: Option<Flags>, flags: Flags) -> bool
+    ensures { result ≡ is_just announced flags.0 }
+{
+    match announced {
+        Some(all) => flags.0 | 1 == all.0,
+        None => false,
+    }
+}
+
+/// The release that a node's flags show, and whether they are just those of it.
+pub fn told_by(flags: Flags) -> Told
+    ensures { result ≡ told_by flags.0 }
+{
+    let release = release_of(flags);
+    if is_just(release.announced(), flags) {
+        Told::Just(release)
+    } else {
+        Told::UpTo(release)
+    }
+}

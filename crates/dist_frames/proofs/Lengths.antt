@@ -1,0 +1,80 @@
+-- The frame at the front, by how many bytes it has.
+use Rattle.std.proofs.Common.{◌≡◌, ℕ, ◌+◌, ◌-◌, ◌<◌, ◌≤◌, Bool, true, false, cond, leb, List, length, take, drop, Option, Some, None, refl, sym, ap, subst, ◌∙◌, arith, lit≤, length-drop}
+use Rattle.std.specs.Int.{w16}
+use Rattle.std.proofs.lemmas.Bool.{leb-true, leb-false, lt-leb, and_left, and_right}
+use Rattle.std.proofs.lemmas.List.{drop-drop}
+use Rattle.dist_frames.specs.Stream.{head, has_first, front, behind, first_body, after_first}
+use Rattle.dist_frames.specs.Kept.{frame_len}
+use Rattle.dist_frames.proofs.Streams.{starts_true}
+
+-- this many bytes are the frame at the front
+record Whole (s : List ℕ) (n : ℕ) : Type 0 where
+  pub starts : has_first w16 s ≡ true
+  pub len : n ≡ 2 + head w16 s
+
+whole_at : (s : List ℕ) (b : Bool) → leb 2 (length s) ≡ b → cond b (2 + head w16 s) 2 ≤ length s → Whole s (cond b (2 + head w16 s) 2)
+whole_at s true h le = record { starts = starts_true w16 s (record { long = leb-true 2 (length s) h; whole = omega (arith, length-drop 2 s, le) }); len = refl }
+whole_at s false h le = let few : length s < 2 = leb-false 2 (length s) h in absurd (omega arith)
+
+whole : (s : List ℕ) (n : ℕ) → n ≡ frame_len s → n ≤ length s → Whole s n
+whole s n e le = subst (Whole s) (sym e) (whole_at s (leb 2 (length s)) refl (subst (λ (k : ℕ). k ≤ length s) e le))
+
+part_at : (s : List ℕ) (b : Bool) → leb 2 (length s) ≡ b → length s < cond b (2 + head w16 s) 2 → has_first w16 s ≡ false
+part_at s true h lt =
+    let long : 2 ≤ length s = leb-true 2 (length s) h in
+    and_right (leb 2 (length s)) (leb (head w16 s) (length (drop 2 s))) (lt-leb (head w16 s) (length (drop 2 s)) (omega (arith, length-drop 2 s)))
+part_at s false h lt = and_left (leb 2 (length s)) (leb (head w16 s) (length (drop 2 s))) h
+
+part : (s : List ℕ) (n : ℕ) → n ≡ frame_len s → length s < n → has_first w16 s ≡ false
+part s n e lt = part_at s (leb 2 (length s)) refl (subst (λ (k : ℕ). length s < k) e lt)
+
+-- ---- its body
+
+abbrev some : List ℕ → Option (List ℕ)
+some x = Some x
+
+abbrev none : Option (List ℕ)
+none = None
+
+body_where : (b : Bool) (x y : List ℕ) → b ≡ true → x ≡ y → cond b (some x) none ≡ some y
+body_where true x y h e = ap some e
+body_where false x y h e = absurd cc
+
+no_body_where : (b : Bool) (x : List ℕ) → b ≡ false → cond b (some x) none ≡ none
+no_body_where true x h = absurd cc
+no_body_where false x h = refl
+
+least_at : (b : Bool) (n : ℕ) → 2 ≤ cond b (2 + n) 2
+least_at true n = omega arith
+least_at false n = lit≤ tt
+
+pub least : (s : List ℕ) (n : ℕ) → n ≡ frame_len s → 2 ≤ n
+least s n e = subst (λ (k : ℕ). 2 ≤ k) (sym e) (least_at (leb 2 (length s)) (head w16 s))
+
+pub no_body : (s : List ℕ) (n : ℕ) → n ≡ frame_len s → length s < n → none ≡ first_body w16 s
+no_body s n e lt = sym (no_body_where (has_first w16 s) (front w16 s) (part s n e lt))
+
+pub some_body : (s : List ℕ) (n : ℕ) → n ≡ frame_len s → n ≤ length s → some (take (n - 2) (drop 2 s)) ≡ first_body w16 s
+some_body s n e le =
+    let w = whole s n e le in
+    let len : head w16 s ≡ n - 2 = omega (arith, w.len) in
+    sym (body_where (has_first w16 s) (front w16 s) (take (n - 2) (drop 2 s)) w.starts (ap (λ (k : ℕ). take k (drop 2 s)) len))
+
+-- ---- what stands behind it
+
+rest_where : (b : Bool) (x y z : List ℕ) → b ≡ true → x ≡ y → cond b x z ≡ y
+rest_where true x y z h e = e
+rest_where false x y z h e = absurd cc
+
+all_where : (b : Bool) (x z : List ℕ) → b ≡ false → cond b x z ≡ z
+all_where true x z h = absurd cc
+all_where false x z h = refl
+
+pub moved : (s : List ℕ) (n : ℕ) → n ≡ frame_len s → n ≤ length s → drop n s ≡ after_first w16 s
+moved s n e le =
+    let w = whole s n e le in
+    let there : behind w16 s ≡ drop n s = drop-drop (head w16 s) 2 s ∙ ap (λ (k : ℕ). drop k s) (sym w.len) in
+    sym (rest_where (has_first w16 s) (behind w16 s) (drop n s) s w.starts there)
+
+pub stays_put : (s : List ℕ) (n : ℕ) → n ≡ frame_len s → length s < n → s ≡ after_first w16 s
+stays_put s n e lt = sym (all_where (has_first w16 s) (behind w16 s) s (part s n e lt))

@@ -1,0 +1,103 @@
+//! Bytes that wait.
+
+ghost use Rattle.std.specs.Prelude.{◌≡◌, ◌++◌, ◌-◌, [], length, take, drop, OnOk, OnErr};
+
+use std::alloc::{AllocError, Global};
+use std::marker::Model;
+
+/// Bytes that wait: more come at the end, and those at the front go once they were read. Contracts see those that wait.
+///
+/// Bytes that went stay where they are until the next ones would make the vector grow. Then those that wait move to the front,
+/// unless they are more than those that went: so a byte moves at most once on the average.
+#[derive(Drop)]
+pub struct ByteQueue {
+    bytes: Vec<u8>,
+    // Where those begin that wait.
+    start: usize,
+}
+
+impl Model for ByteQueue {
+    ghost use Rattle.std.specs.Prelude.{◌≤◌, ℕ, List, length, drop};
+
+    ghost Value = { List ℕ };
+
+    ghost view = { λ q. drop q.start q.bytes.items };
+
+    ghost invariant = { λ q. q.start ≤ length q.bytes.items };
+}
+
+impl ByteQueue {
+    /// No bytes. It takes no memory.
+    pub fn new(alloc: Global) -> ByteQueue
+        ensures { result ≡ [] }
+    {
+        ByteQueue {
+            bytes: Vec::new(alloc),
+            start: 0,
+        }
+    }
+
+    /// These bytes wait. It takes no memory.
+    pub fn from_vec(bytes: Vec<u8>) -> ByteQueue
+        ensures { result ≡ bytes.items }
+    {
+        ByteQueue { bytes, start: 0 }
+    }
+
+    /// All that wait.
+    pub fn as_slice(&self) -> &[u8]
+        ensures { result.now ≡ self.now }
+    {
+        &self.bytes[self.start..]
+    }
+
+    // Moves the bytes to the front of the vector, where it would grow for so many more, and no more of them wait than went.
+    fn make_room(&mut self, more: usize)
+        ensures { self.new ≡ self.old }
+    {
+        let lacks = self.bytes.capacity().saturating_sub(self.bytes.len()) < more;
+        let waiting = self.bytes.len() - self.start;
+        if lacks && waiting <= self.start {
+            self.bytes.copy_within(self.start.., 0);
+            self.bytes.truncate(waiting);
+            self.start = 0;
+        }
+    }
+
+    /// More bytes come, behind all others. An `Err` changes nothing.
+    pub fn extend(&mut self, more: &[u8]) -> Result<(), AllocError>
+        ensures ok { OnOk result (self.new ≡ self.old ++ more.now) }
+        ensures err { OnErr result (self.new ≡ self.old) }
+    {
+        self.make_room(more.len());
+        self.bytes.extend_from_slice(more)
+    }
+
+    /// The first `count` bytes go, or all.
+    pub fn drop_front(&mut self, count: usize)
+        ensures { self.new ≡ drop count self.old }
+    {
+        let waiting = self.bytes.len() - self.start;
+        self.start += count.min(waiting);
+    }
+
+    /// The last `count` bytes go, or all.
+    pub fn drop_back(&mut self, count: usize)
+        ensures { self.new ≡ take (length self.old - count) self.old }
+    {
+        let waiting = self.bytes.len() - self.start;
+        let left = self.bytes.len() - count.min(waiting);
+        self.bytes.truncate(left);
+    }
+
+    /// The bytes themselves, given back. It takes no memory.
+    pub fn into_vec(self) -> Vec<u8>
+        ensures { result.items ≡ self }
+    {
+        let ByteQueue { mut bytes, start } = self;
+        let waiting = bytes.len() - start;
+        bytes.copy_within(start.., 0);
+        bytes.truncate(waiting);
+        bytes
+    }
+}

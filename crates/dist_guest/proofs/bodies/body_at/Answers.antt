@@ -1,9 +1,0 @@
-use Rattle.std.proofs.Common.{◌≡◌, ap, sym, ◌∙◌, arith, slice_get}
-use Rattle.dist_frames.specs.Stream.{bodies}
-use Rattle.dist_guest.proofs.Places.{first_there}
-use Rattle.dist_guest.proofs.bodies.body_at.Goals as goal
-
-pub returns : goal.returns
-returns c =
-    let none_left : 0 ≡ c.loop-left.left = omega (arith, c.loop-left-test.false) in
-    first_there c.loop-left.rest.now _ c.first_body-2.ensures ∙ ap (slice_get (bodies c.loop-left.rest.now)) none_left ∙ sym c.loop-left.invariant

@@ -1,5 +1,0 @@
-use Rattle.dist_guest.proofs.Runs.{a-run}
-use Rattle.dist_guest.proofs.laws.a_history_is_a_run.Goals as goal
-
-pub returns : goal.returns
-returns c = a-run

@@ -1,5 +1,0 @@
-use Rattle.dist_guest.proofs.Acts.{a-run-of-acts}
-use Rattle.dist_guest.proofs.laws.any_history_is_a_run.Goals as goal
-
-pub returns : goal.returns
-returns c = a-run-of-acts

@@ -1,5 +1,0 @@
-use Rattle.dist_laws.proofs.Answering.{dialled-challenge}
-use Rattle.dist_laws.proofs.laws.a_reply_is_said_to_the_dialled_name.Goals as goal
-
-pub returns : goal.returns
-returns c = dialled-challenge

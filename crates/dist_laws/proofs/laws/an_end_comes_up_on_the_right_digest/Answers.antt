@@ -1,5 +1,0 @@
-use Rattle.dist_laws.proofs.Rises.{right_record}
-use Rattle.dist_laws.proofs.laws.an_end_comes_up_on_the_right_digest.Goals as goal
-
-pub returns : goal.returns
-returns c = right_record

@@ -1,0 +1,44 @@
+-- What a reader of packets was asked so far, and what it gave.
+use Rattle.std.specs.Prelude.{ℕ, List, [], ◌∷◌, ◌++◌, Option, Some, None, Result, Ok, Err}
+pub use Rattle.dist_names.specs.Bytes.{IsBytes}
+use Rattle.dist_link.specs.declared.packet_error.PacketError.{PacketError}
+use Rattle.dist_link.specs.Reading.{Reading, reading, fed, next_packet, without_next}
+
+-- a call; Take moves the next packet out, where there is one
+pub data Call : Type 0 where
+  Feed : List ℕ → Call
+  Take : Call
+
+-- a reader, and what came to it and was given by it until now
+pub record Seen : Type 0 where
+  pub reader : Reading
+  -- all bytes that came
+  pub stream : List ℕ
+  -- the packets that were moved out
+  pub moved : List (List ℕ)
+
+-- a reader that begins with these bytes
+abbrev pub opening : ℕ → List ℕ → Seen
+opening most rest = record { reader = reading most rest; stream = rest; moved = [] }
+
+-- the packet that was given, where one was
+abbrev pub given : Result (Option (List ℕ)) PacketError → List (List ℕ)
+given (Ok (Some packet)) = packet ∷ []
+given (Ok None) = []
+given (Err error) = []
+
+-- the same after one more call
+abbrev pub seen : Seen → Call → Seen
+seen s (Feed piece) = record s { reader = fed s.reader piece; stream = s.stream ++ piece }
+seen s Take = record s { reader = without_next s.reader; moved = s.moved ++ given (next_packet s.reader) }
+
+-- the same after these calls in turn
+abbrev pub after_all : Seen → List Call → Seen
+after_all s [] = s
+after_all s (call ∷ calls) = after_all (seen s call) calls
+
+-- the pieces are bytes
+abbrev pub FeedBytes : List Call → Type 0
+FeedBytes [] = Unit {0}
+FeedBytes (Feed piece ∷ calls) = IsBytes piece × FeedBytes calls
+FeedBytes (Take ∷ calls) = FeedBytes calls

@@ -1,0 +1,3 @@
+pub mod Reading
+pub mod History
+pub mod Ticking

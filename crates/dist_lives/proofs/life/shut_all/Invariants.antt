@@ -1,7 +1,0 @@
-use Rattle.std.proofs.Common.{◌≡◌, ◌++◌, take, drop}
-use Rattle.dist_agreement.specs.Happenings.{shut_all}
-use Rattle.dist_lives.proofs.life.shut_all.Given as goal
-
--- the rows so far are shut
-abbrev pub invariant-loop-row : goal.invariant-loop-row
-invariant-loop-row l = l.rows ≡ shut_all l.clock (take l.row-index l.fn.rows) ++ drop l.row-index l.fn.rows

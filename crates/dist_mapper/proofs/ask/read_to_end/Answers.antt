@@ -1,8 +1,0 @@
-use Rattle.std.proofs.Common.{◌++◌, take, None, refl}
-use Rattle.dist_streams.proofs.Talks.{Hears-trans}
-use Rattle.dist_mapper.proofs.ask.read_to_end.Goals as goal
-
-pub returns-then-is_err-clause-hears : goal.returns-then-is_err-clause-hears
-returns-then-is_err-clause-hears g c =
-    let both = Hears-trans c.loop-count.invariant.2 c.in-Ok.ensures.hears in
-    record { heard = c.loop-count.invariant.0 ++ take c.in-Ok.count c.read.new.room; stop = None; hears = both; tells = refl }

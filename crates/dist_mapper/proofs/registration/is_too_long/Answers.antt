@@ -1,6 +1,0 @@
-use Rattle.std.proofs.lemmas.Grind.{common_steps}
-use Rattle.std.proofs.Common.{arith}
-use Rattle.dist_mapper.proofs.registration.is_too_long.Goals as goal
-
-pub returns-else-name-gt-MOST_OF_TEXTS : goal.returns-else-name-gt-MOST_OF_TEXTS
-returns-else-name-gt-MOST_OF_TEXTS c = grind (arith, common_steps)

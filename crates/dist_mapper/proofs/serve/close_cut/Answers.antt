@@ -1,5 +1,0 @@
-use Rattle.std.proofs.Common.{rules}
-use Rattle.dist_mapper.proofs.serve.close_cut.Goals as goal
-
-pub returns-in-Alive : goal.returns-in-Alive
-returns-in-Alive c = search rules

@@ -1,0 +1,10 @@
+use Rattle.std.proofs.Common.{◌<◌, arith}
+use Rattle.std.specs.String.{string_bytes}
+use Rattle.std.proofs.lemmas.List.Elements.{All-from_get_or}
+use Rattle.dist_names.proofs.Printable.{all_printable}
+use Rattle.dist_names.proofs.escaping.escape.Goals as goal
+
+pub returns-clause-printable : goal.returns-clause-printable
+returns-clause-printable c =
+    let bytes = c.args.bytes.now in
+    all_printable (string_bytes c.loop-byte.text) bytes c.loop-byte.byte-index (omega arith) c.loop-byte.invariant (All-from_get_or (λ b. b < 256) bytes 0 (λ i h. omega (arith, c.type_inv.bytes i)))

@@ -1,6 +1,0 @@
-use Rattle.std.proofs.Common.{rules}
-use Rattle.dist_names.proofs.Orders.{answered_each}
-use Rattle.dist_names.proofs.name.NodeName.is_same.Goals as goal
-
-pub returns-clause-each : goal.returns-clause-each
-returns-clause-each c = answered_each c.args.self.now c.args.other.now c.is_eq.result (search rules)

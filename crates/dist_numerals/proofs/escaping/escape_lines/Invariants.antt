@@ -1,8 +1,0 @@
--- What is written and the escapes of the bytes that are left are the escapes of all.
-use Rattle.std.proofs.Common.{◌≡◌, ◌++◌, drop}
-use Rattle.std.specs.String.{string_bytes}
-use Rattle.dist_numerals.specs.Escaped.{escaped_lines}
-use Rattle.dist_numerals.proofs.escaping.escape_lines.Given as goal
-
-abbrev pub invariant-loop-byte : goal.invariant-loop-byte
-invariant-loop-byte l = string_bytes l.text ++ escaped_lines (drop l.byte-index l.bytes) ≡ escaped_lines l.bytes

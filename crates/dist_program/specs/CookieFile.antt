@@ -1,0 +1,15 @@
+-- Which file a cookie may stand in, and what is read of it.
+use Rattle.std.specs.Prelude.{ℕ, Bool, List, Option, Result, Ok, Err, ◌==◌, bit_and}
+use Rattle.dist_secret.specs.Hearing.{Hears}
+use Rattle.dist_program.specs.declared.cookie_fault.CookieFault.{CookieFault}
+use Rattle.dist_program.specs.declared.cookie_fault.CookieFault.TheVariants as fault
+
+-- the mode of a file gives no leave to its group nor to others: nobody but its owner can read, write or run it
+abbrev pub is_private : ℕ → Bool
+is_private mode = bit_and mode 0o077 == 0
+
+-- WHAT IS READ OF A FILE that is open: its cookie, or why it has none
+abbrev pub ReadsCookie : Option (List ℕ) → Option (List ℕ) → Result (List ℕ) CookieFault → Type 0
+ReadsCookie before after (Ok cookie) = Hears before after (Ok cookie)
+ReadsCookie before after (Err (fault.NoCookie error)) = Hears before after (Err error)
+ReadsCookie before after (Err other) = ⊥

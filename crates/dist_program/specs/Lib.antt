@@ -1,0 +1,2 @@
+pub mod CookieFile
+pub mod PortTexts

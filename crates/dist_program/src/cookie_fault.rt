@@ -1,0 +1,28 @@
+//! Why a file gives no cookie.
+
+ghost use Rattle.std.specs.Prelude.{◌≡◌};
+ghost use Rattle.dist_program.specs.declared.cookie_fault.CookieFault.TheVariants.{NoMemory};
+
+use dist_secret::CookieError;
+use std::alloc::AllocError;
+
+/// Why a file gives no cookie: the first that holds, but for `NoMemory`, which comes where memory runs out. The status of each is 1.
+#[derive(Drop)]
+pub enum CookieFault {
+    /// It could not be opened.
+    OpenFailed,
+    /// Others than its owner may use it, or the system does not say whether they may. The path is as it was named.
+    NotPrivate(String),
+    /// It has no cookie.
+    NoCookie(CookieError),
+    /// No memory was left.
+    NoMemory,
+}
+
+impl From<AllocError> for CookieFault {
+    ghost from_gives = { λ _ fault. fault ≡ NoMemory };
+
+    fn from(_error: AllocError) -> CookieFault {
+        CookieFault::NoMemory
+    }
+}

@@ -1,0 +1,76 @@
+//! The cookie: which file it stands in, and whether that file may be read. As a node does, a program takes no file that others than
+//! its owner may use, unless it is told to.
+
+ghost use Rattle.std.specs.Prelude.{◌≡◌};
+ghost use Rattle.dist_program.specs.CookieFile.{is_private, ReadsCookie};
+
+use crate::cookie_fault::CookieFault;
+use crate::text_error::TextError;
+use crate::variables::variable;
+use dist_secret::{Cookie, read_cookie};
+use std::alloc::{AllocError, Global};
+use std::fs::File;
+use std::io::Read;
+use std::os::unix::fs::PermissionsExt;
+
+// The bits of a file's mode that give its group and all others leave to read, write and run it.
+const OTHERS: u32 = 0o077;
+
+/// Whether a file of this mode gives leave to nobody but its owner.
+pub fn is_private(mode: u32) -> bool
+    ensures { result ≡ is_private mode }
+{
+    mode & OTHERS == 0
+}
+
+// Whether nobody but its owner may use an open file: not one whose mode the system does not tell.
+fn is_private_file(file: &File) -> bool {
+    match file.metadata() {
+        Ok(metadata) => is_private(metadata.permissions().mode()),
+        Err(_) => false,
+    }
+}
+
+/// The cookie of an open file.
+pub fn cookie_in<F: Read>(alloc: Global, file: &mut F) -> Result<Cookie, CookieFault>
+    ensures { ReadsCookie (F.remaining file.old) (F.remaining file.new) result }
+{
+    match read_cookie(alloc, file) {
+        Ok(cookie) => Ok(cookie),
+        Err(error) => Err(CookieFault::NoCookie(error)),
+    }
+}
+
+/// The cookie of the file at this path. The file that was opened is the one that is looked at, so that no other can be put in its
+/// place in between. With `is_unsafe` it may be one that others than its owner can use.
+pub fn cookie_at(rt: &HostRuntime, path: &str, is_unsafe: bool) -> Result<Cookie, CookieFault> {
+    let Ok(mut file) = File::open(rt, path) else {
+        return Err(CookieFault::OpenFailed);
+    };
+    if is_unsafe || is_private_file(&file) {
+        cookie_in(rt.alloc(), &mut file)
+    } else {
+        Err(CookieFault::NotPrivate(path.to_owned(rt.alloc())?))
+    }
+}
+
+// The file of the home folder that has the cookie, as `erl` finds it. A folder whose name is no UTF-8 is none.
+fn home_file(rt: &HostRuntime) -> Result<Option<String>, AllocError> {
+    match variable(rt, "HOME") {
+        Ok(Some(home)) => Ok(Some(format!(in rt.alloc(); "{home}/.erlang.cookie")?)),
+        Ok(None) | Err(TextError::NoText) => Ok(None),
+        Err(TextError::NoMemory) => Err(AllocError),
+    }
+}
+
+/// The cookie of the home folder, `$HOME/.erlang.cookie`: `None` where there is no such folder, or no file in it that can be opened.
+pub fn home_cookie(rt: &HostRuntime, is_unsafe: bool) -> Result<Option<Cookie>, CookieFault> {
+    let Some(path) = home_file(rt)? else {
+        return Ok(None);
+    };
+    match cookie_at(rt, &path, is_unsafe) {
+        Ok(cookie) => Ok(Some(cookie)),
+        Err(CookieFault::OpenFailed) => Ok(None),
+        Err(fault) => Err(fault),
+    }
+}

@@ -1,0 +1,30 @@
+//! What the programs share at their start: the words of the command line, the variables of the environment, the port of the port
+//! mapper, the cookie, addresses, random numbers, connections with their limits, and the line and status of a fault.
+//!
+//! Each of these has one rule here, for all programs. What a program then does is its own, and so are the texts of its faults.
+#![tactic(auto)]
+
+mod connecting;
+mod cookie_fault;
+mod cookie_file;
+mod drawing;
+mod epmd_port;
+mod port_error;
+mod reporting;
+mod resolving;
+mod text_error;
+mod variables;
+
+pub use connecting::{
+    ANSWER_SECONDS, CONNECT_SECONDS, at_port, connect, connect_here, deadline_in, one_turn,
+    talk_here, talk_over, this_host,
+};
+pub use cookie_fault::CookieFault;
+pub use cookie_file::{cookie_at, cookie_in, home_cookie, is_private};
+pub use drawing::draw;
+pub use epmd_port::{MAPPER_PORT, mapper_port, port_in};
+pub use port_error::PortError;
+pub use reporting::report;
+pub use resolving::resolve;
+pub use text_error::TextError;
+pub use variables::{texts, variable, words_of};

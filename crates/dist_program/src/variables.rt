@@ -1,0 +1,31 @@
+//! The words of the command line and the variables of the environment.
+
+use crate::text_error::TextError;
+use std::alloc::{AllocError, Global};
+use std::env::{self, VarError};
+use std::io::ErrorKind;
+
+/// The words behind the program's name. One that is no UTF-8 is no word of a command: `NoText`.
+pub fn words_of(rt: &HostRuntime) -> Result<Vec<String>, TextError> {
+    match env::args(rt) {
+        Ok(words) => Ok(words.skip(1).collect(rt.alloc())?),
+        Err(error) if error.kind() == ErrorKind::OutOfMemory => Err(TextError::NoMemory),
+        Err(_) => Err(TextError::NoText),
+    }
+}
+
+/// The words as texts.
+pub fn texts(alloc: Global, words: &[String]) -> Result<Vec<&str>, AllocError> {
+    words.iter().map(|word| word.as_str()).collect(alloc)
+}
+
+/// What the environment says by this name, if it says anything. A text that is no UTF-8 is `NoText`, and the caller decides
+/// whether that says nothing or is refused.
+pub fn variable(rt: &HostRuntime, name: &str) -> Result<Option<String>, TextError> {
+    match env::var(rt, name) {
+        Ok(text) => Ok(Some(text)),
+        Err(VarError::NotPresent) => Ok(None),
+        Err(VarError::NotUnicode) => Err(TextError::NoText),
+        Err(VarError::OutOfMemory) => Err(TextError::NoMemory),
+    }
+}

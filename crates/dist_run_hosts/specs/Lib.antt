@@ -1,0 +1,4 @@
+pub mod Words
+pub mod Setups
+pub mod Orders
+pub mod Places

@@ -1,0 +1,167 @@
+//! A node that listens and is registered.
+
+ghost use Rattle.std.specs.Prelude.{◌≡◌, [], IfOk};
+ghost use Rattle.dist_names.specs.NodeName.{short_of};
+ghost use Rattle.dist_run_hosts.specs.Setups as setups;
+
+use crate::end_marks::EndMarks;
+use crate::run_error::RunError;
+use crate::seats::{SEATS, SharedOut, shared_out};
+use crate::sockets::{connect_to_port, listen};
+use dist_core::{Limits, Setup, Version};
+use dist_drive::{SocketStream, register};
+use dist_epmd::{AliveReq, HIGHEST, LOWEST};
+use dist_locked::{LockedNode, Tickets};
+use dist_names::{Creation, NodeName};
+use dist_run_plan::NodePlan;
+use std::alloc::{AllocError, Global};
+use std::net::{Net, TcpListener, TcpStream};
+use std::sync::Arc;
+use std::sync::atomic::AtomicUsize;
+
+/// The last connection for which no thread could be made, by the thread that had it: its number there. Nobody's is the
+/// highest number.
+#[derive(Drop)]
+pub struct Refused {
+    pub accepting: AtomicUsize,
+    pub first: AtomicUsize,
+    pub second: AtomicUsize,
+}
+
+impl Refused {
+    fn nobody() -> Refused {
+        Refused {
+            accepting: AtomicUsize::new(usize::MAX),
+            first: AtomicUsize::new(usize::MAX),
+            second: AtomicUsize::new(usize::MAX),
+        }
+    }
+}
+
+/// A node under its lock, with the socket that it listens on, and the connection that keeps it registered.
+#[derive(Drop)]
+pub struct Host {
+    pub name: NodeName,
+    pub node: LockedNode,
+    pub listener: TcpListener,
+    pub port: u16,
+    pub registered: SocketStream,
+    pub refused: Refused,
+    /// Which of the threads that had its seats have ended.
+    pub ended: EndMarks,
+}
+
+// The number of the highest version that a node knows.
+fn highest(version: Version) -> u16
+    ensures six { version ≡ Version.Six → result ≡ 6 }
+    ensures five { version ≡ Version.Five → result ≡ 5 }
+{
+    match version {
+        Version::Five => LOWEST,
+        Version::Six => HIGHEST,
+    }
+}
+
+// What a node sends to the port mapper to be registered.
+fn registration(alloc: Global, plan: &NodePlan, port: u16) -> Result<AliveReq, AllocError>
+    ensures told { IfOk result (λ r. r
+        ≡ record { port = port; node_type = 77; protocol = 0; highest = r.highest; lowest = 5; name = short_of plan.now.name; extra = [] }) }
+    ensures six { IfOk result (λ r. plan.now.version ≡ Version.Six → r.highest ≡ 6) }
+    ensures five { IfOk result (λ r. plan.now.version ≡ Version.Five → r.highest ≡ 5) }
+{
+    let mut request = AliveReq::of_node(alloc, plan.name.short(), port, false)?;
+    request.highest = highest(plan.version);
+    Ok(request)
+}
+
+// Asks for the registration of a node, over a connection that is kept.
+fn ask_for_registration<R: Net<Listener = TcpListener, Stream = TcpStream>>(
+    rt: &R,
+    alloc: Global,
+    mapper_port: u16,
+    request: &AliveReq,
+    turns: usize,
+) -> Result<(SocketStream, Creation), RunError> {
+    let Ok(connection) = connect_to_port(rt, mapper_port) else {
+        return Err(RunError::ConnectFailed);
+    };
+    let mut stream = connection.stream;
+    match register(alloc, &mut stream, request, turns) {
+        Ok(creation) => Ok((stream, creation)),
+        Err(error) => Err(RunError::NotRegistered(error)),
+    }
+}
+
+// What a node is set up with, with the creation that it got.
+fn setup_of(alloc: Global, plan: &NodePlan, creation: Creation) -> Result<Setup, AllocError>
+    ensures { IfOk result (λ setup. setup ≡ setups.setup_of plan.now creation) }
+{
+    let allow = match &plan.allow {
+        None => None,
+        Some(names) => Some(names.try_clone(alloc)?),
+    };
+    Ok(Setup {
+        name: plan.name.try_clone(alloc)?,
+        cookies: plan.cookies.try_clone(alloc)?,
+        version: plan.version,
+        flags: plan.flags,
+        required: plan.required,
+        creation,
+        allow,
+        limits: Limits::usual(),
+    })
+}
+
+// Registers a node that listens at a port. Its setup has the creation that it got.
+fn register_node<R: Net<Listener = TcpListener, Stream = TcpStream>>(
+    rt: &R,
+    alloc: Global,
+    mapper_port: u16,
+    plan: &NodePlan,
+    port: u16,
+    turns: usize,
+) -> Result<(SocketStream, Setup), RunError> {
+    let request = registration(alloc, plan, port)?;
+    let (stream, creation) = ask_for_registration(rt, alloc, mapper_port, &request, turns)?;
+    Ok((stream, setup_of(alloc, plan, creation)?))
+}
+
+// The node of a setup under its lock, with its seats.
+fn lock_node(
+    alloc: Global,
+    setup: Setup,
+    tickets: &Arc<Tickets, Global>,
+) -> Result<(LockedNode, SharedOut), AllocError> {
+    let tickets = Arc::try_clone(tickets)?;
+    let (node, seats) = LockedNode::new(alloc, setup, tickets, SEATS)?;
+    Ok((node, shared_out(seats)?))
+}
+
+/// Starts a node: it listens, and the port mapper gives it its creation. Refusals, in order: ListenFailed, ConnectFailed,
+/// NotRegistered.
+pub fn start<R: Net<Listener = TcpListener, Stream = TcpStream>>(
+    rt: &R,
+    alloc: Global,
+    plan: &NodePlan,
+    mapper_port: u16,
+    turns: usize,
+    tickets: &Arc<Tickets, Global>,
+) -> Result<(Host, SharedOut), RunError> {
+    let Ok((listener, port)) = listen(rt, plan.listen) else {
+        return Err(RunError::ListenFailed);
+    };
+    let (registered, setup) = register_node(rt, alloc, mapper_port, plan, port, turns)?;
+    let (node, shares) = lock_node(alloc, setup, tickets)?;
+    let ended = EndMarks::new(alloc, SEATS)?;
+    let name = plan.name.try_clone(alloc)?;
+    let host = Host {
+        name,
+        node,
+        listener,
+        port,
+        registered,
+        refused: Refused::nobody(),
+        ended,
+    };
+    Ok((host, shares))
+}

@@ -1,0 +1,29 @@
+//! Nodes that listen and are registered, and what the threads of a run are given: sockets whose calls wait for one turn,
+//! seats, challenges, and a port mapper.
+//!
+//! No thread is started here: the crate of the run does that. What a node does stands in the crates below.
+#![tactic(auto)]
+
+mod challenges;
+mod descriptors;
+mod end_marks;
+mod host;
+mod mapping;
+mod order_fault;
+mod orders;
+mod run_error;
+mod seats;
+mod setups;
+mod sockets;
+
+pub use challenges::Challenges;
+pub use descriptors::{Places, most_descriptors, places_of};
+pub use end_marks::EndMarks;
+pub use host::{Host, start};
+pub use mapping::serve_all;
+pub use order_fault::{OrderFault, OrderRefusal};
+pub use orders::are_obeyed;
+pub use run_error::RunError;
+pub use seats::{Pool, SharedOut};
+pub use setups::are_of_plans;
+pub use sockets::{Connection, accept, connect_to_port, link_of, listen, say_goodbye};

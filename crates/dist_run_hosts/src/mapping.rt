@@ -1,0 +1,75 @@
+//! The port mapper of a run.
+
+ghost use Rattle.std.specs.Prelude.{◌≡◌, ◌≢◌, ◌≤◌, ◌+◌, ◌*◌};
+ghost use Rattle.std.specs.IoError.{error_kind};
+ghost use Rattle.dist_run_hosts.specs.declared.run_error.RunError.TheVariants.{ListenFailed, NoMemory};
+
+use crate::run_error::RunError;
+use dist_epmd_server::{Limits, Server, serve};
+use dist_program::one_turn;
+use std::alloc::Global;
+use std::io::{self, ErrorKind};
+use std::net::{Net, TcpListener};
+use std::sync::Wait;
+use std::sync::atomic::AtomicBool;
+use std::time::Clock;
+
+// The first creation that the port mapper gives.
+const FIRST_CREATION: u32 = 1;
+
+const TURNS_OF_A_SECOND: usize = 100;
+
+// After how many seconds a client is closed that has not asked. Seconds are counted without their parts, so one more than
+// its turns take lets it have them all.
+fn seconds_for(turns: usize) -> u64
+    ensures enough { turns + 100 ≤ result * 100 }
+    ensures no_more { result * 100 ≤ turns + 200 }
+{
+    turns.div_ceil(TURNS_OF_A_SECOND) as u64 + 1
+}
+
+// Why there is no port mapper.
+fn fault_of(error: io::Error) -> RunError
+    ensures memory { error_kind error ≡ ErrorKind.OutOfMemory → result ≡ NoMemory }
+    ensures system { error_kind error ≢ ErrorKind.OutOfMemory → result ≡ ListenFailed }
+{
+    match error.kind() {
+        ErrorKind::OutOfMemory => RunError::NoMemory,
+        _ => RunError::ListenFailed,
+    }
+}
+
+fn serve_at<R: Net + Wait + Clock>(
+    rt: &R,
+    alloc: Global,
+    listener: TcpListener,
+    port: u16,
+    limits: Limits,
+    stop: &AtomicBool,
+) -> io::Result<()> {
+    let mut server = Server::new(rt, alloc, port, FIRST_CREATION, limits)?;
+    server.add_listener(mio::net::TcpListener::from_std(listener))?;
+    serve(rt, alloc, &mut server, one_turn(), stop)
+}
+
+/// Serves the clients of the port mapper at this listener and its port, this many at once, until it is asked to stop. A node
+/// stays registered as long as its connection does. Where it stops before it is asked to, the listener is closed: ListenFailed
+/// where the system does not report what comes.
+pub fn serve_all<R: Net + Wait + Clock>(
+    rt: &R,
+    alloc: Global,
+    listener: TcpListener,
+    port: u16,
+    clients: usize,
+    turns: usize,
+    stop: &AtomicBool,
+) -> Result<(), RunError> {
+    let limits = Limits {
+        clients,
+        seconds: seconds_for(turns),
+    };
+    match serve_at(rt, alloc, listener, port, limits, stop) {
+        Ok(()) => Ok(()),
+        Err(error) => Err(fault_of(error)),
+    }
+}

@@ -1,0 +1,75 @@
+//! Sockets whose calls wait for one turn.
+
+ghost use Rattle.std.specs.Prelude.{◌≡◌, ◌+◌, ◌*◌};
+
+use dist_program::{connect_here, one_turn};
+use dist_stream::SocketStream;
+use std::net::{Ipv4Addr, Net, SocketAddr, TcpListener, TcpStream};
+use std::time::Clock;
+use std::{io, thread};
+
+/// A connection, and the port at its dialling end.
+#[derive(Drop)]
+pub struct Connection {
+    pub stream: SocketStream,
+    pub dialler_port: u16,
+}
+
+/// Lets the other side see that nothing more will be sent. The socket stays open, so its port is not used again.
+pub fn say_goodbye(stream: &SocketStream) {
+    let _ = stream.shut();
+}
+
+fn port_of(address: SocketAddr) -> u16 {
+    address.port()
+}
+
+/// A connection to a port of this host.
+pub fn connect_to_port<R: Net<Listener = TcpListener, Stream = TcpStream>>(
+    rt: &R,
+    port: u16,
+) -> io::Result<Connection> {
+    let stream = connect_here(rt, port)?;
+    let dialler_port = port_of(stream.get_ref().local_addr()?);
+    Ok(Connection {
+        stream,
+        dialler_port,
+    })
+}
+
+/// A listener at a port of this host, and its port.
+pub fn listen<R: Net<Listener = TcpListener, Stream = TcpStream>>(
+    rt: &R,
+    port: u16,
+) -> io::Result<(TcpListener, u16)> {
+    let listener = TcpListener::bind(rt, (Ipv4Addr::LOCALHOST, port))?;
+    listener.set_nonblocking(true)?;
+    let port = port_of(listener.local_addr()?);
+    Ok((listener, port))
+}
+
+fn take_connection(listener: &TcpListener) -> io::Result<Connection> {
+    let (socket, from) = listener.accept()?;
+    Ok(Connection {
+        stream: SocketStream::timed(socket, one_turn())?,
+        dialler_port: port_of(from),
+    })
+}
+
+/// The next connection, where one has come. Else waits for a turn.
+pub fn accept<R: Clock>(rt: &R, listener: &TcpListener) -> Option<Connection> {
+    match take_connection(listener) {
+        Ok(connection) => Some(connection),
+        Err(_) => {
+            thread::sleep(rt, one_turn());
+            None
+        }
+    }
+}
+
+/// The number of a connection between two nodes: which ports it joins.
+pub fn link_of(dialler_port: u16, listening_port: u16) -> u64
+    ensures { result ≡ dialler_port * 65536 + listening_port }
+{
+    u64::from(dialler_port) * 65_536 + u64::from(listening_port)
+}

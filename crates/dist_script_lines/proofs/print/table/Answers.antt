@@ -1,0 +1,27 @@
+use Rattle.std.proofs.Common.{List, OnOk, subst, arith}
+use Rattle.std.specs.Io.KnownBytes.{Appends}
+use Rattle.std.specs.FinMap as map
+use Rattle.dist_names.specs.Order.{Name}
+use Rattle.dist_peers.specs.declared.entry.Entry.{Entry}
+use Rattle.dist_core_ends.specs.Ends.{table_of}
+use Rattle.dist_core.specs.Node.{NodeState}
+use Rattle.dist_script_lines.proofs.Printing.{row_more, all_rows, no_rows}
+use Rattle.dist_script_lines.proofs.print.table.Goals as goal
+
+abbrev rows_of : NodeState → List (Name × Entry)
+rows_of n = map.entries (table_of n.ends)
+
+pub returns-then-entries-eq0 : goal.returns-then-entries-eq0
+returns-then-entries-eq0 g c =
+    let n = c.args.node.now in
+    subst (λ t. OnOk c.write_all.result (Appends (g.W.Write.contents c.args.out.now) (g.W.Write.contents c.write_all.new.self) t)) (no_rows n (rows_of n) (omega (arith, c.entries.ensures, map.len-entries (table_of n.ends)))) c.write_all.ensures.bytes
+
+pub loop-place-preserved : goal.loop-place-preserved
+loop-place-preserved g c =
+    let n = c.args.node.now in
+    row_more _ _ _ n (rows_of n) c.loop-place.place (omega (arith, c.entries-place-end.ensures, map.len-entries (table_of n.ends))) c.loop-place.invariant c.in_ok-row_at.ensures
+
+pub returns : goal.returns
+returns g c =
+    let n = c.args.node.now in
+    all_rows _ _ n (rows_of n) c.loop-place.place (omega (arith, c.entries.ensures, map.len-entries (table_of n.ends))) (omega (arith, c.entries-place-end.ensures, map.len-entries (table_of n.ends))) c.loop-place.invariant

@@ -1,0 +1,6 @@
+pub mod Hearings
+pub mod Lines
+pub mod Stages
+pub mod Worlds
+pub mod Steps
+pub mod Pages

@@ -1,0 +1,108 @@
+-- What happenings print, in turn.
+use Rattle.std.proofs.Common.{◌≡◌, ◌∙◌, ℕ, suc, ◌+◌, ◌<◌, ◌≤◌, List, [], ◌∷◌, ◌++◌, length, take, drop, Option, Some, None, refl, sym, ap, subst, arith, append_assoc, append-nil}
+use Rattle.std.specs.Io.KnownBytes.{Appends}
+use Rattle.std.proofs.KnownBytes.{Appends-nil, Appends-trans}
+use Rattle.dist_world_model.specs.declared.happening.Happening.{Happening}
+use Rattle.dist_world_model.specs.World.{World}
+use Rattle.dist_world_model.specs.Happenings.{applied_at, happens, ticked_on}
+use Rattle.dist_world_model.specs.Run.{run, one_where, count_applied}
+use Rattle.dist_script_play.specs.Played.{closed_now, closed_by, happenings_text}
+use Rattle.dist_script_play.specs.Scenes.{closed_after}
+
+-- of one happening the line is that of the end that it closed
+one_closed : (w : World) (hs : List Happening) → length hs ≡ 1 → closed_after (count_applied hs w) (run hs w).last_closed ≡ happenings_text w hs
+one_closed w [] one = absurd (omega arith)
+one_closed w (h ∷ g ∷ hs) one = absurd (omega arith)
+one_closed w (h ∷ []) one =
+    elim (applied_at w h) as (λ o. closed_after (one_where o + 0) (ticked_on w o).last_closed ≡ closed_by o ++ []) [
+      | None ↦ refl
+      | Some x ↦ sym (append-nil (closed_now x.last_closed))
+    ]
+
+pub one_put : (a b : Option (List ℕ)) (w w2 : World) (hs : List Happening) (k : ℕ) → length hs ≡ 1 → w2 ≡ run hs w → k ≡ count_applied hs w → Appends a b (closed_after k w2.last_closed) → Appends a b (happenings_text w hs)
+one_put a b w w2 hs k one after count put =
+    subst (Appends a b) (ap (λ v. closed_after k v.last_closed) after ∙ ap (λ n. closed_after n (run hs w).last_closed) count ∙ one_closed w hs one) put
+
+-- at most all apply
+pub few_applied : (w : World) (hs : List Happening) → count_applied hs w ≤ length hs
+few_applied w [] = omega arith
+few_applied w (h ∷ hs) =
+    let others : count_applied hs (happens w h) ≤ length hs = few_applied (happens w h) hs in
+    elim (applied_at w h) as (λ o. one_where o + count_applied hs (happens w h) ≤ suc (length hs)) [
+      | None ↦ omega (arith, others)
+      | Some x ↦ omega (arith, others)
+    ]
+
+-- the lines so far, and those of what is left, are those of all
+pub record HappenedSoFar (w0 : World) (all : List Happening) (old : Option (List ℕ)) (w : World) (rest : List Happening) (applied : ℕ) (new : Option (List ℕ)) : Type 0 where
+  pub done : List ℕ
+  pub put : Appends old new done
+  pub text : done ++ happenings_text w rest ≡ happenings_text w0 all
+  pub after : run rest w ≡ run all w0
+  pub count : applied + count_applied rest w ≡ count_applied all w0
+
+pub none_happened : (w0 : World) (all : List Happening) (old : Option (List ℕ)) → HappenedSoFar w0 all old w0 all 0 old
+none_happened w0 all old = record { done = []; put = Appends-nil old; text = refl; after = refl; count = omega arith }
+
+one_text : (w : World) (rest : List Happening) → 0 < length rest → happenings_text w rest ≡ happenings_text w (take 1 rest) ++ happenings_text (run (take 1 rest) w) (drop 1 rest)
+one_text w [] some = absurd (omega arith)
+one_text w (h ∷ hs) some = ap (λ t. t ++ happenings_text (happens w h) hs) (sym (append-nil (closed_by (applied_at w h))))
+
+one_run : (w : World) (rest : List Happening) → 0 < length rest → run rest w ≡ run (drop 1 rest) (run (take 1 rest) w)
+one_run w [] some = absurd (omega arith)
+one_run w (h ∷ hs) some = refl
+
+one_count : (w : World) (rest : List Happening) → 0 < length rest → count_applied rest w ≡ count_applied (take 1 rest) w + count_applied (drop 1 rest) (run (take 1 rest) w)
+one_count w [] some = absurd (omega arith)
+one_count w (h ∷ hs) some =
+    elim (applied_at w h) as (λ o. one_where o + count_applied hs (happens w h) ≡ one_where o + 0 + count_applied hs (happens w h)) [ None ↦ omega arith | Some x ↦ omega arith ]
+
+-- one more
+pub one_happened : (w0 : World) (all : List Happening) (old mid new : Option (List ℕ)) (w : World) (rest front others : List Happening) (applied more : ℕ) (w2 : World)
+    → HappenedSoFar w0 all old w rest applied mid → 0 < length rest → front ≡ take 1 rest → others ≡ drop 1 rest
+    → Appends mid new (happenings_text w front) → w2 ≡ run front w → more ≡ count_applied front w
+    → HappenedSoFar w0 all old w2 others (applied + more) new
+one_happened w0 all old mid new w rest front others applied more w2 so some is_front is_others put is_after is_count =
+    let here : w2 ≡ run (take 1 rest) w = is_after ∙ ap (λ f. run f w) is_front in
+    let text1 : happenings_text w front ++ happenings_text w2 others ≡ happenings_text w rest =
+    ap (λ f. happenings_text w f ++ happenings_text w2 others) is_front
+    ∙ ap (λ v. happenings_text w (take 1 rest) ++ happenings_text v others) here
+    ∙ ap (λ os. happenings_text w (take 1 rest) ++ happenings_text (run (take 1 rest) w) os) is_others
+    ∙ sym (one_text w rest some) in
+    let counted : more + count_applied others w2 ≡ count_applied rest w =
+    ap (λ k. k + count_applied others w2) (is_count ∙ ap (λ f. count_applied f w) is_front)
+    ∙ ap (λ v. count_applied (take 1 rest) w + count_applied others v) here
+    ∙ ap (λ os. count_applied (take 1 rest) w + count_applied os (run (take 1 rest) w)) is_others
+    ∙ sym (one_count w rest some) in
+    record {
+      done = so.done ++ happenings_text w front;
+      put = Appends-trans old mid new so.done (happenings_text w front) so.put put;
+      text = append_assoc so.done (happenings_text w front) (happenings_text w2 others) ∙ ap (λ t. so.done ++ t) text1 ∙ so.text;
+      after = ap (run others) here ∙ ap (λ os. run os (run (take 1 rest) w)) is_others ∙ sym (one_run w rest some) ∙ so.after;
+      count = omega (arith, counted, so.count);
+    }
+
+-- no more apply than there are
+pub fits_more : (w0 : World) (all : List Happening) (old new : Option (List ℕ)) (w : World) (rest front : List Happening) (applied more : ℕ)
+    → HappenedSoFar w0 all old w rest applied new → 0 < length rest → front ≡ take 1 rest → more ≡ count_applied front w → applied + more ≤ length all
+fits_more w0 all old new w rest front applied more so some is_front is_count =
+    let counted : more ≡ count_applied (take 1 rest) w = is_count ∙ ap (λ f. count_applied f w) is_front in
+    let here = one_count w rest some in
+    let few = few_applied w0 all in
+    omega (arith, counted, here, few, so.count)
+
+-- once none is left
+pub happened_text : (w0 : World) (all : List Happening) (old new : Option (List ℕ)) (w : World) (rest : List Happening) (applied : ℕ)
+    → HappenedSoFar w0 all old w rest applied new → length rest ≡ 0 → Appends old new (happenings_text w0 all)
+happened_text w0 all old new w (h ∷ hs) applied so none = absurd (omega arith)
+happened_text w0 all old new w [] applied so none = subst (Appends old new) (sym (append-nil so.done) ∙ so.text) so.put
+
+pub happened_after : (w0 : World) (all : List Happening) (old new : Option (List ℕ)) (w : World) (rest : List Happening) (applied : ℕ)
+    → HappenedSoFar w0 all old w rest applied new → length rest ≡ 0 → w ≡ run all w0
+happened_after w0 all old new w (h ∷ hs) applied so none = absurd (omega arith)
+happened_after w0 all old new w [] applied so none = so.after
+
+pub happened_count : (w0 : World) (all : List Happening) (old new : Option (List ℕ)) (w : World) (rest : List Happening) (applied : ℕ)
+    → HappenedSoFar w0 all old w rest applied new → length rest ≡ 0 → applied ≡ count_applied all w0
+happened_count w0 all old new w (h ∷ hs) applied so none = absurd (omega arith)
+happened_count w0 all old new w [] applied so none = omega (arith, so.count)

@@ -1,0 +1,115 @@
+//! The command `enact`: a script from the input, what comes of it on the output.
+
+ghost use Rattle.std.specs.Prelude.{◌≡◌, ◌≤◌, false, OnOk, IfErr};
+ghost use Rattle.std.specs.Io.KnownBytes.{Appends, Keeps, append_known};
+ghost use Rattle.dist_script_words.specs.Fault.{status_of};
+ghost use Rattle.dist_world.specs.Setups.{names_repeat};
+ghost use Rattle.dist_script_play.specs.Played.{at_first, lines_text};
+ghost use Rattle.dist_script_play.specs.Scenes.{PutsWorld, Plays};
+
+use crate::page::{finish, on_page, turn};
+use crate::scene::Scene;
+use crate::stage;
+use dist_core::Setup;
+use dist_script::{Line, Script, script_of};
+use dist_script_words::{ScriptFault, read_text};
+use dist_world::Happening;
+use std::alloc::Global;
+use std::io::{Read, Write};
+
+// What one node is given, and its table at the end.
+#[tactic(auto, using(crate::proofs::Lines::none_told, crate::proofs::Lines::one_on_page))]
+fn tell_all<W: Write>(
+    alloc: Global,
+    scene: &mut Scene,
+    lines: &[Line],
+    page: &mut Vec<u8>,
+    out: &mut W,
+) -> Result<(), ScriptFault>
+    ensures text { OnOk result (Appends (append_known (W.contents out.old) page.old.items) (append_known (W.contents out.new) page.new.items) (lines_text scene.old lines.now)) }
+    ensures fault { IfErr result (λ fault. status_of fault ≡ 1) }
+{
+    for line in lines {
+        on_page(scene.tell(alloc, line, page))?;
+        turn(page, out)?;
+    }
+    on_page(scene.print_table(page))?;
+    Ok(())
+}
+
+// Plays a script of one node. What was printed until a fault is written out.
+#[tactic(auto, using(crate::proofs::Pages::there, crate::proofs::Pages::whole))]
+fn play_node<W: Write>(
+    alloc: Global,
+    node: Setup,
+    lines: &[Line],
+    out: &mut W,
+) -> Result<(), ScriptFault>
+    ensures text { OnOk result (Appends (W.contents out.old) (W.contents out.new) (lines_text (at_first node) lines.now)) }
+{
+    let mut page = Vec::new(alloc);
+    let told = tell_all(alloc, &mut Scene::new(alloc, node), lines, &mut page, out);
+    finish(told, &mut page, out)?;
+    Ok(())
+}
+
+// Plays a script of several nodes. What was printed until a fault is written out.
+fn play_nodes<W: Write>(
+    alloc: Global,
+    nodes: Vec<Setup>,
+    happenings: &[Happening],
+    out: &mut W,
+) -> Result<(), ScriptFault>
+    ensures text { OnOk result (PutsWorld nodes.items happenings.now (W.contents out.old) (W.contents out.new)) }
+    ensures names { OnOk result (names_repeat nodes.items ≡ false) }
+{
+    let mut world = stage::world_of(alloc, nodes)?;
+    let mut page = Vec::new(alloc);
+    let told = stage::play(alloc, &mut world, happenings, &mut page, out);
+    finish(told, &mut page, out)?;
+    Ok(())
+}
+
+// Reads a script and plays it.
+fn perform<R: Read, W: Write>(alloc: Global, input: &mut R, out: &mut W) -> Result<(), ScriptFault>
+    ensures { OnOk result (Plays (R.remaining input.old) (R.remaining input.new) (W.contents out.old) (W.contents out.new)) }
+{
+    let text = read_text(alloc, input)?;
+    match script_of(alloc, &text)? {
+        Script::Events { node, lines } => {
+            play_node(alloc, node, &lines, out)?;
+            Ok(())
+        }
+        Script::Happenings { nodes, lines } => {
+            play_nodes(alloc, nodes, &lines, out)?;
+            Ok(())
+        }
+    }
+}
+
+/// Reads a script, checks it whole, and plays it. With one node it prints for each line what the node answers, and the table
+/// at the end; with several it prints which ends the happenings close, and at the end how the world stands. Returns the
+/// exit status: 0, 2 for a script that is no script, 1 for another fault. A fault is reported on `err`.
+///
+/// The first fault is reported: a read that failed, a script above 1,048,576 bytes, its first bad line, no node, two nodes of
+/// one name. Until then nothing is written. A write that fails, or memory that runs out, stops the run, and what was written
+/// until then is the beginning of the whole output. What is printed is written out once 8,192 bytes of it are there.
+#[tactic(auto, using(crate::proofs::Lines::never_zero, crate::proofs::Pages::kept))]
+pub fn enact<R: Read, W: Write, E: Write>(
+    alloc: Global,
+    input: &mut R,
+    out: &mut W,
+    err: &mut E,
+) -> u8
+    ensures status { result ≤ 2 }
+
+    // With status 0 the input was read to its end, what was read is a script without a fault, and what was printed is what
+    // that script prints.
+    ensures played { result ≡ 0 → Plays (R.remaining input.old) (R.remaining input.new) (W.contents out.old) (W.contents out.new) }
+    ensures silent { result ≡ 0 → Keeps (E.contents err.old) (E.contents err.new) }
+{
+    match perform(alloc, input, out) {
+        Ok(()) => 0,
+        Err(fault) => fault.tell(err),
+    }
+}

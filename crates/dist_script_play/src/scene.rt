@@ -1,0 +1,265 @@
+//! A node to which a script gives events and bytes, with a reader of frames for each of its ends.
+
+ghost use Rattle.std.specs.Prelude.{◌≡◌, ◌≤◌, ℕ, List, [], ◌∷◌, length, IfOk, OnOk, MatchOption};
+ghost use Rattle.std.specs.Io.KnownBytes.{Appends};
+ghost use Rattle.dist_frames.specs.Reader.{to_come, without_next, fed, told};
+ghost use Rattle.dist_core.specs.Step.{step};
+ghost use Rattle.dist_script_lines.specs.Lines.{refused_line, reply_line, table_text};
+ghost use Rattle.dist_script_play.specs.Played.{at_first, step_text, reply_in, after_step, open_readers, is_end, then_after, then_on, reader_on, heard, hearing, hearing_text, after_hearing, packets_text, line_text, after_line};
+ghost use Rattle.dist_script_play.specs.Scenes.{Hears, HearsBytes};
+
+use crate::page::written;
+use crate::readers::Readers;
+use dist_core::{Event, Node, Reply, Setup, StepError, Still, Why};
+use dist_frames::Frames;
+use dist_names::ByteString;
+use dist_peers::EndId;
+use dist_script::Line;
+use dist_script_lines::print;
+use dist_script_words::ScriptFault;
+use std::alloc::Global;
+use std::io::Write;
+use std::marker::Model;
+
+/// The node, and a reader for each end to which bytes came.
+#[derive(Drop)]
+pub struct Scene {
+    node: Node,
+    readers: Readers,
+}
+
+impl Model for Scene {
+    ghost use Rattle.dist_script_play.specs.Played.{Standing};
+
+    ghost Value = { Standing };
+
+    ghost view = { λ s. record { node = s.node; readers = s.readers } };
+}
+
+// What follows a frame that was given to the node.
+#[derive(Clone, Copy)]
+enum Then {
+    // Further frames.
+    GoesOn,
+    // Packets, since it brought its end up.
+    Links,
+    // Nothing, since it closed its end or was refused.
+    Stops,
+}
+
+// Whether a step closed this end.
+fn is_end(end_: EndId, closed: Option<(EndId, Why)>) -> bool
+    ensures { result ≡ is_end end_ closed }
+{
+    match closed {
+        Some((closed, _)) => closed.0 == end_.0,
+        None => false,
+    }
+}
+
+fn then_after(end_: EndId, reply: &Reply) -> Then
+    ensures { result ≡ then_after end_ reply.now }
+{
+    if reply.up.is_some() {
+        Then::Links
+    } else if is_end(end_, reply.closed) {
+        Then::Stops
+    } else {
+        Then::GoesOn
+    }
+}
+
+fn then_on(end_: EndId, reply: &Option<Reply>) -> Then
+    ensures { result ≡ then_on end_ reply.now }
+{
+    match reply {
+        Some(reply) => then_after(end_, reply),
+        None => Then::Stops,
+    }
+}
+
+// Prints why a step was refused. Out of memory stops the run.
+fn print_refusal<W: Write>(error: StepError, out: &mut W) -> Result<(), ScriptFault>
+    ensures text { OnOk result (Appends (W.contents out.old) (W.contents out.new) (refused_line error)) }
+    ensures memory { OnOk result (error ≡ StepError.NoMemory → ⊥) }
+{
+    match error {
+        StepError::NoMemory => Err(ScriptFault::NoMemory),
+        _ => written(print::refused(out, error)),
+    }
+}
+
+// The next whole body, moved out of the reader.
+#[tactic(auto, using(crate::proofs::Hearings::no_next))]
+fn next_body(reader: &mut Frames) -> Result<Option<ByteString>, ScriptFault>
+    ensures { IfOk result (λ body. MatchOption body ((to_come reader.old ≡ []) × (reader.new ≡ reader.old)) (λ b. (to_come reader.old ≡ b ∷ to_come reader.new) × (reader.new ≡ without_next reader.old))) }
+{
+    match reader.next_short() {
+        Ok(body) => Ok(body.map(ByteString::from_vec)),
+        Err(_) => Err(ScriptFault::NoMemory),
+    }
+}
+
+// What a reader does once a frame of its end was given to the node.
+fn go_on(alloc: Global, reader: &mut Frames, then: Then)
+    ensures reader { reader.new ≡ reader_on then reader.old }
+    ensures fewer { length (to_come reader.new) ≤ length (to_come reader.old) }
+{
+    match then {
+        Then::GoesOn => {}
+        Then::Links => reader.to_linked(),
+        Then::Stops => *reader = Frames::new(alloc),
+    }
+}
+
+// Prints what stands behind the lines of the frames.
+fn print_packets<W: Write>(any: bool, skipped: usize, out: &mut W) -> Result<(), ScriptFault>
+    ensures { OnOk result (Appends (W.contents out.old) (W.contents out.new) (packets_text any skipped)) }
+{
+    if skipped > 0 {
+        written(print::skipped(out, skipped))
+    } else if any {
+        Ok(())
+    } else {
+        written(out.write_all(b"waiting\n"))
+    }
+}
+
+impl Scene {
+    /// A node that was given nothing yet.
+    pub fn new(alloc: Global, setup: Setup) -> Scene
+        ensures { result ≡ at_first setup }
+    {
+        Scene {
+            node: Node::new(alloc, setup),
+            readers: Readers::new(alloc),
+        }
+    }
+
+    /// Gives the node what a line says, and prints what comes of it.
+    pub fn tell<W: Write>(
+        &mut self,
+        alloc: Global,
+        line: &Line,
+        out: &mut W,
+    ) -> Result<(), ScriptFault>
+        ensures text { OnOk result (Appends (W.contents out.old) (W.contents out.new) (line_text self.old line.now)) }
+        ensures after { OnOk result (self.new ≡ after_line self.old line.now) }
+    {
+        match line {
+            Line::Event(event) => {
+                self.step(alloc, event, 0, out)?;
+                Ok(())
+            }
+            Line::Bytes { end_, bytes, fresh } => match self.node.still(*end_) {
+                Still::NoSuchEnd => print_refusal(StepError::NoSuchEnd, out),
+                Still::Gone(why) => print_refusal(StepError::Gone(why), out),
+                Still::Pending | Still::Up => self.hear(alloc, *end_, bytes, *fresh, out),
+            },
+        }
+    }
+
+    /// Prints the table of the node's peers.
+    pub fn print_table<W: Write>(&self, out: &mut W) -> Result<(), ScriptFault>
+        ensures { OnOk result (Appends (W.contents out.old) (W.contents out.new) (table_text self.now.node)) }
+    {
+        written(print::table(out, &self.node))
+    }
+
+    // Makes a step and prints what comes of it. Returns its reply, and `None` where it was refused.
+    #[tactic(auto, using(crate::proofs::Steps::refused_text, crate::proofs::Steps::refused_after, crate::proofs::Steps::refused_reply))]
+    fn step<W: Write>(
+        &mut self,
+        alloc: Global,
+        event: &Event,
+        fresh: u32,
+        out: &mut W,
+    ) -> Result<Option<Reply>, ScriptFault>
+        ensures text { OnOk result (Appends (W.contents out.old) (W.contents out.new) (step_text (step self.old.node event.now fresh))) }
+        ensures after { OnOk result (self.new ≡ after_step self.old (step self.old.node event.now fresh)) }
+        ensures reply { IfOk result (λ reply. reply ≡ reply_in (step self.old.node event.now fresh)) }
+    {
+        match self.node.step(alloc, event, fresh) {
+            Ok(reply) => {
+                self.print_reply(&reply, out)?;
+                Ok(Some(reply))
+            }
+            Err(error) => {
+                print_refusal(error, out)?;
+                Ok(None)
+            }
+        }
+    }
+
+    // Prints a reply, and drops the reader of the end that its step closed.
+    fn print_reply<W: Write>(&mut self, reply: &Reply, out: &mut W) -> Result<(), ScriptFault>
+        ensures text { OnOk result (Appends (W.contents out.old) (W.contents out.new) (reply_line reply.now)) }
+        ensures node { self.new.node ≡ self.old.node }
+        ensures readers { OnOk result (self.new.readers ≡ open_readers self.old.readers reply.now.closed) }
+    {
+        written(print::reply(out, reply))?;
+        if let Some((closed, _)) = reply.closed {
+            self.readers.forget(closed);
+        }
+        Ok(())
+    }
+
+    // Bytes for an open end.
+    fn hear<W: Write>(
+        &mut self,
+        alloc: Global,
+        end_: EndId,
+        bytes: &ByteString,
+        fresh: u32,
+        out: &mut W,
+    ) -> Result<(), ScriptFault>
+        ensures text { OnOk result (Appends (W.contents out.old) (W.contents out.new) (hearing_text (hearing self.old end_ bytes.now fresh))) }
+        ensures after { OnOk result (self.new ≡ after_hearing end_ (hearing self.old end_ bytes.now fresh)) }
+    {
+        let mut reader = self.readers.take(alloc, end_);
+        self.hear_bytes(alloc, end_, &mut reader, bytes, fresh, out)?;
+        self.readers.put(end_, reader)?;
+        Ok(())
+    }
+
+    // Bytes for the reader of an end.
+    #[tactic(auto, using(crate::proofs::Hearings::hears_bytes))]
+    fn hear_bytes<W: Write>(
+        &mut self,
+        alloc: Global,
+        end_: EndId,
+        reader: &mut Frames,
+        bytes: &ByteString,
+        fresh: u32,
+        out: &mut W,
+    ) -> Result<(), ScriptFault>
+        ensures { OnOk result (HearsBytes (heard end_ fresh (to_come (fed reader.old bytes.now)) self.old (fed reader.old bytes.now)) (W.contents out.old) (W.contents out.new) self.new reader.new) }
+    {
+        reader.feed(bytes.as_slice())?;
+        let any = self.hear_frames(alloc, end_, reader, fresh, out)?;
+        print_packets(any, reader.skip_long(), out)?;
+        Ok(())
+    }
+
+    // Gives the node each whole frame, and returns whether there was one.
+    #[tactic(auto, using(crate::proofs::Hearings::none_yet, crate::proofs::Hearings::one_more, crate::proofs::Hearings::no_frame_left))]
+    fn hear_frames<W: Write>(
+        &mut self,
+        alloc: Global,
+        end_: EndId,
+        reader: &mut Frames,
+        fresh: u32,
+        out: &mut W,
+    ) -> Result<bool, ScriptFault>
+        ensures { IfOk result (λ any. Hears (heard end_ fresh (to_come reader.old) self.old reader.old) any (W.contents out.old) (W.contents out.new) self.new reader.new) }
+    {
+        let mut any = false;
+        while let Some(body) = next_body(reader)? {
+            any = true;
+            let event = Event::Frame { end_, body };
+            let reply = self.step(alloc, &event, fresh, out)?;
+            go_on(alloc, reader, then_on(end_, &reply));
+        }
+        Ok(any)
+    }
+}

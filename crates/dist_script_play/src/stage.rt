@@ -1,0 +1,138 @@
+//! A world of nodes in which a script says what happens.
+
+ghost use Rattle.std.specs.Prelude.{◌≡◌, ◌⊎◌, true, false, length, IfOk, IfErr, OnOk};
+ghost use Rattle.std.specs.Io.KnownBytes.{Appends, append_known};
+ghost use Rattle.dist_world_model.specs.World.{empty};
+ghost use Rattle.dist_world_model.specs.Run.{run, count_applied};
+ghost use Rattle.dist_world.specs.Setups.{names_repeat};
+ghost use Rattle.dist_script_words.specs.Fault.{status_of};
+ghost use Rattle.dist_script_play.specs.Played.{closed_now, happenings_text};
+ghost use Rattle.dist_script_play.specs.Scenes.{closed_after, PutsEnd, PutsFrom};
+
+use crate::page::{on_page, turn, written};
+use dist_core::Setup;
+use dist_script_lines::{print, print_agreements, print_nodes};
+use dist_script_words::ScriptFault;
+use dist_world::{Happening, World, WorldError};
+use std::alloc::Global;
+use std::io::Write;
+
+/// A world of these nodes, none of which runs yet. No two have one name.
+pub fn world_of(alloc: Global, nodes: Vec<Setup>) -> Result<World, ScriptFault>
+    ensures ok { IfOk result (λ w. w ≡ empty nodes.items) }
+    ensures names { OnOk result (names_repeat nodes.items ≡ false) }
+    ensures err { IfErr result (λ fault. (fault ≡ ScriptFault.NoMemory) ⊎ ((fault ≡ ScriptFault.SameName) × (names_repeat nodes.items ≡ true))) }
+{
+    match World::new(alloc, nodes) {
+        Ok(world) => Ok(world),
+        Err(WorldError::SameName) => Err(ScriptFault::SameName),
+        Err(WorldError::NoMemory) => Err(ScriptFault::NoMemory),
+    }
+}
+
+// The end that the last happening closed, where it applied and closed one.
+fn print_closed<W: Write>(world: &World, applied: usize, out: &mut W) -> Result<(), ScriptFault>
+    ensures { OnOk result (Appends (W.contents out.old) (W.contents out.new) (closed_after applied world.now.last_closed)) }
+{
+    if applied > 0 {
+        print_last(world, out)
+    } else {
+        Ok(())
+    }
+}
+
+fn print_last<W: Write>(world: &World, out: &mut W) -> Result<(), ScriptFault>
+    ensures { OnOk result (Appends (W.contents out.old) (W.contents out.new) (closed_now world.now.last_closed)) }
+{
+    match world.last_closed() {
+        Some((node, end_, why)) => written(print::closed_end(out, node, end_, why)),
+        None => Ok(()),
+    }
+}
+
+// Lets one thing happen, and prints the end that its step closed. Returns how many applied.
+#[tactic(auto, using(crate::proofs::Stages::one_put))]
+fn happen<W: Write>(
+    alloc: Global,
+    world: &mut World,
+    happening: &[Happening],
+    out: &mut W,
+) -> Result<usize, ScriptFault>
+    requires { length happening.now ≡ 1 }
+    ensures text { OnOk result (Appends (W.contents out.old) (W.contents out.new) (happenings_text world.old happening.now)) }
+    ensures after { OnOk result (world.new ≡ run happening.now world.old) }
+    ensures count { IfOk result (λ n. n ≡ count_applied happening.now world.old) }
+{
+    let Ok(applied) = world.run(alloc, happening) else {
+        return Err(ScriptFault::NoMemory);
+    };
+    print_closed(world, applied, out)?;
+    Ok(applied)
+}
+
+// Lets all this happen, this many happenings, one after the other. Returns how many applied.
+#[tactic(auto, using(crate::proofs::Stages::none_happened, crate::proofs::Stages::happened_text, crate::proofs::Stages::happened_after, crate::proofs::Stages::happened_count))]
+fn happen_all<W: Write>(
+    alloc: Global,
+    world: &mut World,
+    happenings: &[Happening],
+    all: usize,
+    page: &mut Vec<u8>,
+    out: &mut W,
+) -> Result<usize, ScriptFault>
+    requires { all ≡ length happenings.now }
+    ensures text { OnOk result (Appends (append_known (W.contents out.old) page.old.items) (append_known (W.contents out.new) page.new.items) (happenings_text world.old happenings.now)) }
+    ensures after { OnOk result (world.new ≡ run happenings.now world.old) }
+    ensures count { IfOk result (λ n. n ≡ count_applied happenings.now world.old) }
+    ensures fault { IfErr result (λ fault. status_of fault ≡ 1) }
+{
+    let mut applied = 0usize;
+    let mut rest = happenings;
+    while !rest.is_empty() {
+        let (happening, others) = rest.split_at(1);
+        let Ok(more) = happen(alloc, world, happening, page) else {
+            return Err(ScriptFault::NoMemory);
+        };
+        turn(page, out)?;
+        applied += more;
+        rest = others;
+    }
+    Ok(applied)
+}
+
+// How many happenings applied, and how the world stands.
+#[tactic(auto, using(crate::proofs::Worlds::ends))]
+fn print_end<W: Write>(
+    alloc: Global,
+    world: &World,
+    applied: usize,
+    all: usize,
+    out: &mut W,
+) -> Result<(), ScriptFault>
+    ensures { OnOk result (PutsEnd world.now applied all (W.contents out.old) (W.contents out.new)) }
+{
+    written(print::applied(out, applied, all))?;
+    print_nodes(world, out)?;
+    print_agreements(alloc, world, out)?;
+    Ok(())
+}
+
+/// Lets what a script says happen in a world, and prints at once which end each happening closes; at the end how many
+/// applied, how each node stands, and what each two that are up with one another have in common.
+///
+/// One happening is one run of the world, so that nothing of it stands where memory runs out.
+pub fn play<W: Write>(
+    alloc: Global,
+    world: &mut World,
+    happenings: &[Happening],
+    page: &mut Vec<u8>,
+    out: &mut W,
+) -> Result<(), ScriptFault>
+    ensures text { OnOk result (PutsFrom world.old happenings.now (append_known (W.contents out.old) page.old.items) (append_known (W.contents out.new) page.new.items)) }
+    ensures fault { IfErr result (λ fault. status_of fault ≡ 1) }
+{
+    let all = happenings.len();
+    let applied = happen_all(alloc, world, happenings, all, page, out)?;
+    on_page(print_end(alloc, world, applied, all, page))?;
+    Ok(())
+}

@@ -1,0 +1,3 @@
+pub mod Words
+pub mod Fault
+pub mod Texts

@@ -1,5 +1,0 @@
-use Rattle.dist_setup.proofs.Wholes.{announced-fits}
-use Rattle.dist_setup.proofs.laws.announced_flags_fit.Goals as goal
-
-pub returns : goal.returns
-returns c = announced-fits

@@ -1,0 +1,27 @@
+-- What a socket's errors mean.
+use Rattle.std.specs.Prelude.{ℕ, Bool, true, false, Result, Ok, Err, if◌then◌else◌}
+use Rattle.std.specs.IoError.{error_kind}
+use Rattle.std.specs.declared.io.Error.{Error}
+use Rattle.std.specs.declared.io.ErrorKind.{ErrorKind}
+use Rattle.std.specs.declared.io.ErrorKind.TheVariants as kind
+use Rattle.dist_stream.specs.declared.stream.Heard.{Heard}
+use Rattle.dist_stream.specs.declared.stream.Heard.TheVariants as heard
+use Rattle.dist_stream.specs.declared.stream.Took.{Took}
+use Rattle.dist_stream.specs.declared.stream.Took.TheVariants as took
+
+-- The socket is fine, and had nothing to give or no room so far.
+abbrev pub is_quiet : ErrorKind → Bool
+is_quiet kind.WouldBlock = true
+is_quiet kind.TimedOut = true
+is_quiet kind.Interrupted = true
+is_quiet _ = false
+
+-- what a read gave that the system answered so
+abbrev pub heard_as : Result ℕ Error → Heard
+heard_as (Ok count) = heard.Bytes count
+heard_as (Err error) = if is_quiet (error_kind error) then heard.Quiet else heard.Failed
+
+-- what a write took that the system answered so
+abbrev pub took_as : Result ℕ Error → Took
+took_as (Ok count) = took.Bytes count
+took_as (Err error) = if is_quiet (error_kind error) then took.Quiet else took.Failed

@@ -1,0 +1,82 @@
+-- What a stream shows of itself, and what a read and a write do to it.
+use Rattle.std.specs.Prelude.{◌≡◌, ℕ, ◌+◌, ◌-◌, ◌^◌, ◌≤◌, min, Bool, true, false, ◌||◌, ◌==◌, List, length, take, Option, IsTrue}
+use Rattle.std.specs.Io.KnownBytes.{prepend_known, append_known, IsAtEnd}
+use Rattle.dist_stream.specs.declared.stream.Heard.{Heard}
+use Rattle.dist_stream.specs.declared.stream.Heard.TheVariants as heard
+use Rattle.dist_stream.specs.declared.stream.Took.{Took}
+use Rattle.dist_stream.specs.declared.stream.Took.TheVariants as took
+
+pub record StreamState : Type 0 where
+  -- the bytes that reads will give, where the stream shows them
+  pub unread : Option (List ℕ)
+  -- the bytes that writes took, where the stream shows them
+  pub written : Option (List ℕ)
+  -- how many reads and writes were made; it stays at the greatest u64
+  pub calls : ℕ
+  -- a read gave no bytes
+  pub ended : Bool
+  -- a read failed
+  pub read_failed : Bool
+  -- a write failed, or took no bytes
+  pub write_failed : Bool
+
+-- a stream that was not used yet
+abbrev pub unused : Option (List ℕ) → Option (List ℕ) → StreamState
+unused unread written = record { unread = unread; written = written; calls = 0; ended = false; read_failed = false; write_failed = false }
+
+-- one call more
+abbrev pub one_more : ℕ → ℕ
+one_more calls = min (calls + 1) (2 ^ 64 - 1)
+
+-- ---- a read
+
+-- how many bytes came
+abbrev pub heard_count : Heard → ℕ
+heard_count (heard.Bytes n) = n
+heard_count heard.Quiet = 0
+heard_count heard.Failed = 0
+
+-- the stream says that it has ended
+abbrev pub is_end : Heard → Bool
+is_end (heard.Bytes n) = n == 0
+is_end heard.Quiet = false
+is_end heard.Failed = false
+
+abbrev pub is_failed_read : Heard → Bool
+is_failed_read (heard.Bytes n) = false
+is_failed_read heard.Quiet = false
+is_failed_read heard.Failed = true
+
+-- A read takes the next unread bytes into the front of the room, and marks an end and a failure.
+pub record Reads (old new : StreamState) (room : List ℕ) (result : Heard) : Type 0 where
+  pub fits : heard_count result ≤ length room
+  pub unread : old.unread ≡ prepend_known (take (heard_count result) room) new.unread
+  pub written : new.written ≡ old.written
+  pub calls : new.calls ≡ one_more old.calls
+  pub ended : new.ended ≡ (is_end result || old.ended)
+  pub all : IsTrue (is_end result) → IsAtEnd new.unread
+  pub read_failed : new.read_failed ≡ (is_failed_read result || old.read_failed)
+  pub write_failed : new.write_failed ≡ old.write_failed
+
+-- ---- a write
+
+-- how many bytes were taken
+abbrev pub took_count : Took → ℕ
+took_count (took.Bytes n) = n
+took_count took.Quiet = 0
+took_count took.Failed = 0
+
+abbrev pub is_failed_write : Took → Bool
+is_failed_write (took.Bytes n) = n == 0
+is_failed_write took.Quiet = false
+is_failed_write took.Failed = true
+
+-- A write takes bytes from the front, and marks a failure.
+pub record Writes (old new : StreamState) (bytes : List ℕ) (result : Took) : Type 0 where
+  pub fits : took_count result ≤ length bytes
+  pub written : new.written ≡ append_known old.written (take (took_count result) bytes)
+  pub unread : new.unread ≡ old.unread
+  pub calls : new.calls ≡ one_more old.calls
+  pub ended : new.ended ≡ old.ended
+  pub read_failed : new.read_failed ≡ old.read_failed
+  pub write_failed : new.write_failed ≡ (is_failed_write result || old.write_failed)

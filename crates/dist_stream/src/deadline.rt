@@ -1,0 +1,206 @@
+//! Connections that are quiet once a deadline is reached.
+//!
+//! A count of turns says little about time: a turn passes at once or waits. A talk that has to end by the clock is given a
+//! deadline, and turns in plenty.
+
+ghost use Rattle.std.specs.Prelude.{◌≡◌, ◌+◌, ◌<◌, ◌≤◌, ◌↔◌, length, None, IsOk, IfOk, IsErrAnd, IfErr};
+ghost use Rattle.std.specs.Duration.{as_nanos};
+ghost use Rattle.std.specs.IoError.{error_kind};
+ghost use Rattle.std.specs.Time.{instant_nanos, FitsClock};
+ghost use Rattle.dist_stream.specs.Stream.{Reads, Writes, unused};
+ghost use Rattle.dist_stream.specs.Deadline.{nanos_until, wait_of};
+
+use crate::socket::SocketStream;
+use crate::stream::{Heard, Stream, Took};
+use std::io::{self, ErrorKind};
+use std::net::{Net, SocketAddr, TcpListener, TcpStream};
+use std::time::{Clock, Duration, Instant};
+
+/// Turns for a talk that a deadline ends: more than a talk takes that says something at each turn.
+///
+/// Source: our own choice. A quiet turn lasts for a second, so a deadline of some 18 hours is met before they are spent.
+pub const AMPLE_TURNS: usize = 65_536;
+
+// How long one read or write waits where this much time is left: a second at most. Linux rounds a socket's timeout up, by some
+// milliseconds where it is short, by up to 32 above a quarter of a second, and by up to 250 above two seconds. So the last
+// wait before the deadline is short.
+fn wait_of(left: Duration) -> Duration
+    ensures { as_nanos result ≡ wait_of (as_nanos left) }
+{
+    if left <= Duration::from_millis(200) {
+        return left;
+    }
+    let most = left.saturating_sub(Duration::from_millis(100));
+    let second = Duration::from_secs(1);
+    if most < second { most } else { second }
+}
+
+// What is left at `now` until the deadline.
+fn left_at(now: Instant, deadline: Instant) -> Duration
+    ensures { as_nanos result ≡ nanos_until now deadline }
+{
+    deadline.saturating_duration_since(now)
+}
+
+// The time that is `limit` after `now`. InvalidInput where no clock counts so far.
+fn time_after(now: Instant, limit: Duration) -> io::Result<Instant>
+    ensures variant { IsOk result ↔ FitsClock (instant_nanos now + as_nanos limit) }
+    ensures ok { IfOk result (λ t. instant_nanos t ≡ instant_nanos now + as_nanos limit) }
+    ensures err { IfErr result (λ e. error_kind e ≡ ErrorKind.InvalidInput) }
+{
+    match now.checked_add(limit) {
+        Some(time) => Ok(time),
+        None => Err(io::Error::from(ErrorKind::InvalidInput)),
+    }
+}
+
+/// The time that is `limit` from now.
+///
+/// InvalidInput where no clock counts so far, some 292 thousand million years after its start; any other error is the
+/// clock's.
+pub fn deadline_after<C: Clock>(clock: &C, limit: Duration) -> io::Result<Instant>
+    ensures far { IfOk result (λ t. as_nanos limit ≤ instant_nanos t) }
+    ensures fits { IfOk result (λ t. FitsClock (instant_nanos t)) }
+{
+    let now = Instant::now(clock)?;
+    time_after(now, limit)
+}
+
+/// How long it is until the deadline: zero once it is reached, and where the clock can't be read.
+pub fn time_left<C: Clock>(clock: &C, deadline: Instant) -> Duration
+    ensures most { as_nanos result ≤ instant_nanos deadline }
+{
+    match Instant::now(clock) {
+        Ok(now) => left_at(now, deadline),
+        Err(_) => Duration::ZERO,
+    }
+}
+
+/// A connection that is quiet once a deadline is reached.
+///
+/// A read or a write waits for a second at most, and no longer than until the deadline; from then on each is
+/// quiet at once, and the system isn't asked, so the turns that are left of a talk pass at once. A call has failed where the
+/// system takes no timeout. No contract says which bytes come and go.
+#[derive(Drop)]
+pub struct DeadlineStream<C> {
+    stream: SocketStream,
+    clock: C,
+    deadline: Instant,
+}
+
+impl<C: Clock> DeadlineStream<C> {
+    /// The stream over this connection until this deadline of the clock. The connection's own timeouts are set anew at each
+    /// call.
+    pub fn new(stream: SocketStream, clock: C, deadline: Instant) -> DeadlineStream<C>
+        ensures same { ⟦<DeadlineStream<C> as Stream>⟧.meaning result ≡ ⟦<SocketStream as Stream>⟧.meaning stream }
+        ensures stream { result.stream ≡ stream }
+        ensures deadline { result.deadline ≡ deadline }
+    {
+        DeadlineStream {
+            stream,
+            clock,
+            deadline,
+        }
+    }
+
+    /// When it falls quiet.
+    pub fn deadline(&self) -> Instant
+        ensures { result ≡ self.now.deadline }
+    {
+        self.deadline
+    }
+
+    /// How long it is until then: zero once it is quiet.
+    pub fn time_left(&self) -> Duration
+        ensures most { as_nanos result ≤ instant_nanos self.now.deadline }
+    {
+        time_left(&self.clock, self.deadline)
+    }
+
+    /// The connection, as to shut it.
+    pub fn get_ref(&self) -> &SocketStream
+        ensures { result.now ≡ self.now.stream }
+    {
+        &self.stream
+    }
+}
+
+impl<C: Drop> DeadlineStream<C> {
+    /// The connection, given back. It keeps the timeouts of the last call.
+    pub fn into_inner(self) -> SocketStream
+        ensures { result ≡ self.stream }
+    {
+        self.stream
+    }
+}
+
+// A read that waits for this time of what is left, and is quiet where none is left.
+fn read_within(stream: &mut SocketStream, room: &mut [u8], left: Duration) -> Heard
+    requires { 0 < length room.old }
+    ensures reads { Reads (⟦<SocketStream as Stream>⟧.meaning stream.old) (⟦<SocketStream as Stream>⟧.meaning stream.new) room.new result }
+    ensures quiet { as_nanos left ≡ 0 → result ≡ Heard.Quiet }
+{
+    if left.is_zero() {
+        return stream.rest();
+    }
+    match stream.get_ref().set_read_timeout(Some(wait_of(left))) {
+        Ok(()) => stream.read(room),
+        Err(_) => stream.fail_read(),
+    }
+}
+
+// A write that waits for this time of what is left, and is quiet where none is left.
+fn write_within(stream: &mut SocketStream, bytes: &[u8], left: Duration) -> Took
+    requires { 0 < length bytes.now }
+    ensures writes { Writes (⟦<SocketStream as Stream>⟧.meaning stream.old) (⟦<SocketStream as Stream>⟧.meaning stream.new) bytes.now result }
+    ensures quiet { as_nanos left ≡ 0 → result ≡ Took.Quiet }
+{
+    if left.is_zero() {
+        return stream.hold();
+    }
+    match stream.get_ref().set_write_timeout(Some(wait_of(left))) {
+        Ok(()) => stream.write(bytes),
+        Err(_) => stream.fail_write(),
+    }
+}
+
+impl<C: Clock> Stream for DeadlineStream<C> {
+    ghost meaning = { λ s. ⟦<SocketStream as Stream>⟧.meaning s.stream };
+
+    fn read(&mut self, room: &mut [u8]) -> Heard {
+        let left = self.time_left();
+        read_within(&mut self.stream, room, left)
+    }
+
+    fn write(&mut self, bytes: &[u8]) -> Took {
+        let left = self.time_left();
+        write_within(&mut self.stream, bytes, left)
+    }
+}
+
+// The time that is left to connect in, of which there is some.
+fn time_to_connect(left: Duration) -> io::Result<Duration>
+    ensures ok { IfOk result (λ t. (t ≡ left) × (0 < as_nanos t)) }
+    ensures late { as_nanos left ≡ 0 → IsErrAnd result (λ e. error_kind e ≡ ErrorKind.TimedOut) }
+{
+    if left.is_zero() {
+        return Err(io::Error::from(ErrorKind::TimedOut));
+    }
+    Ok(left)
+}
+
+/// A connection to this address, made by the deadline, that is quiet once the deadline is reached.
+///
+/// An error is the system's: ConnectionRefused where nobody listens there; TimedOut where no answer came by the deadline,
+/// and at once where it was reached before, with nobody asked.
+pub fn connect_by<'a, R: Net<Listener = TcpListener, Stream = TcpStream> + Clock>(
+    rt: &'a R,
+    address: &SocketAddr,
+    deadline: Instant,
+) -> io::Result<DeadlineStream<&'a R>>
+    ensures fresh { IfOk result (λ s. ⟦<DeadlineStream<&'a R> as Stream>⟧.meaning s ≡ unused None None) }
+{
+    let left = time_to_connect(time_left(rt, deadline))?;
+    let socket = TcpStream::connect_timeout(rt, address, left)?;
+    Ok(DeadlineStream::new(SocketStream::new(socket), rt, deadline))
+}

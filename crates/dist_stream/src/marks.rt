@@ -1,0 +1,34 @@
+//! Which marks a read or a write sets.
+
+ghost use Rattle.std.specs.Prelude.{◌≡◌};
+ghost use Rattle.dist_stream.specs.Stream.{is_end, is_failed_read, is_failed_write};
+
+use crate::stream::{Heard, Took};
+
+pub fn is_end(heard: Heard) -> bool
+    ensures { result ≡ is_end heard }
+{
+    match heard {
+        Heard::Bytes(count) => count == 0,
+        Heard::Quiet | Heard::Failed => false,
+    }
+}
+
+pub fn is_failed_read(heard: Heard) -> bool
+    ensures { result ≡ is_failed_read heard }
+{
+    match heard {
+        Heard::Bytes(_) | Heard::Quiet => false,
+        Heard::Failed => true,
+    }
+}
+
+pub fn is_failed_write(took: Took) -> bool
+    ensures { result ≡ is_failed_write took }
+{
+    match took {
+        Took::Bytes(count) => count == 0,
+        Took::Quiet => false,
+        Took::Failed => true,
+    }
+}

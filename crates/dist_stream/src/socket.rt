@@ -1,0 +1,186 @@
+//! A socket as a stream.
+
+ghost use Rattle.std.specs.Prelude.{◌≡◌, ℕ, ◌≤◌, None, List, length, IfOk, IsErrAnd};
+ghost use Rattle.std.specs.Duration.{as_nanos};
+ghost use Rattle.std.specs.IoError.{error_kind};
+ghost use Rattle.dist_stream.specs.Stream.{Reads, Writes, heard_count, took_count, unused};
+ghost use Rattle.dist_stream.specs.Socket.{is_quiet, heard_as, took_as};
+
+use crate::marks::{is_end, is_failed_read, is_failed_write};
+use crate::stream::{Heard, Stream, Took};
+use std::io::{self, ErrorKind, Read, Write};
+use std::net::{Shutdown, TcpStream};
+use std::time::Duration;
+
+/// A connection of the system. No contract says which bytes come and go.
+///
+/// A call that would wait is quiet, and so is one that a signal broke off; the caller sets how long a call waits, by
+/// the socket's timeouts. Any other error is a failure.
+#[derive(Drop)]
+pub struct SocketStream {
+    socket: TcpStream,
+    calls: u64,
+    ended: bool,
+    read_failed: bool,
+    write_failed: bool,
+}
+
+impl SocketStream {
+    /// The stream over this socket, without marks.
+    pub fn new(socket: TcpStream) -> SocketStream
+        ensures fresh { ⟦<SocketStream as Stream>⟧.meaning result ≡ unused None None }
+        ensures socket { result.socket ≡ socket }
+    {
+        SocketStream {
+            socket,
+            calls: 0,
+            ended: false,
+            read_failed: false,
+            write_failed: false,
+        }
+    }
+
+    /// The stream over this socket, each read and write of which waits for `turn` at most. InvalidInput where `turn` is
+    /// zero; any other error is the system's. Then the socket is closed.
+    pub fn timed(socket: TcpStream, turn: Duration) -> io::Result<SocketStream>
+        ensures fresh { IfOk result (λ s. ⟦<SocketStream as Stream>⟧.meaning s ≡ unused None None) }
+        ensures socket { IfOk result (λ s. s.socket ≡ socket) }
+        ensures zero { as_nanos turn ≡ 0 → IsErrAnd result (λ e. error_kind e ≡ ErrorKind.InvalidInput) }
+    {
+        socket.set_read_timeout(Some(turn))?;
+        socket.set_write_timeout(Some(turn))?;
+        Ok(SocketStream::new(socket))
+    }
+
+    /// Lets the peer see that nothing more will be sent: it reads the end of the stream. The socket stays open, so what the
+    /// peer still sends can be read, and the own port is not used again. An error is the system's, as where the connection is
+    /// gone already.
+    pub fn shut(&self) -> io::Result<()> {
+        self.socket.shutdown(Shutdown::Write)
+    }
+
+    /// The socket, as to say how long a call waits, or to watch a connection that is kept.
+    pub fn get_ref(&self) -> &TcpStream
+        ensures { result.now ≡ self.now.socket }
+    {
+        &self.socket
+    }
+
+    /// One turn without a read, which counts as a quiet one. The system isn't asked.
+    pub(crate) fn rest(&mut self) -> Heard
+        ensures quiet { result ≡ Heard.Quiet }
+        ensures reads { (room : List ℕ) → Reads (⟦<SocketStream as Stream>⟧.meaning self.old) (⟦<SocketStream as Stream>⟧.meaning self.new) room result }
+    {
+        self.calls = self.calls.saturating_add(1);
+        Heard::Quiet
+    }
+
+    /// One turn without a write, which counts as a quiet one. The system isn't asked.
+    pub(crate) fn hold(&mut self) -> Took
+        ensures quiet { result ≡ Took.Quiet }
+        ensures writes { (bytes : List ℕ) → Writes (⟦<SocketStream as Stream>⟧.meaning self.old) (⟦<SocketStream as Stream>⟧.meaning self.new) bytes result }
+    {
+        self.calls = self.calls.saturating_add(1);
+        Took::Quiet
+    }
+
+    /// One turn whose read has failed before the system was asked for bytes.
+    pub(crate) fn fail_read(&mut self) -> Heard
+        ensures failed { result ≡ Heard.Failed }
+        ensures reads { (room : List ℕ) → Reads (⟦<SocketStream as Stream>⟧.meaning self.old) (⟦<SocketStream as Stream>⟧.meaning self.new) room result }
+    {
+        self.calls = self.calls.saturating_add(1);
+        self.read_failed = true;
+        Heard::Failed
+    }
+
+    /// One turn whose write has failed before the system was given bytes.
+    pub(crate) fn fail_write(&mut self) -> Took
+        ensures failed { result ≡ Took.Failed }
+        ensures writes { (bytes : List ℕ) → Writes (⟦<SocketStream as Stream>⟧.meaning self.old) (⟦<SocketStream as Stream>⟧.meaning self.new) bytes result }
+    {
+        self.calls = self.calls.saturating_add(1);
+        self.write_failed = true;
+        Took::Failed
+    }
+
+    /// The socket, given back.
+    pub fn into_inner(self) -> TcpStream
+        ensures { result ≡ self.socket }
+    {
+        self.socket
+    }
+}
+
+// The socket is fine, and had nothing to give or no room so far.
+fn is_quiet(kind: ErrorKind) -> bool
+    ensures { result ≡ is_quiet kind }
+{
+    matches!(
+        kind,
+        ErrorKind::WouldBlock | ErrorKind::TimedOut | ErrorKind::Interrupted
+    )
+}
+
+// What a read gave that the system answered so.
+fn heard_of(answer: io::Result<usize>) -> Heard
+    ensures { result ≡ heard_as answer }
+{
+    match answer {
+        Ok(count) => Heard::Bytes(count),
+        Err(error) => {
+            if is_quiet(error.kind()) {
+                Heard::Quiet
+            } else {
+                Heard::Failed
+            }
+        }
+    }
+}
+
+// What a write took that the system answered so.
+fn took_of(answer: io::Result<usize>) -> Took
+    ensures { result ≡ took_as answer }
+{
+    match answer {
+        Ok(count) => Took::Bytes(count),
+        Err(error) => {
+            if is_quiet(error.kind()) {
+                Took::Quiet
+            } else {
+                Took::Failed
+            }
+        }
+    }
+}
+
+fn read_from(socket: &mut TcpStream, room: &mut [u8]) -> Heard
+    ensures { heard_count result ≤ length room.new }
+{
+    heard_of(socket.read(room))
+}
+
+fn write_to(socket: &mut TcpStream, bytes: &[u8]) -> Took
+    ensures { took_count result ≤ length bytes.now }
+{
+    took_of(socket.write(bytes))
+}
+
+impl Stream for SocketStream {
+    ghost meaning = { λ s. record { unread = None; written = None; calls = s.calls; ended = s.ended; read_failed = s.read_failed; write_failed = s.write_failed } };
+
+    fn read(&mut self, room: &mut [u8]) -> Heard {
+        self.calls = self.calls.saturating_add(1);
+        let heard = read_from(&mut self.socket, room);
+        self.ended = is_end(heard) || self.ended;
+        self.read_failed = is_failed_read(heard) || self.read_failed;
+        heard
+    }
+
+    fn write(&mut self, bytes: &[u8]) -> Took {
+        self.calls = self.calls.saturating_add(1);
+        let took = write_to(&mut self.socket, bytes);
+        self.write_failed = is_failed_write(took) || self.write_failed;
+        took
+    }
+}

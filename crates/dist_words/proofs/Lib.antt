@@ -1,3 +1,0 @@
-pub mod Flags
-pub mod Split
-pub mod Printing

@@ -1,0 +1,18 @@
+-- The connection of an end that is up.
+use Rattle.std.proofs.Common.{◌≡◌, ℕ, Option, Some, None, slice_get, refl}
+use Rattle.std.specs.Option.{option_map}
+use Rattle.dist_names.specs.Order.{Name}
+use Rattle.dist_peers.specs.declared.entry.EndId.{EndId}
+use Rattle.dist_core_ends.specs.declared.known.UpRecord.{UpRecord}
+use Rattle.dist_core_ends.specs.Ends.{FindsUp}
+use Rattle.dist_world_model.specs.World.{Life}
+use Rattle.dist_world_model.specs.Happenings.{conn_of}
+use Rattle.dist_world_lives.specs.Links.{linked, FindsLink}
+
+pub link_found : (l : Life) (p : Name) (o : Option (EndId × UpRecord)) → FindsUp l.node.ends p o → FindsLink l p (linked l.rows o)
+link_found l p None k = tt
+link_found l p (Some x) k = by (conn_of (slice_get l.rows (let y = x.0 in y.0))) refl
+  where
+    by : (o : Option ℕ) → conn_of (slice_get l.rows (let y = x.0 in y.0)) ≡ o → FindsLink l p (option_map {U = ℕ × UpRecord} (λ c. (c, x.1)) o)
+    by None e = tt
+    by (Some c) e = (x.0, k, e)

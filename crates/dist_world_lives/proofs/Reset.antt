@@ -1,0 +1,58 @@
+-- What a change of an incarnation's setup does to the list.
+use Rattle.std.proofs.Common.{◌≡◌, ℕ, ◌<◌, ◌≤◌, Bool, true, false, List, length, get_or, slice_get, Option, Some, None, Result, Ok, Err, refl, ap, sym, ◌∙◌, subst}
+use Rattle.std.proofs.Math.ListN.{set}
+use Rattle.std.specs.declared.alloc.AllocError.{AllocError}
+use Rattle.dist_core.specs.declared.changing.Change.{Change}
+use Rattle.dist_core.specs.declared.changing.ChangeError.{ChangeError}
+use Rattle.dist_core.specs.declared.changing.ChangeError.TheVariants as error
+use Rattle.dist_core.specs.Changing.{IsChange, change}
+use Rattle.dist_core.specs.Node.{NodeState}
+use Rattle.dist_world_model.specs.World.{Life, running}
+use Rattle.dist_world_model.specs.Happenings.{with_node}
+use Rattle.dist_world_model.proofs.Conditions.{there, not_there, is_refused}
+use Rattle.dist_world_lives.specs.Index.{IsIndexed}
+use Rattle.dist_world_lives.specs.Resetting.{Forbids, HasReset, Resets, lacks_memory}
+use Rattle.dist_world_lives.proofs.Edits.{at_set}
+use Rattle.dist_world_lives.proofs.Indexes.{changed}
+use Rattle.dist_world_lives.proofs.Told.{get_none, of_world, put_back, stands}
+
+-- ---- what a refusal says
+
+stays : (e : ChangeError) (s : Result NodeState ChangeError) (old new : NodeState) → IsChange {T = Unit {0}} (Err e) s old new → new ≡ old
+stays error.InUse s old new h = h.1
+stays error.Full s old new h = h.1
+stays error.NoMemory s old new h = h.1
+
+refused : (e : ChangeError) (s : Result NodeState ChangeError) (old new : NodeState) → lacks_memory e ≡ false → IsChange {T = Unit {0}} (Err e) s old new → s ≡ Err e
+refused error.InUse s old new n h = h.0
+refused error.Full s old new n h = h.0
+refused error.NoMemory s old new n h = absurd cc
+
+-- ---- an incarnation among all
+
+pub forbids_past : (lives : List Life) (i : ℕ) (v : Change) → length lives ≤ i → Forbids lives i v
+forbids_past lives i v past = λ w node same place. there (running w node) i _ place ∙ not_there (slice_get w.lives i) _ (of_world lives w i None same (get_none lives i past))
+
+module _ (lives : List Life) (i : ℕ) (l : Life) (few : i < length lives) (is : l ≡ get_or lives i l) (v : Change) where
+  pub forbids_refused : (e : ChangeError) (m : Life) → lacks_memory e ≡ false → IsChange {T = Unit {0}} (Err e) (change l.node v) l.node m.node → Forbids lives i v
+  forbids_refused e m short h = λ w node same place.
+      there (running w node) i _ place
+      ∙ (there (slice_get w.lives i) l _ (of_world lives w i (Some l) same (stands lives i l few is)) ∙ is_refused (change l.node v) e _ (refused e (change l.node v) l.node m.node short h))
+
+  pub not_reset : (e : ChangeError) (m : Life) → IsChange {T = Unit {0}} (Err e) (change l.node v) l.node m.node → m ≡ with_node m.node l → set lives i m ≡ lives
+  not_reset e m h same = put_back lives i l few is m (same ∙ ap (λ n. with_node n l) (stays e (change l.node v) l.node m.node h))
+
+  pub has_reset : (m : Life) → change l.node v ≡ Ok m.node → m ≡ with_node m.node l → HasReset i v lives (set lives i m)
+  has_reset m made same = record {
+    life = l;
+    node = m.node;
+    there = stands lives i l few is;
+    changed = made;
+    lived_ = ap (set lives i) same ∙ at_set (with_node m.node) lives i l few is;
+  }
+
+-- the index stays
+pub reset_keeps : (r : Result Bool AllocError) (lives new : List Life) (index : List (Option ℕ)) (i : ℕ) (v : Change) → Resets r i v lives new → IsIndexed lives index → IsIndexed new index
+reset_keeps (Ok true) lives new index i v h k = subst (λ ls. IsIndexed ls index) (sym h.lived_) (changed lives index i (with_node h.node) (λ l at j. refl) k)
+reset_keeps (Ok false) lives new index i v h k = subst (λ ls. IsIndexed ls index) (sym h.1) k
+reset_keeps (Err e) lives new index i v h k = subst (λ ls. IsIndexed ls index) (sym h) k

@@ -1,0 +1,53 @@
+-- A text under delivery: what is undelivered, and the reader that it goes to.
+use Rattle.std.proofs.Common.{◌≡◌, ℕ, ◌-◌, min, List, ◌++◌, length, take, drop, refl, ap, sym, ◌∙◌, arith, length-append}
+use Rattle.std.proofs.lemmas.List.{take_min, take_at}
+use Rattle.std.specs.Int.{w16}
+use Rattle.dist_frames.specs.Stream.{first_body, after_first}
+use Rattle.dist_frames.specs.Reader.{Reader, Short, Linked, fed, next_body, without_next}
+use Rattle.dist_world_model.specs.World.{Text}
+use Rattle.dist_world_model.specs.Delivery.{more_said, delivered, body_taken}
+use Rattle.dist_world_lives.specs.Wires.{unsaid}
+use Rattle.dist_world_lives.specs.Reading.{come_of, IsShort}
+
+-- ---- the reader
+
+pub short_fed : (r : Reader) (piece : List ℕ) → IsShort r → IsShort (fed r piece)
+short_fed (Short pending) piece k = k
+short_fed (Linked ended rest) piece k = absurd k
+
+come_fed : (r : Reader) (piece : List ℕ) → IsShort r → come_of (fed r piece) ≡ come_of r ++ piece
+come_fed (Short pending) piece k = refl
+come_fed (Linked ended rest) piece k = absurd k
+
+pub next_come : (r : Reader) → IsShort r → next_body r ≡ first_body w16 (come_of r)
+next_come (Short pending) k = refl
+next_come (Linked ended rest) k = absurd k
+
+pub short_taken : (r : Reader) → IsShort r → IsShort (without_next r)
+short_taken (Short pending) k = k
+short_taken (Linked ended rest) k = absurd k
+
+come_taken : (r : Reader) → IsShort r → come_of (without_next r) ≡ after_first w16 (come_of r)
+come_taken (Short pending) k = refl
+come_taken (Linked ended rest) k = absurd k
+
+-- ---- the text
+
+text_of : List ℕ → Reader → Text
+text_of said r = record { said = said; come = come_of r }
+
+pub as_delivered : (said : List ℕ) (r : Reader) (count n : ℕ) → n ≡ min count (length said) → IsShort r → (let t : Text = record { said = drop count said; come = come_of (fed r (take n said)) } in t) ≡ delivered count (record { said = said; come = come_of r })
+as_delivered said r count n is k =
+    let piece : take n said ≡ take count said = ap (λ m. take m said) is ∙ take_min count said in
+    let come : come_of (fed r (take n said)) ≡ come_of r ++ take count said = come_fed r (take n said) k ∙ ap (λ xs. come_of r ++ xs) piece in
+    λ i. record { said = drop count said; come = come i }
+
+pub as_taken : (said : List ℕ) (r : Reader) → IsShort r → (let t : Text = record { said = said; come = come_of (without_next r) } in t) ≡ body_taken (record { said = said; come = come_of r })
+as_taken said r k = λ i. record { said = said; come = come_taken r k i }
+
+-- what was sent last is taken back
+pub said_back : (s : List ℕ) (x : Text) → unsaid (length s) (more_said s x) ≡ x
+said_back s x =
+    let len : length (x.said ++ s) - length s ≡ length x.said = omega (arith, length-append x.said s) in
+    let left : take (length (x.said ++ s) - length s) (x.said ++ s) ≡ x.said = take_at x.said s (length (x.said ++ s) - length s) (sym len) in
+    λ i. record x { said = left i }

@@ -1,0 +1,28 @@
+-- Which ends of an incarnation have connections.
+use Rattle.std.specs.Prelude.{◌≡◌, ℕ, Bool, not, ◌&&◌, List, Option, Some, None, slice_get, is_some}
+use Rattle.std.specs.Option.{option_map}
+use Rattle.dist_names.specs.Order.{Name}
+use Rattle.dist_peers.specs.declared.entry.EndId.{EndId}
+use Rattle.dist_core_ends.specs.declared.known.UpRecord.{UpRecord}
+use Rattle.dist_core_ends.specs.Ends.{IsUpWith, is_dialing}
+use Rattle.dist_world_model.specs.Rows.{EndRow}
+use Rattle.dist_world_model.specs.World.{Life, row_of_life, end_of_life}
+use Rattle.dist_world_model.specs.Happenings.{conn_of}
+
+-- the connection of an end beside its record
+abbrev pub linked : List EndRow → Option (EndId × UpRecord) → Option (ℕ × UpRecord)
+linked rows None = None
+linked rows (Some x) = option_map (λ c. (c, x.1)) (conn_of (slice_get rows (let y = x.0 in y.0)))
+
+-- a connection and the record of an end on it
+abbrev pub up_on : ℕ → UpRecord → Option (ℕ × UpRecord)
+up_on c r = Some (c, r)
+
+-- what was found is the connection of an end of this incarnation that is up with this peer, and its record
+abbrev pub FindsLink : Life → Name → Option (ℕ × UpRecord) → Type 0
+FindsLink l p None = Unit {0}
+FindsLink l p (Some x) = (id : EndId) × IsUpWith l.node.ends p id x.1 × (conn_of (slice_get l.rows id.0) ≡ Some x.0)
+
+-- the end waits for a connection, and was not led to one yet
+abbrev pub is_unreached : Option Life → ℕ → Bool
+is_unreached l id = is_dialing (end_of_life l id) && not (is_some (conn_of (row_of_life l id)))

@@ -1,0 +1,230 @@
+//! All connections, and what happens to one of them.
+ghost use Rattle.std.specs.Prelude.{◌≡◌, ◌==◌, ◌++◌, ◌∷◌, ℕ, List, [], if◌then◌else◌, true, length, slice_get, option_copied, IfOk, OnOk, OnErr};
+ghost use Rattle.dist_world_model.specs.Lists.{at_place};
+ghost use Rattle.dist_world_model.specs.World.{Conn};
+ghost use Rattle.dist_world_model.specs.Happenings.{new_conn, accepted_by};
+ghost use Rattle.dist_world_model.specs.Delivery.{says, change_to, delivered, body_taken};
+ghost use Rattle.dist_world_lives.specs.Wires.{unaccepted, undelivered_to, comes, front_at, unsays, is_quiet_at};
+
+use crate::connection::Connection;
+use dist_messages::Side;
+use dist_names::ByteString;
+use dist_peers::EndId;
+use std::alloc::{AllocError, Global};
+use std::marker::Model;
+
+/// All connections, in the order in which they were made. A place past the last names none, and nothing happens there.
+#[derive(Drop)]
+pub struct Connections {
+    all: Vec<Connection>,
+}
+
+impl Model for Connections {
+    ghost use Rattle.std.specs.Prelude.{List};
+    ghost use Rattle.dist_world_model.specs.World.{Conn};
+
+    ghost Value = { List Conn };
+
+    ghost view = { λ c. c.all.items };
+}
+
+impl Connections {
+    /// None. It takes no memory.
+    pub fn new(alloc: Global) -> Connections
+        ensures { result ≡ [] }
+    {
+        Connections {
+            all: Vec::new(alloc),
+        }
+    }
+
+    /// How many there are.
+    pub fn len(&self) -> usize
+        ensures { result ≡ length self.now }
+    {
+        self.all.len()
+    }
+
+    /// There are none.
+    pub fn is_empty(&self) -> bool
+        ensures { result ≡ (length self.now == 0) }
+    {
+        self.all.is_empty()
+    }
+
+    /// A dialled end of an incarnation is led to another one, or to its own. An `Err` changes nothing.
+    pub fn connect(
+        &mut self,
+        alloc: Global,
+        life: usize,
+        dialler: EndId,
+        target: usize,
+    ) -> Result<(), AllocError>
+        ensures ok { OnOk result (self.new ≡ self.old ++ new_conn life dialler.0 target ∷ []) }
+        ensures err { OnErr result (self.new ≡ self.old) }
+    {
+        self.all
+            .push(Connection::new(alloc, life, dialler, target))?;
+        Ok(())
+    }
+
+    /// The incarnation that a connection leads to which was not accepted yet.
+    pub fn unaccepted(&self, place: usize) -> Option<usize>
+        ensures { result ≡ unaccepted (slice_get self.now place) }
+    {
+        let conn = self.all.get(place)?;
+        if conn.is_accepted() {
+            return None;
+        }
+        Some(conn.target())
+    }
+
+    /// What was sent to this side of a connection and is undelivered.
+    pub fn undelivered(&self, place: usize, side: Side) -> Option<&[u8]>
+        ensures { option_copied result ≡ undelivered_to side (slice_get self.now place) }
+    {
+        let conn = self.all.get(place)?;
+        Some(conn.text_to(side).said())
+    }
+
+    /// The first body that came to this side of a connection and was not taken.
+    pub fn front(&self, place: usize, side: Side) -> Option<&[u8]>
+        ensures { option_copied result ≡ front_at (slice_get self.now place) side }
+    {
+        let conn = self.all.get(place)?;
+        conn.text_to(side).front()
+    }
+
+    /// A connection was accepted by this end.
+    pub fn accept(&mut self, place: usize, id: EndId)
+        ensures { self.new ≡ at_place place (accepted_by id.0) self.old }
+    {
+        accept_at(&mut self.all, place, id);
+    }
+
+    /// This side of a connection sends these bytes. An `Err` changes nothing.
+    pub fn say(&mut self, place: usize, side: Side, bytes: &[u8]) -> Result<(), AllocError>
+        ensures ok { OnOk result (self.new ≡ at_place place (says side bytes.now) self.old) }
+        ensures err { OnErr result (self.new ≡ self.old) }
+    {
+        say_at(&mut self.all, place, side, bytes)
+    }
+
+    /// All that this side of a connection sent is delivered; so too where there is no such connection.
+    pub fn is_quiet(&self, place: usize, side: Side) -> bool
+        ensures { result ≡ is_quiet_at (slice_get self.now place) side }
+    {
+        match self.all.get(place) {
+            Some(conn) => conn.is_quiet(side),
+            None => true,
+        }
+    }
+
+    /// This side of a connection sends these bytes, where all that it sent is delivered. It takes no memory.
+    pub fn say_first(&mut self, place: usize, side: Side, bytes: ByteString)
+        requires { is_quiet_at (slice_get self.old place) side ≡ true }
+        ensures { self.new ≡ at_place place (says side bytes) self.old }
+    {
+        say_first_at(&mut self.all, place, side, bytes);
+    }
+
+    /// Takes back the last `count` bytes that this side of a connection sent: all is as it was before it sent them.
+    pub fn unsay(&mut self, place: usize, side: Side, count: usize)
+        ensures { (before : List Conn) (bytes : List ℕ) → self.old ≡ at_place place (says side bytes) before → length bytes ≡ count → self.new ≡ before }
+    {
+        unsay_at(&mut self.all, place, side, count);
+    }
+
+    /// `count` bytes come to this side of a connection, or what is left: whether there were any. An `Err` changes nothing.
+    pub fn deliver(&mut self, place: usize, side: Side, count: usize) -> Result<bool, AllocError>
+        ensures comes { IfOk result (λ came. came ≡ comes (slice_get self.old place) side count) }
+        ensures ok { IfOk result (λ came. self.new ≡ (if came then at_place place (change_to side (delivered count)) self.old else self.old)) }
+        ensures err { OnErr result (self.new ≡ self.old) }
+    {
+        deliver_at(&mut self.all, place, side, count)
+    }
+
+    /// This side of a connection takes the first frame that came to it. With none it changes nothing.
+    pub fn take(&mut self, place: usize, side: Side)
+        ensures { self.new ≡ at_place place (change_to side body_taken) self.old }
+    {
+        take_at(&mut self.all, place, side);
+    }
+}
+
+// ---- one connection among all
+
+fn accept_at(conns: &mut Vec<Connection>, place: usize, id: EndId)
+    ensures { conns.new.items ≡ at_place place (accepted_by id.0) conns.old.items }
+{
+    if place < conns.len() {
+        let conn = &mut conns[place];
+        conn.accept(id);
+    }
+}
+
+fn say_at(
+    conns: &mut Vec<Connection>,
+    place: usize,
+    side: Side,
+    bytes: &[u8],
+) -> Result<(), AllocError>
+    ensures ok { OnOk result (conns.new.items ≡ at_place place (says side bytes.now) conns.old.items) }
+    ensures err { OnErr result (conns.new.items ≡ conns.old.items) }
+{
+    if place >= conns.len() {
+        return Ok(());
+    }
+    let conn = &mut conns[place];
+    conn.say(side, bytes)?;
+    Ok(())
+}
+
+fn say_first_at(conns: &mut Vec<Connection>, place: usize, side: Side, bytes: ByteString)
+    requires { is_quiet_at (slice_get conns.old.items place) side ≡ true }
+    ensures { conns.new.items ≡ at_place place (says side bytes) conns.old.items }
+{
+    if place < conns.len() {
+        let conn = &mut conns[place];
+        conn.say_first(side, bytes);
+    }
+}
+
+fn unsay_at(conns: &mut Vec<Connection>, place: usize, side: Side, count: usize)
+    ensures { conns.new.items ≡ at_place place (unsays side count) conns.old.items }
+{
+    if place < conns.len() {
+        let conn = &mut conns[place];
+        conn.unsay(side, count);
+    }
+}
+
+fn deliver_at(
+    conns: &mut Vec<Connection>,
+    place: usize,
+    side: Side,
+    count: usize,
+) -> Result<bool, AllocError>
+    ensures comes { IfOk result (λ came. came ≡ comes (slice_get conns.old.items place) side count) }
+    ensures ok { IfOk result (λ came. conns.new.items ≡ (if came then at_place place (change_to side (delivered count)) conns.old.items else conns.old.items)) }
+    ensures err { OnErr result (conns.new.items ≡ conns.old.items) }
+{
+    if place >= conns.len() || count == 0 {
+        return Ok(false);
+    }
+    let conn = &mut conns[place];
+    if conn.text_to(side).said().is_empty() {
+        return Ok(false);
+    }
+    conn.deliver(side, count)?;
+    Ok(true)
+}
+
+fn take_at(conns: &mut Vec<Connection>, place: usize, side: Side)
+    ensures { conns.new.items ≡ at_place place (change_to side body_taken) conns.old.items }
+{
+    if place < conns.len() {
+        let conn = &mut conns[place];
+        conn.take(side);
+    }
+}

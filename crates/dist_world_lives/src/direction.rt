@@ -1,0 +1,102 @@
+//! One direction of a connection.
+ghost use Rattle.std.specs.Prelude.{◌≡◌, [], option_copied, OnOk, OnErr};
+ghost use Rattle.std.specs.Int.{w16};
+ghost use Rattle.dist_frames.specs.Stream.{first_body};
+ghost use Rattle.dist_world_model.specs.Delivery.{empty_text, more_said, delivered, body_taken};
+ghost use Rattle.dist_world_lives.specs.Wires.{unsaid};
+
+use dist_frames::{ByteQueue, Frames};
+use dist_names::ByteString;
+use std::alloc::{AllocError, Global};
+use std::marker::Model;
+
+/// What was sent on one direction of a connection: what of it is undelivered, and the reader of the end that it comes to,
+/// which has what was delivered and is not taken.
+#[derive(Drop)]
+pub struct Direction {
+    said: ByteQueue,
+    // Never linked: on a connection of a world short frames alone are taken.
+    reader: Frames,
+}
+
+impl Model for Direction {
+    ghost use Rattle.dist_world_model.specs.World.{Text};
+    ghost use Rattle.dist_world_lives.specs.Reading.{come_of, IsShort};
+
+    ghost Value = { Text };
+
+    ghost view = { λ d. record { said = d.said; come = come_of d.reader } };
+
+    ghost invariant = { λ d. IsShort d.reader };
+}
+
+impl Direction {
+    /// Nothing was sent. It takes no memory.
+    pub fn new(alloc: Global) -> Direction
+        ensures { result ≡ empty_text }
+    {
+        Direction {
+            said: ByteQueue::new(alloc),
+            reader: Frames::new(alloc),
+        }
+    }
+
+    /// What was sent and is undelivered.
+    pub fn said(&self) -> &[u8]
+        ensures { result.now ≡ self.now.said }
+    {
+        self.said.as_slice()
+    }
+
+    /// These bytes are sent. An `Err` changes nothing.
+    pub fn say(&mut self, bytes: &[u8]) -> Result<(), AllocError>
+        ensures ok { OnOk result (self.new ≡ more_said bytes.now self.old) }
+        ensures err { OnErr result (self.new ≡ self.old) }
+    {
+        self.said.extend(bytes)
+    }
+
+    /// These bytes are sent, where all that was sent is delivered. It takes no memory.
+    pub fn say_first(&mut self, bytes: ByteString)
+        requires { self.old.said ≡ [] }
+        ensures { self.new ≡ more_said bytes self.old }
+    {
+        self.said = ByteQueue::from_vec(bytes.into_vec());
+    }
+
+    /// Takes back the last `count` bytes that were sent.
+    pub fn unsay(&mut self, count: usize)
+        ensures { self.new ≡ unsaid count self.old }
+    {
+        self.said.drop_back(count);
+    }
+
+    /// `count` bytes are delivered, or what is left. An `Err` changes nothing.
+    #[tactic(auto, using(crate::proofs::Texts::short_fed, crate::proofs::Texts::as_delivered))]
+    pub fn deliver(&mut self, count: usize) -> Result<(), AllocError>
+        ensures ok { OnOk result (self.new ≡ delivered count self.old) }
+        ensures err { OnErr result (self.new ≡ self.old) }
+    {
+        let said = self.said.as_slice();
+        let piece = &said[..count.min(said.len())];
+        self.reader.feed(piece)?;
+        self.said.drop_front(count);
+        Ok(())
+    }
+
+    /// The first body that was delivered and is not taken.
+    #[tactic(auto, using(crate::proofs::Texts::next_come))]
+    pub fn front(&self) -> Option<&[u8]>
+        ensures { option_copied result ≡ first_body w16 self.now.come }
+    {
+        self.reader.front()
+    }
+
+    /// The first frame is taken. With none it changes nothing.
+    #[tactic(auto, using(crate::proofs::Texts::short_taken, crate::proofs::Texts::as_taken))]
+    pub fn take(&mut self)
+        ensures { self.new ≡ body_taken self.old }
+    {
+        self.reader.drop_front();
+    }
+}

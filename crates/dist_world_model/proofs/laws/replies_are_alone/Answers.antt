@@ -1,0 +1,5 @@
+use Rattle.dist_world_model.proofs.Times.{alone_lives}
+use Rattle.dist_world_model.proofs.laws.replies_are_alone.Goals as goal
+
+pub returns : goal.returns
+returns c = alone_lives c.nodes_keep_laws.ensures

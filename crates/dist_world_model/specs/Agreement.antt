@@ -1,0 +1,118 @@
+-- AGREEMENT: what two running nodes have in common that each count the other as up.
+use Rattle.std.specs.Prelude.{◌≡◌, ◌≢◌, ℕ, ◌<◌, ◌^◌, Bool, ◌&&◌, if◌then◌else◌, ◌⊎◌, List, [], Option, Some, None, slice_get}
+use Rattle.std.specs.List.{AllByRecursion}
+use Rattle.dist_names.specs.NodeName.{IsNodeName}
+use Rattle.dist_names.specs.Flags.{common}
+use Rattle.dist_names.specs.declared.creation.Creation.{Creation}
+use Rattle.dist_core_setup.specs.declared.setup.Setup.{Setup}
+use Rattle.dist_core_ends.specs.declared.known.UpRecord.{UpRecord}
+use Rattle.dist_core_ends.specs.declared.known.End.TheVariants as ends
+use Rattle.dist_core_setup.specs.Rules.{announced_in, knows_six, own_digest}
+use Rattle.dist_world_model.specs.declared.happening.Happening.{Happening}
+use Rattle.dist_world_model.specs.declared.happening.Happening.TheVariants as happening
+use Rattle.dist_world_model.specs.Rows.{EndRow}
+use Rattle.dist_world_model.specs.World.{World, Life, Conn, running, empty}
+use Rattle.dist_world_model.specs.Run.{run}
+
+-- NODE a COUNTS NODE b AS UP on connection c: the running incarnation of a has an end of c that is up with b as its peer
+pub record IsUp (w : World) (a b c : ℕ) : Type 0 where
+  pub place : ℕ
+  pub life : Life
+  pub id : ℕ
+  pub kept : UpRecord
+  pub row : EndRow
+  pub other : Setup
+  pub runs : running w a ≡ Some place
+  pub lives : slice_get w.lives place ≡ Some life
+  pub is_up : slice_get life.node.ends id ≡ Some (ends.Up kept)
+  pub beside : slice_get life.rows id ≡ Some row
+  pub on : row.conn ≡ Some c
+  pub named : slice_get w.setups b ≡ Some other
+  pub peer : kept.peer ≡ other.name
+
+-- the same, on whatever connection
+pub record Counts (w : World) (a b : ℕ) : Type 0 where
+  pub place : ℕ
+  pub life : Life
+  pub id : ℕ
+  pub kept : UpRecord
+  pub other : Setup
+  pub runs : running w a ≡ Some place
+  pub lives : slice_get w.lives place ≡ Some life
+  pub is_up : slice_get life.node.ends id ≡ Some (ends.Up kept)
+  pub named : slice_get w.setups b ≡ Some other
+  pub peer : kept.peer ≡ other.name
+
+-- A SETUP WITHOUT ITS COOKIES AND ITS ALLOW LIST, which a node may change while it runs
+abbrev pub bare : Setup → Setup
+bare s = record s { cookies = record { usual = []; own = [] }; allow = None }
+
+-- both know version 6
+abbrev pub both_six : Setup → Setup → Bool
+both_six own other = knows_six own && knows_six other
+
+-- THE OTHER'S CREATION WHERE KNOWN: where both know version 6
+abbrev pub known_creation : Setup → Setup → Option Creation
+known_creation own other = if both_six own other then Some other.creation else None
+
+-- the record has the flags that both announced, the other's creation where known, and the digest of the own cookie for the
+-- other and the own challenge
+pub record IsAgreed (own other : Setup) (kept : UpRecord) : Type 0 where
+  pub flags : kept.common.0 ≡ common (announced_in own.version own.flags.0) (announced_in other.version other.flags.0)
+  pub creation : kept.creation ≡ known_creation own other
+  pub digest : kept.digest_received ≡ own_digest own kept.peer kept.challenge
+
+-- the connection was dialled by end x of incarnation i, leads to incarnation j, and its end y was accepted there
+pub record Joins (k : Conn) (i x j y : ℕ) : Type 0 where
+  pub life : k.life ≡ i
+  pub dialler : k.dialler ≡ x
+  pub target : k.target ≡ j
+  pub accepted : k.accepted ≡ Some y
+
+-- WHAT THEY HAVE IN COMMON: both ends are those of one connection, and each record agrees with the incarnations that run
+pub record AreAgreed (w : World) (a b c d : ℕ) (x : IsUp w a b c) (y : IsUp w b a d) : Type 0 where
+  pub same : c ≡ d
+  pub conn : Conn
+  pub there : slice_get w.conns c ≡ Some conn
+  pub joined : Joins conn x.place x.id y.place y.id ⊎ Joins conn y.place y.id x.place x.id
+  -- each incarnation has its node's setup, but for the creation, the cookies and the allow list
+  pub setup_a : bare x.life.node.setup ≡ bare (record y.other { creation = x.life.node.setup.creation })
+  pub setup_b : bare y.life.node.setup ≡ bare (record x.other { creation = y.life.node.setup.creation })
+  pub at_a : IsAgreed x.life.node.setup y.life.node.setup x.kept
+  pub at_b : IsAgreed y.life.node.setup x.life.node.setup y.kept
+  -- the two records have the same common flags
+  pub shared : x.kept.common.0 ≡ y.kept.common.0
+
+-- THE AGREEMENT of a world: any two nodes that each count the other as up
+abbrev pub Agreement : World → Type 0
+Agreement w = (a b c d : ℕ) → a ≢ b → (x : IsUp w a b c) (y : IsUp w b a d) → AreAgreed w a b c d x y
+
+-- ---- what is asked of a world: the nodes' names are names, and distinct; numbers fit their types
+
+-- the setup's name is a name, and its flags fit 64 bits
+pub record IsSetup (s : Setup) : Type 0 where
+  pub name : IsNodeName s.name
+  pub flags : s.flags.0 < 2 ^ 64
+
+-- setups of distinct nodes
+pub record AreSetups (setups : List Setup) : Type 0 where
+  pub each : (i : ℕ) (s : Setup) → slice_get setups i ≡ Some s → IsSetup s
+  pub distinct : (i j : ℕ) (s r : Setup) → slice_get setups i ≡ Some s → slice_get setups j ≡ Some r → s.name ≡ r.name → i ≡ j
+
+-- a creation or a challenge fits 32 bits
+abbrev pub Fits : Happening → Type 0
+Fits (happening.Begin i c) = c.0 < 2 ^ 32
+Fits (happening.Take i id fresh) = fresh < 2 ^ 32
+Fits h = Unit {0}
+
+-- each of them fits
+abbrev pub AllFit : List Happening → Type 0
+AllFit = AllByRecursion Fits
+
+-- A WORLD THAT CAN BE: that of distinct nodes after a list of happenings
+pub record IsReached (w : World) : Type 0 where
+  pub setups : List Setup
+  pub happenings : List Happening
+  pub good : AreSetups setups
+  pub fit : AllFit happenings
+  pub is : w ≡ run happenings (empty setups)

@@ -1,0 +1,248 @@
+-- ONE HAPPENING OF THE WORLD.
+use Rattle.std.specs.Prelude.{ℕ, ◌+◌, Bool, true, false, ◌&&◌, if◌then◌else◌, nat_lt, List, [], ◌∷◌, ◌++◌, length, Option, Some, None, is_none, option_and_then, slice_get}
+use Rattle.std.specs.Option.{option_map}
+use Rattle.std.specs.Result.{result_ok}
+use Rattle.std.specs.Int.{w16}
+use Rattle.dist_names.specs.declared.creation.Creation.{Creation}
+use Rattle.dist_frames.specs.Stream.{first_body}
+use Rattle.dist_peers.specs.declared.entry.EndId.{EndId}
+use Rattle.dist_core_setup.specs.declared.setup.Setup.{Setup}
+use Rattle.dist_core_ends.specs.declared.known.End.{End}
+use Rattle.dist_core.specs.declared.changing.Change.{Change}
+use Rattle.dist_core.specs.declared.event.Event.{Event}
+use Rattle.dist_core.specs.declared.event.Event.TheVariants as event
+use Rattle.dist_core.specs.declared.reply.Reply.{Reply}
+use Rattle.dist_core_ends.specs.Ends.{is_open, is_dialing}
+use Rattle.dist_core.specs.Node.{NodeState}
+use Rattle.dist_core.specs.Changing.{change}
+use Rattle.dist_core.specs.Step.{step}
+use Rattle.dist_core.specs.Runs.{opening}
+use Rattle.dist_world_model.specs.declared.happening.Happening.{Happening}
+use Rattle.dist_world_model.specs.declared.happening.Happening.TheVariants as happening
+use Rattle.dist_world_model.specs.Lists.{at_place}
+use Rattle.dist_world_model.specs.Rows.{EndRow, rows_after, once}
+use Rattle.dist_world_model.specs.World.{World, Life, Conn, runs, running, row_at, end_at}
+use Rattle.dist_world_model.specs.Delivery.{empty_text, delivered, body_taken, text_to, change_to, spoken}
+
+-- Each happening is one `do` block. A line with an arrow names a thing that must be there; a line that is a test must hold;
+-- the last one is the world afterwards. Where a thing is not there or a test does not hold, the happening does not apply.
+
+-- what follows, where this is there
+infixl 10 ◌>>=◌
+abbrev pub ◌>>=◌ : {A B : Type 0} → Option A → (A → Option B) → Option B
+o >>= f = option_and_then f o
+
+-- what follows, where this test holds
+infixl 10 ◌>>◌
+abbrev pub ◌>>◌ : {A : Type 0} → Bool → Option A → Option A
+test >> o = if test then o else None
+
+-- ---- the limits of a world (our own choice)
+
+-- how many times nodes may begin
+abbrev pub most_begins : ℕ
+most_begins = 1048576
+
+-- how many connections there may be
+abbrev pub most_connections : ℕ
+most_connections = 1048576
+
+-- how many happenings may apply
+abbrev pub most_applied : ℕ
+most_applied = 4611686018427387904
+
+-- ---- an event of a node
+
+-- an incarnation after an event at number t
+abbrev pub lived : ℕ → Event → Reply → NodeState → Life → Life
+lived t v r n l = record l { node = n; rows = rows_after t v r l.rows }
+
+-- INCARNATION i IS TOLD AN EVENT: it runs and its step succeeds; what the reply says is appended to the connection of the
+-- end that it names
+abbrev pub tell : World → ℕ → Event → ℕ → Option World
+tell w i v fresh = do
+  life ← slice_get w.lives i
+  runs life
+  (reply, node) ← result_ok (step life.node v fresh)
+  let after = lived w.clock v reply node life
+  Some (record w {
+    lives = at_place i (λ old. after) w.lives;
+    conns = spoken w.conns (slice_get after.rows reply.end_.0) reply.say;
+    last_closed = option_map (λ closed. (life.who, closed)) reply.closed;
+  })
+
+-- DIAL, TICK, LOSE: a running node is told this event
+abbrev pub tell_node : World → ℕ → Event → Option World
+tell_node w node v = do
+  i ← running w node
+  tell w i v 0
+
+-- ---- beginning and end
+
+-- an empty node with this setup and this creation
+abbrev pub new_life : ℕ → ℕ → Setup → Creation → Life
+new_life i t s c = record { who = i; begun = t; over = None; node = opening (record s { creation = c }); rows = [] }
+
+-- BEGIN: a node that does not run begins a new incarnation with this creation
+abbrev pub begin : World → ℕ → Creation → Option World
+begin w node creation = do
+  setup ← slice_get w.setups node
+  is_none (running w node)
+  nat_lt (length w.lives) most_begins
+  Some (record w { lives = w.lives ++ new_life node w.clock setup creation ∷ [] })
+
+-- the row of an end that is closed, where it was not
+abbrev pub shut_row : ℕ → EndRow → EndRow
+shut_row t row = record row { closed = once true t row.closed }
+
+-- all rows so
+abbrev pub shut_all : ℕ → List EndRow → List EndRow
+shut_all t [] = []
+shut_all t (row ∷ rows) = shut_row t row ∷ shut_all t rows
+
+-- all its ends are closed, and the incarnation is over
+abbrev pub ended : ℕ → Life → Life
+ended t l = record l { over = Some t; rows = shut_all t l.rows }
+
+-- HALT: a running node ends
+abbrev pub halt : World → ℕ → Option World
+halt w node = do
+  i ← running w node
+  Some (record w { lives = at_place i (ended w.clock) w.lives })
+
+-- ---- a change of setup
+
+-- the same incarnation of this node
+abbrev pub with_node : NodeState → Life → Life
+with_node n l = record l { node = n }
+
+-- RESET: a running node changes its cookies or the peers that may connect, where the change is not refused
+abbrev pub reset : World → ℕ → Change → Option World
+reset w node v = do
+  i ← running w node
+  life ← slice_get w.lives i
+  changed ← result_ok (change life.node v)
+  Some (record w { lives = at_place i (with_node changed) w.lives })
+
+-- ---- connections
+
+-- the connection of a row
+abbrev pub conn_of : Option EndRow → Option ℕ
+conn_of None = None
+conn_of (Some row) = row.conn
+
+-- the row with this connection
+abbrev pub reached_row : ℕ → EndRow → EndRow
+reached_row c row = record row { conn = Some c }
+
+-- the incarnation with this connection in the row of an end
+abbrev pub reached_life : ℕ → ℕ → Life → Life
+reached_life id c l = record l { rows = at_place id (reached_row c) l.rows }
+
+-- a connection on which nothing was sent
+abbrev pub new_conn : ℕ → ℕ → ℕ → Conn
+new_conn i id j = record { life = i; dialler = id; target = j; accepted = None; there = empty_text; back = empty_text }
+
+-- REACH: a dialled end without a connection gets the next one, which leads to the running incarnation of the target,
+-- another node or its own
+abbrev pub reach : World → ℕ → EndId → ℕ → Option World
+reach w node id target = do
+  i ← running w node
+  j ← running w target
+  is_dialing (end_at w i id.0) && is_none (conn_of (row_at w i id.0)) && nat_lt (length w.conns) most_connections
+  Some (record w {
+    lives = at_place i (reached_life id.0 (length w.conns)) w.lives;
+    conns = w.conns ++ new_conn i id.0 j ∷ [];
+  })
+
+-- OPENED: an end that has a connection is told of it
+abbrev pub tell_opened : World → ℕ → EndId → Option World
+tell_opened w node id = do
+  i ← running w node
+  c ← conn_of (row_at w i id.0)
+  tell w i (event.Opened id c) 0
+
+-- the number that the next end of an incarnation has
+abbrev pub next_end : Option Life → ℕ
+next_end None = 0
+next_end (Some l) = length l.node.ends
+
+-- the connection with its accepted end
+abbrev pub accepted_by : ℕ → Conn → Conn
+accepted_by y c = record c { accepted = Some y }
+
+-- ACCEPT: a connection that was not accepted yet comes to the incarnation that it leads to, as that incarnation's next end
+abbrev pub accept : World → ℕ → Option World
+accept w c = do
+  conn ← slice_get w.conns c
+  is_none conn.accepted
+  let id = next_end (slice_get w.lives conn.target)
+  tell (record w { conns = at_place c (accepted_by id) w.conns }) conn.target (event.Incoming c) 0
+
+-- ---- what comes to an end, and what it takes
+
+-- there is such an end, and it is open
+abbrev pub is_open_end : Option End → Bool
+is_open_end None = false
+is_open_end (Some e) = is_open e
+
+-- it has an item
+abbrev pub is_nonempty : List ℕ → Bool
+is_nonempty [] = false
+is_nonempty (x ∷ xs) = true
+
+-- DELIVER: the next k bytes of what the other side said come to an open end, or those that are left, at least one
+abbrev pub deliver : World → ℕ → EndId → ℕ → Option World
+deliver w node id k = do
+  i ← running w node
+  is_open_end (end_at w i id.0)
+  row ← row_at w i id.0
+  c ← row.conn
+  conn ← slice_get w.conns c
+  let text = text_to row.side conn
+  nat_lt 0 k && is_nonempty text.said
+  Some (record w { conns = at_place c (change_to row.side (delivered k)) w.conns })
+
+-- TAKE: an end takes the first whole frame of what came, and is told its body, with the challenge that was drawn for it
+abbrev pub take_frame : World → ℕ → EndId → ℕ → Option World
+take_frame w node id fresh = do
+  i ← running w node
+  row ← row_at w i id.0
+  c ← row.conn
+  conn ← slice_get w.conns c
+  let text = text_to row.side conn
+  body ← first_body w16 text.come
+  tell (record w { conns = at_place c (change_to row.side body_taken) w.conns }) i (event.Frame id body) fresh
+
+-- ---- THE HAPPENINGS
+
+-- the world after one that applies, but for the clock
+abbrev pub applied : World → Happening → Option World
+applied w (happening.Begin node creation) = begin w node creation
+applied w (happening.Halt node) = halt w node
+applied w (happening.Dial node peer opening) = tell_node w node (event.Dial peer opening)
+applied w (happening.Tick node id) = tell_node w node (event.Tick id)
+applied w (happening.Reach node id target) = reach w node id target
+applied w (happening.Opened node id) = tell_opened w node id
+applied w (happening.Accept c) = accept w c
+applied w (happening.Deliver node id k) = deliver w node id k
+applied w (happening.Take node id fresh) = take_frame w node id fresh
+applied w (happening.Lose node id why) = tell_node w node (event.Lost id why)
+applied w (happening.Reset node v) = reset w node v
+
+-- nothing is known of the last step
+abbrev pub unclosed : World → World
+unclosed w = record w { last_closed = None }
+
+-- the world once a happening did this, or did not apply
+abbrev pub ticked_on : World → Option World → World
+ticked_on w None = w
+ticked_on w (Some x) = record x { clock = w.clock + 1 }
+
+-- the world after a happening, where there is room for one more
+abbrev pub applied_at : World → Happening → Option World
+applied_at w h = if nat_lt w.clock most_applied then applied (unclosed w) h else None
+
+-- ONE HAPPENING; one that does not apply changes nothing
+abbrev pub happens : World → Happening → World
+happens w h = ticked_on w (applied_at w h)

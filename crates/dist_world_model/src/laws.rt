@@ -1,0 +1,87 @@
+//! Laws of all runs of a world: each is a function that does nothing, and whose contract is the law.
+
+ghost use Rattle.std.specs.Prelude.{◌≡◌, ℕ, List};
+ghost use Rattle.dist_core_setup.specs.declared.setup.Setup.{Setup};
+ghost use Rattle.dist_world_model.specs.declared.happening.Happening.{Happening};
+ghost use Rattle.dist_world_model.specs.World.{World, empty};
+ghost use Rattle.dist_world_model.specs.Run.{run};
+ghost use Rattle.dist_world_model.specs.Laws.{AllLives, Alone, Apart, Decided, InTurn, OwnDigests, UpsAreLinked};
+ghost use Rattle.dist_world_model.specs.Order.{AreAbove, AreInOrder, OnlyLastRuns};
+ghost use Rattle.dist_world_model.specs.Agreement.{Agreement, AreSetups, AllFit, IsReached, Counts, IsUp};
+
+use crate::node_laws::nodes_keep_laws;
+
+/// At every moment, the ends of an incarnation that hold a peer are those that make an entry.
+pub fn holders_are_apart()
+    ensures { (setups : List Setup) (happenings : List Happening) → AllLives Apart (run happenings (empty setups)) }
+{
+    nodes_keep_laws();
+}
+
+/// Of two attempts that cross, the lesser name's never comes up.
+pub fn crossings_are_decided()
+    ensures { (setups : List Setup) (happenings : List Happening) → AllLives Decided (run happenings (empty setups)) }
+{
+    nodes_keep_laws();
+}
+
+/// A reply is sent, and an end comes up, only while no other end of that peer stands in its way.
+pub fn replies_are_alone()
+    ensures { (setups : List Setup) (happenings : List Happening) → AllLives Alone (run happenings (empty setups)) }
+{
+    nodes_keep_laws();
+}
+
+/// Every end that is up holds the digest of the own cookie, that which the node has now, and its own challenge.
+pub fn digests_are_own()
+    ensures { (setups : List Setup) (happenings : List Happening) → AllLives OwnDigests (run happenings (empty setups)) }
+{
+    nodes_keep_laws();
+}
+
+/// A dialled end is given out where no end holds its peer, and if it comes up no other end of that peer came up in between;
+/// once an accepted end took a name, none that took it before comes up; an end that comes up closes the one that was up.
+pub fn ends_are_in_turn()
+    ensures { (setups : List Setup) (happenings : List Happening) → AllLives InTurn (run happenings (empty setups)) }
+{
+    nodes_keep_laws();
+}
+
+/// On a connection the name is taken, the reply sent, the accepted end comes up and then the dialled end, in this order;
+/// once the reply was sent, each end's peer is the other's node.
+pub fn connections_are_in_order()
+    ensures { (setups : List Setup) (happenings : List Happening) → AreSetups setups → AllFit happenings → AreInOrder (run happenings (empty setups)) }
+{
+    nodes_keep_laws();
+}
+
+/// All numbers of an incarnation are above those of the same node's earlier ones, and at most the last one runs.
+pub fn incarnations_are_in_order()
+    ensures above { (setups : List Setup) (happenings : List Happening) → AreAbove (run happenings (empty setups)) }
+    ensures last { (setups : List Setup) (happenings : List Happening) → OnlyLastRuns (run happenings (empty setups)) }
+{
+    nodes_keep_laws();
+}
+
+/// Every end of a running incarnation that is up has a connection, so whoever counts a node as up does so on a connection.
+pub fn ups_are_linked()
+    ensures runs { (setups : List Setup) (happenings : List Happening) → AllLives UpsAreLinked (run happenings (empty setups)) }
+    ensures counted { (w : World) (a b : ℕ) → IsReached w → (u : Counts w a b) → (c : ℕ) × (x : IsUp w a b c) × (x.kept ≡ u.kept) }
+{
+    nodes_keep_laws();
+}
+
+/// THE AGREEMENT. Whatever happens, two running nodes that each count the other as up do so over one connection, with the
+/// flags that both announced and each other's creation, each holding the digest of its own cookie and challenge.
+pub fn nodes_agree()
+    ensures runs { (setups : List Setup) (happenings : List Happening) → AreSetups setups → AllFit happenings → Agreement (run happenings (empty setups)) }
+    ensures reached { (w : World) → IsReached w → Agreement w }
+{
+    nodes_keep_laws();
+}
+
+/// A world that can be stays one, whatever happens.
+pub fn worlds_are_reached()
+    ensures new { (setups : List Setup) → AreSetups setups → IsReached (empty setups) }
+    ensures run { (w : World) (happenings : List Happening) → IsReached w → AllFit happenings → IsReached (run happenings w) }
+{}

@@ -1,0 +1,92 @@
+//! The words of a row, bytes in hexadecimal digits, and what a node says of itself. What is reported is words with a blank behind
+//! each.
+
+use dist_epmd::NodeInfo;
+use dist_names::ByteString;
+use std::alloc::Global;
+use std::fmt::Write;
+
+/// The word at this place of a row; with too few words it is empty.
+pub fn word(row: &str, place: usize) -> &str {
+    row.split(' ').nth(place).unwrap_or("")
+}
+
+/// The bytes that digits write: parts joined by `+`, of which `78*255` is a byte this many times, and `-` is none.
+pub fn bytes_in(alloc: Global, digits: &str) -> Option<Vec<u8>> {
+    let mut bytes = Vec::new(alloc);
+    put_parts(alloc, &mut bytes, digits)?;
+    Some(bytes)
+}
+
+fn put_parts(alloc: Global, bytes: &mut Vec<u8>, digits: &str) -> Option<()> {
+    for part in digits.split('+') {
+        put_part(alloc, bytes, part)?;
+    }
+    Some(())
+}
+
+fn put_part(alloc: Global, bytes: &mut Vec<u8>, part: &str) -> Option<()> {
+    if part == "-" {
+        return Some(());
+    }
+    let (digits, times) = part.split_once('*').unwrap_or((part, "1"));
+    let times = times.parse::<usize>().ok()?;
+    let part = hex::decode(alloc, digits).ok()?;
+    put_often(bytes, &part, times)
+}
+
+fn put_often(bytes: &mut Vec<u8>, part: &[u8], times: usize) -> Option<()> {
+    for _ in 0..times {
+        bytes.extend_from_slice(part).ok()?;
+    }
+    Some(())
+}
+
+/// Reports a word.
+pub fn put_word(told: &mut String, word: &str) -> Option<()> {
+    told.push_str(word).ok()?;
+    told.push_str(" ").ok()
+}
+
+/// Reports a number.
+pub fn put_number(told: &mut String, number: u64) -> Option<()> {
+    write!(told, "{number} ").ok()
+}
+
+/// Reports bytes by the digits that write them.
+pub fn put_bytes(alloc: Global, told: &mut String, bytes: &[u8]) -> Option<()> {
+    if bytes.is_empty() {
+        return put_word(told, "-");
+    }
+    let digits = hex::encode(alloc, bytes).ok()?;
+    put_word(told, &digits)
+}
+
+/// The node at port 9001 whose name and extra bytes these digits write.
+pub fn node_of(alloc: Global, name: &str, extra: &str) -> Option<NodeInfo> {
+    Some(NodeInfo {
+        port: 9001,
+        node_type: 77,
+        protocol: 0,
+        highest: 6,
+        lowest: 5,
+        name: ByteString::from_vec(bytes_in(alloc, name)?),
+        extra: ByteString::from_vec(bytes_in(alloc, extra)?),
+    })
+}
+
+/// Reports what a node says of itself: its five numbers, its name and its extra bytes.
+pub fn put_node(alloc: Global, told: &mut String, node: &NodeInfo) -> Option<()> {
+    let versions = [
+        node.protocol as u64,
+        node.highest as u64,
+        node.lowest as u64,
+    ];
+    put_number(told, node.port as u64)?;
+    put_number(told, node.node_type as u64)?;
+    for version in versions {
+        put_number(told, version)?;
+    }
+    put_bytes(alloc, told, node.name.as_slice())?;
+    put_bytes(alloc, told, node.extra.as_slice())
+}

@@ -1,0 +1,89 @@
+//! Handshake messages: `read SIDE BODY` reads a body that this side sends, the dialler (`D`) or the acceptor (`A`), and
+//! `write SIDE BODY OTHER` writes the message that was read as this other side would.
+
+use crate::digits::{bytes_in, put_bytes, word};
+use crate::refusals::put_refused;
+use dist_messages::{Message, Side, decode, encode};
+use std::alloc::Global;
+use std::fmt::Write;
+
+/// Reports the message in words, or the body that is written; or the refusal.
+pub fn put_message(alloc: Global, told: &mut String, case: &str) -> Option<()> {
+    let body = bytes_in(alloc, word(case, 2))?;
+    match decode(alloc, side_of(word(case, 1)), &body) {
+        Ok(message) => put_again(alloc, told, &message, word(case, 3)),
+        Err(why) => put_refused(told, &why),
+    }
+}
+
+fn side_of(word: &str) -> Side {
+    if word == "D" {
+        Side::Dialler
+    } else {
+        Side::Acceptor
+    }
+}
+
+fn put_again(alloc: Global, told: &mut String, message: &Message, side: &str) -> Option<()> {
+    if side.is_empty() {
+        return put_words(alloc, told, message);
+    }
+    match encode(alloc, side_of(side), message) {
+        Ok(body) => put_bytes(alloc, told, &body),
+        Err(why) => put_refused(told, &why),
+    }
+}
+
+// The kind of a message, its flags, its challenge and its creation, each 0 where it has none, and its name or its digest.
+fn put_words(alloc: Global, told: &mut String, message: &Message) -> Option<()> {
+    if let Message::Status(status) = message {
+        return write!(told, "status {status:?}").ok();
+    }
+    let (kind, flags, challenge, creation) = numbers_of(message);
+    write!(told, "{kind} {flags:x} {challenge} {creation} ").ok()?;
+    put_back(alloc, told, back_of(message))
+}
+
+fn numbers_of(message: &Message) -> (&'static str, u64, u32, u32) {
+    match message {
+        Message::OldName { flags, .. } => ("old_name", *flags as u64, 0, 0),
+        Message::NewName {
+            flags,
+            creation,
+            ..
+        } => ("new_name", flags.0, 0, creation.0),
+        Message::OldChallenge {
+            flags,
+            challenge,
+            ..
+        } => ("old_challenge", *flags as u64, *challenge, 0),
+        Message::NewChallenge {
+            flags,
+            challenge,
+            creation,
+            ..
+        } => ("new_challenge", flags.0, *challenge, creation.0),
+        Message::Complement { high, creation } => ("complement", *high as u64, 0, creation.0),
+        Message::Reply { challenge, .. } => ("reply", 0, *challenge, 0),
+        Message::Ack { .. } | Message::Status(_) => ("ack", 0, 0, 0),
+    }
+}
+
+// The name or the digest that a message has, if it has one.
+fn back_of(message: &Message) -> &[u8] {
+    match message {
+        Message::OldName { name, .. }
+        | Message::NewName { name, .. }
+        | Message::OldChallenge { name, .. }
+        | Message::NewChallenge { name, .. } => name.as_slice(),
+        Message::Reply { digest, .. } | Message::Ack { digest } => digest.as_slice(),
+        Message::Complement { .. } | Message::Status(_) => &[],
+    }
+}
+
+fn put_back(alloc: Global, told: &mut String, bytes: &[u8]) -> Option<()> {
+    if bytes.len() > 100 {
+        return write!(told, "of {} bytes", bytes.len()).ok();
+    }
+    put_bytes(alloc, told, bytes)
+}

@@ -1,0 +1,58 @@
+//! Readers that fail.
+
+use std::io;
+use std::io::{Error, ErrorKind, Read};
+
+/// Gives a text by calls in turn, and then by the last of them again and again, and counts the calls. A call gives at most this
+/// many bytes, ends (`E`) or fails (the others).
+#[derive(Drop)]
+pub struct Scripted<'t> {
+    text: &'t [u8],
+    calls: &'t str,
+    reads: usize,
+}
+
+impl<'t> Scripted<'t> {
+    /// A reader of this text by these calls, with blanks between them.
+    pub fn new(text: &'t [u8], calls: &'t str) -> Scripted<'t> {
+        let reads = 0;
+        Scripted { text, calls, reads }
+    }
+
+    /// How many calls were made.
+    pub fn reads(&self) -> usize {
+        self.reads
+    }
+}
+
+// How many bytes a call gives at most, or how it fails.
+fn most_of(call: &str) -> Result<usize, ErrorKind> {
+    match call {
+        "E" => Ok(0),
+        "F" => Err(ErrorKind::Other),
+        "I" => Err(ErrorKind::Interrupted),
+        "W" => Err(ErrorKind::WouldBlock),
+        "U" => Err(ErrorKind::UnexpectedEof),
+        size => Ok(size.parse::<usize>().unwrap_or(0)),
+    }
+}
+
+impl Read for Scripted<'_> {
+    fn read(&mut self, buf: &mut [u8]) -> io::Result<usize> {
+        self.reads = self.reads.saturating_add(1);
+        let (call, rest) = self
+            .calls
+            .split_once(' ')
+            .unwrap_or((self.calls, self.calls));
+        self.calls = rest;
+        match most_of(call) {
+            Ok(most) => {
+                let n = most.min(buf.len()).min(self.text.len());
+                buf[..n].copy_from_slice(&self.text[..n]);
+                self.text = &self.text[n..];
+                Ok(n)
+            }
+            Err(kind) => Err(Error::from(kind)),
+        }
+    }
+}

@@ -1,0 +1,146 @@
+//! Rows of scripts: what each prints is compared with what was worked out by hand.
+//!
+//! The rows stand in files of the folder `scripts`. A row is a line `=== NAME`, a script, a line `---`, and what the
+//! script prints; where it does not end with status 0, a line `status STATUS TOLD` with the status and what it prints on standard
+//! error. A script whose last line has no end has the `---` right behind it.
+//!
+//! `, ` stands for the end of a line. In braces stands a name of the file `named`, and stands for what that file says of it;
+//! or `TEXT*COUNT`, for the text this often, in which `#` is the number of the time, from 0; or bytes in hexadecimal digits.
+//!
+//! Of the rows in `interrupted` each read behind the script is interrupted; of those in `unflushed` no flush of the output
+//! succeeds.
+
+use crate::carriers::{Sink, Source};
+use dist_script_play::enact;
+use std::alloc::Global;
+use std::io::{ErrorKind, Write};
+use std::{fs, io};
+
+/// The files of rows, in the order in which they are played.
+const FILES: [&str; 14] = [
+    "scripts/handshakes",
+    "scripts/verdicts",
+    "scripts/peers",
+    "scripts/accepted",
+    "scripts/dialled",
+    "scripts/readers",
+    "scripts/names",
+    "scripts/limits",
+    "scripts/worlds",
+    "scripts/worlds_byte_by_byte",
+    "scripts/happenings",
+    "scripts/bad_scripts",
+    "scripts/interrupted",
+    "scripts/unflushed",
+];
+
+/// Prints how many rows each file has. The first row that goes otherwise is an error, and is printed with what came.
+pub fn play_files(rt: &HostRuntime) -> io::Result<()> {
+    let named = fs::read_to_string(rt, "scripts/named")?;
+    for file in FILES {
+        let rows = fs::read_to_string(rt, file)?;
+        let out = &mut rt.stdout();
+        let count = play_all(rt.alloc(), file, named.as_str(), rows.as_str(), out)?;
+        println!(rt; "{file}: {count} rows")?;
+    }
+    Ok(())
+}
+
+// Plays the rows of a file, and returns how many there are. The first that goes otherwise is an error, and is printed with what
+// came.
+fn play_all<W: Write>(
+    alloc: Global,
+    file: &str,
+    named: &str,
+    rows: &str,
+    out: &mut W,
+) -> io::Result<u32> {
+    let mut count = 0u32;
+    for row in rows.split("=== ").skip(1) {
+        let (name, row) = row.split_once('\n').unwrap_or((row, ""));
+        if !goes(alloc, file, named, row, out).unwrap_or(false) {
+            writeln!(out, "came of the row {name}")?;
+            return Err(io::Error::from(ErrorKind::InvalidData));
+        }
+        count = count.saturating_add(1);
+    }
+    Ok(count)
+}
+
+// Whether a row goes as it says. What came otherwise is printed. `None`: memory was refused, or it is no row.
+fn goes<W: Write>(alloc: Global, file: &str, named: &str, row: &str, out: &mut W) -> Option<bool> {
+    let row = row.replace(alloc, ", ", "\n").ok()?;
+    let (script, wanted) = row.as_str().split_once("---\n")?;
+    let script = expanded(alloc, named, script)?;
+    let wanted = expanded(alloc, named, wanted)?;
+    let came = played(alloc, file, &script)?;
+    let is_so = came.as_slice() == wanted.as_slice();
+    if !is_so {
+        out.write_all(&came).ok()?;
+    }
+    Some(is_so)
+}
+
+// What comes of a script of a file, as a row says it.
+fn played(alloc: Global, file: &str, script: &[u8]) -> Option<Vec<u8>> {
+    let mut input = Source::new(script, file == "scripts/interrupted");
+    let (mut out, mut told) = (
+        Sink::new(alloc, file == "scripts/unflushed"),
+        Vec::new(alloc),
+    );
+    let status = enact(alloc, &mut input, &mut out, &mut told);
+    if status == 0 && told.is_empty() {
+        return Some(out.into_bytes());
+    }
+    let mut came = format!(in alloc; "status {status} ").ok()?.into_bytes();
+    came.extend_from_slice(&told).ok()?;
+    came.extend_from_slice(&out.into_bytes()).ok()?;
+    Some(came)
+}
+
+// A text in which what stands in braces is put in the place of each pair of them.
+fn expanded(alloc: Global, named: &str, text: &str) -> Option<Vec<u8>> {
+    let mut all = Vec::new(alloc);
+    for part in text.split('{') {
+        let (inner, behind) = part.split_once('}').unwrap_or(("", part));
+        push_inner(alloc, &mut all, named, inner)?;
+        all.extend_from_slice(behind.as_bytes()).ok()?;
+    }
+    Some(all)
+}
+
+// Adds what stands for the text between two braces; for none, nothing.
+fn push_inner(alloc: Global, all: &mut Vec<u8>, named: &str, inner: &str) -> Option<()> {
+    if let Some(meaning) = meaning(named, inner) {
+        return all.extend_from_slice(meaning.as_bytes()).ok();
+    }
+    match inner.split_once('*') {
+        Some((text, count)) => push_often(alloc, all, text, count.parse::<u32>().ok()?),
+        None => {
+            let bytes = hex::decode(alloc, inner).ok()?;
+            all.extend_from_slice(&bytes).ok()
+        }
+    }
+}
+
+// What a name stands for: a line of the file is `NAME=MEANING`.
+fn meaning<'n>(named: &'n str, name: &str) -> Option<&'n str> {
+    for line in named.lines() {
+        if let Some((known, meaning)) = line.split_once('=')
+            && known == name
+        {
+            return Some(meaning);
+        }
+    }
+    None
+}
+
+// Adds a text this often, with the number of the time in the place of each `#`.
+fn push_often(alloc: Global, all: &mut Vec<u8>, text: &str, count: u32) -> Option<()> {
+    for number in 0..count {
+        let number = format!(in alloc; "{number}").ok()?;
+        let line = text.replace(alloc, '#', number.as_str()).ok()?;
+        all.extend_from_slice(line.as_bytes()).ok()?;
+    }
+    Some(())
+}

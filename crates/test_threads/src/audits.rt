@@ -1,0 +1,259 @@
+//! Histories of two nodes under locks, and what the audit returns for them: as they were kept, and altered in one place.
+
+use crate::setting::{CHALLENGE, event, frame, setup_of, word};
+use dist_audit::audit;
+use dist_core::Event;
+use dist_locked::{Closed, Line, LockedNode, Seat, Tickets, close};
+use dist_names::{ByteString, Creation, Flags};
+use dist_world::Agreement;
+use std::alloc::Global;
+use std::sync::{Arc, Wait};
+use std::test::*;
+
+// One handshake: whose step it is, and what its node is given. The frames of the status `ok` of node b, of its challenge and of
+// its acknowledgement stand in hexadecimal digits, with their length. Tickets of a: 0 dial, 1 opened, 4, 5, 7 frames. Of b:
+// 2 incoming, 3, 6 frames.
+const HANDSHAKE: &str = "\
+a dial
+a opened
+b incoming
+b name
+a 0003736f6b
+a 001e4e0000000101000104075bcd1500000006000b62403132372e302e302e31
+b reply
+a 001161d174ab98d277d9f5a5611c2c9f419d9f";
+
+// A node with its one seat.
+#[derive(Drop)]
+struct Side {
+    node: LockedNode,
+    seats: Vec<Seat>,
+}
+
+fn side_of(alloc: Global, tickets: Arc<Tickets, Global>, is_a: bool) -> Option<Side> {
+    let setup = setup_of(alloc, is_a)?;
+    let (node, seats) = LockedNode::new(alloc, setup, tickets, 1).ok()?;
+    Some(Side { node, seats })
+}
+
+fn put_side(
+    alloc: Global,
+    sides: &mut Vec<Side>,
+    tickets: &Arc<Tickets, Global>,
+    is_a: bool,
+) -> Option<()> {
+    let tickets = Arc::try_clone(tickets).ok()?;
+    sides.push(side_of(alloc, tickets, is_a)?).ok()
+}
+
+// Nodes a and b, which draw their tickets from one counter.
+fn put_both(alloc: Global, sides: &mut Vec<Side>) -> Option<()> {
+    let tickets = Arc::new(alloc, Tickets::new()).ok()?;
+    put_side(alloc, sides, &tickets, true)?;
+    put_side(alloc, sides, &tickets, false)
+}
+
+// What a node is given: a word, or a frame.
+fn event_of(alloc: Global, told: &str) -> Option<Event> {
+    if told.starts_with('0') {
+        frame(alloc, told)
+    } else {
+        event(alloc, told)
+    }
+}
+
+fn step(rt: &impl Wait, alloc: Global, side: &mut Side, told: &str) -> Option<()> {
+    let event = event_of(alloc, told)?;
+    let seat = side.seats.first_mut()?;
+    side.node.step(rt, seat, &event, CHALLENGE).ok()?;
+    Some(())
+}
+
+fn play(rt: &impl Wait, alloc: Global, sides: &mut [Side], text: &str) -> Option<()> {
+    for line in text.lines() {
+        let place = usize::from(line.starts_with('b'));
+        step(rt, alloc, sides.get_mut(place)?, word(line, 1))?;
+    }
+    Some(())
+}
+
+fn put_closed(all: &mut Vec<Closed>, side: Side) -> Option<()> {
+    let closed = close(side.node.into_book(), side.seats).ok()?;
+    all.push(closed).ok()
+}
+
+fn put_all_closed(all: &mut Vec<Closed>, sides: Vec<Side>) -> Option<()> {
+    for side in sides {
+        put_closed(all, side)?;
+    }
+    Some(())
+}
+
+// Adds the closed nodes a and b, after the steps of this text.
+fn put_played(rt: &impl Wait, alloc: Global, all: &mut Vec<Closed>, text: &str) -> Option<()> {
+    let mut sides = Vec::new(alloc);
+    put_both(alloc, &mut sides)?;
+    play(rt, alloc, &mut sides, text)?;
+    put_all_closed(all, sides)
+}
+
+// The closed nodes a and b, after the steps of this text. `None`: memory was refused, or the text is wrong.
+fn played(rt: &impl Wait, alloc: Global, text: &str) -> Option<Vec<Closed>> {
+    let mut all = Vec::new(alloc);
+    put_played(rt, alloc, &mut all, text)?;
+    Some(all)
+}
+
+// What the audit returns: the refusal's name, or whether nodes 0 and 1 agree on connection 0, with the flags and the creations of
+// these setups.
+fn answer(alloc: Global, all: &[Closed]) -> &'static str {
+    let world = match audit(alloc, all) {
+        Ok(world) => world,
+        Err(error) => return error.name(),
+    };
+    let agreed = Agreement {
+        conn: 0,
+        common: Flags(0x1000004),
+        creation_a: Some(Creation(5)),
+        creation_b: Some(Creation(6)),
+    };
+    match world.both_up(0, 1) {
+        Some(found) if found == agreed => "agreed",
+        Some(_) => "agreed otherwise",
+        None => "not agreed",
+    }
+}
+
+// Alters the first byte. The same alteration once more undoes it.
+fn flip(alloc: Global, text: &mut ByteString) -> Option<()> {
+    let mut bytes = Vec::from_slice(alloc, text.as_slice()).ok()?;
+    *bytes.first_mut()? ^= 1;
+    *text = ByteString::from_vec(bytes);
+    Some(())
+}
+
+// Alters the link of a connection that came, the body of a frame, or what was sent; or else sets the ticket.
+fn alter(alloc: Global, line: &mut Line, what: &str) -> Option<()> {
+    match (what, &mut line.event) {
+        ("link", Event::Incoming { link }) => *link ^= 1024,
+        ("body", Event::Frame { body, .. }) => return flip(alloc, body),
+        ("say", _) => return flip(alloc, &mut line.reply.say),
+        (ticket, _) => line.ticket = ticket.parse::<u64>().ok()?,
+    }
+    Some(())
+}
+
+fn number(row: &str, place: usize) -> Option<usize> {
+    word(row, place).parse::<usize>().ok()
+}
+
+fn leave_out(history: &mut Vec<Line>) {
+    let _ = history.pop();
+}
+
+// Alters a line of a history, `NODE LINE WHAT`, or leaves its last line out, `NODE LINE out`.
+fn alter_at(alloc: Global, all: &mut [Closed], row: &str) -> Option<()> {
+    let history = &mut all.get_mut(number(row, 0)?)?.history;
+    if row.ends_with("out") {
+        leave_out(history);
+        return Some(());
+    }
+    let line = history.get_mut(number(row, 1)?)?;
+    alter(alloc, line, word(row, 2))
+}
+
+// Does what each line says, and reports the first for which the audit returns otherwise.
+fn first_wrong(alloc: Global, all: &mut [Closed], text: &'static str) -> Option<&'static str> {
+    for line in text.lines() {
+        let is_so = match line.split_once("? ") {
+            Some((_, wanted)) => answer(alloc, all) == wanted,
+            None => alter_at(alloc, all, line).is_some(),
+        };
+        if !is_so {
+            return Some(line);
+        }
+    }
+    None
+}
+
+// A ticket of the other node; two tickets exchanged; the link of the connection that came, a byte of a frame's body, and a
+// byte of what was sent last, each undone. Then each ticket twice as great and one more (shifted_tickets), the connection that
+// came one below that of `opened`, and one below that of the dial. Then the tickets as they were, without the last line.
+const ALTERED: &str = "\
+? agreed
+0 2 3
+? TicketTwice
+0 2 5
+0 3 4
+? TicketFalls
+0 2 4
+0 3 5
+? agreed
+1 0 link
+? Unpaired
+1 0 link
+1 1 body
+? NotSent
+1 1 body
+1 2 say
+? OtherReply
+1 2 say
+? agreed
+0 4 15
+0 3 11
+0 2 9
+0 1 3
+0 0 1
+1 2 13
+1 1 7
+1 0 5
+? agreed
+1 0 2
+? agreed
+1 0 0
+? OtherReply
+1 0 5
+0 4 out
+? OtherReply";
+
+// What the histories of a handshake first do otherwise.
+fn wrong<R: Wait>(rt: &R, alloc: Global) -> Option<&'static str> {
+    match played(rt, alloc, HANDSHAKE) {
+        Some(mut all) => first_wrong(alloc, &mut all, ALTERED),
+        None => Some("no history"),
+    }
+}
+
+#[test]
+fn audited_handshake(rt: HostRuntime) {
+    assert_eq!(rt; wrong(&rt, rt.alloc()), None);
+}
+
+// What the audit returns for no history, and for one node alone, to which a connection came that nobody dialled.
+fn small(rt: &impl Wait, alloc: Global) -> Option<(&'static str, &'static str)> {
+    let all = played(rt, alloc, "b incoming")?;
+    Some((answer(alloc, &[]), answer(alloc, all.get(1..)?)))
+}
+
+#[test]
+fn small_audits(rt: HostRuntime) {
+    assert_eq!(rt; small(&rt, rt.alloc()), Some(("not agreed", "Unpaired")));
+}
+
+// Whether an audit returns that both agree, or runs out of memory and the next audit of the same histories returns so.
+fn is_agreed(rt: &impl Wait, alloc: Global) -> Option<bool> {
+    let all = played(rt, alloc, HANDSHAKE)?;
+    let told = answer(alloc, &all);
+    Some(told == "agreed" || told == "NoMemory" && answer(alloc, &all) == "agreed")
+}
+
+// Each request for memory refused in turn: where one is refused before the audit, all is done once more; else the audit says so,
+// unless a vector that grows can do with less.
+#[test]
+fn audit_memory_refused(rt: HostRuntime) {
+    let told = match is_agreed(&rt, rt.alloc()) {
+        None => is_agreed(&rt, rt.alloc()),
+        told => told,
+    };
+    assert_eq!(rt; told, Some(true));
+}

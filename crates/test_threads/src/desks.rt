@@ -1,0 +1,90 @@
+//! A desk in memory and the desk of a seat answer alike.
+
+use crate::drives::desk_of;
+use crate::seats::{Closing, closing_with, seated, told};
+use crate::setting::{CHALLENGE, event, number, still_word, word};
+use dist_core::StepError;
+use dist_drive::Desk;
+use dist_locked::{LockedNode, Seat, SeatDesk};
+use dist_peers::EndId;
+use std::alloc::Global;
+use std::sync::Wait;
+use std::test::*;
+
+// What a desk of end 0 is given: an event of another end, one out of turn, a whole handshake, a frame behind it, two losses.
+// What any such desk returns, how long the newest reply's text is, and how the end stands then. A closed end is reported by its
+// cause.
+const ROWS: &str = "\
+another NoSuchEnd 0 Pending
+tick WrongPhase 0 Pending
+name taken 37 Pending
+reply taken 19 Up
+name WrongPhase 19 Up
+ended taken 0 Ended
+replaced Ended 0 Ended";
+
+// That the event was taken, why the end is closed, or the refusal's name.
+fn answer_word(answer: Result<(), StepError>) -> &'static str {
+    match answer {
+        Ok(()) => "taken",
+        Err(StepError::Gone(why)) => why.name(),
+        Err(error) => error.name(),
+    }
+}
+
+// Whether a desk answers as its row says.
+fn is_so<D: Desk>(alloc: Global, desk: &mut D, row: &str) -> Option<bool> {
+    let answer = answer_word(desk.step(event(alloc, word(row, 0))?, CHALLENGE));
+    let said = match desk.last() {
+        Some(reply) => reply.say.len() as u64,
+        None => 0,
+    };
+    let still = still_word(desk.still(EndId(0)));
+    let are_words = answer == word(row, 1) && still == word(row, 3);
+    Some(are_words && said == number(word(row, 2), 9999))
+}
+
+// The first row in which a desk answers otherwise.
+fn first_wrong<D: Desk>(alloc: Global, desk: &mut D) -> Option<usize> {
+    for (place, row) in ROWS.lines().enumerate() {
+        if is_so(alloc, desk, row) != Some(true) {
+            return Some(place);
+        }
+    }
+    None
+}
+
+// Of the desk in memory. `None`: memory was refused, here and below.
+fn wrong_in_memory(alloc: Global) -> Option<Option<usize>> {
+    let mut desk = desk_of(alloc, "accepted")?;
+    Some(first_wrong(alloc, &mut desk))
+}
+
+// Of the desk of this seat, which comes back.
+fn wrong_at<R: Wait>(
+    rt: &R,
+    alloc: Global,
+    node: &LockedNode,
+    seat: Seat,
+) -> Option<(Option<usize>, Seat)> {
+    let mut desk = SeatDesk::new(rt, alloc, node, seat, EndId(0)).ok()?;
+    let wrong = first_wrong(alloc, &mut desk);
+    Some((wrong, desk.into_parts().0))
+}
+
+// Of the desk of a seat, to whose node the other seat gave a connection that came; and what `close` says then.
+fn wrong_at_a_seat<R: Wait>(rt: &R, alloc: Global) -> Option<(Option<usize>, Closing)> {
+    let (node, mut seats) = seated(alloc)?;
+    let _ = told(rt, alloc, &node, &mut seats, 1);
+    let (wrong, seat) = wrong_at(rt, alloc, &node, seats.pop()?)?;
+    Some((wrong, closing_with(node, seats, seat)?))
+}
+
+#[test]
+fn desks_answer_alike(rt: HostRuntime) {
+    let wrong = (
+        wrong_in_memory(rt.alloc()),
+        wrong_at_a_seat(&rt, rt.alloc()),
+    );
+    assert_eq!(rt; wrong, (Some(None), Some((None, Ok([4, 0, 0, 0])))));
+}

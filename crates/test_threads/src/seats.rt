@@ -1,0 +1,163 @@
+//! Node b under a lock with two seats, which give it events in turn, and the queue of dial orders.
+
+use crate::setting::{CHALLENGE, event, setup_of};
+use dist_core::StepError;
+use dist_locked::{CloseError, Closed, DialOrder, LockedNode, Orders, Seat, Tickets, close};
+use std::alloc::Global;
+use std::sync::{Arc, Wait};
+use std::test::*;
+
+// The frame of the status `ok` of node b, and that of its challenge 123456789.
+const GREETING_OF_B: &[u8] =
+    b"\x00\x03sok\x00\x1eN\x00\x00\x00\x01\x01\x00\x01\x04\x07\x5b\xcd\x15\x00\x00\x00\x06\x00\x0bb@127.0.0.1";
+
+/// Node b under a lock, and its two seats.
+pub fn seated(alloc: Global) -> Option<(LockedNode, Vec<Seat>)> {
+    let tickets = Arc::new(alloc, Tickets::new()).ok()?;
+    let made = LockedNode::new(alloc, setup_of(alloc, false)?, tickets, 2);
+    made.ok()
+}
+
+// Gives a node an event. Whether the step is made, and memory does not run out for it; `None`: it is refused for another reason,
+// or memory was refused before it.
+fn is_made<R: Wait>(
+    rt: &R,
+    alloc: Global,
+    node: &LockedNode,
+    seat: &mut Seat,
+    word: &str,
+) -> Option<bool> {
+    let event = event(alloc, word)?;
+    match node.step(rt, seat, &event, CHALLENGE).err() {
+        None => Some(true),
+        Some(StepError::NoMemory) => Some(false),
+        Some(_) => None,
+    }
+}
+
+// What the seats give in turn.
+const TOLD: [&str; 4] = ["incoming", "name", "reply", "incoming"];
+
+/// Makes this many steps, the seats in turn, until one runs out of memory. How many were made, unless one was refused for another
+/// reason, or memory was refused before a step.
+pub fn told<R: Wait>(
+    rt: &R,
+    alloc: Global,
+    node: &LockedNode,
+    seats: &mut [Seat],
+    most: usize,
+) -> Option<usize> {
+    for (place, word) in TOLD.iter().take(most).enumerate() {
+        let seat = seats.get_mut(place % 2)?;
+        if !is_made(rt, alloc, node, seat, word)? {
+            return Some(place);
+        }
+    }
+    Some(most)
+}
+
+/// What `close` says: how many lines the history has, how many entries the node, how many of its ends are up and how many are
+/// open, or the refusal.
+pub type Closing = Result<[usize; 4], CloseError>;
+
+fn counted(closed: &Closed) -> [usize; 4] {
+    let node = &closed.node;
+    let lines = closed.history.len();
+    [lines, node.entries(), node.ups(), node.open_ends()]
+}
+
+/// What `close` says of this node and these seats.
+pub fn closing(node: LockedNode, seats: Vec<Seat>) -> Closing {
+    match close(node.into_book(), seats) {
+        Ok(closed) => Ok(counted(&closed)),
+        Err((error, _, _)) => Err(error),
+    }
+}
+
+/// What `close` says of this node and these seats, and one more.
+pub fn closing_with(node: LockedNode, mut seats: Vec<Seat>, seat: Seat) -> Option<Closing> {
+    match seats.push(seat) {
+        Ok(()) => Some(closing(node, seats)),
+        Err(_) => None,
+    }
+}
+
+// Whether the newest receipt of the second seat sends the status and the challenge of node b, with its name, flags and creation.
+fn is_greeting(seats: &[Seat]) -> Option<bool> {
+    let receipt = seats.get(1)?.receipts().last()?;
+    Some(receipt.line.reply.say.as_slice() == GREETING_OF_B)
+}
+
+// Whether a locked node keeps its setup: the second seat gives it a name.
+fn is_kept<R: Wait>(rt: &R, alloc: Global) -> Option<bool> {
+    let (node, mut seats) = seated(alloc)?;
+    let _ = told(rt, alloc, &node, &mut seats, 2);
+    is_greeting(&seats)
+}
+
+// What `close` says after this many steps.
+const CLOSINGS: [[usize; 4]; 5] = [
+    [0, 0, 0, 0],
+    [1, 0, 0, 1],
+    [2, 1, 0, 1],
+    [3, 1, 1, 1],
+    [4, 1, 1, 2],
+];
+
+// Whether `close` says of the steps that were made what it has to. `None`: memory was refused before a step.
+fn is_closed<R: Wait>(rt: &R, alloc: Global) -> Option<bool> {
+    let (node, mut seats) = seated(alloc)?;
+    let made = told(rt, alloc, &node, &mut seats, 4);
+    let closing = closing(node, seats);
+    let wanted = CLOSINGS.get(made?)?;
+    Some(closing == Ok(*wanted))
+}
+
+// Each request for memory of a node under a lock refused in turn, as `rt try --test --fail-alloc N` does for N = 1, 2, ..: a step
+// that runs out of memory leaves the node, its history and the seats as they were.
+#[test]
+fn memory_refused_in_a_step(rt: HostRuntime) {
+    assert!(rt; is_closed(&rt, rt.alloc()) != Some(false));
+}
+
+// The order that came back, or 0.
+fn refused(answer: Result<(), DialOrder>) -> u32 {
+    match answer {
+        Ok(()) => 0,
+        Err(order) => order.0,
+    }
+}
+
+// The order that was taken, or 0.
+fn taken(answer: Option<DialOrder>) -> u32 {
+    match answer {
+        Some(order) => order.0,
+        None => 0,
+    }
+}
+
+// The orders 4, 5 and 6 are put into a queue of two, three are taken, 7 is put and taken: what each call answers, and how
+// many orders are left.
+fn orders_in_turn<R: Wait>(rt: &R, alloc: Global) -> Option<([u32; 8], u64)> {
+    let (orders, mut put, mut one, two) = Orders::new(alloc, 2).ok()?;
+    let answers = [
+        refused(orders.put(rt, &mut put, DialOrder(4))),
+        refused(orders.put(rt, &mut put, DialOrder(5))),
+        refused(orders.put(rt, &mut put, DialOrder(6))),
+        taken(orders.take(rt, &mut one)),
+        taken(orders.take(rt, &mut one)),
+        taken(orders.take(rt, &mut one)),
+        refused(orders.put(rt, &mut put, DialOrder(7))),
+        taken(orders.take(rt, &mut one)),
+    ];
+    Some((answers, orders.settle(rt, put, one, two)))
+}
+
+#[test]
+fn two_seats_and_orders(rt: HostRuntime) {
+    let is_kept = is_kept(&rt, rt.alloc());
+    let is_closed = is_closed(&rt, rt.alloc());
+    let orders = orders_in_turn(&rt, rt.alloc());
+    let wanted = (Some(true), Some(true), Some(([0, 0, 6, 4, 5, 0, 0, 7], 0)));
+    assert_eq!(rt; (is_kept, is_closed, orders), wanted);
+}
