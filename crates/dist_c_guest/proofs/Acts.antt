@@ -16,7 +16,7 @@ use Rattle.dist_core.specs.Node.{NodeState}
 use Rattle.dist_core.specs.Runs.{settled}
 use Rattle.dist_core.specs.Step.{step}
 use Rattle.dist_c_guest.specs.declared.guest.Guest.{Guest}
-use Rattle.dist_c_guest.specs.Calls.{IsCall, asked, given_back}
+use Rattle.dist_c_guest.specs.Calls.{IsCall, node_letting, answer_after}
 use Rattle.dist_c_guest.specs.Histories.{AnyCall, Step_call, Change_call, Widened_call, Form_call, Forget_call, IsAnyHistory, IsMade, act_of, acts_of, change_lacked, guest_after, has_lacked, lacked}
 
 abbrev node_of : Guest → NodeState
@@ -55,22 +55,22 @@ module _ (xs : List Act) (first after last : Guest) (ih : last.node ≡ run_acts
   -- other names might connect for a step, and are given back
   module _ (v : Event) (fresh : ℕ) (names : Option (List Name)) where
     abbrev made_wide : Result (Reply × NodeState) StepError
-    made_wide = step (asked first.node names) v fresh
+    made_wide = step (node_letting first.node names) v fresh
 
     abbrev three : Option (List Name) → List Act → List Act
     three back ys = acts.Changes (Allow names) ∷ acts.Steps v fresh ∷ acts.Changes (Allow back) ∷ ys
 
-    back_where : (s : Result (Reply × NodeState) StepError) → asked (settled (asked first.node names) s) first.node.setup.allow ≡ settled first.node (given_back first.node s)
+    back_where : (s : Result (Reply × NodeState) StepError) → node_letting (settled (node_letting first.node names) s) first.node.setup.allow ≡ settled first.node (answer_after first.node s)
     back_where (Ok x) = refl
     back_where (Err e) = refl
 
-    wide : settled first.node (given_back first.node made_wide) ≡ after.node → last.node ≡ run_acts (three first.node.setup.allow xs) first.node
+    wide : settled first.node (answer_after first.node made_wide) ≡ after.node → last.node ≡ run_acts (three first.node.setup.allow xs) first.node
     wide e = ih ∙ ap (run_acts xs) (sym (back_where made_wide ∙ e))
 
-    refused_wide : (e : StepError) → given_back first.node made_wide ≡ Err e → after ≡ first → last.node ≡ run_acts (three first.node.setup.allow xs) first.node
+    refused_wide : (e : StepError) → answer_after first.node made_wide ≡ Err e → after ≡ first → last.node ≡ run_acts (three first.node.setup.allow xs) first.node
     refused_wide e is same = wide (ap (settled first.node) is ∙ ap node_of (sym same))
 
-    by_wide : (a : Result (Unit {0}) StepError) → IsCall v a (given_back first.node made_wide) first after → last.node ≡ run_acts (if lacked a then xs else three first.node.setup.allow xs) first.node
+    by_wide : (a : Result (Unit {0}) StepError) → IsCall v a (answer_after first.node made_wide) first after → last.node ≡ run_acts (if lacked a then xs else three first.node.setup.allow xs) first.node
     by_wide (Ok u) (r, is, kept, heard, same) = wide (ap (settled first.node) is)
     by_wide (Err error.NoMemory) (h, same) = lacks same
     by_wide (Err error.NoSuchEnd) (h, same) = refused_wide error.NoSuchEnd h same
@@ -80,7 +80,7 @@ module _ (xs : List Act) (first after last : Guest) (ih : last.node ≡ run_acts
     by_wide (Err error.Spent) (h, same) = refused_wide error.Spent h same
     by_wide (Err error.Full) (h, same) = refused_wide error.Full h same
 
-    by_wide_back : (back : Option (List Name)) (a : Result (Unit {0}) StepError) → back ≡ first.node.setup.allow → IsCall v a (given_back first.node made_wide) first after → last.node ≡ run_acts (if lacked a then xs else three back xs) first.node
+    by_wide_back : (back : Option (List Name)) (a : Result (Unit {0}) StepError) → back ≡ first.node.setup.allow → IsCall v a (answer_after first.node made_wide) first after → last.node ≡ run_acts (if lacked a then xs else three back xs) first.node
     by_wide_back back a is h = subst (λ (l : Option (List Name)). last.node ≡ run_acts (if lacked a then xs else three l xs) first.node) (sym is) (by_wide a h)
 
   module _ (v : Change) where

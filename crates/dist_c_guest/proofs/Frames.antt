@@ -15,9 +15,9 @@ use Rattle.dist_core.specs.declared.step_error.StepError.TheVariants as error
 use Rattle.dist_core.specs.Node.{NodeState, is_spent}
 use Rattle.dist_core.specs.Answers.{Refuses, reply_of}
 use Rattle.dist_names.specs.Order.{Name}
-use Rattle.dist_c_guest.specs.Calls.{answer_to, asked, given_back}
+use Rattle.dist_c_guest.specs.Calls.{answer_to, node_letting, answer_after}
 use Rattle.dist_c_guest.specs.Forms.{widened}
-use Rattle.dist_c_guest.specs.Reading.{expanded}
+use Rattle.dist_c_guest.specs.Reading.{expansion}
 use Rattle.dist_c_guest.specs.declared.guest.Guest.{Guest}
 use Rattle.dist_core.specs.Step.{step, stepped, effect_of, at_end, framed_from, sender_to}
 
@@ -37,7 +37,7 @@ module _ (n m : NodeState) (v w : Event) where
 module _ (n : NodeState) (names : Option (List Name)) (id : EndId) (empty body : List ℕ) (fresh : ℕ) where
   -- the node whose names that may connect are others
   abbrev m : NodeState
-  m = asked n names
+  m = node_letting n names
 
   abbrev v : Event
   v = event.Frame id empty
@@ -81,14 +81,14 @@ refuses error.Spent s t h a = told s t error.Spent h a
 refuses error.Full s t h a = told s t error.Full h a
 
 -- the answer with the names given back is refused alike
-ok-back : (n : NodeState) (s : Answer) → IsOk s → IsOk (given_back n s)
+ok-back : (n : NodeState) (s : Answer) → IsOk s → IsOk (answer_after n s)
 ok-back n (Ok x) o = o
 ok-back n (Err e) o = absurd (false≢true o)
 
-err-back : (n : NodeState) (s : Answer) (e : StepError) → s ≡ Err e → given_back n s ≡ Err e
-err-back n s e is = ap (given_back n) is
+err-back : (n : NodeState) (s : Answer) (e : StepError) → s ≡ Err e → answer_after n s ≡ Err e
+err-back n s e is = ap (answer_after n) is
 
-pub refuses-back : (n : NodeState) (e : StepError) (s : Answer) → Refuses e s → Refuses e (given_back n s)
+pub refuses-back : (n : NodeState) (e : StepError) (s : Answer) → Refuses e s → Refuses e (answer_after n s)
 refuses-back n error.NoMemory s h = ok-back n s h
 refuses-back n error.NoSuchEnd s h = err-back n s error.NoSuchEnd h
 refuses-back n (error.Gone w) s h = err-back n s (error.Gone w) h
@@ -99,16 +99,16 @@ refuses-back n error.Full s h = err-back n s error.Full h
 
 module _ (g : Guest) (id : EndId) (empty body : List ℕ) (fresh : ℕ) where
   abbrev came : List ℕ
-  came = expanded g.reading.mandatory.0 body
+  came = expansion g.reading.mandatory.0 body
 
   abbrev names : Option (List Name)
   names = widened g.reading.forms came g.node.setup.allow
 
-  like : Alike (step g.node (event.Frame id empty) 0) (step (asked g.node names) (event.Frame id came) fresh)
+  like : Alike (step g.node (event.Frame id empty) 0) (step (node_letting g.node names) (event.Frame id came) fresh)
   like = alike g.node names id empty came fresh
 
   pub no_memory : (r : Reply) → reply_of (step g.node (event.Frame id empty) 0) ≡ Ok r → Refuses error.NoMemory (answer_to g id body fresh)
-  no_memory r e = ok-back g.node (step (asked g.node names) (event.Frame id came) fresh) (made (step g.node (event.Frame id empty) 0) (step (asked g.node names) (event.Frame id came) fresh) r e like)
+  no_memory r e = ok-back g.node (step (node_letting g.node names) (event.Frame id came) fresh) (made (step g.node (event.Frame id empty) 0) (step (node_letting g.node names) (event.Frame id came) fresh) r e like)
 
   pub same_refusal : (x : StepError) → Refuses x (step g.node (event.Frame id empty) 0) → Refuses x (answer_to g id body fresh)
-  same_refusal x h = refuses-back g.node x (step (asked g.node names) (event.Frame id came) fresh) (refuses x (step g.node (event.Frame id empty) 0) (step (asked g.node names) (event.Frame id came) fresh) h like)
+  same_refusal x h = refuses-back g.node x (step (node_letting g.node names) (event.Frame id came) fresh) (refuses x (step g.node (event.Frame id empty) 0) (step (node_letting g.node names) (event.Frame id came) fresh) h like)

@@ -11,9 +11,9 @@ use Rattle.dist_core.specs.Node.{NodeState}
 use Rattle.dist_core.specs.Answers.{GivesReply, reply_of}
 use Rattle.dist_core.specs.Step.{effect_of, step, stepped}
 use Rattle.dist_c_guest.specs.declared.guest.Guest.{Guest}
-use Rattle.dist_c_guest.specs.Calls.{IsCall, answer_to, asked, frame_to, given_back}
+use Rattle.dist_c_guest.specs.Calls.{IsCall, answer_to, node_letting, frame_to, answer_after}
 use Rattle.dist_c_guest.specs.Forms.{instead, widened}
-use Rattle.dist_c_guest.specs.Reading.{expanded, plain}
+use Rattle.dist_c_guest.specs.Reading.{expansion, plain}
 use Rattle.dist_c_guest.specs.declared.reading.Reading.{Reading}
 use Rattle.dist_c_guest.proofs.Frames.{refuses-back}
 
@@ -25,31 +25,31 @@ node_of g = g.node
 
 -- ---- no other names: nothing has to be given back
 
-stays : (n : NodeState) (v : Event) (r : Result Effect StepError) → given_back n (stepped n v r) ≡ stepped n v r
+stays : (n : NodeState) (v : Event) (r : Result Effect StepError) → answer_after n (stepped n v r) ≡ stepped n v r
 stays n v (Ok f) = refl
 stays n v (Err e) = refl
 
-pub given-back-same : (n : NodeState) (v : Event) (fresh : ℕ) → given_back n (step n v fresh) ≡ step n v fresh
+pub given-back-same : (n : NodeState) (v : Event) (fresh : ℕ) → answer_after n (step n v fresh) ≡ step n v fresh
 given-back-same n v fresh = stays n v (effect_of n v fresh)
 
-pub asked-same : (n : NodeState) (names : Option (List Name)) (v : Event) (fresh : ℕ) → n.setup.allow ≡ names → step n v fresh ≡ given_back n (step (asked n names) v fresh)
-asked-same n names v fresh e = sym (given-back-same n v fresh) ∙ ap (λ (l : Option (List Name)). given_back n (step (asked n l) v fresh)) e
+pub asked-same : (n : NodeState) (names : Option (List Name)) (v : Event) (fresh : ℕ) → n.setup.allow ≡ names → step n v fresh ≡ answer_after n (step (node_letting n names) v fresh)
+asked-same n names v fresh e = sym (given-back-same n v fresh) ∙ ap (λ (l : Option (List Name)). answer_after n (step (node_letting n l) v fresh)) e
 
 -- ---- other names, which are given back
 
 -- the guest with the names that another had
 abbrev restored : Guest → Guest → Guest
-restored old g = record g { node = asked g.node old.node.setup.allow }
+restored old g = record g { node = node_letting g.node old.node.setup.allow }
 
-pub call-back : (old : Guest) (names : Option (List Name)) (v : Event) (fresh : ℕ) (answer : Result (Unit {0}) StepError) (after : Guest) → IsCall v answer (step (asked old.node names) v fresh) (record old { node = asked old.node names }) after → IsCall v answer (given_back old.node (step (asked old.node names) v fresh)) old (restored old after)
-call-back old names v fresh (Ok u) after (r, is, kept, heard, same) = (r, ap (given_back old.node) is, kept, heard, same)
-call-back old names v fresh (Err e) after (h, same) = (refuses-back old.node e (step (asked old.node names) v fresh) h, ap (restored old) same)
+pub call-back : (old : Guest) (names : Option (List Name)) (v : Event) (fresh : ℕ) (answer : Result (Unit {0}) StepError) (after : Guest) → IsCall v answer (step (node_letting old.node names) v fresh) (record old { node = node_letting old.node names }) after → IsCall v answer (answer_after old.node (step (node_letting old.node names) v fresh)) old (restored old after)
+call-back old names v fresh (Ok u) after (r, is, kept, heard, same) = (r, ap (answer_after old.node) is, kept, heard, same)
+call-back old names v fresh (Err e) after (h, same) = (refuses-back old.node e (step (node_letting old.node names) v fresh) h, ap (restored old) same)
 
-reply-back : (n : NodeState) (s : Answer) → reply_of s ≡ reply_of (given_back n s)
+reply-back : (n : NodeState) (s : Answer) → reply_of s ≡ reply_of (answer_after n s)
 reply-back n (Ok x) = refl
 reply-back n (Err e) = refl
 
-pub gives-back : (n : NodeState) (result : Result Reply StepError) (s : Answer) → GivesReply result s → GivesReply result (given_back n s)
+pub gives-back : (n : NodeState) (result : Result Reply StepError) (s : Answer) → GivesReply result s → GivesReply result (answer_after n s)
 gives-back n (Ok r) s h = sym (reply-back n s) ∙ h
 gives-back n (Err e) s h = refuses-back n e s h
 
@@ -57,25 +57,25 @@ gives-back n (Err e) s h = refuses-back n e s h
 
 module _ (g : Guest) (id : EndId) (body : List ℕ) (fresh : ℕ) (came : List ℕ) (names : Option (List Name)) where
   abbrev answered : List ℕ → Option (List Name) → Answer
-  answered x l = given_back g.node (step (asked g.node l) (event.Frame id x) fresh)
+  answered x l = answer_after g.node (step (node_letting g.node l) (event.Frame id x) fresh)
 
-  same-answer : came ≡ expanded g.reading.mandatory.0 body → instead names g.node.setup.allow ≡ widened g.reading.forms came g.node.setup.allow → answered came (instead names g.node.setup.allow) ≡ answer_to g id body fresh
+  same-answer : came ≡ expansion g.reading.mandatory.0 body → instead names g.node.setup.allow ≡ widened g.reading.forms came g.node.setup.allow → answered came (instead names g.node.setup.allow) ≡ answer_to g id body fresh
   same-answer is l = ap (answered came) l ∙ ap (λ (x : List ℕ). answered x (widened g.reading.forms x g.node.setup.allow)) is
 
-  pub took : (answer : Result (Unit {0}) StepError) (after : Guest) → came ≡ expanded g.reading.mandatory.0 body → instead names g.node.setup.allow ≡ widened g.reading.forms came g.node.setup.allow → IsCall (event.Frame id came) answer (answered came (instead names g.node.setup.allow)) g after → IsCall (frame_to g id body) answer (answer_to g id body fresh) g after
+  pub took : (answer : Result (Unit {0}) StepError) (after : Guest) → came ≡ expansion g.reading.mandatory.0 body → instead names g.node.setup.allow ≡ widened g.reading.forms came g.node.setup.allow → IsCall (event.Frame id came) answer (answered came (instead names g.node.setup.allow)) g after → IsCall (frame_to g id body) answer (answer_to g id body fresh) g after
   took answer after is l h = subst (λ (x : List ℕ). IsCall (event.Frame id x) answer (answer_to g id body fresh) g after) is (subst (λ (s : Answer). IsCall (event.Frame id came) answer s g after) (same-answer is l) h)
 
-  pub foresaw : (result : Result Reply StepError) → came ≡ expanded g.reading.mandatory.0 body → instead names g.node.setup.allow ≡ widened g.reading.forms came g.node.setup.allow → GivesReply result (answered came (instead names g.node.setup.allow)) → GivesReply result (answer_to g id body fresh)
+  pub foresaw : (result : Result Reply StepError) → came ≡ expansion g.reading.mandatory.0 body → instead names g.node.setup.allow ≡ widened g.reading.forms came g.node.setup.allow → GivesReply result (answered came (instead names g.node.setup.allow)) → GivesReply result (answer_to g id body fresh)
   foresaw result is l h = subst (GivesReply result) (same-answer is l) h
 
 -- no other names
-pub none-gives : (n : NodeState) (names : Option (List Name)) (v : Event) (fresh : ℕ) (result : Result Reply StepError) → names ≡ None → GivesReply result (step n v fresh) → GivesReply result (given_back n (step (asked n (instead names n.setup.allow)) v fresh))
+pub none-gives : (n : NodeState) (names : Option (List Name)) (v : Event) (fresh : ℕ) (result : Result Reply StepError) → names ≡ None → GivesReply result (step n v fresh) → GivesReply result (answer_after n (step (node_letting n (instead names n.setup.allow)) v fresh))
 none-gives n names v fresh result is h = subst (GivesReply result) (asked-same n (instead names n.setup.allow) v fresh (sym (ap (λ (o : Option (List Name)). instead o n.setup.allow) is))) h
 
 -- ---- a guest that reads bodies as they came
 
 pub plain-reads : (g : Guest) → g.reading ≡ plain → (id : EndId) (body : List ℕ) (fresh : ℕ) → (frame_to g id body ≡ event.Frame id body) × (answer_to g id body fresh ≡ step g.node (event.Frame id body) fresh)
 plain-reads g is id body fresh = (
-  ap (λ (r : Reading). event.Frame id (expanded r.mandatory.0 body)) is,
-  ap (λ (r : Reading). let came = expanded r.mandatory.0 body in given_back g.node (step (asked g.node (widened r.forms came g.node.setup.allow)) (event.Frame id came) fresh)) is ∙ given-back-same g.node (event.Frame id body) fresh,
+  ap (λ (r : Reading). event.Frame id (expansion r.mandatory.0 body)) is,
+  ap (λ (r : Reading). let came = expansion r.mandatory.0 body in answer_after g.node (step (node_letting g.node (widened r.forms came g.node.setup.allow)) (event.Frame id came) fresh)) is ∙ given-back-same g.node (event.Frame id body) fresh,
 )

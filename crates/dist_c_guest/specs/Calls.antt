@@ -14,43 +14,43 @@ use Rattle.dist_core.specs.Step.{step}
 use Rattle.dist_core.specs.Runs.{opening}
 use Rattle.dist_core.specs.Answers.{Refuses, reply_of}
 use Rattle.dist_c_guest.specs.Forms.{widened}
-use Rattle.dist_c_guest.specs.Reading.{expanded, plain}
-use Rattle.dist_c_guest.specs.Statuses.{heard_in}
+use Rattle.dist_c_guest.specs.Reading.{expansion, plain}
+use Rattle.dist_c_guest.specs.Statuses.{status_received}
 use Rattle.dist_c_guest.specs.declared.guest.Guest.{Guest}
 use Rattle.dist_c_guest.specs.declared.call_error.CallError.{CallError}
 use Rattle.dist_c_guest.specs.declared.call_error.CallError.TheVariants.{Step, Awaits}
 
 -- a guest whose node has made no step, and which reads bodies as they come
 abbrev pub first_guest : Setup → Guest
-first_guest s = record { node = opening s; last = None; heard = None; reading = plain }
+first_guest s = record { node = opening s; last = None; received_status = None; reading = plain }
 
 -- the guest that begins anew, with the same setup and the same reading
-abbrev pub renewed : Guest → Guest
-renewed g = record (first_guest g.node.setup) { reading = g.reading }
+abbrev pub restarted_guest : Guest → Guest
+restarted_guest g = record (first_guest g.node.setup) { reading = g.reading }
 
 -- the node as it is asked: these names may connect, or all
-abbrev pub asked : NodeState → Option (List Name) → NodeState
-asked n names = after_change n (Allow names)
+abbrev pub node_letting : NodeState → Option (List Name) → NodeState
+node_letting n names = after_change n (Allow names)
 
 -- what was answered, and the node after it with the names that might connect before
-abbrev pub given_back : NodeState → Result (Reply × NodeState) StepError → Result (Reply × NodeState) StepError
-given_back n (Ok x) = Ok (x.0, asked x.1 n.setup.allow)
-given_back n (Err e) = Err e
+abbrev pub answer_after : NodeState → Result (Reply × NodeState) StepError → Result (Reply × NodeState) StepError
+answer_after n (Ok x) = Ok (x.0, node_letting x.1 n.setup.allow)
+answer_after n (Err e) = Err e
 
 -- THE EVENT OF A BODY THAT CAME, as the guest reads it, and what the node's definition answers to it: where a form stands for
 -- the name in it, that name may connect
 abbrev pub frame_to : Guest → EndId → List ℕ → Event
-frame_to g id body = event.Frame id (expanded g.reading.mandatory.0 body)
+frame_to g id body = event.Frame id (expansion g.reading.mandatory.0 body)
 
 abbrev pub answer_to : Guest → EndId → List ℕ → ℕ → Result (Reply × NodeState) StepError
 answer_to g id body fresh =
-    let came = expanded g.reading.mandatory.0 body in
-    given_back g.node (step (asked g.node (widened g.reading.forms came g.node.setup.allow)) (event.Frame id came) fresh)
+    let came = expansion g.reading.mandatory.0 body in
+    answer_after g.node (step (node_letting g.node (widened g.reading.forms came g.node.setup.allow)) (event.Frame id came) fresh)
 
 -- The call of this event made this step of the definition, and its reply is kept, with the status that it received; or it
 -- refused as the definition does, or ran out of memory where that refuses nothing. A refusal changed nothing.
 abbrev pub IsCall : Event → Result (Unit {0}) StepError → Result (Reply × NodeState) StepError → Guest → Guest → Type 0
-IsCall v (Ok u) s old new = (r : Reply) × (s ≡ Ok (r, new.node)) × (new.last ≡ Some r) × (new.heard ≡ heard_in v) × (new.reading ≡ old.reading)
+IsCall v (Ok u) s old new = (r : Reply) × (s ≡ Ok (r, new.node)) × (new.last ≡ Some r) × (new.received_status ≡ status_received v) × (new.reading ≡ old.reading)
 IsCall v (Err e) s old new = Refuses e s × (new ≡ old)
 
 -- the same of a frame that stood at the front of bytes, of which this many are its own

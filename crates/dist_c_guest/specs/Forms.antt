@@ -1,7 +1,8 @@
 -- Forms: texts that each let many names connect, as OTP's net_kernel:allow/1 takes them. A text without an `@` is a host, and
 -- stands for every node of that host. One whose last byte is its only `@` is a node's name without its host, and stands for
 -- that node at any host.
-use Rattle.std.specs.Prelude.{ℕ, ◌+◌, Bool, ◌||◌, not, ◌==◌, nat_lt, nat_le, if◌then◌else◌, List, [], length, take, Option, Some, None, option_and_then, Result, Ok, Err}
+use Rattle.std.specs.Prelude.{ℕ, ◌+◌, Bool, ◌||◌, not, ◌==◌, nat_lt, nat_le, if◌then◌else◌, List, []}
+use Rattle.std.specs.Prelude.{length, take, Option, Some, None, option_and_then, Result, Ok, Err}
 use Rattle.std.specs.List.{list_all}
 use Rattle.dist_names.specs.declared.name_error.NameError.{NameError}
 use Rattle.dist_names.specs.declared.name_error.NameError.TheVariants.{TooShort, TooLong, BadByte}
@@ -46,9 +47,9 @@ said (message.NewName f c p) = Some p
 said (message.OldName f p) = Some p
 said _ = None
 
-abbrev pub said_in : Result Message MessageError → Option (List ℕ)
-said_in (Ok m) = said m
-said_in (Err e) = None
+abbrev pub status_sent : Result Message MessageError → Option (List ℕ)
+status_sent (Ok m) = said m
+status_sent (Err e) = None
 
 abbrev pub good : Result Name NameError → Option Name
 good (Ok p) = Some p
@@ -56,7 +57,7 @@ good (Err e) = None
 
 -- the name that a body brings, where it brings one
 abbrev pub name_in : List ℕ → Option Name
-name_in body = option_and_then (λ p. good (named p)) (said_in (read Dialler body))
+name_in body = option_and_then (λ p. good (named p)) (status_sent (read Dialler body))
 
 -- ---- the list with which the node is asked
 

@@ -12,7 +12,7 @@ use Rattle.dist_core.specs.declared.changing.Change.TheVariants.{Allow}
 use Rattle.dist_names.specs.Order.{Name}
 use Rattle.dist_core.specs.Step.{step}
 use Rattle.dist_c_guest.specs.declared.guest.Guest.{Guest}
-use Rattle.dist_c_guest.specs.Calls.{IsCall, asked, given_back}
+use Rattle.dist_c_guest.specs.Calls.{IsCall, node_letting, answer_after}
 use Rattle.dist_c_guest.specs.Planning.{Changes}
 
 -- a call: its event, the challenge that was drawn for it, what it answered, and the guest after it
@@ -68,8 +68,9 @@ Forgot below old new = (new.node ≡ act old.node (acts.Forgets below)) × (new.
 abbrev pub IsMade : AnyCall → Guest → Type 0
 IsMade (Step_call c) old = IsCall c.event c.answer (step old.node c.event c.fresh) old c.after
 IsMade (Change_call v answer after) old = Changes answer v old after
-IsMade (Widened_call names back c) old = (back ≡ old.node.setup.allow) × IsCall c.event c.answer (given_back old.node (step (asked old.node names) c.event c.fresh)) old c.after
-IsMade (Form_call names after) old = after.node ≡ asked old.node names
+IsMade (Widened_call names back c) old =
+    (back ≡ old.node.setup.allow) × IsCall c.event c.answer (answer_after old.node (step (node_letting old.node names) c.event c.fresh)) old c.after
+IsMade (Form_call names after) old = after.node ≡ node_letting old.node names
 IsMade (Forget_call below after) old = Forgot below old after
 
 -- these calls were made one after another, from the first guest to the last

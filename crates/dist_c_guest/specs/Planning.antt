@@ -19,7 +19,8 @@ lets_in g p = Allow (allowing g.node.setup.allow p)
 
 -- every peer may connect for which this form stands, beside those that might; where all might, they alone
 abbrev pub with_form : Guest → List ℕ → Guest
-with_form g form = record g { node = after_change g.node (Allow (limited g.node.setup.allow)); reading = record g.reading { forms = with_name g.reading.forms form } }
+with_form g form =
+    record g { node = after_change g.node (Allow (limited g.node.setup.allow)); reading = record g.reading { forms = with_name g.reading.forms form } }
 
 -- this form is kept no more
 abbrev pub without_form : Guest → List ℕ → Guest

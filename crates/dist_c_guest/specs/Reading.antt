@@ -26,8 +26,8 @@ in_place w place mask body = with_field w mask body (take place body) (number_at
 -- THE BODY AS IT IS READ, where the digest stands for these flags. Behind the tag of a newer name or challenge, `N`, stand 8
 -- bytes of flags, and behind that of an older one, `n`, and two bytes of a version their lower 4. Any other body is as it came,
 -- and so is each where the digest stands for none
-abbrev pub expanded : ℕ → List ℕ → List ℕ
-expanded mask body =
+abbrev pub expansion : ℕ → List ℕ → List ℕ
+expansion mask body =
     if mask == 0 then body
     else if slice_index body 0 == 0x4e then in_place w64 1 mask body
     else if slice_index body 0 == 0x6e then in_place w32 3 (low_half mask) body

@@ -27,10 +27,10 @@ abbrev pub status_of : List ℕ → Option Status
 status_of body = either (status_in (read Acceptor body)) (status_in (read Dialler body))
 
 -- the status that a step receives: that of the frame which it takes
-abbrev pub heard_in : Event → Option Status
-heard_in (event.Frame id body) = status_of body
-heard_in _ = None
+abbrev pub status_received : Event → Option Status
+status_received (event.Frame id body) = status_of body
+status_received _ = None
 
 -- the status that a reply sends: that of its first frame, since none sends a status behind another message
-abbrev pub said_in : Reply → Option Status
-said_in r = option_and_then status_of (first_body w16 r.say)
+abbrev pub status_sent : Reply → Option Status
+status_sent r = option_and_then status_of (first_body w16 r.say)

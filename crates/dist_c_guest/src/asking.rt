@@ -2,7 +2,7 @@
 ghost use Rattle.std.specs.Prelude.{◌≡◌, IfOk, Some};
 ghost use Rattle.dist_core.specs.Answers.{GivesReply};
 ghost use Rattle.dist_core.specs.Step.{step};
-ghost use Rattle.dist_c_guest.specs.Calls.{IsCall, asked, given_back};
+ghost use Rattle.dist_c_guest.specs.Calls.{IsCall, node_letting, answer_after};
 ghost use Rattle.dist_c_guest.specs.Forms.{instead, name_in, said, widened};
 
 use crate::forms::Forms;
@@ -82,7 +82,9 @@ impl Guest {
         event: &Event,
         fresh: u32,
     ) -> Result<(), StepError>
-        ensures { IsCall event.now result (given_back self.old.node (step (asked self.old.node (instead names self.old.node.setup.allow)) event.now fresh)) self.old self.new }
+        ensures { IsCall event.now result
+            (answer_after self.old.node (step (node_letting self.old.node (instead names self.old.node.setup.allow)) event.now fresh))
+            self.old self.new }
     {
         match names {
             Some(names) => self.step_letting(alloc, names, event, fresh),
@@ -98,7 +100,8 @@ impl Guest {
         event: &Event,
         fresh: u32,
     ) -> Result<Reply, StepError>
-        ensures reply { GivesReply result (given_back self.old.node (step (asked self.old.node (instead names self.old.node.setup.allow)) event.now fresh)) }
+        ensures reply { GivesReply result
+            (answer_after self.old.node (step (node_letting self.old.node (instead names self.old.node.setup.allow)) event.now fresh)) }
         ensures same { self.new ≡ self.old }
     {
         match names {
@@ -115,7 +118,7 @@ impl Guest {
         event: &Event,
         fresh: u32,
     ) -> Result<(), StepError>
-        ensures { IsCall event.now result (given_back self.old.node (step (asked self.old.node (Some names)) event.now fresh)) self.old self.new }
+        ensures { IsCall event.now result (answer_after self.old.node (step (node_letting self.old.node (Some names)) event.now fresh)) self.old self.new }
     {
         let before = self.node.set_allow(Some(names));
         let result = self.step(alloc, event, fresh);
@@ -131,7 +134,7 @@ impl Guest {
         event: &Event,
         fresh: u32,
     ) -> Result<Reply, StepError>
-        ensures reply { GivesReply result (given_back self.old.node (step (asked self.old.node (Some names)) event.now fresh)) }
+        ensures reply { GivesReply result (answer_after self.old.node (step (node_letting self.old.node (Some names)) event.now fresh)) }
         ensures same { self.new ≡ self.old }
     {
         let before = self.node.set_allow(Some(names));

@@ -5,7 +5,7 @@ ghost use Rattle.dist_names.specs.Order.{is_listed, same_name};
 ghost use Rattle.dist_core_setup.specs.Changing.{with_name, without_name};
 ghost use Rattle.dist_c_guest.specs.Forms.{formed, has_form, stand_for};
 
-use crate::reading::parted;
+use crate::reading::parts_at;
 use dist_names::{ByteString, NameError, NodeName, are_visible, is_same_text, short_part};
 use std::alloc::{AllocError, Global};
 use std::marker::Model;
@@ -109,7 +109,7 @@ impl Forms {
     pub fn stand_for(&self, name: &NodeName) -> bool
         ensures { result ≡ stand_for self.now name.now }
     {
-        let (short, _) = parted(name.bytes(), name.short().len() + 1);
+        let (short, _) = parts_at(name.bytes(), name.short().len() + 1);
         self.lists(name.host()) || self.lists(short)
     }
 }

@@ -5,13 +5,13 @@ ghost use Rattle.std.specs.Int.{w16};
 ghost use Rattle.dist_core.specs.Step.{step};
 ghost use Rattle.dist_frames.specs.Stream.{first_body};
 ghost use Rattle.dist_c_guest.specs.Forms.{instead, widened};
-ghost use Rattle.dist_c_guest.specs.Reading.{expanded};
+ghost use Rattle.dist_c_guest.specs.Reading.{expansion};
 ghost use Rattle.dist_c_guest.specs.Calls.{IsCall, IsForeseen, IsReceived, answer_to, first_guest, frame_to};
 
 use crate::asking::wider;
 use crate::call_error::CallError;
-use crate::reading::{Reading, expanded};
-use crate::statuses::heard_in;
+use crate::reading::{Reading, expand};
+use crate::statuses::status_received;
 use dist_core::{Event, NameList, Node, Reply, Setup, StepError};
 use dist_frames::first_body;
 use dist_messages::Status;
@@ -27,8 +27,8 @@ pub struct Guest {
     /// The newest reply, and none before the first step.
     pub last: Option<Reply>,
     /// The status in the frame that the newest step took, where it took one and that is one.
-    pub heard: Option<Status>,
-    /// How it reads the frames that come to `take` and `received`.
+    pub received_status: Option<Status>,
+    /// How it reads the frames that come to `take` and `receive`.
     pub reading: Reading,
 }
 
@@ -40,7 +40,7 @@ impl Guest {
         Guest {
             node: Node::new(alloc, setup),
             last: None,
-            heard: None,
+            received_status: None,
             reading: Reading::plain(alloc),
         }
     }
@@ -52,7 +52,7 @@ impl Guest {
     {
         let reply = self.node.step(alloc, event, fresh)?;
         self.last = Some(reply);
-        self.heard = heard_in(alloc, event);
+        self.received_status = status_received(alloc, event);
         Ok(())
     }
 
@@ -72,9 +72,10 @@ impl Guest {
 
     // The body as it is read, and the names that may connect where they aren't the node's own.
     fn read(&self, alloc: Global, body: &[u8]) -> Result<(ByteString, Option<NameList>), AllocError>
-        ensures { IfOk result (λ x. (x.0 ≡ expanded self.now.reading.mandatory.0 body.now) × (instead x.1 self.now.node.setup.allow ≡ widened self.now.reading.forms x.0 self.now.node.setup.allow)) }
+        ensures { IfOk result (λ x. (x.0 ≡ expansion self.now.reading.mandatory.0 body.now)
+            × (instead x.1 self.now.node.setup.allow ≡ widened self.now.reading.forms x.0 self.now.node.setup.allow)) }
     {
-        let body = expanded(alloc, self.reading.mandatory, body)?;
+        let body = expand(alloc, self.reading.mandatory, body)?;
         let names = wider(
             alloc,
             &self.reading.forms,
@@ -119,7 +120,7 @@ impl Guest {
 
     /// Makes the step of the frame at the front of these bytes, and returns how many bytes it has with its length. Where
     /// none is whole yet, or the step is refused, nothing changes.
-    pub fn received(
+    pub fn receive(
         &mut self,
         alloc: Global,
         id: EndId,
@@ -137,7 +138,7 @@ impl Guest {
         }
     }
 
-    /// What `received` would return, which changes nothing: the reply, and how many bytes the frame has with its length.
+    /// What `receive` would return, which changes nothing: the reply, and how many bytes the frame has with its length.
     pub fn ready(
         &mut self,
         alloc: Global,

@@ -26,5 +26,6 @@ pub fn any_history_is_a_run()
 /// A guest to which the digest stands for no flags, and which keeps no forms, hands each body to its node as it came, and
 /// answers as the node's definition does: for it the clauses that speak of frames say what they say of the node.
 pub fn plain_guests_read_what_came()
-    ensures { (g : Guest) → g.reading ≡ plain → (id : EndId) (body : List ℕ) (fresh : ℕ) → (frame_to g id body ≡ event.Frame id body) × (answer_to g id body fresh ≡ step g.node (event.Frame id body) fresh) }
+    ensures { (g : Guest) → g.reading ≡ plain → (id : EndId) (body : List ℕ) (fresh : ℕ)
+        → (frame_to g id body ≡ event.Frame id body) × (answer_to g id body fresh ≡ step g.node (event.Frame id body) fresh) }
 {}

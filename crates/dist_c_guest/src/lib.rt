@@ -22,4 +22,4 @@ pub use forms::{Forms, form_of, has_form};
 pub use guest::Guest;
 pub use laws::{a_history_is_a_run, any_history_is_a_run, plain_guests_read_what_came};
 pub use reading::Reading;
-pub use statuses::said_in;
+pub use statuses::status_sent;

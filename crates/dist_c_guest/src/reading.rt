@@ -1,7 +1,7 @@
 //! How a guest reads the bodies of the frames that come.
 ghost use Rattle.std.specs.Prelude.{◌≡◌, ◌++◌, IfOk, slice_index, take, drop};
 ghost use Rattle.std.specs.Int.{w32, w64};
-ghost use Rattle.dist_c_guest.specs.Reading.{expanded, in_place, plain};
+ghost use Rattle.dist_c_guest.specs.Reading.{expansion, in_place, plain};
 
 use crate::forms::Forms;
 use dist_names::{ByteString, Flags};
@@ -43,7 +43,7 @@ fn tag_of(body: &[u8]) -> u8
 }
 
 // Three rows of bytes, one behind another.
-fn joined(
+fn concatenation(
     alloc: Global,
     front: &[u8],
     field: &[u8],
@@ -58,7 +58,7 @@ fn joined(
 }
 
 /// The bytes before a place, and those from it on.
-pub fn parted(body: &[u8], place: usize) -> (&[u8], &[u8])
+pub fn parts_at(body: &[u8], place: usize) -> (&[u8], &[u8])
     ensures { (result.0.now ≡ take place body.now) × (result.1.now ≡ drop place body.now) }
 {
     if body.len() < place {
@@ -68,10 +68,10 @@ pub fn parted(body: &[u8], place: usize) -> (&[u8], &[u8])
 }
 
 // A body whose flags are 8 bytes behind the tag.
-fn in_new(alloc: Global, mask: u64, body: &[u8]) -> Result<ByteString, AllocError>
+fn expand_new(alloc: Global, mask: u64, body: &[u8]) -> Result<ByteString, AllocError>
     ensures { IfOk result (λ row. row ≡ in_place w64 1 mask body.now) }
 {
-    let (front, rest) = parted(body, 1);
+    let (front, rest) = parts_at(body, 1);
     let Some((field, behind)) = rest.split_first_chunk::<8>() else {
         return ByteString::from_slice(alloc, body);
     };
@@ -79,14 +79,14 @@ fn in_new(alloc: Global, mask: u64, body: &[u8]) -> Result<ByteString, AllocErro
     if !Flags(flags).has(DIGEST_25) {
         return ByteString::from_slice(alloc, body);
     }
-    joined(alloc, front, &(flags | mask).to_be_bytes(), behind)
+    concatenation(alloc, front, &(flags | mask).to_be_bytes(), behind)
 }
 
 // A body whose flags are 4 bytes behind the tag and the version.
-fn in_old(alloc: Global, mask: u32, body: &[u8]) -> Result<ByteString, AllocError>
+fn expand_old(alloc: Global, mask: u32, body: &[u8]) -> Result<ByteString, AllocError>
     ensures { IfOk result (λ row. row ≡ in_place w32 3 mask body.now) }
 {
-    let (front, rest) = parted(body, 3);
+    let (front, rest) = parts_at(body, 3);
     let Some((field, behind)) = rest.split_first_chunk::<4>() else {
         return ByteString::from_slice(alloc, body);
     };
@@ -94,20 +94,20 @@ fn in_old(alloc: Global, mask: u32, body: &[u8]) -> Result<ByteString, AllocErro
     if !Flags(flags as u64).has(DIGEST_25) {
         return ByteString::from_slice(alloc, body);
     }
-    joined(alloc, front, &(flags | mask).to_be_bytes(), behind)
+    concatenation(alloc, front, &(flags | mask).to_be_bytes(), behind)
 }
 
 /// The body, with the flags of the mask among those of a name or a challenge in which the digest is set. All others are as they
 /// came.
-pub fn expanded(alloc: Global, mask: Flags, body: &[u8]) -> Result<ByteString, AllocError>
-    ensures { IfOk result (λ row. row ≡ expanded mask.0 body.now) }
+pub fn expand(alloc: Global, mask: Flags, body: &[u8]) -> Result<ByteString, AllocError>
+    ensures { IfOk result (λ row. row ≡ expansion mask.0 body.now) }
 {
     if mask.0 == 0 {
         return ByteString::from_slice(alloc, body);
     }
     match tag_of(body) {
-        b'N' => in_new(alloc, mask.0, body),
-        b'n' => in_old(alloc, mask.low(), body),
+        b'N' => expand_new(alloc, mask.0, body),
+        b'n' => expand_old(alloc, mask.low(), body),
         _ => ByteString::from_slice(alloc, body),
     }
 }

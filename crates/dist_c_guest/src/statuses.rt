@@ -1,7 +1,7 @@
 //! The status that a body spells.
 ghost use Rattle.std.specs.Prelude.{◌≡◌, ◌∷◌, ℕ, List};
 ghost use Rattle.dist_messages.specs.Reading.{read};
-ghost use Rattle.dist_c_guest.specs.Statuses.{status_in, status_of, heard_in, said_in};
+ghost use Rattle.dist_c_guest.specs.Statuses.{status_in, status_of, status_received, status_sent};
 
 use dist_core::{Event, Reply};
 use dist_frames::first_body;
@@ -38,8 +38,8 @@ pub fn status_of(alloc: Global, body: &[u8]) -> Option<Status>
 }
 
 /// The status that an event brings.
-pub fn heard_in(alloc: Global, event: &Event) -> Option<Status>
-    ensures { result ≡ heard_in event.now }
+pub fn status_received(alloc: Global, event: &Event) -> Option<Status>
+    ensures { result ≡ status_received event.now }
 {
     match event {
         Event::Frame { end_: _, body } => status_of(alloc, body.as_slice()),
@@ -48,8 +48,8 @@ pub fn heard_in(alloc: Global, event: &Event) -> Option<Status>
 }
 
 /// The status that a reply sends.
-pub fn said_in(alloc: Global, reply: &Reply) -> Option<Status>
-    ensures { result ≡ said_in reply.now }
+pub fn status_sent(alloc: Global, reply: &Reply) -> Option<Status>
+    ensures { result ≡ status_sent reply.now }
 {
     status_of(alloc, first_body(reply.say.as_slice())?)
 }

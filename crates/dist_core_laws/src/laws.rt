@@ -42,33 +42,41 @@ pub fn setup_never_changes()
 
 /// There is one open end more for one that was given out, and one less for one that the reply reports as closed.
 pub fn open_ends_change()
-    ensures { (n : NodeState) (v : Event) (fresh : ℕ) (f : Effect) → AreLegal n.ends → effect_of n v fresh ≡ Ok f → count_by is_open (ends_after n.ends f) + closed_by f.reply ≡ count_by is_open n.ends + given_by v }
+    ensures { (n : NodeState) (v : Event) (fresh : ℕ) (f : Effect) → AreLegal n.ends → effect_of n v fresh ≡ Ok f
+        → count_by is_open (ends_after n.ends f) + closed_by f.reply ≡ count_by is_open n.ends + given_by v }
 {}
 
 /// A loss closes its end, so that there is one open end less, and changes no other.
 pub fn a_loss_closes_one_end()
-    ensures { (n : NodeState) (x : EndId) (w : Why) (fresh : ℕ) (f : Effect) → effect_of n (event.Lost x w) fresh ≡ Ok f → (ends_after n.ends f ≡ put_end n.ends x.0 (ends.Closed w)) × (count_by is_open (ends_after n.ends f) + 1 ≡ count_by is_open n.ends) }
+    ensures { (n : NodeState) (x : EndId) (w : Why) (fresh : ℕ) (f : Effect) → effect_of n (event.Lost x w) fresh ≡ Ok f
+        → (ends_after n.ends f ≡ put_end n.ends x.0 (ends.Closed w)) × (count_by is_open (ends_after n.ends f) + 1 ≡ count_by is_open n.ends) }
 {}
 
 /// The other end that a step changes is open, and never the event's own.
 pub fn another_end_is_replaced()
-    ensures { (n : NodeState) (v : Event) (fresh : ℕ) (f : Effect) (x : EndId) (s : End) → AreLegal n.ends → effect_of n v fresh ≡ Ok f → f.other ≡ Some (x, s) → IsOther n f.reply.end_ x }
+    ensures { (n : NodeState) (v : Event) (fresh : ℕ) (f : Effect) (x : EndId) (s : End) → AreLegal n.ends → effect_of n v fresh ≡ Ok f
+        → f.other ≡ Some (x, s) → IsOther n f.reply.end_ x }
 {}
 
 /// A crossing name dooms the dialled end on which no status came yet, and closes the one that a status let go on.
 pub fn a_crossing_dooms_or_closes()
-    ensures { (n : NodeState) (id : EndId) (say : List ℕ) (b : Attempt) (x : EndId) (f : Effect) → AreLegal n.ends → entry_in n.ends b.peer ≡ Some (entry.Out x) → f ≡ supersedes id say b x (superseded (slice_get n.ends x.0)) → Supersedes n id say b x f }
+    ensures { (n : NodeState) (id : EndId) (say : List ℕ) (b : Attempt) (x : EndId) (f : Effect) → AreLegal n.ends
+        → entry_in n.ends b.peer ≡ Some (entry.Out x) → f ≡ supersedes id say b x (superseded (slice_get n.ends x.0)) → Supersedes n id say b x f }
 {}
 
 /// A doomed end stays as it is until it is closed: it never comes up.
 pub fn a_doomed_end_never_comes_up()
-    ensures step { (n : NodeState) (v : Event) (fresh : ℕ) (r : Reply) (m : NodeState) (x : EndId) (e : End) → AreLegal n.ends → step n v fresh ≡ Ok (r, m) → slice_get n.ends x.0 ≡ Some e → is_doomed e ≡ true → (slice_get m.ends x.0 ≡ Some e) ⊎ ((w : Why) × (slice_get m.ends x.0 ≡ Some (ends.Closed w))) }
-    ensures up { (n : NodeState) (v : Event) (fresh : ℕ) (f : Effect) (e : End) → effect_of n v fresh ≡ Ok f → slice_get n.ends f.reply.end_.0 ≡ Some e → is_doomed e ≡ true → f.reply.up ≡ None }
+    ensures step { (n : NodeState) (v : Event) (fresh : ℕ) (r : Reply) (m : NodeState) (x : EndId) (e : End) → AreLegal n.ends
+        → step n v fresh ≡ Ok (r, m) → slice_get n.ends x.0 ≡ Some e → is_doomed e ≡ true
+        → (slice_get m.ends x.0 ≡ Some e) ⊎ ((w : Why) × (slice_get m.ends x.0 ≡ Some (ends.Closed w))) }
+    ensures up { (n : NodeState) (v : Event) (fresh : ℕ) (f : Effect) (e : End) → effect_of n v fresh ≡ Ok f
+        → slice_get n.ends f.reply.end_.0 ≡ Some e → is_doomed e ≡ true → f.reply.up ≡ None }
 {}
 
 /// A reply is sent only to a challenge of the name that was dialled, while its end holds that peer and no other end does.
 pub fn a_reply_is_said_to_the_dialled_name()
-    ensures { (n : NodeState) (v : Event) (fresh : ℕ) (f : Effect) → AreLegal n.ends → effect_of n v fresh ≡ Ok f → f.reply.note ≡ note.ReplySaid → IsDialledChallenge n v }
+    ensures { (n : NodeState) (v : Event) (fresh : ℕ) (f : Effect) → AreLegal n.ends → effect_of n v fresh ≡ Ok f → f.reply.note ≡ note.ReplySaid
+        → IsDialledChallenge n v }
 {}
 
 /// An end comes up only with the digest of the own cookie and its own challenge, and its record holds it.

@@ -32,8 +32,10 @@ pub fn a_step_keeps()
 
 /// A step changes its own end, or gives out the next number, and one other end that is there; all others stay.
 pub fn two_ends_change_at_most()
-    ensures places { (n : NodeState) (v : Event) (fresh : ℕ) (f : Effect) → AreLegal n.ends → effect_of n v fresh ≡ Ok f → (f.reply.end_.0 ≤ length n.ends) × IsThere n.ends f.other }
-    ensures after { (n : NodeState) (v : Event) (fresh : ℕ) (f : Effect) (i : ℕ) → AreLegal n.ends → effect_of n v fresh ≡ Ok f → slice_get (ends_after n.ends f) i ≡ view_after n.ends f.reply.end_ f.this f.other i }
+    ensures places { (n : NodeState) (v : Event) (fresh : ℕ) (f : Effect) → AreLegal n.ends → effect_of n v fresh ≡ Ok f
+        → (f.reply.end_.0 ≤ length n.ends) × IsThere n.ends f.other }
+    ensures after { (n : NodeState) (v : Event) (fresh : ℕ) (f : Effect) (i : ℕ) → AreLegal n.ends → effect_of n v fresh ≡ Ok f
+        → slice_get (ends_after n.ends f) i ≡ view_after n.ends f.reply.end_ f.this f.other i }
 {}
 
 /// A reply is of the end that the event names; where a new end is given out, it is of the next number and sends nothing.
@@ -46,18 +48,24 @@ pub fn a_reply_is_of_its_end()
 /// How many ends are open after a step: one more for each that was given out, one less for each that the reply reports as
 /// closed; so at most one more, and after a loss one less.
 pub fn open_ends_after_a_step()
-    ensures exact { (n : NodeState) (v : Event) (fresh : ℕ) (r : Reply) (m : NodeState) → AreLegal n.ends → step n v fresh ≡ Ok (r, m) → count_by is_open m.ends + closed_by r ≡ count_by is_open n.ends + given_by v }
-    ensures most { (n : NodeState) (v : Event) (fresh : ℕ) (r : Reply) (m : NodeState) → AreLegal n.ends → step n v fresh ≡ Ok (r, m) → count_by is_open m.ends ≤ count_by is_open n.ends + 1 }
-    ensures loss { (n : NodeState) (v : Event) (fresh : ℕ) (r : Reply) (m : NodeState) → is_loss v ≡ true → step n v fresh ≡ Ok (r, m) → count_by is_open m.ends + 1 ≡ count_by is_open n.ends }
+    ensures exact { (n : NodeState) (v : Event) (fresh : ℕ) (r : Reply) (m : NodeState) → AreLegal n.ends → step n v fresh ≡ Ok (r, m)
+        → count_by is_open m.ends + closed_by r ≡ count_by is_open n.ends + given_by v }
+    ensures most { (n : NodeState) (v : Event) (fresh : ℕ) (r : Reply) (m : NodeState) → AreLegal n.ends → step n v fresh ≡ Ok (r, m)
+        → count_by is_open m.ends ≤ count_by is_open n.ends + 1 }
+    ensures loss { (n : NodeState) (v : Event) (fresh : ℕ) (r : Reply) (m : NodeState) → is_loss v ≡ true → step n v fresh ≡ Ok (r, m)
+        → count_by is_open m.ends + 1 ≡ count_by is_open n.ends }
 {}
 
 /// An end that was lost is closed, for the cause that was reported.
 pub fn a_lost_end_is_closed()
-    ensures { (n : NodeState) (x : EndId) (w : Why) (fresh : ℕ) (r : Reply) (m : NodeState) → step n (event.Lost x w) fresh ≡ Ok (r, m) → slice_get m.ends x.0 ≡ Some (ends.Closed w) }
+    ensures { (n : NodeState) (x : EndId) (w : Why) (fresh : ℕ) (r : Reply) (m : NodeState) → step n (event.Lost x w) fresh ≡ Ok (r, m)
+        → slice_get m.ends x.0 ≡ Some (ends.Closed w) }
 {}
 
 /// Of the frames, only a reply closes an end that was up: the reply of its peer's next connection, which carries the digest of
 /// the own cookie and of the challenge of the end on which it came.
 pub fn an_up_end_closes_on_a_right_reply()
-    ensures { (n : NodeState) (id : EndId) (body : List ℕ) (fresh : ℕ) (r : Reply) (m : NodeState) (x : EndId) (w : Why) (kept : UpRecord) → AreLegal n.ends → step n (event.Frame id body) fresh ≡ Ok (r, m) → slice_get n.ends x.0 ≡ Some (ends.Up kept) → slice_get m.ends x.0 ≡ Some (ends.Closed w) → IsRightReply n (event.Frame id body) }
+    ensures { (n : NodeState) (id : EndId) (body : List ℕ) (fresh : ℕ) (r : Reply) (m : NodeState) (x : EndId) (w : Why) (kept : UpRecord)
+        → AreLegal n.ends → step n (event.Frame id body) fresh ≡ Ok (r, m) → slice_get n.ends x.0 ≡ Some (ends.Up kept)
+        → slice_get m.ends x.0 ≡ Some (ends.Closed w) → IsRightReply n (event.Frame id body) }
 {}

@@ -9,8 +9,8 @@ use Rattle.dist_names.proofs.Bytes.{IsBytes-rest, IsBytes-drop, IsBytes-take}
 use Rattle.dist_epmd.specs.declared.epmd_error.EpmdError.{EpmdError}
 use Rattle.dist_epmd.specs.declared.epmd_error.EpmdError.TheVariants.{Trailing}
 use Rattle.dist_epmd.specs.declared.message.NodeInfo.{NodeInfo}
-use Rattle.dist_epmd.specs.Layout.{sized, info_text}
-use Rattle.dist_epmd.specs.Reading.{Taken, byte_at, number_at, bytes_at, counted, sized_at, with_second, followed, both_at, made, Parts, info_of, info_at, whole, as_message}
+use Rattle.dist_epmd.specs.Layout.{text_field, info_text}
+use Rattle.dist_epmd.specs.Reading.{Taken, byte_at, number_at, bytes_at, text_behind, text_at, with_second, pair_behind, both_at, value_as, Parts, info_of_parts, info_at, whole, as_message}
 
 -- a test that did not fail
 some_is : {A : Type 0} (b : Bool) (x y : A) → cond b None (Some x) ≡ Some y → (b ≡ false) × (x ≡ y)
@@ -108,25 +108,25 @@ byte_takes (b ∷ more) x rest fits e =
 pub byte_field : IsField byte_at one Any
 byte_field = record { takes = byte_takes; again = λ x rest any. refl }
 
-counted_ok : (r : Taken ℕ) (y : List ℕ × List ℕ) → counted r ≡ Some y → (x : ℕ × List ℕ) × (r ≡ Some x) × (bytes_at x.0 x.1 ≡ Some y)
+counted_ok : (r : Taken ℕ) (y : List ℕ × List ℕ) → text_behind r ≡ Some y → (x : ℕ × List ℕ) × (r ≡ Some x) × (bytes_at x.0 x.1 ≡ Some y)
 counted_ok None y e = absurd cc
 counted_ok (Some x) y e = (x, refl, e)
 
 abbrev pub Short16 : List ℕ → Type 0
 Short16 text = length text < 2 ^ 16
 
-sized_takes : (bytes text rest : List ℕ) → IsBytes bytes → sized_at bytes ≡ Some (text, rest) → Takes bytes (sized text) rest × Short16 text
+sized_takes : (bytes text rest : List ℕ) → IsBytes bytes → text_at bytes ≡ Some (text, rest) → Takes bytes (text_field text) rest × Short16 text
 sized_takes bytes text rest fits e =
     let a = counted_ok (number_at w16 bytes) (text, rest) e in
     let t0 = number_takes w16 (2 ^ 16) wide16 bytes a.0.0 a.0.1 fits a.1 in
     let t1 = bytes_take a.0.0 a.0.1 text rest t0.0.rest_fits a.2 in
-    let parts : bytes ≡ sized text ++ rest = t0.0.parts ∙ ap (λ (x : List ℕ). to_be_bytes w16 a.0.0 ++ x) t1.0.parts ∙ ap (λ (k : ℕ). to_be_bytes w16 k ++ (text ++ rest)) (sym t1.1) in
+    let parts : bytes ≡ text_field text ++ rest = t0.0.parts ∙ ap (λ (x : List ℕ). to_be_bytes w16 a.0.0 ++ x) t1.0.parts ∙ ap (λ (k : ℕ). to_be_bytes w16 k ++ (text ++ rest)) (sym t1.1) in
     (record { parts = parts; rest_fits = t1.0.rest_fits }, omega (arith, t0.1, t1.1))
 
-pub sized_field : IsField sized_at sized Short16
+pub sized_field : IsField text_at text_field Short16
 sized_field = record {
   takes = sized_takes;
-  again = λ text rest lt. ap counted (number_again w16 (2 ^ 16) wide16 (length text) (text ++ rest) lt) ∙ bytes_again (length text) text rest refl;
+  again = λ text rest lt. ap text_behind (number_again w16 (2 ^ 16) wide16 (length text) (text ++ rest) lt) ∙ bytes_again (length text) text rest refl;
 }
 
 -- ---- two fields
@@ -137,7 +137,7 @@ second_ok a (Some y) p rest e =
     let same = some_same ((a, y.0), y.1) (p, rest) e in
     (ap (λ q. q.0.0) same, ap (λ q. Some (q.0.1, q.1)) same)
 
-followed_ok : {A B : Type 0} (t : Taken A) (s : List ℕ → Taken B) (p : A × B) (rest : List ℕ) → followed t s ≡ Some (p, rest) → (x : A × List ℕ) × (t ≡ Some x) × (x.0 ≡ p.0) × (s x.1 ≡ Some (p.1, rest))
+followed_ok : {A B : Type 0} (t : Taken A) (s : List ℕ → Taken B) (p : A × B) (rest : List ℕ) → pair_behind t s ≡ Some (p, rest) → (x : A × List ℕ) × (t ≡ Some x) × (x.0 ≡ p.0) × (s x.1 ≡ Some (p.1, rest))
 followed_ok None s p rest e = absurd cc
 followed_ok (Some x) s p rest e = let q = second_ok x.0 (s x.1) p rest e in (x, refl, q.0, q.1)
 
@@ -151,26 +151,26 @@ both_field {A} {B} {r} {s} {w} {v} {F} {G} one two = record {
       (record { parts = t0.0.parts ∙ ap (λ (x : List ℕ). w p.0 ++ x) t1.0.parts ∙ sym (append_assoc (w p.0) (v p.1) rest); rest_fits = t1.0.rest_fits }, (t0.1, t1.1));
   again = λ p rest fits.
       ap (both_at r s) (append_assoc (w p.0) (v p.1) rest)
-      ∙ ap (λ t. followed t s) (one.again p.0 (v p.1 ++ rest) fits.0)
+      ∙ ap (λ t. pair_behind t s) (one.again p.0 (v p.1 ++ rest) fits.0)
       ∙ ap (with_second p.0) (two.again p.1 rest fits.1);
 }
 
 -- ---- a value made of others
 
-made_ok : {A B : Type 0} (f : A → B) (t : Taken A) (y : B) (rest : List ℕ) → made f t ≡ Some (y, rest) → (x : A) × (t ≡ Some (x, rest)) × (f x ≡ y)
+made_ok : {A B : Type 0} (f : A → B) (t : Taken A) (y : B) (rest : List ℕ) → value_as f t ≡ Some (y, rest) → (x : A) × (t ≡ Some (x, rest)) × (f x ≡ y)
 made_ok f None y rest e = absurd cc
 made_ok f (Some x) y rest e =
     let same = some_same (f x.0, x.1) (y, rest) e in
     (x.0, ap (λ q. Some (x.0, q.1)) same, ap (λ q. q.0) same)
 
-pub made_field : {A B : Type 0} {r : List ℕ → Taken A} {w : A → List ℕ} {F : A → Type 0} (f : A → B) (g : B → A) → ((y : B) → f (g y) ≡ y) → ((x : A) → g (f x) ≡ x) → IsField r w F → IsField (λ bytes. made f (r bytes)) (λ y. w (g y)) (λ y. F (g y))
+pub made_field : {A B : Type 0} {r : List ℕ → Taken A} {w : A → List ℕ} {F : A → Type 0} (f : A → B) (g : B → A) → ((y : B) → f (g y) ≡ y) → ((x : A) → g (f x) ≡ x) → IsField r w F → IsField (λ bytes. value_as f (r bytes)) (λ y. w (g y)) (λ y. F (g y))
 made_field {A} {B} {r} {w} {F} f g back forth field = record {
   takes = λ bytes y rest fits e.
       let a = made_ok f (r bytes) y rest e in
       let is : a.0 ≡ g y = sym (forth a.0) ∙ ap g a.2 in
       let t = field.takes bytes a.0 rest fits a.1 in
       (subst (λ x. Takes bytes (w x) rest) is t.0, subst F is t.1);
-  again = λ y rest fits. ap (made f) (field.again (g y) rest fits) ∙ ap (λ k. Some (k, rest)) (back y);
+  again = λ y rest fits. ap (value_as f) (field.again (g y) rest fits) ∙ ap (λ k. Some (k, rest)) (back y);
 }
 
 -- ---- nothing behind
@@ -210,4 +210,4 @@ fields16 n = n < 2 ^ 16
 pub info_field : IsField info_at info_text (λ i. fields16 i.port × (Unit {0} × (Unit {0} × (fields16 i.highest × (fields16 i.lowest × (Short16 i.name × Short16 i.extra))))))
 info_field =
     let n16 = number_field w16 (2 ^ 16) wide16 in
-    made_field info_of parts_of (λ i. refl) (λ p. refl) (both_field n16 (both_field byte_field (both_field byte_field (both_field n16 (both_field n16 (both_field sized_field sized_field))))))
+    made_field info_of_parts parts_of (λ i. refl) (λ p. refl) (both_field n16 (both_field byte_field (both_field byte_field (both_field n16 (both_field n16 (both_field sized_field sized_field))))))

@@ -8,8 +8,8 @@ use Rattle.dist_names.specs.Bytes.{IsBytes}
 use Rattle.dist_names.proofs.Bytes.{IsBytes-append}
 use Rattle.dist_epmd.specs.declared.epmd_error.EpmdError.{EpmdError}
 use Rattle.dist_epmd.specs.declared.epmd_error.EpmdError.TheVariants.{Short, Trailing}
-use Rattle.dist_epmd.specs.Layout.{sized, info_text}
-use Rattle.dist_epmd.specs.Reading.{Taken, byte_at, number_at, bytes_at, counted, sized_at, with_second, followed, both_at, made, info_of, info_at, whole}
+use Rattle.dist_epmd.specs.Layout.{text_field, info_text}
+use Rattle.dist_epmd.specs.Reading.{Taken, byte_at, number_at, bytes_at, text_behind, text_at, with_second, pair_behind, both_at, value_as, info_of_parts, info_at, whole}
 use Rattle.dist_epmd.proofs.FieldLaws.{IsWide, wide16, number_takes, IsField, number_field, byte_field, sized_field, parts_of, fields16, one, Any, Short16}
 
 -- ---- bytes behind bytes
@@ -64,18 +64,18 @@ byte_lacks (b ∷ bytes) fits e = absurd cc
 pub byte_open : IsOpen byte_at one Any
 byte_open = record { some = 0; some_fits = tt; lacks = byte_lacks }
 
-counted_none : (t : Taken ℕ) → counted t ≡ None → (t ≡ None) ⊎ ((x : ℕ × List ℕ) × (t ≡ Some x) × (bytes_at x.0 x.1 ≡ None))
+counted_none : (t : Taken ℕ) → text_behind t ≡ None → (t ≡ None) ⊎ ((x : ℕ × List ℕ) × (t ≡ Some x) × (bytes_at x.0 x.1 ≡ None))
 counted_none None e = inl refl
 counted_none (Some x) e = inr (x, refl, e)
 
-sized_lacks : (bytes : List ℕ) → IsBytes bytes → sized_at bytes ≡ None → Lacks sized Short16 bytes
+sized_lacks : (bytes : List ℕ) → IsBytes bytes → text_at bytes ≡ None → Lacks text_field Short16 bytes
 sized_lacks bytes fits e =
     elim (counted_none (number_at w16 bytes) e) [
       | inl n ↦
           let l = number_lacks w16 (2 ^ 16) wide16 bytes fits n in
           let text : List ℕ = zeros l.value in
           let len : length text ≡ l.value = zeros-length l.value in
-          let parts : bytes ++ (l.more ++ text) ≡ sized text = sym (append_assoc bytes l.more text) ∙ ap (λ (x : List ℕ). x ++ text) l.parts ∙ ap (λ (k : ℕ). to_be_bytes w16 k ++ text) (sym len) in
+          let parts : bytes ++ (l.more ++ text) ≡ text_field text = sym (append_assoc bytes l.more text) ∙ ap (λ (x : List ℕ). x ++ text) l.parts ∙ ap (λ (k : ℕ). to_be_bytes w16 k ++ text) (sym len) in
           record { value = text; fits = omega (arith, len, l.fits); more = l.more ++ text; parts = parts }
       | inr p ↦
           let t = number_takes w16 (2 ^ 16) wide16 bytes p.0.0 p.0.1 fits p.1 in
@@ -83,18 +83,18 @@ sized_lacks bytes fits e =
           let pad : List ℕ = zeros (p.0.0 - length p.0.1) in
           let text : List ℕ = p.0.1 ++ pad in
           let len : length text ≡ p.0.0 = omega (arith, length-append p.0.1 pad, zeros-length (p.0.0 - length p.0.1)) in
-          let parts : bytes ++ pad ≡ sized text = ap (λ (x : List ℕ). x ++ pad) t.0.parts ∙ append_assoc (to_be_bytes w16 p.0.0) p.0.1 pad ∙ ap (λ (k : ℕ). to_be_bytes w16 k ++ text) (sym len) in
+          let parts : bytes ++ pad ≡ text_field text = ap (λ (x : List ℕ). x ++ pad) t.0.parts ∙ append_assoc (to_be_bytes w16 p.0.0) p.0.1 pad ∙ ap (λ (k : ℕ). to_be_bytes w16 k ++ text) (sym len) in
           record { value = text; fits = omega (arith, len, t.1); more = pad; parts = parts }
     ]
 
-pub sized_open : IsOpen sized_at sized Short16
+pub sized_open : IsOpen text_at text_field Short16
 sized_open = record { some = []; some_fits = omega arith; lacks = sized_lacks }
 
 second_none : {A B : Type 0} (a : A) (t : Taken B) → with_second a t ≡ None → t ≡ None
 second_none a None e = refl
 second_none a (Some y) e = absurd cc
 
-followed_none : {A B : Type 0} (t : Taken A) (s : List ℕ → Taken B) → followed t s ≡ None → (t ≡ None) ⊎ ((x : A × List ℕ) × (t ≡ Some x) × (s x.1 ≡ None))
+followed_none : {A B : Type 0} (t : Taken A) (s : List ℕ → Taken B) → pair_behind t s ≡ None → (t ≡ None) ⊎ ((x : A × List ℕ) × (t ≡ Some x) × (s x.1 ≡ None))
 followed_none None s e = inl refl
 followed_none (Some x) s e = inr (x, refl, second_none x.0 (s x.1) e)
 
@@ -113,11 +113,11 @@ both_open {A} {B} {r} {s} {w} {v} {F} {G} field one two = record {
   ];
 }
 
-made_none : {A B : Type 0} (f : A → B) (t : Taken A) → made f t ≡ None → t ≡ None
+made_none : {A B : Type 0} (f : A → B) (t : Taken A) → value_as f t ≡ None → t ≡ None
 made_none f None e = refl
 made_none f (Some x) e = absurd cc
 
-pub made_open : {A B : Type 0} {r : List ℕ → Taken A} {w : A → List ℕ} {F : A → Type 0} (f : A → B) (g : B → A) → ((x : A) → g (f x) ≡ x) → IsOpen r w F → IsOpen (λ bytes. made f (r bytes)) (λ y. w (g y)) (λ y. F (g y))
+pub made_open : {A B : Type 0} {r : List ℕ → Taken A} {w : A → List ℕ} {F : A → Type 0} (f : A → B) (g : B → A) → ((x : A) → g (f x) ≡ x) → IsOpen r w F → IsOpen (λ bytes. value_as f (r bytes)) (λ y. w (g y)) (λ y. F (g y))
 made_open {A} {B} {r} {w} {F} f g forth gap = record {
   some = f gap.some;
   some_fits = subst F (sym (forth gap.some)) gap.some_fits;
@@ -130,7 +130,7 @@ pub info_open : IsOpen info_at info_text (λ i. fields16 i.port × (Unit {0} × 
 info_open =
     let f16 = number_field w16 (2 ^ 16) wide16 in
     let n16 = number_open w16 (2 ^ 16) wide16 (omega arith) in
-    made_open info_of parts_of (λ p. refl) (both_open f16 n16 (both_open byte_field byte_open (both_open byte_field byte_open (both_open f16 n16 (both_open f16 n16 (both_open sized_field sized_open sized_open))))))
+    made_open info_of_parts parts_of (λ p. refl) (both_open f16 n16 (both_open byte_field byte_open (both_open byte_field byte_open (both_open f16 n16 (both_open f16 n16 (both_open sized_field sized_open sized_open))))))
 
 -- ---- a message of one field
 

@@ -16,8 +16,8 @@ use Rattle.dist_epmd.specs.declared.epmd_error.EpmdError.TheVariants as errors
 use Rattle.dist_names.specs.Bytes.{IsBytes}
 use Rattle.dist_names.proofs.Bytes.{IsBytes-rest}
 use Rattle.dist_epmd.specs.Answering.{Answers}
-use Rattle.dist_epmd.specs.Layout.{info_text, Sized, InfoFits}
-use Rattle.dist_epmd.specs.Reading.{Taken, byte_at, number_at, both_at, made, info_at, whole, whole_info, as_message, read_request, alive_x, alive, looked_up, with_text, read_answer}
+use Rattle.dist_epmd.specs.Layout.{info_text, TextsFit, InfoFits}
+use Rattle.dist_epmd.specs.Reading.{Taken, byte_at, number_at, both_at, value_as, info_at, whole, whole_info, as_message, read_request, alive_x, alive, node_answer, with_text, read_answer}
 use Rattle.dist_epmd.specs.Refusing.{LacksRequest, ExceedsRequest, BeginsNoRequest, RefusesRequest, LacksAnswer, ExceedsAnswer, BeginsNoAnswer, RefusesAnswer}
 use Rattle.dist_epmd.proofs.FieldLaws.{IsField, wide16, wide32, number_field, byte_field, both_field, info_field, some_same}
 use Rattle.dist_epmd.proofs.OpenFields.{IsOpen, number_open, byte_open, both_open, info_open, lacks_more, whole_short, whole_lacks, whole_trailing, whole_exceeds}
@@ -41,7 +41,7 @@ error_of true x y d e = absurd cc
 error_of {A} {B} false x y d e = ap (λ (k : EpmdError). wrong {A = A} k) (same_error {A = B} errors.Trailing d e)
 
 -- the same refusal of what was read and of what it stands for
-made_error : {A B : Type 0} (f : A → B) (t : Taken A) (d : EpmdError) → whole (made f t) ≡ Err d → whole t ≡ Err d
+made_error : {A B : Type 0} (f : A → B) (t : Taken A) (d : EpmdError) → whole (value_as f t) ≡ Err d → whole t ≡ Err d
 made_error {A} {B} f None d e = ap (λ (k : EpmdError). wrong {A = A} k) (same_error {A = B} errors.Short d e)
 made_error {A} {B} f (Some x) d e = error_of (eqb (length x.1) 0) x.0 (f x.0) d e
 
@@ -76,14 +76,14 @@ at_tag {M} P tag k v x y here there e =
 
 -- ---- the fields of a node
 
-info_lacks : (bytes : List ℕ) → IsBytes bytes → whole_info bytes ≡ Err errors.Short → (i : NodeInfo) × (more : List ℕ) × (0 < length more) × (bytes ++ more ≡ info_text i) × Sized i × InfoFits i
+info_lacks : (bytes : List ℕ) → IsBytes bytes → whole_info bytes ≡ Err errors.Short → (i : NodeInfo) × (more : List ℕ) × (0 < length more) × (bytes ++ more ≡ info_text i) × TextsFit i × InfoFits i
 unfolding whole_info
 info_lacks bytes fits e =
     let l = whole_lacks info_field info_open bytes fits e in
     let f = l.missing.fits in
     (l.missing.value, l.missing.more, l.some, l.missing.parts, (f.1.1.1.1.1.0, f.1.1.1.1.1.1), (f.0, f.1.1.1.0, f.1.1.1.1.0))
 
-info_exceeds : (bytes : List ℕ) → IsBytes bytes → whole_info bytes ≡ Err errors.Trailing → (i : NodeInfo) × (rest : List ℕ) × (0 < length rest) × (bytes ≡ info_text i ++ rest) × Sized i × InfoFits i
+info_exceeds : (bytes : List ℕ) → IsBytes bytes → whole_info bytes ≡ Err errors.Trailing → (i : NodeInfo) × (rest : List ℕ) × (0 < length rest) × (bytes ≡ info_text i ++ rest) × TextsFit i × InfoFits i
 unfolding whole_info
 info_exceeds bytes fits e =
     let l = whole_exceeds info_field bytes fits e in
@@ -187,7 +187,7 @@ x_exceeds rest fits e =
 
 x_no_malformed : (rest : List ℕ) → alive_x rest ≡ Err errors.Malformed → ⊥
 unfolding alive_x
-x_no_malformed rest e = never_malformed (made as_x (both_at byte_at (number_at w32) rest)) e
+x_no_malformed rest e = never_malformed (value_as as_x (both_at byte_at (number_at w32) rest)) e
 
 alive_lacks : (rest : List ℕ) → IsBytes rest → alive rest ≡ Err errors.Short → LacksAnswer asked.Alive (0x79 ∷ rest)
 unfolding alive
@@ -203,7 +203,7 @@ alive_exceeds rest fits e =
 
 old_no_malformed : (rest : List ℕ) → alive rest ≡ Err errors.Malformed → ⊥
 unfolding alive
-old_no_malformed rest e = never_malformed (made as_alive (both_at byte_at (number_at w16) rest)) e
+old_no_malformed rest e = never_malformed (value_as as_alive (both_at byte_at (number_at w16) rest)) e
 
 abbrev as_port : NodeInfo → Answer
 as_port i = answer.Port (Ok i)
@@ -214,16 +214,16 @@ as_none code = answer.Port (Err code)
 not_zero : (code : ℕ) → eqb code 0 ≡ false → code ≡ 0 → ⊥
 not_zero code t z = let same : eqb code 0 ≡ true = rw z refl in cc
 
-port_lacks : (rest : List ℕ) → IsBytes rest → looked_up rest ≡ Err errors.Short → LacksAnswer asked.Port (0x77 ∷ rest)
-unfolding looked_up
+port_lacks : (rest : List ℕ) → IsBytes rest → node_answer rest ≡ Err errors.Short → LacksAnswer asked.Port (0x77 ∷ rest)
+unfolding node_answer
 port_lacks [] fits e = (as_none 1, 1 ∷ [], omega arith, tt, (not_zero 1 refl, refl))
 port_lacks (code ∷ rest) fits e =
     at_tag (λ k. LacksAnswer asked.Port (0x77 ∷ k ∷ rest)) code 0 (Err errors.Short) (as_message as_port (whole_info rest)) (whole (Some (as_none code, rest)))
     (λ g. let l = info_lacks rest (IsBytes-rest code rest fits) (error_is as_port (whole_info rest) errors.Short g) in (as_port l.0, l.1, l.2, l.5, (l.4, ap (λ (x : List ℕ). 0x77 ∷ 0 ∷ x) l.3)))
     (λ g. absurd (never_short (as_none code) rest g)) e
 
-port_exceeds : (rest : List ℕ) → IsBytes rest → looked_up rest ≡ Err errors.Trailing → ExceedsAnswer asked.Port (0x77 ∷ rest)
-unfolding looked_up
+port_exceeds : (rest : List ℕ) → IsBytes rest → node_answer rest ≡ Err errors.Trailing → ExceedsAnswer asked.Port (0x77 ∷ rest)
+unfolding node_answer
 port_exceeds [] fits e = absurd cc
 port_exceeds (code ∷ rest) fits e =
     elim (eqb code 0) as (λ v. eqb code 0 ≡ v → cond v (as_message as_port (whole_info rest)) (whole (Some (as_none code, rest))) ≡ Err errors.Trailing → ExceedsAnswer asked.Port (0x77 ∷ code ∷ rest)) [
@@ -233,8 +233,8 @@ port_exceeds (code ∷ rest) fits e =
       | false ↦ λ (t : eqb code 0 ≡ false) (g : whole (Some (as_none code, rest)) ≡ Err errors.Trailing). (as_none code, 0x77 ∷ code ∷ [], rest, left_some (as_none code) rest g, refl, tt, (not_zero code t, refl))
     ] refl e
 
-port_no_malformed : (rest : List ℕ) → looked_up rest ≡ Err errors.Malformed → ⊥
-unfolding looked_up
+port_no_malformed : (rest : List ℕ) → node_answer rest ≡ Err errors.Malformed → ⊥
+unfolding node_answer
 port_no_malformed [] e = cc
 port_no_malformed (code ∷ rest) e =
     at_tag (λ k. ⊥) code 0 (Err errors.Malformed) (as_message as_port (whole_info rest)) (whole (Some (as_none code, rest)))
@@ -263,7 +263,7 @@ answer_lacks asked.Alive (tag ∷ rest) fits e =
     (at_tag (λ k. LacksAnswer asked.Alive (k ∷ rest)) tag 0x79 (Err errors.Short) (alive rest) (Err errors.Malformed) (alive_lacks rest (IsBytes-rest tag rest fits)) (λ g. absurd cc)) e
 answer_lacks asked.Port [] fits e = (as_none 1, 0x77 ∷ 1 ∷ [], omega arith, tt, (not_zero 1 refl, refl))
 answer_lacks asked.Port (tag ∷ rest) fits e =
-    at_tag (λ k. LacksAnswer asked.Port (k ∷ rest)) tag 0x77 (Err errors.Short) (looked_up rest) (Err errors.Malformed) (port_lacks rest (IsBytes-rest tag rest fits)) (λ g. absurd cc) e
+    at_tag (λ k. LacksAnswer asked.Port (k ∷ rest)) tag 0x77 (Err errors.Short) (node_answer rest) (Err errors.Malformed) (port_lacks rest (IsBytes-rest tag rest fits)) (λ g. absurd cc) e
 answer_lacks asked.Names bytes fits e = names_lacks bytes fits e
 
 answer_exceeds : (a : Asked) (bytes : List ℕ) → IsBytes bytes → read_answer a bytes ≡ Err errors.Trailing → ExceedsAnswer a bytes
@@ -274,7 +274,7 @@ answer_exceeds asked.Alive (tag ∷ rest) fits e =
     (at_tag (λ k. ExceedsAnswer asked.Alive (k ∷ rest)) tag 0x79 (Err errors.Trailing) (alive rest) (Err errors.Malformed) (alive_exceeds rest (IsBytes-rest tag rest fits)) (λ g. absurd cc)) e
 answer_exceeds asked.Port [] fits e = absurd cc
 answer_exceeds asked.Port (tag ∷ rest) fits e =
-    at_tag (λ k. ExceedsAnswer asked.Port (k ∷ rest)) tag 0x77 (Err errors.Trailing) (looked_up rest) (Err errors.Malformed) (port_exceeds rest (IsBytes-rest tag rest fits)) (λ g. absurd cc) e
+    at_tag (λ k. ExceedsAnswer asked.Port (k ∷ rest)) tag 0x77 (Err errors.Trailing) (node_answer rest) (Err errors.Malformed) (port_exceeds rest (IsBytes-rest tag rest fits)) (λ g. absurd cc) e
 answer_exceeds asked.Names bytes fits e = let d : errors.Trailing ≡ errors.Short = text_short (number_at w32 bytes) errors.Trailing e in absurd cc
 
 answer_malformed : (a : Asked) (bytes : List ℕ) → read_answer a bytes ≡ Err errors.Malformed → BeginsNoAnswer a bytes

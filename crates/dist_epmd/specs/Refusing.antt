@@ -32,7 +32,9 @@ LacksAnswer asked bytes = (m : Answer) × (more : List ℕ) × (0 < length more)
 
 -- The bytes spell an answer to what was asked, with more bytes behind it.
 abbrev pub ExceedsAnswer : Asked → List ℕ → Type 0
-ExceedsAnswer asked bytes = (m : Answer) × (front : List ℕ) × (rest : List ℕ) × (0 < length rest) × (bytes ≡ front ++ rest) × AnswerFits m × SpellsAnswer asked m front
+ExceedsAnswer asked bytes =
+    (m : Answer) × (front : List ℕ) × (rest : List ℕ) × (0 < length rest)
+    × (bytes ≡ front ++ rest) × AnswerFits m × SpellsAnswer asked m front
 
 -- Whatever stands behind the bytes, they spell no answer to what was asked.
 abbrev pub BeginsNoAnswer : Asked → List ℕ → Type 0

@@ -1,5 +1,6 @@
 -- Who is registered with the port mapper, and what it answers.
-use Rattle.std.specs.Prelude.{◌≡◌, ◌≢◌, ℕ, ◌+◌, ◌%◌, ◌^◌, ◌<◌, ◌≤◌, Bool, ◌&&◌, not, List, [], ◌∷◌, ◌++◌, length, codes, decimal, filter, find, insert, flat_map, Option, option_map, nat_lt, nat_le, ◌==◌, if◌then◌else◌}
+use Rattle.std.specs.Prelude.{◌≡◌, ◌≢◌, ℕ, ◌+◌, ◌%◌, ◌^◌, ◌<◌, ◌≤◌, Bool, ◌&&◌, not, nat_lt, nat_le, ◌==◌, if◌then◌else◌}
+use Rattle.std.specs.Prelude.{List, [], ◌∷◌, ◌++◌, length, codes, decimal, filter, find, insert, flat_map, Option, option_map}
 use Rattle.std.specs.List.{list_all, list_any, position_or_len, AllByRecursion}
 use Rattle.std.specs.Int.{w32}
 use Rattle.std.specs.Str.{bytes_eq}
@@ -21,6 +22,7 @@ pub record Registrations : Type 0 where
   -- the accepted registrations whose connections are not closed, in byte order of their names
   pub rows : List Row
 
+-- a port mapper at this port, where no node is registered, and the creation that is given first
 abbrev pub opening : ℕ → ℕ → Registrations
 opening port first = record { port = port; next = first; rows = [] }
 
@@ -34,12 +36,15 @@ is_short_byte byte = is_visible byte && not (byte == 0x40)
 abbrev pub is_short_name : List ℕ → Bool
 is_short_name name = nat_lt 0 (length name) && (nat_le (length name) 255 && list_all is_short_byte name)
 
+-- the row is that of this name
 abbrev pub is_named : List ℕ → Row → Bool
 is_named name row = bytes_eq row.info.name name
 
+-- the row is that of this connection
 abbrev pub is_of : ℕ → Row → Bool
 is_of conn row = row.conn == conn
 
+-- WHICH REGISTRATIONS ARE ACCEPTED: a good name, neither it nor the connection registered, room for a row, and a creation left
 abbrev pub is_accepted : ℕ → NodeInfo → Registrations → Bool
 is_accepted conn info registrations =
     is_short_name info.name
@@ -54,15 +59,22 @@ is_accepted conn info registrations =
 abbrev pub is_behind : List ℕ → Row → Bool
 is_behind name row = not (is_lt (slice_cmp nat_cmp row.info.name name))
 
+-- the rows with one more, at the place of its name
 abbrev pub with_row : Row → List Row → List Row
 with_row row rows = insert rows (position_or_len (is_behind row.info.name) rows) row
 
+-- the registrations with one more, which takes the next creation
 abbrev pub registered : ℕ → NodeInfo → Registrations → Registrations
-registered conn info registrations = record registrations { next = registrations.next + 1; rows = with_row (record { conn = conn; info = info; creation = registrations.next }) registrations.rows }
+registered conn info registrations = record registrations {
+  next = registrations.next + 1;
+  rows = with_row (record { conn = conn; info = info; creation = registrations.next }) registrations.rows;
+}
 
+-- the registrations after one that comes on a connection: a refusal changes nothing
 abbrev pub after_request : ℕ → NodeInfo → Registrations → Registrations
 after_request conn info registrations = if is_accepted conn info registrations then registered conn info registrations else registrations
 
+-- the registrations once a connection is closed
 abbrev pub after_closed : ℕ → Registrations → Registrations
 after_closed conn registrations = record registrations { rows = filter (λ row. not (is_of conn row)) registrations.rows }
 
@@ -80,20 +92,25 @@ given info creation = if nat_lt info.highest 6 then answer.Alive 0 (short_creati
 abbrev pub refused : NodeInfo → Answer
 refused info = if nat_lt info.highest 6 then answer.Alive 1 0 else answer.AliveX 1 0
 
+-- the answer to a registration that comes on a connection
 abbrev pub answer_to : ℕ → NodeInfo → Registrations → Answer
 answer_to conn info registrations = if is_accepted conn info registrations then given info registrations.next else refused info
 
+-- what the node of this name said of itself, where it is registered
 abbrev pub found : List ℕ → Registrations → Option NodeInfo
 found name registrations = option_map (λ row. row.info) (find (is_named name) registrations.rows)
 
+-- the line of a row among all names
 abbrev pub line_of : Row → List ℕ
 line_of row = codes "name " ++ row.info.name ++ codes " at port " ++ decimal row.info.port ++ codes "\n"
 
+-- the whole answer to a question for all names: the port in 4 bytes, and a line for each row
 abbrev pub names_text : Registrations → List ℕ
 names_text registrations = number w32 registrations.port ++ flat_map line_of registrations.rows
 
 -- ---- what always holds
 
+-- two rows share no name, no connection and no creation
 abbrev pub Differ : Row → Row → Type 0
 Differ a b = (a.info.name ≢ b.info.name) × (a.conn ≢ b.conn) × (a.creation ≢ b.creation)
 
@@ -102,6 +119,7 @@ abbrev pub Apart : List Row → Type 0
 Apart [] = Unit {0}
 Apart (row ∷ rows) = AllByRecursion (Differ row) rows × Apart rows
 
+-- the name of the one row is below that of the other
 abbrev pub IsBelow : Row → Row → Type 0
 IsBelow a b = slice_cmp nat_cmp a.info.name b.info.name ≡ Less
 
@@ -110,9 +128,11 @@ abbrev pub InOrder : List Row → Type 0
 InOrder [] = Unit {0}
 InOrder (row ∷ rows) = AllByRecursion (IsBelow row) rows × InOrder rows
 
+-- the creation of the row is below the next
 abbrev pub IsGiven : ℕ → Row → Type 0
 IsGiven next row = row.creation < next
 
+-- what holds of the registrations after any calls
 pub record IsLegal (registrations : Registrations) : Type 0 where
   pub apart : Apart registrations.rows
   pub ordered : InOrder registrations.rows

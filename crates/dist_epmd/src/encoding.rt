@@ -4,7 +4,7 @@ ghost use Rattle.std.specs.Prelude.{◌≡◌, ◌<◌, ◌∷◌, ◌++◌, ◌
 ghost use Rattle.std.specs.Int.{w16};
 ghost use Rattle.dist_names.specs.Bytes.{number};
 ghost use Rattle.dist_epmd.specs.Answering.{Answers};
-ghost use Rattle.dist_epmd.specs.Layout.{sized, info_text, request_text, written_request, written_answer, is_spelled, answer_text};
+ghost use Rattle.dist_epmd.specs.Layout.{text_field, info_text, request_text, written_request, written_answer, is_spelled, answer_text};
 
 use crate::epmd_error::EpmdError;
 use crate::message::{Answer, NodeInfo, Request};
@@ -13,7 +13,7 @@ use std::alloc::{AllocError, Global};
 // The greatest number that a length of 2 bytes can hold.
 const MOST: usize = 65535;
 
-// What has to be written, in two pieces.
+/// Puts two pieces behind the bytes that are there. It fails only where memory runs out.
 pub fn push_both(bytes: &mut Vec<u8>, first: &[u8], second: &[u8]) -> Result<(), AllocError>
     ensures { OnOk result (bytes.new.items ≡ bytes.old.items ++ (first.now ++ second.now)) }
 {
@@ -21,9 +21,10 @@ pub fn push_both(bytes: &mut Vec<u8>, first: &[u8], second: &[u8]) -> Result<(),
     bytes.extend_from_slice(second)
 }
 
+// Puts a text behind its length in 2 bytes.
 fn push_text(bytes: &mut Vec<u8>, text: &[u8]) -> Result<(), AllocError>
     requires { length text.now < 2 ^ 16 }
-    ensures { OnOk result (bytes.new.items ≡ bytes.old.items ++ sized text.now) }
+    ensures { OnOk result (bytes.new.items ≡ bytes.old.items ++ text_field text.now) }
 {
     push_both(bytes, &(text.len() as u16).to_be_bytes(), text)
 }
@@ -38,7 +39,7 @@ fn numbers(info: &NodeInfo) -> [u8; 8]
     [a, b, info.node_type, info.protocol, c, d, e, f]
 }
 
-// What stands before them, and the fields of a node.
+// Puts what stands before the fields of a node, and the fields.
 fn push_info(bytes: &mut Vec<u8>, before: &[u8], info: &NodeInfo) -> Result<(), AllocError>
     requires name { length info.now.name < 2 ^ 16 }
     requires extra { length info.now.extra < 2 ^ 16 }

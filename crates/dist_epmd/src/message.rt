@@ -43,12 +43,19 @@ pub const LOWEST: u16 = 5;
 /// Reading takes any value of each field. A `name` or `extra` of more than 65,535 bytes has no spelling.
 #[derive(Drop)]
 pub struct NodeInfo {
+    /// At which TCP port the node accepts connections.
     pub port: u16,
+    /// The type of the node.
     pub node_type: u8,
+    /// Over what it speaks.
     pub protocol: u8,
+    /// The highest version of the handshake that it knows.
     pub highest: u16,
+    /// The lowest one.
     pub lowest: u16,
+    /// The part of its name before the `@`, at most 65,535 bytes.
     pub name: ByteString,
+    /// Whatever it adds, at most 65,535 bytes.
     pub extra: ByteString,
 }
 
@@ -95,6 +102,7 @@ impl NodeInfo {
     }
 }
 
+// The byte of the type of a hidden node, or of a normal one.
 fn type_of(hidden: bool) -> u8
     ensures { result ≡ type_of hidden }
 {

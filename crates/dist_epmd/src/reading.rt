@@ -7,7 +7,7 @@ ghost use Rattle.dist_epmd.specs.declared.message.Request.{Request};
 ghost use Rattle.dist_epmd.specs.Layout.{SpellsRequest, SpellsAnswer, RequestFits, AnswerFits};
 ghost use Rattle.dist_epmd.specs.Answering.{Answers, LacksName, LacksText};
 ghost use Rattle.dist_epmd.specs.Refusing.{RefusesRequest, RefusesAnswer};
-ghost use Rattle.dist_epmd.specs.Reading.{whole_info, alive_x, alive, looked_up, read_request, read_answer};
+ghost use Rattle.dist_epmd.specs.Reading.{whole_info, alive_x, alive, node_answer, read_request, read_answer};
 
 use crate::epmd_error::EpmdError;
 use crate::fields::{fields_at, u8_at, u16_at, u32_at};
@@ -99,10 +99,10 @@ fn alive(bytes: &[u8]) -> Result<Answer, EpmdError>
     })
 }
 
-#[tactic(auto, unfolding(crate::specs::Reading::looked_up))]
-fn found_node_answer(alloc: Global, bytes: &[u8]) -> Result<Answer, EpmdError>
-    ensures exact { Answers (λ a. a) result (looked_up bytes.now) }
-    ensures lacks { LacksText result (looked_up bytes.now) }
+#[tactic(auto, unfolding(crate::specs::Reading::node_answer))]
+fn node_answer(alloc: Global, bytes: &[u8]) -> Result<Answer, EpmdError>
+    ensures exact { Answers (λ a. a) result (node_answer bytes.now) }
+    ensures lacks { LacksText result (node_answer bytes.now) }
 {
     let [code, rest @ ..] = bytes else {
         return Err(EpmdError::Short);
@@ -144,7 +144,7 @@ fn lookup_answer(alloc: Global, bytes: &[u8]) -> Result<Answer, EpmdError>
     if *tag != 0x77 {
         return Err(EpmdError::Malformed);
     }
-    found_node_answer(alloc, rest)
+    node_answer(alloc, rest)
 }
 
 // The answer to a question for all names.

@@ -1,7 +1,8 @@
 //! The registry behind the port mapper's answers.
 
 ghost use Rattle.std.specs.Prelude.{◌≡◌, ◌∷◌, ◌++◌, IfOk, OnOk, OnErr, IsTrue, flat_map, option_copied};
-ghost use Rattle.dist_epmd.specs.Registrations.{Registrations, opening, is_accepted, after_request, after_closed, answer_to, given, refused, found, line_of, names_text, IsLegal};
+ghost use Rattle.dist_epmd.specs.Registrations.{Registrations, IsLegal, opening, is_accepted, after_request, after_closed};
+ghost use Rattle.dist_epmd.specs.Registrations.{answer_to, given, refused, found, line_of, names_text};
 
 use crate::message::{AliveReq, Answer, PortInfo};
 use crate::row::Row;
@@ -93,7 +94,7 @@ impl Registry {
     }
 
     // Whether this registration is accepted on this connection.
-    fn accepts(&self, conn: u64, request: &AliveReq) -> bool
+    fn is_accepted(&self, conn: u64, request: &AliveReq) -> bool
         ensures { result ≡ is_accepted conn request.now self.now }
     {
         is_short_name(request.name.as_slice())
@@ -128,7 +129,7 @@ impl Registry {
         ensures lacks { OnErr result (IsTrue (is_accepted conn request.now self.old)) }
         ensures err { OnErr result (self.new ≡ self.old) }
     {
-        if !self.accepts(conn, request) {
+        if !self.is_accepted(conn, request) {
             return Ok(refusal(request));
         }
         let creation = self.next as u32;

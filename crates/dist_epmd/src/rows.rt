@@ -14,25 +14,28 @@ use itoa::Buffer;
 use std::alloc::{AllocError, Global};
 use std::collections::BTreeMap;
 
+// Whether each byte may stand in the part of a node's name before the `@`.
 fn are_short_bytes(name: &[u8]) -> bool
     ensures { result ≡ list_all is_short_byte name.now }
 {
     name.iter().all(|byte| is_visible(*byte) && *byte != b'@')
 }
 
+/// Whether the bytes may be the part of a node's name before the `@`: 1 to 255 printable ones, no space and no `@` among them.
 pub fn is_short_name(name: &[u8]) -> bool
     ensures { result ≡ is_short_name name.now }
 {
     !name.is_empty() && name.len() <= 255 && are_short_bytes(name)
 }
 
-// Whether there are fewer than this many rows.
+/// Whether there are fewer than this many rows.
 pub fn has_fewer(rows: &BTreeMap<Vec<u8>, Row>, most: usize) -> bool
     ensures { result ≡ nat_lt (length (values rows.now)) most }
 {
     rows.len() < most
 }
 
+/// The row of this name, where it is registered.
 pub fn row_of_name<'r>(rows: &'r BTreeMap<Vec<u8>, Row>, name: &[u8]) -> Option<&'r Row>
     // A registry keeps its rows so.
     requires { StandAtNames rows.now.entries }
@@ -41,6 +44,7 @@ pub fn row_of_name<'r>(rows: &'r BTreeMap<Vec<u8>, Row>, name: &[u8]) -> Option<
     rows.get(name)
 }
 
+/// Whether this name is registered.
 pub fn has_name(rows: &BTreeMap<Vec<u8>, Row>, name: &[u8]) -> bool
     // A registry keeps its rows so.
     requires { StandAtNames rows.now.entries }
@@ -49,6 +53,7 @@ pub fn has_name(rows: &BTreeMap<Vec<u8>, Row>, name: &[u8]) -> bool
     rows.contains_key(name)
 }
 
+/// Whether this connection has registered a name.
 pub fn has_conn(rows: &BTreeMap<Vec<u8>, Row>, conn: u64) -> bool
     ensures { result ≡ list_any (is_of conn) (values rows.now) }
 {
@@ -73,7 +78,7 @@ fn put_row(rows: &mut BTreeMap<Vec<u8>, Row>, name: Vec<u8>, row: Row) -> Result
     Ok(())
 }
 
-// Puts a copy of a registration at its name, with the creation that it got.
+/// Puts a copy of a registration at its name, with the creation that it got. An `Err`, where memory runs out, changes no row.
 pub fn register(
     rows: &mut BTreeMap<Vec<u8>, Row>,
     alloc: Global,
@@ -103,7 +108,7 @@ pub fn register(
     )
 }
 
-// Drops the row of this connection.
+/// Drops the row of this connection. With none it changes nothing.
 pub fn drop_conn(rows: &mut BTreeMap<Vec<u8>, Row>, conn: u64)
     // A registry keeps its rows so.
     requires { StandAtNames rows.old.entries }
@@ -113,6 +118,7 @@ pub fn drop_conn(rows: &mut BTreeMap<Vec<u8>, Row>, conn: u64)
     rows.retain(|_name, row| row.conn != conn);
 }
 
+// Puts the line of a row: `name a at port 9001`, and a line feed.
 fn push_line(bytes: &mut Vec<u8>, row: &Row) -> Result<(), AllocError>
     ensures { OnOk result (bytes.new.items ≡ bytes.old.items ++ line_of row.now) }
 {
@@ -122,6 +128,7 @@ fn push_line(bytes: &mut Vec<u8>, row: &Row) -> Result<(), AllocError>
     bytes.extend_from_slice(b"\n")
 }
 
+/// Puts the lines of all rows, in byte order of their names. It fails only where memory runs out.
 pub fn push_lines(bytes: &mut Vec<u8>, rows: &BTreeMap<Vec<u8>, Row>) -> Result<(), AllocError>
     ensures { OnOk result (bytes.new.items ≡ bytes.old.items ++ flat_map line_of (values rows.now)) }
 {

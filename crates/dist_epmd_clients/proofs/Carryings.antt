@@ -8,7 +8,7 @@ use Rattle.std.proofs.lemmas.Bool.{eqb-true}
 use Rattle.dist_epmd.specs.Registrations.{Registrations, is_of}
 use Rattle.dist_epmd_clients.specs.declared.client.Client.{Client}
 use Rattle.dist_epmd_clients.specs.Carrying.{Moved, Moves}
-use Rattle.dist_epmd_clients.specs.Standing.{Stand, Numbered, is_registered}
+use Rattle.dist_epmd_clients.specs.Standing.{Stand, NumbersBelow, is_registered}
 use Rattle.dist_epmd_clients.proofs.Standings.{stand_with, numbered_with}
 
 module _ {S : Type 0} where
@@ -31,5 +31,5 @@ module _ {S : Type 0} where
   pub stand_moved : (P : S → S → Type 0) (registrations : Registrations) (m n : BTreeMap ℕ (Client S)) (conn : ℕ) → Moves P conn m n → Stand registrations m → Stand registrations n
   stand_moved P registrations m n conn h stand = stand_with registrations registrations m n conn (get nat_cmp n conn) h.others stand (λ q. same_rows conn q registrations (get nat_cmp n conn) (stand conn ∙ sym (moved_registered P (get nat_cmp m conn) (get nat_cmp n conn) h.there)))
 
-  pub numbered_moved : (P : S → S → Type 0) (next : ℕ) (m n : BTreeMap ℕ (Client S)) (conn : ℕ) → Moves P conn m n → Numbered next m → Numbered next n
+  pub numbered_moved : (P : S → S → Type 0) (next : ℕ) (m n : BTreeMap ℕ (Client S)) (conn : ℕ) → Moves P conn m n → NumbersBelow next m → NumbersBelow next n
   numbered_moved P next m n conn h numbered = numbered_with next m n conn (get nat_cmp n conn) h.others (moved_there P (get nat_cmp m conn) (get nat_cmp n conn) h.there) numbered

@@ -9,7 +9,7 @@ use Rattle.dist_frames.specs.Stream.{framed}
 use Rattle.dist_epmd.specs.Reading.{read_request}
 use Rattle.dist_epmd_clients.specs.declared.question.Question.{Question}
 use Rattle.dist_epmd_clients.specs.declared.question.Question.TheVariants.{Inside, Nothing}
-use Rattle.dist_epmd_clients.specs.Asking.{asked, front, question, question_in}
+use Rattle.dist_epmd_clients.specs.Asking.{request_question, front, question, question_behind_length}
 
 picked : (b : Bool) (x y : Question) → b ≡ false → cond b x y ≡ y
 picked b x y e = ap (λ v. cond v x y) e
@@ -31,35 +31,35 @@ behind_it body more =
     ∙ drop_at (to_be_bytes w16 (length body)) (body ++ more) 2 refl
 
 -- a question is seen once the length is there
-seen : (local : Bool) (said : List ℕ) (len : ℕ) (rest : List ℕ) → 2 ≤ length said → from_be_bytes w16 (take 2 said) ≡ len → drop 2 said ≡ rest → question local said ≡ question_in local len rest
+seen : (local : Bool) (said : List ℕ) (len : ℕ) (rest : List ℕ) → 2 ≤ length said → from_be_bytes w16 (take 2 said) ≡ len → drop 2 said ≡ rest → question local said ≡ question_behind_length local len rest
 seen local said len rest long e f =
-    picked (nat_lt (length said) 2) Inside (question_in local (from_be_bytes w16 (take 2 said)) (drop 2 said)) (le-ltb (length said) 2 long)
-    ∙ ap (λ n. question_in local n (drop 2 said)) e
-    ∙ ap (question_in local len) f
+    picked (nat_lt (length said) 2) Inside (question_behind_length local (from_be_bytes w16 (take 2 said)) (drop 2 said)) (le-ltb (length said) 2 long)
+    ∙ ap (λ n. question_behind_length local n (drop 2 said)) e
+    ∙ ap (question_behind_length local len) f
 
-fits : (local : Bool) (len : ℕ) (rest : List ℕ) → len ≤ 4094 → question_in local len rest ≡ cond (nat_lt (length rest) len) Inside (cond (nat_lt len (length rest)) Nothing (asked local (read_request (front rest))))
+fits : (local : Bool) (len : ℕ) (rest : List ℕ) → len ≤ 4094 → question_behind_length local len rest ≡ cond (nat_lt (length rest) len) Inside (cond (nat_lt len (length rest)) Nothing (request_question local (read_request (front rest))))
 fits local len rest few = picked (nat_lt 4094 len) Nothing _ (le-ltb 4094 len few)
 
 begins : (body more : List ℕ) → 2 ≤ length (framed w16 body ++ more)
 begins body more = omega (arith, length-append (framed w16 body) more, length-append (to_be_bytes w16 (length body)) body)
 
-pub whole_asks : (local : Bool) (body : List ℕ) → length body ≤ 4094 → question local (framed w16 body) ≡ asked local (read_request (front body))
+pub whole_asks : (local : Bool) (body : List ℕ) → length body ≤ 4094 → question local (framed w16 body) ≡ request_question local (read_request (front body))
 whole_asks local body few =
     ap (question local) (sym (append-nil (framed w16 body)))
     ∙ seen local (framed w16 body ++ []) (length body) body (begins body []) (announced body [] few) (behind_it body [] ∙ append-nil body)
     ∙ fits local (length body) body few
     ∙ picked (nat_lt (length body) (length body)) Inside _ (le-ltb (length body) (length body) (omega arith))
-    ∙ picked (nat_lt (length body) (length body)) Nothing (asked local (read_request (front body))) (le-ltb (length body) (length body) (omega arith))
+    ∙ picked (nat_lt (length body) (length body)) Nothing (request_question local (read_request (front body))) (le-ltb (length body) (length body) (omega arith))
 
 pub behind_asks : (local : Bool) (body more : List ℕ) → length body ≤ 4094 → 0 < length more → question local (framed w16 body ++ more) ≡ Nothing
 behind_asks local body more few some =
     seen local (framed w16 body ++ more) (length body) (body ++ more) (begins body more) (announced body more few) (behind_it body more)
     ∙ fits local (length body) (body ++ more) few
     ∙ picked (nat_lt (length (body ++ more)) (length body)) Inside _ (le-ltb (length (body ++ more)) (length body) (omega (arith, length-append body more)))
-    ∙ taken (nat_lt (length body) (length (body ++ more))) Nothing (asked local (read_request (front (body ++ more)))) (lt-ltb (length body) (length (body ++ more)) (omega (arith, length-append body more)))
+    ∙ taken (nat_lt (length body) (length (body ++ more))) Nothing (request_question local (read_request (front (body ++ more)))) (lt-ltb (length body) (length (body ++ more)) (omega (arith, length-append body more)))
 
 short : (local : Bool) (part : List ℕ) → nat_lt (length part) 2 ≡ true → question local part ≡ Inside
-short local part e = taken (nat_lt (length part) 2) Inside (question_in local (from_be_bytes w16 (take 2 part)) (drop 2 part)) e
+short local part e = taken (nat_lt (length part) 2) Inside (question_behind_length local (from_be_bytes w16 (take 2 part)) (drop 2 part)) e
 
 long : (local : Bool) (body part rest : List ℕ) → length body ≤ 4094 → 0 < length rest → framed w16 body ≡ part ++ rest → 2 ≤ length part → question local part ≡ Inside
 long local body part rest few some e two =

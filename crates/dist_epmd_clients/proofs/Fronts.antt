@@ -3,7 +3,7 @@ use Rattle.std.proofs.Common.{◌≡◌, ℕ, ◌-◌, Bool, true, false, cond, 
 use Rattle.std.specs.Prelude.{◌≢◌}
 use Rattle.std.proofs.lemmas.Bool.{eqb-true}
 use Rattle.std.proofs.lemmas.List.{take_at, append-nil}
-use Rattle.dist_epmd.specs.Layout.{InfoFits, RequestFits, Sized, SpellsRequest, info_text, request_text}
+use Rattle.dist_epmd.specs.Layout.{InfoFits, RequestFits, TextsFit, SpellsRequest, info_text, request_text}
 use Rattle.dist_epmd.specs.Reading.{info_at, read_request}
 use Rattle.dist_epmd.specs.declared.message.NodeInfo.{NodeInfo}
 use Rattle.dist_epmd.specs.declared.message.Request.{Request}
@@ -18,7 +18,7 @@ cut text more =
     let len : length text ≡ length (text ++ more) - length more = omega (arith, length-append text more) in
     take_at text more (length (text ++ more) - length more) len
 
-registration_front : (info : NodeInfo) (more : List ℕ) → InfoFits info → Sized info → front (request_text (request.Alive info) ++ more) ≡ request_text (request.Alive info)
+registration_front : (info : NodeInfo) (more : List ℕ) → InfoFits info → TextsFit info → front (request_text (request.Alive info) ++ more) ≡ request_text (request.Alive info)
 unfolding front
 registration_front info more fits sized =
     ap (up_to (request_text (request.Alive info) ++ more)) (info_field.again info more (fits.0, (tt, (tt, (fits.1, (fits.2, (sized.0, sized.1)))))))
@@ -33,7 +33,7 @@ spelled (request.Alive info) body fits s =
 spelled (request.PortPlease name) body fits s = ap front s ∙ sym s
 spelled request.Names body fits s = ap front s ∙ sym s
 
-pub registration : (info : NodeInfo) (more : List ℕ) → InfoFits info → Sized info → read_request (front (request_text (request.Alive info) ++ more)) ≡ Ok (request.Alive info)
+pub registration : (info : NodeInfo) (more : List ℕ) → InfoFits info → TextsFit info → read_request (front (request_text (request.Alive info) ++ more)) ≡ Ok (request.Alive info)
 registration info more fits sized =
     ap read_request (registration_front info more fits sized)
     ∙ request_again (request.Alive info) (request_text (request.Alive info)) fits (sized, refl)

@@ -15,7 +15,7 @@ use Rattle.dist_epmd_clients.specs.declared.question.Question.{Question}
 use Rattle.dist_epmd_clients.specs.declared.question.Question.TheVariants.{Inside, Asks, Nothing}
 use Rattle.dist_epmd_clients.specs.Asking.{question}
 use Rattle.dist_epmd_clients.specs.Clients.{came}
-use Rattle.dist_epmd_clients.specs.Replying.{after_piece, after_pieces, answered, registrations_after, outcome, replied, text_of, with_talk}
+use Rattle.dist_epmd_clients.specs.Replying.{after_piece, after_pieces, answer_for, registrations_after, outcome, replies, text_of, with_talk}
 use Rattle.dist_epmd_clients.proofs.Frames.{front_waits}
 
 some_left : (next rest : List ℕ) → next ≢ [] → 0 < length (next ++ rest)
@@ -23,7 +23,7 @@ some_left [] rest some = absurd (some refl)
 some_left (x ∷ xs) rest some = omega arith
 
 module _ {S : Type 0} where
-  any_served : (client : Client S) (said text : List ℕ) (registrations : Registrations) (how : Served) → replied how (with_talk (Asking said) client) text registrations ≡ replied how client text registrations
+  any_served : (client : Client S) (said text : List ℕ) (registrations : Registrations) (how : Served) → replies how (with_talk (Asking said) client) text registrations ≡ replies how client text registrations
   any_served client said text registrations served.Registered = refl
   any_served client said text registrations served.Answered = refl
 
@@ -32,7 +32,7 @@ module _ {S : Type 0} where
   any_talk conn client said all registrations Inside = refl
   any_talk conn client said all registrations Nothing = refl
   any_talk conn client said all registrations (Asks request) =
-      let answer = answered conn request registrations in
+      let answer = answer_for conn request registrations in
       any_served client said (text_of answer) (registrations_after conn request registrations) (served_as request answer)
 
   -- the pieces of a frame behind what was said of it

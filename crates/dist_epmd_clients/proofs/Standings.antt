@@ -20,10 +20,10 @@ use Rattle.dist_epmd_calls.specs.Serving.{served_as}
 use Rattle.dist_epmd_calls.specs.declared.serve.Served.{Served}
 use Rattle.dist_epmd_calls.specs.declared.serve.Served.TheVariants as served
 use Rattle.dist_epmd_clients.specs.declared.client.Talk.TheVariants.{Registered}
-use Rattle.dist_epmd_clients.specs.Replying.{answered, registrations_after, with_talk}
+use Rattle.dist_epmd_clients.specs.Replying.{answer_for, registrations_after, with_talk}
 use Rattle.dist_epmd_clients.specs.Clients.{Keeps}
 use Rattle.dist_epmd_clients.specs.declared.client.Client.{Client}
-use Rattle.dist_epmd_clients.specs.Standing.{Stand, Numbered, is_registered}
+use Rattle.dist_epmd_clients.specs.Standing.{Stand, NumbersBelow, is_registered}
 
 -- ---- numbers of connections
 
@@ -131,7 +131,7 @@ allowed_after conn (request.Alive info) a registrations next h = h.1
 allowed_after conn (request.PortPlease name) a registrations next h = h.1
 allowed_after conn request.Names a registrations next h = h.1
 
-pub allowed_answer : (conn : ℕ) (r : Request) (a : Answer) (registrations next : Registrations) → Allows registrations conn r a next → a ≡ answered conn r registrations
+pub allowed_answer : (conn : ℕ) (r : Request) (a : Answer) (registrations next : Registrations) → Allows registrations conn r a next → a ≡ answer_for conn r registrations
 allowed_answer conn (request.Alive info) a registrations next h = h.0
 allowed_answer conn (request.PortPlease name) a registrations next h = h.0
 allowed_answer conn request.Names a registrations next h = h.0
@@ -160,7 +160,7 @@ pub keeps_closed : (conn : ℕ) (before after : Registrations) → Keeps before 
 keeps_closed conn before after k = record { port = k.port; rows = ap (filter (λ row. not (is_of conn row))) k.rows; creations = k.creations }
 
 -- an answer that registers a node does so
-pub registers_row : (conn q : ℕ) (r : Request) (registrations : Registrations) → served_as r (answered conn r registrations) ≡ served.Registered → list_any (is_of q) (registrations_after conn r registrations).rows ≡ cond (conn == q) true (list_any (is_of q) registrations.rows)
+pub registers_row : (conn q : ℕ) (r : Request) (registrations : Registrations) → served_as r (answer_for conn r registrations) ≡ served.Registered → list_any (is_of q) (registrations_after conn r registrations).rows ≡ cond (conn == q) true (list_any (is_of q) registrations.rows)
 registers_row conn q (request.PortPlease name) registrations granted = cc
 registers_row conn q request.Names registrations granted = cc
 registers_row conn q (request.Alive info) registrations granted = elim (is_accepted conn info registrations) as (λ v. served_as (request.Alive info) (cond v (given info registrations.next) (refused info)) ≡ served.Registered → list_any (is_of q) (cond v (registered conn info registrations) registrations).rows ≡ cond (conn == q) true (list_any (is_of q) registrations.rows)) [
@@ -172,7 +172,7 @@ registers_row conn q (request.Alive info) registrations granted = elim (is_accep
 ] granted
 
 -- and no other changes the registry
-pub refused_same : (conn : ℕ) (r : Request) (registrations : Registrations) → served_as r (answered conn r registrations) ≡ served.Answered → registrations_after conn r registrations ≡ registrations
+pub refused_same : (conn : ℕ) (r : Request) (registrations : Registrations) → served_as r (answer_for conn r registrations) ≡ served.Answered → registrations_after conn r registrations ≡ registrations
 refused_same conn (request.PortPlease name) registrations denied = refl
 refused_same conn request.Names registrations denied = refl
 refused_same conn (request.Alive info) registrations denied = elim (is_accepted conn info registrations) as (λ v. served_as (request.Alive info) (cond v (given info registrations.next) (refused info)) ≡ served.Answered → cond v (registered conn info registrations) registrations ≡ registrations) [
@@ -189,7 +189,7 @@ module _ {S : Type 0} where
   talked (Some client) some = refl
 
   -- a client stays that registered its node
-  pub stand_stays : (r : Request) (registrations next : Registrations) (m n : BTreeMap ℕ (Client S)) (conn : ℕ) → next ≡ registrations_after conn r registrations → served_as r (answered conn r registrations) ≡ served.Registered
+  pub stand_stays : (r : Request) (registrations next : Registrations) (m n : BTreeMap ℕ (Client S)) (conn : ℕ) → next ≡ registrations_after conn r registrations → served_as r (answer_for conn r registrations) ≡ served.Registered
       → IsSome (get nat_cmp m conn) → Updates nat_cmp m n conn (option_map (with_talk Registered) (get nat_cmp m conn)) → Stand registrations m → Stand next n
   stand_stays r registrations next m n conn e granted some u stand = stand_with registrations next m n conn (option_map (with_talk Registered) (get nat_cmp m conn)) u stand (λ q.
       ap (λ (b : Registrations). list_any (is_of q) b.rows) e
@@ -197,14 +197,14 @@ module _ {S : Type 0} where
       ∙ ap (λ b. cond (conn == q) b (list_any (is_of q) registrations.rows)) (sym (talked (get nat_cmp m conn) some)))
 
   -- any other client leaves
-  pub stand_leaves : (r : Request) (registrations next : Registrations) (m n : BTreeMap ℕ (Client S)) (conn : ℕ) → next ≡ registrations_after conn r registrations → served_as r (answered conn r registrations) ≡ served.Answered
+  pub stand_leaves : (r : Request) (registrations next : Registrations) (m n : BTreeMap ℕ (Client S)) (conn : ℕ) → next ≡ registrations_after conn r registrations → served_as r (answer_for conn r registrations) ≡ served.Answered
       → is_registered (get nat_cmp m conn) ≡ false → Updates nat_cmp m n conn None → Stand registrations m → Stand next n
   stand_leaves r registrations next m n conn e denied was u stand =
       subst (λ (b : Registrations). Stand b n) (sym (e ∙ refused_same conn r registrations denied)) (stand_without registrations m n conn None u refl was stand)
 
   -- numbers stay below the next one
   pub numbered_with : (next : ℕ) (m n : BTreeMap ℕ (Client S)) (conn : ℕ) (w : Option (Client S)) → Updates nat_cmp m n conn w
-      → (is_some w ≡ true → is_some (get nat_cmp m conn) ≡ true) → Numbered next m → Numbered next n
+      → (is_some w ≡ true → is_some (get nat_cmp m conn) ≡ true) → NumbersBelow next m → NumbersBelow next n
   numbered_with next m n conn w u keeps numbered q s =
       let g : get nat_cmp n q ≡ cond (conn == q) w (get nat_cmp m q) = u.0 q ∙ ap (λ b. cond b w (get nat_cmp m q)) (at_is conn q) in
       elim (conn == q) as (λ v. (conn == q) ≡ v → is_some (cond v w (get nat_cmp m q)) ≡ true → q < next) [

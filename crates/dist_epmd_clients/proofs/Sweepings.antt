@@ -13,7 +13,7 @@ use Rattle.dist_epmd.specs.Registrations.{Registrations}
 use Rattle.dist_epmd_clients.specs.declared.client.Client.{Client}
 use Rattle.dist_epmd_clients.specs.declared.client.Talk.{Talk}
 use Rattle.dist_epmd_clients.specs.declared.client.Talk.TheVariants.{Asking, Registered}
-use Rattle.dist_epmd_clients.specs.Standing.{Stand, Numbered, is_registered, is_registered_talk, asking_at, asking_since}
+use Rattle.dist_epmd_clients.specs.Standing.{Stand, NumbersBelow, is_registered, is_registered_talk, asking_at, asking_since}
 use Rattle.dist_epmd_clients.specs.Sweeping.{is_late}
 
 module _ {S : Type 0} where
@@ -41,7 +41,7 @@ module _ {S : Type 0} where
   stand_swept now seconds registrations m n ordered e stand q =
       stand q ∙ sym (registered_stays now seconds (get nat_cmp m q)) ∙ ap (λ (o : Option (Client S)). is_registered o) (sym (unless_late now seconds m n ordered e q))
 
-  pub numbered_swept : (now seconds next : ℕ) (m n : BTreeMap ℕ (Client S)) → IsOrdered nat_cmp m → n.entries ≡ filter (λ e. not (is_late now seconds e.1)) m.entries → Numbered next m → Numbered next n
+  pub numbered_swept : (now seconds next : ℕ) (m n : BTreeMap ℕ (Client S)) → IsOrdered nat_cmp m → n.entries ≡ filter (λ e. not (is_late now seconds e.1)) m.entries → NumbersBelow next m → NumbersBelow next n
   numbered_swept now seconds next m n ordered e numbered q s =
       numbered q (there_before now seconds (get nat_cmp m q) (ap (λ (o : Option (Client S)). is_some o) (sym (unless_late now seconds m n ordered e q)) ∙ s))
 

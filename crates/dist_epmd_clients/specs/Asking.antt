@@ -24,20 +24,20 @@ front (tag ∷ rest) =
     if tag == 0x6e then take 1 (tag ∷ rest) else tag ∷ rest)
 
 -- what the body of a frame asks for: a request, and a registration from this host alone
-abbrev pub asked : Bool → Result Request EpmdError → Question
-asked local (Err error) = Nothing
-asked local (Ok (request.Alive info)) = if local then Asks (request.Alive info) else Nothing
-asked local (Ok (request.PortPlease name)) = Asks (request.PortPlease name)
-asked local (Ok request.Names) = Asks request.Names
+abbrev pub request_question : Bool → Result Request EpmdError → Question
+request_question local (Err error) = Nothing
+request_question local (Ok (request.Alive info)) = if local then Asks (request.Alive info) else Nothing
+request_question local (Ok (request.PortPlease name)) = Asks (request.PortPlease name)
+request_question local (Ok request.Names) = Asks request.Names
 
 -- what the bytes behind a frame's length ask for: nothing where the frame is longer than is read, nothing yet where some of it
 -- is missing, and nothing where there are more bytes than it has
-abbrev pub question_in : Bool → ℕ → List ℕ → Question
-question_in local len body =
+abbrev pub question_behind_length : Bool → ℕ → List ℕ → Question
+question_behind_length local len body =
     if nat_lt 4094 len then Nothing else (
     if nat_lt (length body) len then Inside else (
-    if nat_lt len (length body) then Nothing else asked local (read_request (front body))))
+    if nat_lt len (length body) then Nothing else request_question local (read_request (front body))))
 
 -- WHAT ALL THAT A CLIENT SENT ASKS FOR, by whether it is on this host
 abbrev pub question : Bool → List ℕ → Question
-question local said = if nat_lt (length said) 2 then Inside else question_in local (from_be_bytes w16 (take 2 said)) (drop 2 said)
+question local said = if nat_lt (length said) 2 then Inside else question_behind_length local (from_be_bytes w16 (take 2 said)) (drop 2 said)

@@ -23,10 +23,10 @@ use Rattle.dist_epmd_clients.specs.Asking.{question}
 
 -- the answer to a request that came on a connection: Register a Node in EPMD, Get the Distribution Port of Another Node, Get All
 -- Registered Names from EPMD
-abbrev pub answered : ℕ → Request → Registrations → Answer
-answered conn (request.Alive info) registrations = answer_to conn info registrations
-answered conn (request.PortPlease name) registrations = port_answer (found name registrations)
-answered conn request.Names registrations = names_answer registrations
+abbrev pub answer_for : ℕ → Request → Registrations → Answer
+answer_for conn (request.Alive info) registrations = answer_to conn info registrations
+answer_for conn (request.PortPlease name) registrations = port_answer (found name registrations)
+answer_for conn request.Names registrations = names_answer registrations
 
 -- the registry after it: only a registration changes it
 abbrev pub registrations_after : ℕ → Request → Registrations → Registrations
@@ -34,6 +34,7 @@ registrations_after conn (request.Alive info) registrations = after_request conn
 registrations_after conn (request.PortPlease name) registrations = registrations
 registrations_after conn request.Names registrations = registrations
 
+-- the bytes where there are some, and otherwise none
 abbrev pub or_none : Result (List ℕ) EpmdError → List ℕ
 or_none (Ok text) = text
 or_none (Err error) = []
@@ -51,6 +52,7 @@ pub record Outcome (S : Type 0) : Type 0 where
   pub registrations : Registrations
 
 module _ {S : Type 0} where
+  -- the client whose talk stands here
   abbrev pub with_talk : Talk → Client S → Client S
   with_talk talk client = record client { talk = talk }
 
@@ -64,14 +66,14 @@ module _ {S : Type 0} where
 
   -- A client that registered its node keeps its connection (Register a Node in EPMD). That of any other that was answered is
   -- closed.
-  abbrev pub replied : Served → Client S → List ℕ → Registrations → Outcome S
-  replied Registered client text registrations = record { turn = Stay text; client = Some (with_talk talk.Registered client); registrations = registrations }
-  replied Answered client text registrations = record { turn = Leave client.stream text; client = None; registrations = registrations }
+  abbrev pub replies : Served → Client S → List ℕ → Registrations → Outcome S
+  replies Registered client text registrations = record { turn = Stay text; client = Some (with_talk talk.Registered client); registrations = registrations }
+  replies Answered client text registrations = record { turn = Leave client.stream text; client = None; registrations = registrations }
 
   -- what a request makes of a client that had not asked before
   abbrev pub asks : ℕ → Client S → Request → Registrations → Outcome S
-  asks conn client request registrations = let answer = answered conn request registrations in
-      replied (served_as request answer) client (text_of answer) (registrations_after conn request registrations)
+  asks conn client request registrations = let answer = answer_for conn request registrations in
+      replies (served_as request answer) client (text_of answer) (registrations_after conn request registrations)
 
   -- what all that a client has said by now makes of it, by what it asks for
   abbrev pub outcome : ℕ → Client S → List ℕ → Registrations → Question → Outcome S

@@ -24,6 +24,7 @@ module _ {S : Type 0} where
   asking_at conn client (Asking said) = Some (conn, client.since)
   asking_at conn client Registered = None
 
+  -- the same of a client of the table, which has its number beside it
   abbrev pub asking_since : ℕ × Client S → Option (ℕ × ℕ)
   asking_since entry = asking_at entry.0 entry.1 entry.1.talk
 
@@ -33,5 +34,5 @@ module _ {S : Type 0} where
   Stand registrations clients = (conn : ℕ) → list_any (is_of conn) registrations.rows ≡ is_registered (get nat_cmp clients conn)
 
   -- the numbers of connections are below this one
-  abbrev pub Numbered : ℕ → BTreeMap ℕ (Client S) → Type 0
-  Numbered next clients = (conn : ℕ) → is_some (get nat_cmp clients conn) ≡ true → conn < next
+  abbrev pub NumbersBelow : ℕ → BTreeMap ℕ (Client S) → Type 0
+  NumbersBelow next clients = (conn : ℕ) → is_some (get nat_cmp clients conn) ≡ true → conn < next

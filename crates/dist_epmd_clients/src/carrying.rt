@@ -12,7 +12,7 @@ use crate::holding::Clients;
 use dist_stream::{Heard, Stream, Took};
 use std::collections::BTreeMap;
 
-fn read_in<S: Stream>(
+fn read_from_client<S: Stream>(
     clients: &mut BTreeMap<u64, Client<S>>,
     conn: u64,
     room: &mut [u8],
@@ -29,7 +29,7 @@ fn read_in<S: Stream>(
     }
 }
 
-fn write_in<S: Stream>(
+fn write_to_client<S: Stream>(
     clients: &mut BTreeMap<u64, Client<S>>,
     conn: u64,
     bytes: &[u8],
@@ -47,7 +47,7 @@ fn write_in<S: Stream>(
 }
 
 impl<S: Stream + Drop> Clients<S> {
-    /// Reads what has come on a connection, by one read. What the bytes come to is for `hear` to say. `None`: no such client
+    /// Reads what has come on a connection, by one read. `hear` decides what the bytes mean. `None`: no such client
     /// is here, and nothing is read.
     pub fn read(&mut self, conn: u64, room: &mut [u8]) -> Option<Heard>
         // The caller has room for bytes.
@@ -57,7 +57,7 @@ impl<S: Stream + Drop> Clients<S> {
         ensures unchanged { IfNone result (IsSame self.old self.new) }
         ensures next { next_of self.new ≡ next_of self.old }
     {
-        read_in(&mut self.clients, conn, room)
+        read_from_client(&mut self.clients, conn, room)
     }
 
     /// Writes some bytes on a connection, by one write. `None`: no such client is here, and nothing is written.
@@ -69,6 +69,6 @@ impl<S: Stream + Drop> Clients<S> {
         ensures unchanged { IfNone result (IsSame self.old self.new) }
         ensures next { next_of self.new ≡ next_of self.old }
     {
-        write_in(&mut self.clients, conn, bytes)
+        write_to_client(&mut self.clients, conn, bytes)
     }
 }

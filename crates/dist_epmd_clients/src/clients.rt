@@ -13,7 +13,7 @@ use crate::holding::Clients;
 use crate::open_error::OpenError;
 use crate::question::{Question, question_of};
 use crate::replying::{drop_registration, reply_to};
-use crate::table::{client_in, first_asking, put_client, registered_in, set_talk, take_client};
+use crate::table::{client_in, first_asking, is_registered_in, put_client, set_talk, take_client};
 use crate::turn::Turn;
 use dist_epmd::{Registry, Request};
 use dist_epmd_calls::Served;
@@ -118,7 +118,11 @@ impl<S: Drop> Clients<S> {
         ensures after { Becomes None (after_closed conn (registrations_of self.old)) conn self.old self.new }
         ensures next { next_of self.new ≡ next_of self.old }
     {
-        drop_registration(&mut self.registry, conn, registered_in(&self.clients, conn));
+        drop_registration(
+            &mut self.registry,
+            conn,
+            is_registered_in(&self.clients, conn),
+        );
         match take_client(&mut self.clients, conn) {
             Some(client) => {
                 let Client { stream, .. } = client;

@@ -2,12 +2,12 @@
 //! one byte of the question for all names, is passed over, as `epmd` does it. The readers of `dist_epmd` pass over nothing.
 
 ghost use Rattle.std.specs.Prelude.{◌≡◌, option_map};
-ghost use Rattle.dist_epmd.specs.Reading.{info_at, sized_at};
+ghost use Rattle.dist_epmd.specs.Reading.{info_at, text_at};
 ghost use Rattle.dist_epmd_clients.specs.Asking.{front, up_to};
 
 // What stands behind a text and its length in 2 bytes. `None` where the bytes end inside it.
 fn behind_text(bytes: &[u8]) -> Option<&[u8]>
-    ensures { option_map (λ behind. behind.now) result ≡ option_map (λ x. x.1) (sized_at bytes.now) }
+    ensures { option_map (λ behind. behind.now) result ≡ option_map (λ x. x.1) (text_at bytes.now) }
 {
     let (head, rest) = bytes.split_first_chunk::<2>()?;
     rest.get(u16::from_be_bytes(*head) as usize..)

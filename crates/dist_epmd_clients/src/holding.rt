@@ -1,6 +1,6 @@
 //! What is held of all clients.
 
-ghost use Rattle.dist_epmd_clients.specs.Standing.{Stand, Numbered};
+ghost use Rattle.dist_epmd_clients.specs.Standing.{Stand, NumbersBelow};
 
 use crate::client::Client;
 use dist_epmd::Registry;
@@ -16,5 +16,5 @@ pub struct Clients<S> {
     pub(crate) next: u64,
     pub(crate) clients: BTreeMap<u64, Client<S>>,
     ghost stand: { Stand registry clients },
-    ghost numbered: { Numbered next clients },
+    ghost numbered: { NumbersBelow next clients },
 }

@@ -5,12 +5,12 @@ ghost use Rattle.std.specs.Int.{w16};
 ghost use Rattle.std.specs.List.{AllByRecursion, concat};
 ghost use Rattle.dist_frames.specs.Stream.{framed};
 ghost use Rattle.dist_epmd.specs.Registrations.{Registrations};
-ghost use Rattle.dist_epmd.specs.Layout.{InfoFits, RequestFits, Sized, SpellsRequest, request_text};
+ghost use Rattle.dist_epmd.specs.Layout.{InfoFits, RequestFits, TextsFit, SpellsRequest, request_text};
 ghost use Rattle.dist_epmd.specs.Reading.{info_at, read_request};
 ghost use Rattle.dist_epmd.specs.declared.message.NodeInfo.{NodeInfo};
 ghost use Rattle.dist_epmd.specs.declared.message.Request.{Request};
 ghost use Rattle.dist_epmd.specs.declared.message.Request.TheVariants.{Alive, Names};
-ghost use Rattle.dist_epmd_clients.specs.Asking.{asked, front, question};
+ghost use Rattle.dist_epmd_clients.specs.Asking.{request_question, front, question};
 ghost use Rattle.dist_epmd_clients.specs.Clients.{came};
 ghost use Rattle.dist_epmd_clients.specs.Replying.{after_piece, after_pieces};
 ghost use Rattle.dist_epmd_clients.specs.declared.question.Question.TheVariants.{Inside, Nothing};
@@ -20,7 +20,7 @@ ghost use Rattle.dist_epmd_clients.specs.declared.question.Question.TheVariants.
 /// front, and so is a body with any other first byte: they ask for what the specification reads in them.
 pub fn a_front_asks()
     ensures spelled { (m : Request) (body : List ℕ) → RequestFits m → SpellsRequest m body → front body ≡ body }
-    ensures registration { (info : NodeInfo) (more : List ℕ) → InfoFits info → Sized info →
+    ensures registration { (info : NodeInfo) (more : List ℕ) → InfoFits info → TextsFit info →
         read_request (front (request_text (Alive info) ++ more)) ≡ Ok (Alive info) }
     ensures short { (fields : List ℕ) → info_at fields ≡ None → front (0x78 ∷ fields) ≡ 0x78 ∷ fields }
     ensures names { (more : List ℕ) → read_request (front (request_text Names ++ more)) ≡ Ok Names }
@@ -32,7 +32,8 @@ pub fn a_front_asks()
 pub fn a_frame_asks_once()
     ensures front { (local : Bool) (body part rest : List ℕ) → length body ≤ 4094 → 0 < length rest → framed w16 body ≡ part ++ rest →
         question local part ≡ Inside }
-    ensures whole { (local : Bool) (body : List ℕ) → length body ≤ 4094 → question local (framed w16 body) ≡ asked local (read_request (front body)) }
+    ensures whole { (local : Bool) (body : List ℕ) → length body ≤ 4094
+        → question local (framed w16 body) ≡ request_question local (read_request (front body)) }
     ensures behind { (local : Bool) (body more : List ℕ) → length body ≤ 4094 → 0 < length more →
         question local (framed w16 body ++ more) ≡ Nothing }
 {}

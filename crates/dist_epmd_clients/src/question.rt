@@ -1,7 +1,7 @@
 //! What the bytes of a client ask for.
 
 ghost use Rattle.std.specs.Prelude.{◌≡◌, IfOk};
-ghost use Rattle.dist_epmd_clients.specs.Asking.{asked, question};
+ghost use Rattle.dist_epmd_clients.specs.Asking.{request_question, question};
 
 use crate::front::front_of;
 use dist_epmd::{EpmdError, Request, decode_request};
@@ -23,8 +23,8 @@ pub enum Question {
     Nothing,
 }
 
-fn asked(local: bool, request: Request) -> Question
-    ensures { result ≡ asked local (Ok request) }
+fn request_question(local: bool, request: Request) -> Question
+    ensures { result ≡ request_question local (Ok request) }
 {
     match request {
         Request::Alive(info) => {
@@ -57,7 +57,7 @@ pub fn question_of(alloc: Global, local: bool, said: &[u8]) -> Result<Question, 
         return Ok(Question::Nothing);
     }
     match decode_request(alloc, front_of(body)) {
-        Ok(request) => Ok(asked(local, request)),
+        Ok(request) => Ok(request_question(local, request)),
         Err(EpmdError::NoMemory) => Err(AllocError),
         Err(_) => Ok(Question::Nothing),
     }

@@ -4,7 +4,7 @@ ghost use Rattle.std.specs.Prelude.{◌≡◌, false, IfOk, OnOk, OnErr};
 ghost use Rattle.std.specs.List.{list_any};
 ghost use Rattle.dist_epmd.specs.Registrations.{after_closed, is_of};
 ghost use Rattle.dist_epmd_calls.specs.Serving.{served_as};
-ghost use Rattle.dist_epmd_clients.specs.Replying.{answered, registrations_after, text_of};
+ghost use Rattle.dist_epmd_clients.specs.Replying.{answer_for, registrations_after, text_of};
 ghost use Rattle.dist_epmd_clients.specs.Clients.{Keeps};
 
 use dist_epmd::{Answer, EpmdError, Registry, Request, encode_answer};
@@ -34,8 +34,8 @@ pub fn reply_to(
 ) -> Result<(Served, ByteString), AllocError>
     // The client of this connection has not asked yet.
     requires { list_any (is_of conn) registry.old.rows ≡ false }
-    ensures served { IfOk result (λ r. r.0 ≡ served_as request.now (answered conn request.now registry.old)) }
-    ensures text { IfOk result (λ r. r.1 ≡ text_of (answered conn request.now registry.old)) }
+    ensures served { IfOk result (λ r. r.0 ≡ served_as request.now (answer_for conn request.now registry.old)) }
+    ensures text { IfOk result (λ r. r.1 ≡ text_of (answer_for conn request.now registry.old)) }
     ensures after { OnOk result (registry.new ≡ registrations_after conn request.now registry.old) }
     ensures err { OnErr result (Keeps registry.old registry.new) }
 {

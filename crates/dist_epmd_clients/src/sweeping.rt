@@ -21,7 +21,7 @@ fn is_late<S>(client: &Client<S>, now: u64, seconds: u64) -> bool
     matches!(client.talk, Talk::Asking(_)) && now.saturating_sub(client.since) >= seconds
 }
 
-fn drop_late_in<S: Drop>(clients: &mut BTreeMap<u64, Client<S>>, now: u64, seconds: u64)
+fn drop_late_clients<S: Drop>(clients: &mut BTreeMap<u64, Client<S>>, now: u64, seconds: u64)
     ensures kept { clients.new.entries ≡ filter (λ e. not (is_late now seconds e.1)) clients.old.entries }
     ensures ordered { IsOrdered nat_cmp clients.old }
 {
@@ -29,7 +29,7 @@ fn drop_late_in<S: Drop>(clients: &mut BTreeMap<u64, Client<S>>, now: u64, secon
 }
 
 // The first client that has not asked yet, which is not registered.
-fn first_in<S>(clients: &BTreeMap<u64, Client<S>>) -> Option<(u64, u64)>
+fn first_unregistered<S>(clients: &BTreeMap<u64, Client<S>>) -> Option<(u64, u64)>
     ensures first { result ≡ slice_get (filter_map asking_since clients.now.entries) 0 }
     ensures asking { IfSome result (λ first. is_registered (get nat_cmp clients.now first.0) ≡ false) }
 {
@@ -47,7 +47,7 @@ impl<S: Drop> Clients<S> {
         ensures registry { registrations_of self.new ≡ registrations_of self.old }
         ensures next { next_of self.new ≡ next_of self.old }
     {
-        drop_late_in(&mut self.clients, now, seconds);
+        drop_late_clients(&mut self.clients, now, seconds);
     }
 
     /// Closes the client that is here for the longest of those that have not asked, and returns its stream. All others stay,
@@ -59,7 +59,7 @@ impl<S: Drop> Clients<S> {
             (λ first. Becomes None (registrations_of self.old) first.0 self.old self.new) }
         ensures next { next_of self.new ≡ next_of self.old }
     {
-        let (conn, _since) = first_in(&self.clients)?;
+        let (conn, _since) = first_unregistered(&self.clients)?;
         match take_client(&mut self.clients, conn) {
             Some(client) => {
                 let Client { stream, .. } = client;

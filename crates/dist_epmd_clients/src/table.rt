@@ -39,7 +39,7 @@ pub fn first_asking<S>(clients: &BTreeMap<u64, Client<S>>) -> Option<(u64, u64)>
 }
 
 /// Whether the client of a connection is registered.
-pub fn registered_in<S>(clients: &BTreeMap<u64, Client<S>>, conn: u64) -> bool
+pub fn is_registered_in<S>(clients: &BTreeMap<u64, Client<S>>, conn: u64) -> bool
     ensures { result ≡ is_registered (get nat_cmp clients.now conn) }
 {
     match client_in(clients, conn) {

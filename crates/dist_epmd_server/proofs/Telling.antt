@@ -6,8 +6,8 @@ use Rattle.std.specs.Io.KnownBytes.{append_known}
 use Rattle.dist_stream.proofs.Rooms.{take_more}
 use Rattle.dist_stream.proofs.Talks.{append_known-append}
 
-pub told_on : (before old new : Option (List ℕ)) (text slice : List ℕ) (done count : ℕ) → slice ≡ text → done ≤ length text → new ≡ append_known old (take count (take (length slice - done) (drop done slice))) → old ≡ append_known before (take done text) → new ≡ append_known before (take (done + count) text)
-told_on before old new text slice done count same within written told =
+pub sent_on : (before old new : Option (List ℕ)) (text slice : List ℕ) (done count : ℕ) → slice ≡ text → done ≤ length text → new ≡ append_known old (take count (take (length slice - done) (drop done slice))) → old ≡ append_known before (take done text) → new ≡ append_known before (take (done + count) text)
+sent_on before old new text slice done count same within written told =
     written
     ∙ ap (λ (s : List ℕ). append_known old (take count (take (length s - done) (drop done s)))) same
     ∙ ap (λ (known : Option (List ℕ)). append_known known (take count (take (length text - done) (drop done text)))) told

@@ -28,7 +28,7 @@ module _ {S : Type 0} (meaning : S → StreamState) where
 
   -- A client is served: by reads one after another, each of which gives what came to the table, and then what the last of them
   -- asks for is done.
-  pub record IsHeard (conn now : ℕ) (old new : Clients S) (owing after : Owing S) (made : Watch) : Type 0 where
+  pub record ServesClient (conn now : ℕ) (old new : Clients S) (owing after : Owing S) (made : Watch) : Type 0 where
     pub step : Step S
     pub reads : Chain meaning conn old new step
     pub settles : Settles step conn now owing after made
@@ -45,4 +45,4 @@ module _ {S : Type 0} (meaning : S → StreamState) where
   abbrev pub Attends : ℕ → ℕ → Clients S → Clients S → Owing S → Owing S → Watch → Type 0
   Attends conn now old new owing after made = MatchOption (client_of old conn)
       ((new ≡ old) × GoesOnOwed conn owing after made)
-      (λ client. IsHeard conn now old new owing after made)
+      (λ client. ServesClient conn now old new owing after made)

@@ -26,9 +26,9 @@ module _ {S : Type 0} where
   left_of owed = drop owed.done owed.text
 
   -- That front of this text was written on the stream, behind what was written before, and no other byte.
-  abbrev pub IsTold : (S → StreamState) → Option (List ℕ) → Owed S → Type 0
-  IsTold meaning before owed = (meaning owed.stream).written ≡ append_known before (said_of owed)
+  abbrev pub IsSent : (S → StreamState) → Option (List ℕ) → Owed S → Type 0
+  IsSent meaning before owed = (meaning owed.stream).written ≡ append_known before (said_of owed)
 
   -- WHAT A CLIENT THAT HAS LEFT IS SENT IN ALL: what was written on its stream, and then what is left.
-  abbrev pub told_in_all : (S → StreamState) → Owed S → Option (List ℕ)
-  told_in_all meaning owed = append_known (meaning owed.stream).written (left_of owed)
+  abbrev pub sent_in_all : (S → StreamState) → Owed S → Option (List ℕ)
+  sent_in_all meaning owed = append_known (meaning owed.stream).written (left_of owed)

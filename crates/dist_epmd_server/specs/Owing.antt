@@ -7,7 +7,7 @@ use Rattle.std.specs.BTreeMap.{BTreeMap, get, insert_entry, Updates}
 use Rattle.dist_stream.specs.Stream.{StreamState}
 use Rattle.dist_epmd_server.specs.declared.owed.Owed.{Owed}
 use Rattle.dist_epmd_server.specs.declared.owing.Owing.{Owing}
-use Rattle.dist_epmd_server.specs.Owed.{stream_of, text_of, since_of, said_of, left_of, told_in_all, IsTold}
+use Rattle.dist_epmd_server.specs.Owed.{stream_of, text_of, since_of, said_of, left_of, sent_in_all, IsSent}
 
 module _ {S : Type 0} where
   -- all that is owed, with the numbers of the connections, in the order in which they came
@@ -31,8 +31,8 @@ module _ {S : Type 0} (meaning : S → StreamState) where
   pub record FirstTry (stream : S) (text : List ℕ) (now : ℕ) (owed : Owed S) (over : Bool) : Type 0 where
     pub whole : text_of owed ≡ text
     pub since : since_of owed ≡ now
-    pub told : IsTold meaning (meaning stream).written owed
-    pub in_all : told_in_all meaning owed ≡ append_known (meaning stream).written text
+    pub sent : IsSent meaning (meaning stream).written owed
+    pub in_all : sent_in_all meaning owed ≡ append_known (meaning stream).written text
     pub failed : Bool
     pub marked : (meaning (stream_of owed)).write_failed ≡ (failed || (meaning stream).write_failed)
     pub is_over : over ≡ (failed || nat_le (length (left_of owed)) 0)
@@ -46,7 +46,7 @@ module _ {S : Type 0} (meaning : S → StreamState) where
     pub said : said_of new ≡ said_of old ++ take count (left_of old)
     pub left : left_of new ≡ drop count (left_of old)
     pub written : (meaning (stream_of new)).written ≡ append_known (meaning (stream_of old)).written (take count (left_of old))
-    pub in_all : told_in_all meaning new ≡ told_in_all meaning old
+    pub in_all : sent_in_all meaning new ≡ sent_in_all meaning old
     pub failed : Bool
     pub marked : (meaning (stream_of new)).write_failed ≡ (failed || (meaning (stream_of old)).write_failed)
     pub is_over : over ≡ (failed || nat_le (length (left_of new)) 0)

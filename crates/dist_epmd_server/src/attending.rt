@@ -1,7 +1,7 @@
 //! What is done for a connection when it is ready: its client is served, or what is owed on it goes on.
 
 ghost use Rattle.dist_epmd_clients.specs.Clients.{OthersStay};
-ghost use Rattle.dist_epmd_server.specs.Attending.{Attends, GoesOnOwed, IsHeard, Settles, WatchIsOf};
+ghost use Rattle.dist_epmd_server.specs.Attending.{Attends, GoesOnOwed, ServesClient, Settles, WatchIsOf};
 
 use crate::owing::Owing;
 use crate::turns::{Step, read_all};
@@ -18,6 +18,13 @@ pub enum Watch {
     Reading,
     /// Something is owed, and its stream took no more.
     Writing,
+}
+
+/// A connection that is ready, and the second in which it is.
+#[derive(Clone, Copy, Debug, PartialEq, Eq)]
+pub struct Ready {
+    pub conn: u64,
+    pub second: u64,
 }
 
 fn watch_of(is_left: bool) -> Watch
@@ -42,23 +49,22 @@ fn settle<S: Stream + Drop>(owing: &mut Owing<S>, conn: u64, step: Step<S>, now:
 }
 
 // Reads what came from a client that is here.
-fn hear<S: Stream + Drop>(
+fn serve_client<S: Stream + Drop>(
     clients: &mut Clients<S>,
     owing: &mut Owing<S>,
     alloc: Global,
-    conn: u64,
+    ready: Ready,
     room: &mut [u8],
-    now: u64,
 ) -> Watch
-    ensures heard { IsHeard S.meaning conn now clients.old clients.new owing.old owing.new result }
-    ensures others { OthersStay conn clients.old clients.new }
+    ensures serves { ServesClient S.meaning ready.conn ready.second clients.old clients.new owing.old owing.new result }
+    ensures others { OthersStay ready.conn clients.old clients.new }
 {
-    let step = read_all(clients, alloc, conn, room);
-    settle(owing, conn, step, now)
+    let step = read_all(clients, alloc, ready.conn, room);
+    settle(owing, ready.conn, step, ready.second)
 }
 
 // Goes on to send what is owed on a connection.
-fn go_on<S: Stream + Drop>(owing: &mut Owing<S>, conn: u64) -> Watch
+fn send_owed<S: Stream + Drop>(owing: &mut Owing<S>, conn: u64) -> Watch
     ensures { GoesOnOwed S.meaning conn owing.old owing.new result }
 {
     watch_of(owing.go_on(conn))
@@ -72,16 +78,15 @@ pub fn attend<S: Stream + Drop>(
     clients: &mut Clients<S>,
     owing: &mut Owing<S>,
     alloc: Global,
-    conn: u64,
+    ready: Ready,
     room: &mut [u8],
-    now: u64,
 ) -> Watch
-    ensures attends { Attends S.meaning conn now clients.old clients.new owing.old owing.new result }
-    ensures others { OthersStay conn clients.old clients.new }
+    ensures attends { Attends S.meaning ready.conn ready.second clients.old clients.new owing.old owing.new result }
+    ensures others { OthersStay ready.conn clients.old clients.new }
 {
-    if clients.stream(conn).is_some() {
-        hear(clients, owing, alloc, conn, room, now)
+    if clients.stream(ready.conn).is_some() {
+        serve_client(clients, owing, alloc, ready, room)
     } else {
-        go_on(owing, conn)
+        send_owed(owing, ready.conn)
     }
 }

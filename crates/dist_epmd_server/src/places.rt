@@ -9,6 +9,14 @@ use crate::owing::Owing;
 use dist_epmd_clients::Clients;
 use std::alloc::Global;
 
+/// A client that comes: its stream, whether it is on this host, and in which second it comes.
+#[derive(Drop)]
+pub struct Newcomer<S> {
+    pub stream: S,
+    pub is_local: bool,
+    pub second: u64,
+}
+
 /// Closes the client that is here for the longest without having asked; where all have asked, what is owed on the oldest
 /// connection is dropped. Returns whether that made room.
 pub fn make_room<S: Drop>(clients: &mut Clients<S>, owing: &mut Owing<S>) -> bool
@@ -37,17 +45,20 @@ pub fn take_in<S: Drop>(
     clients: &mut Clients<S>,
     owing: &mut Owing<S>,
     alloc: Global,
-    stream: S,
-    local: bool,
-    now: u64,
+    newcomer: Newcomer<S>,
     most: usize,
 ) -> Option<u64>
-    ensures { TakesIn stream local now most clients.old clients.new owing.old owing.new result }
+    ensures { TakesIn newcomer.stream newcomer.is_local newcomer.second most clients.old clients.new owing.old owing.new result }
 {
     if !find_place(clients, owing, most) {
         return None;
     }
-    match clients.open(alloc, stream, local, now) {
+    let Newcomer {
+        stream,
+        is_local,
+        second,
+    } = newcomer;
+    match clients.open(alloc, stream, is_local, second) {
         Ok(conn) => Some(conn),
         Err(_) => None,
     }

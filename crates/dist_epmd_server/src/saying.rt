@@ -2,7 +2,7 @@
 
 ghost use Rattle.std.specs.Prelude.{◌≡◌, ℕ, ◌++◌, ◌≤◌, ◌-◌, ◌||◌, ◌&&◌, [], List, Option, length, take, drop, nat_le};
 ghost use Rattle.std.specs.Io.KnownBytes.{append_known};
-ghost use Rattle.dist_epmd_server.specs.Owed.{stream_of, text_of, since_of, said_of, left_of, told_in_all, IsTold};
+ghost use Rattle.dist_epmd_server.specs.Owed.{stream_of, text_of, since_of, said_of, left_of, sent_in_all, IsSent};
 
 use crate::owed::Owed;
 use dist_names::ByteString;
@@ -53,8 +53,8 @@ impl<S: Stream> Owed<S> {
         ensures text { text_of result ≡ text }
         ensures since { since_of result ≡ since }
         ensures said { said_of result ≡ [] }
-        ensures told { IsTold S.meaning (S.meaning stream).written result }
-        ensures in_all { told_in_all S.meaning result ≡ append_known (S.meaning stream).written text }
+        ensures sent { IsSent S.meaning (S.meaning stream).written result }
+        ensures in_all { sent_in_all S.meaning result ≡ append_known (S.meaning stream).written text }
     {
         Owed {
             stream,
@@ -101,10 +101,10 @@ impl<S: Stream> Owed<S> {
         ensures failed { (S.meaning (stream_of self.new)).write_failed ≡ (result.failed || (S.meaning (stream_of self.old)).write_failed) }
 
         // What was sent on its stream and then what is left stays the same: no byte is lost, sent twice or exchanged.
-        ensures in_all { told_in_all S.meaning self.new ≡ told_in_all S.meaning self.old }
+        ensures in_all { sent_in_all S.meaning self.new ≡ sent_in_all S.meaning self.old }
 
         // In how many pieces it is sent does not matter.
-        ensures told { (before : Option (List ℕ)) → IsTold S.meaning before self.old → IsTold S.meaning before self.new }
+        ensures sent { (before : Option (List ℕ)) → IsSent S.meaning before self.old → IsSent S.meaning before self.new }
     {
         let said = say(&mut self.stream, &self.text.as_slice()[self.done..]);
         self.done += said.count;

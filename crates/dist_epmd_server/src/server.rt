@@ -9,9 +9,9 @@ ghost use Rattle.dist_epmd_server.specs.Owed.{since_of};
 ghost use Rattle.dist_epmd_server.specs.Owing.{all_owed};
 ghost use Rattle.dist_epmd_server.specs.Serving.{clients_at, oldest_of, owing_at, most_of, seconds_of, swept_at, ComesTo, MakesRoom};
 
-use crate::attending::{Watch, attend};
+use crate::attending::{Ready, Watch, attend};
 use crate::owing::Owing;
-use crate::places::{make_room, take_in};
+use crate::places::{Newcomer, make_room, take_in};
 use dist_epmd_clients::Clients;
 use dist_stream::{SocketStream, Stream};
 use mio::net::{TcpListener, TcpStream};
@@ -137,15 +137,20 @@ impl Server {
 
     // Takes a connection in. Where all places are taken, the oldest client that has not asked makes room; where there is
     // none, the new one is closed.
-    fn take(&mut self, stream: TcpStream, from: IpAddr, now: u64)
+    fn admit(&mut self, stream: TcpStream, from: IpAddr, now: u64)
         ensures { ComesTo now (most_of self.old) (clients_at self.old) (clients_at self.new) (owing_at self.old) (owing_at self.new) }
     {
         let local = is_local(&stream, from);
         let fd = stream.as_raw_fd();
         let stream = SocketStream::new(net::TcpStream::from(stream));
+        let newcomer = Newcomer {
+            stream,
+            is_local: local,
+            second: now,
+        };
         let most = self.limits.clients;
         let (clients, owing) = (&mut self.clients, &mut self.owing);
-        let Some(conn) = take_in(clients, owing, self.alloc, stream, local, now, most) else {
+        let Some(conn) = take_in(clients, owing, self.alloc, newcomer, most) else {
             return;
         };
         if !self.watch(fd, conn) {
@@ -171,7 +176,7 @@ impl Server {
                 return;
             };
             match listener.accept() {
-                Ok((stream, from)) => self.take(stream, from.ip(), now),
+                Ok((stream, from)) => self.admit(stream, from.ip(), now),
                 Err(error) => match error.kind() {
                     ErrorKind::WouldBlock => return,
                     ErrorKind::Interrupted | ErrorKind::ConnectionAborted => {}
@@ -189,7 +194,7 @@ impl Server {
     }
 
     // Asks to be notified, also again, when a connection is ready for this.
-    fn rewatch(&self, conn: u64, fd: i32, interest: Interest) {
+    fn reregister(&self, conn: u64, fd: i32, interest: Interest) {
         if let Some(token) = token_of(conn) {
             let registry = self.poll.registry();
             let _ = registry.reregister(&mut SourceFd(&fd), token, interest);
@@ -202,12 +207,12 @@ impl Server {
             Watch::Nothing => {}
             Watch::Reading => {
                 if let Some(stream) = self.clients.stream(conn) {
-                    self.rewatch(conn, stream.get_ref().as_raw_fd(), Interest::READABLE);
+                    self.reregister(conn, stream.get_ref().as_raw_fd(), Interest::READABLE);
                 }
             }
             Watch::Writing => {
                 if let Some(stream) = self.owing.stream(conn) {
-                    self.rewatch(conn, stream.get_ref().as_raw_fd(), Interest::WRITABLE);
+                    self.reregister(conn, stream.get_ref().as_raw_fd(), Interest::WRITABLE);
                 }
             }
         }
@@ -219,7 +224,8 @@ impl Server {
             (clients_at self.old) (clients_at self.new) (owing_at self.old) (owing_at self.new) watch }
     {
         let (clients, owing) = (&mut self.clients, &mut self.owing);
-        let watch = attend(clients, owing, self.alloc, conn, room, now);
+        let ready = Ready { conn, second: now };
+        let watch = attend(clients, owing, self.alloc, ready, room);
         self.watch_again(conn, watch);
     }
 

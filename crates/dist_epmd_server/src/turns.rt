@@ -28,7 +28,7 @@ pub enum Step<S> {
 }
 
 // Sends a text by one write. Returns whether it went out whole.
-fn is_said_whole<S: Stream + Drop>(clients: &mut Clients<S>, conn: u64, text: &[u8]) -> bool
+fn send_whole<S: Stream + Drop>(clients: &mut Clients<S>, conn: u64, text: &[u8]) -> bool
     // The caller's.
     requires { 0 < length text.now }
     ensures whole { result ≡ true → Carries (SaidWhole S.meaning text.now) conn clients.old clients.new }
@@ -44,14 +44,14 @@ fn is_said_whole<S: Stream + Drop>(clients: &mut Clients<S>, conn: u64, text: &[
 
 // Sends the answer to a registration, which goes out whole and by one write; else the client is closed. Returns whether it
 // stays.
-fn stay<S: Stream + Drop>(clients: &mut Clients<S>, conn: u64, text: &[u8]) -> bool
+fn answer_registration<S: Stream + Drop>(clients: &mut Clients<S>, conn: u64, text: &[u8]) -> bool
     // Such an answer has bytes.
     requires { 0 < length text.now }
     ensures stays { result ≡ true → Carries (SaidWhole S.meaning text.now) conn clients.old clients.new }
     ensures cut { result ≡ false → IfSome (client_of clients.old conn) (λ client. CutShort S.meaning text.now client.stream) }
     ensures closed { result ≡ false → Becomes None (after_closed conn (registrations_of clients.old)) conn clients.old clients.new }
 {
-    if is_said_whole(clients, conn, text) {
+    if send_whole(clients, conn, text) {
         return true;
     }
     let _ = clients.close(conn);
@@ -73,7 +73,7 @@ fn take_piece<S: Stream + Drop>(
     match clients.hear(alloc, conn, piece) {
         Ok(Turn::Wait) => Step::More,
         Ok(Turn::Stay(text)) => {
-            if stay(clients, conn, text.as_slice()) {
+            if answer_registration(clients, conn, text.as_slice()) {
                 Step::More
             } else {
                 Step::Closed

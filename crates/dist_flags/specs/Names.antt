@@ -85,7 +85,13 @@ has_name word f = pointwise ◌==◌ (name_of f) word
 
 -- all flags with a name, from the lowest bit up
 abbrev pub all_flags : List Dflag
-all_flags = flag.Published ∷ flag.AtomCache ∷ flag.ExtendedReferences ∷ flag.DistMonitor ∷ flag.FunTags ∷ flag.DistMonitorName ∷ flag.HiddenAtomCache ∷ flag.NewFunTags ∷ flag.ExtendedPidsPorts ∷ flag.ExportPtrTag ∷ flag.BitBinaries ∷ flag.NewFloats ∷ flag.UnicodeIo ∷ flag.DistHdrAtomCache ∷ flag.SmallAtomTags ∷ flag.Utf8Atoms ∷ flag.MapTag ∷ flag.BigCreation ∷ flag.SendSender ∷ flag.BigSeqtraceLabels ∷ flag.ExitPayload ∷ flag.Fragments ∷ flag.Handshake23 ∷ flag.UnlinkId ∷ flag.Mandatory25Digest ∷ flag.Spawn ∷ flag.NameMe ∷ flag.V4Nc ∷ flag.Alias ∷ flag.LocalExt ∷ flag.AltactSig ∷ flag.NativeRecords ∷ []
+all_flags =
+    flag.Published ∷ flag.AtomCache ∷ flag.ExtendedReferences ∷ flag.DistMonitor ∷ flag.FunTags ∷ flag.DistMonitorName
+    ∷ flag.HiddenAtomCache ∷ flag.NewFunTags ∷ flag.ExtendedPidsPorts ∷ flag.ExportPtrTag ∷ flag.BitBinaries ∷ flag.NewFloats
+    ∷ flag.UnicodeIo ∷ flag.DistHdrAtomCache ∷ flag.SmallAtomTags ∷ flag.Utf8Atoms ∷ flag.MapTag ∷ flag.BigCreation
+    ∷ flag.SendSender ∷ flag.BigSeqtraceLabels ∷ flag.ExitPayload ∷ flag.Fragments ∷ flag.Handshake23 ∷ flag.UnlinkId
+    ∷ flag.Mandatory25Digest ∷ flag.Spawn ∷ flag.NameMe ∷ flag.V4Nc ∷ flag.Alias ∷ flag.LocalExt ∷ flag.AltactSig
+    ∷ flag.NativeRecords ∷ []
 
 -- the flag that has this name
 unfoldable pub flag_named : List ℕ → Option Dflag

@@ -214,7 +214,7 @@ impl Dflag {
         ensures found { IfSome result (λ flag. name_of flag ≡ word.now) }
         ensures every { (flag : Dflag) → name_of flag ≡ word.now → result ≡ Some flag }
     {
-        called(word, &ALL)
+        flag_named(word, &ALL)
     }
 
     // Whether it has this name.
@@ -226,7 +226,7 @@ impl Dflag {
 }
 
 // The first of these flags that has this name.
-fn called(word: &[u8], flags: &[Dflag]) -> Option<Dflag>
+fn flag_named(word: &[u8], flags: &[Dflag]) -> Option<Dflag>
     ensures { result ≡ find (has_name word.now) flags.now }
 {
     flags.iter().copied().find(|flag| flag.has_name(word))

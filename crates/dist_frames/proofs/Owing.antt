@@ -4,9 +4,9 @@ use Rattle.std.specs.Int.{w32, byte_len, from_be_bytes, to_be_bytes}
 use Rattle.std.proofs.lemmas.Bool.{lt-leb, and_right, and_left}
 use Rattle.std.proofs.lemmas.List.{take_at, drop_at, append-nil, drop_all, take_all, take-append-drop, length-take}
 use Rattle.std.proofs.lemmas.Nat.{from_be_bytes-to_be_bytes_4}
-use Rattle.dist_frames.specs.Reader.{saturated}
+use Rattle.dist_frames.specs.Reader.{capped_count}
 use Rattle.dist_frames.specs.Kept.{kept_of}
-use Rattle.dist_frames.specs.Stream.{head, has_first, behind, packets, shortened, partial}
+use Rattle.dist_frames.specs.Stream.{head, has_first, behind, packets, short_rest, partial}
 use Rattle.dist_frames.proofs.Streams.{Starts, starts_true, bodies_one, bodies_none, rest_one, rest_none}
 use Rattle.dist_frames.proofs.Packets.{shortened_few, shortened_many}
 
@@ -39,14 +39,14 @@ ends owed t lt le =
     let there : behind w32 (to_be_bytes w32 owed ++ t) ≡ drop owed t = rw (head-num owed t lt, tail-num owed t) refl in
     record {
       count = ap (λ (x : List (List ℕ)). length x) (bodies_one w32 (to_be_bytes w32 owed ++ t) wide h) ∙ ap (λ (x : List ℕ). suc (packets x)) there;
-      left = ap shortened (rest_one w32 (to_be_bytes w32 owed ++ t) wide h) ∙ ap partial there;
+      left = ap short_rest (rest_one w32 (to_be_bytes w32 owed ++ t) wide h) ∙ ap partial there;
     }
 
 pub record Stays (owed : ℕ) (t : List ℕ) : Type 0 where
   pub count : packets (to_be_bytes w32 owed ++ t) ≡ 0
   pub left : partial (to_be_bytes w32 owed ++ t) ≡ to_be_bytes w32 (owed - length t)
 
-shortened-num : (owed : ℕ) (t : List ℕ) → owed < 2 ^ 32 → shortened (to_be_bytes w32 owed ++ t) ≡ to_be_bytes w32 (owed - length t)
+shortened-num : (owed : ℕ) (t : List ℕ) → owed < 2 ^ 32 → short_rest (to_be_bytes w32 owed ++ t) ≡ to_be_bytes w32 (owed - length t)
 shortened-num owed [] lt = let n : owed ≡ owed - 0 = omega arith in shortened_few (to_be_bytes w32 owed ++ []) (lit≤ tt) ∙ ap (to_be_bytes w32) n
 shortened-num owed (x ∷ t) lt =
     let n : head w32 (to_be_bytes w32 owed ++ x ∷ t) - (length (to_be_bytes w32 owed ++ x ∷ t) - 4) ≡ owed - length (x ∷ t) = rw (head-num owed (x ∷ t) lt) (omega (arith, length-append (to_be_bytes w32 owed) (x ∷ t))) in
@@ -57,7 +57,7 @@ stays owed t lt short =
     let h : has_first w32 (to_be_bytes w32 owed ++ t) ≡ false = and_right (leb 4 (length (to_be_bytes w32 owed ++ t))) (leb (head w32 (to_be_bytes w32 owed ++ t)) (length (drop 4 (to_be_bytes w32 owed ++ t)))) (lt-leb _ _ (rw (head-num owed t lt, tail-num owed t) short)) in
     record {
       count = ap (λ (x : List (List ℕ)). length x) (bodies_none w32 (to_be_bytes w32 owed ++ t) wide h);
-      left = ap shortened (rest_none w32 (to_be_bytes w32 owed ++ t) wide h) ∙ shortened-num owed t lt;
+      left = ap short_rest (rest_none w32 (to_be_bytes w32 owed ++ t) wide h) ∙ shortened-num owed t lt;
     }
 
 -- ---- in the words of what is kept
@@ -120,7 +120,7 @@ pub record Settled (s : List ℕ) : Type 0 where
 few_settled : (s : List ℕ) → length s < 4 → Settled s
 few_settled s lt = record {
   none = ap (λ (x : List (List ℕ)). length x) (bodies_none w32 s wide (few_start_not s lt));
-  short = ap shortened (rest_none w32 s wide (few_start_not s lt)) ∙ shortened_few s (omega arith);
+  short = ap short_rest (rest_none w32 s wide (few_start_not s lt)) ∙ shortened_few s (omega arith);
 }
 
 pub settled : (owed : ℕ) (header : List ℕ) (len : ℕ) → owed < 2 ^ 32 → len < 4 → Settled (kept_of owed header len)
@@ -134,11 +134,11 @@ settled (suc n) header len o l =
 -- this many packets were counted, and these bytes are left of all
 pub record Counted (n : ℕ) (rest all : List ℕ) : Type 0 where
   pub fits : n < 2 ^ 64
-  pub count : saturated (n + packets rest) ≡ saturated (packets all)
+  pub count : capped_count (n + packets rest) ≡ capped_count (packets all)
   pub left : partial rest ≡ partial all
 
 pub record Finished (n : ℕ) (kept all : List ℕ) : Type 0 where
-  pub count : n ≡ saturated (packets all)
+  pub count : n ≡ capped_count (packets all)
   pub left : kept ≡ partial all
 
 pub finished : (n : ℕ) (kept rest all : List ℕ) → length rest ≡ 0 → packets kept ≡ 0 → partial kept ≡ kept → Counted n (kept ++ rest) all → Finished n kept all

@@ -1,10 +1,10 @@
--- What a reader was asked so far, and what it gave.
+-- The calls of a reader so far, and what it returned.
 use Rattle.std.specs.Prelude.{◌≡◌, ℕ, ◌-◌, List, [], ◌∷◌, ◌++◌, length, drop, option_to_list}
 use Rattle.std.specs.List.{flat_map, AllByRecursion}
 use Rattle.std.specs.Int.{w16}
 pub use Rattle.dist_names.specs.Bytes.{IsBytes}
 use Rattle.dist_frames.specs.Stream.{framed, Fits, bodies, packets, partial}
-use Rattle.dist_frames.specs.Reader.{Reader, Short, Linked, saturated, fed, next_body, without_next, linked, told}
+use Rattle.dist_frames.specs.Reader.{Reader, Short, Linked, capped_count, fed, next_body, without_next, linked, told}
 
 -- a call that succeeded; Take moves the next body out or drops it
 pub data Call : Type 0 where
@@ -28,8 +28,8 @@ abbrev pub opening : Seen
 opening = record { reader = Short []; stream = []; moved = []; before = 0 }
 
 -- the bytes that were not moved out
-abbrev pub unmoved : Seen → List ℕ
-unmoved s = drop (length (flat_map (framed w16) s.moved)) s.stream
+abbrev pub rest_of_stream : Seen → List ℕ
+rest_of_stream s = drop (length (flat_map (framed w16) s.moved)) s.stream
 
 -- The bytes that came are the frames of the bodies moved out, and then those that are pending.
 pub record Accounts (stream : List ℕ) (moved : List (List ℕ)) (pending : List ℕ) : Type 0 where
@@ -40,19 +40,19 @@ pub record Accounts (stream : List ℕ) (moved : List (List ℕ)) (pending : Lis
 -- how many packets have ended by now, where they are reported
 abbrev pub ended_by_now : Reader → Seen → ℕ
 ended_by_now (Short pending) s = s.before
-ended_by_now (Linked ended rest) s = packets (unmoved s)
+ended_by_now (Linked ended rest) s = packets (rest_of_stream s)
 
 -- the same after one more call
-abbrev pub seen : Seen → Call → Seen
-seen s (Feed piece) = record s { reader = fed s.reader piece; stream = s.stream ++ piece }
-seen s Take = record s { reader = without_next s.reader; moved = s.moved ++ option_to_list (next_body s.reader) }
-seen s Link = record s { reader = linked s.reader }
-seen s Skip = record s { reader = told s.reader; before = ended_by_now s.reader s }
+abbrev pub after_call : Seen → Call → Seen
+after_call s (Feed piece) = record s { reader = fed s.reader piece; stream = s.stream ++ piece }
+after_call s Take = record s { reader = without_next s.reader; moved = s.moved ++ option_to_list (next_body s.reader) }
+after_call s Link = record s { reader = linked s.reader }
+after_call s Skip = record s { reader = told s.reader; before = ended_by_now s.reader s }
 
 -- the same after these calls in turn
 abbrev pub after_all : Seen → List Call → Seen
 after_all s [] = s
-after_all s (call ∷ calls) = after_all (seen s call) calls
+after_all s (call ∷ calls) = after_all (after_call s call) calls
 
 -- the pieces are bytes
 abbrev pub FeedBytes : List Call → Type 0
@@ -64,7 +64,7 @@ FeedBytes (call ∷ calls) = FeedBytes calls
 -- packets not yet reported are those of all bytes from the first that was not moved out that ended since the last report
 abbrev pub IsRight : Reader → Seen → Type 0
 IsRight (Short pending) s = s.moved ++ bodies pending ≡ bodies s.stream
-IsRight (Linked ended rest) s = (more : List ℕ) × (s.stream ≡ flat_map (framed w16) s.moved ++ more) × (ended ≡ saturated (packets more - s.before))
+IsRight (Linked ended rest) s = (more : List ℕ) × (s.stream ≡ flat_map (framed w16) s.moved ++ more) × (ended ≡ capped_count (packets more - s.before))
 
 -- NO BYTE IS LOST: those that were fed are the frames of the bodies moved out, and then those that the reader holds or,
 -- once it is linked, the stream of packets of which it keeps the rest

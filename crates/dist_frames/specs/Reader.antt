@@ -13,13 +13,13 @@ pub data Reader : Type 0 where
   Linked : ℕ → List ℕ → Reader
 
 -- a count as the reader keeps it: at most the greatest number of 64 bits (our own choice)
-abbrev pub saturated : ℕ → ℕ
-saturated count = min count (2 ^ 64 - 1)
+abbrev pub capped_count : ℕ → ℕ
+capped_count count = min count (2 ^ 64 - 1)
 
 -- the reader when more bytes have come
 abbrev pub fed : Reader → List ℕ → Reader
 fed (Short pending) piece = Short (pending ++ piece)
-fed (Linked ended rest) piece = Linked (saturated (ended + packets (rest ++ piece))) (partial (rest ++ piece))
+fed (Linked ended rest) piece = Linked (capped_count (ended + packets (rest ++ piece))) (partial (rest ++ piece))
 
 -- the body that is moved out next
 abbrev pub next_body : Reader → Option (List ℕ)

@@ -1,6 +1,7 @@
 -- Streams of bodies, each behind its length: short frames with a length of two bytes (ERTS User's Guide, Distribution
 -- Handshake), packets of a linked stream with one of four (Protocol between Connected Nodes).
-use Rattle.std.specs.Prelude.{◌≡◌, ℕ, zero, suc, ◌-◌, ◌*◌, ◌^◌, ◌<◌, Bool, ◌&&◌, List, [], ◌∷◌, ◌++◌, length, take, drop, Option, Some, None, nat_le, if◌then◌else◌}
+use Rattle.std.specs.Prelude.{◌≡◌, ℕ, zero, suc, ◌-◌, ◌*◌, ◌^◌, ◌<◌, Bool, ◌&&◌, List, [], ◌∷◌, ◌++◌, length, take, drop}
+use Rattle.std.specs.Prelude.{Option, Some, None, nat_le, if◌then◌else◌}
 use Rattle.std.specs.List.{flat_map, AllByRecursion}
 use Rattle.std.specs.Int.{Width, w16, w32, byte_len, from_be_bytes}
 pub use Rattle.dist_names.specs.Bytes.{number}
@@ -78,9 +79,9 @@ abbrev pub packets : List ℕ → ℕ
 packets stream = length (split_bodies w32 stream)
 
 -- what begins with no whole packet, without the bytes of it that came: its length counts those alone that are to come
-abbrev pub shortened : List ℕ → List ℕ
-shortened rest = if nat_le (length rest) 4 then rest else number w32 (head w32 rest - (length rest - 4))
+abbrev pub short_rest : List ℕ → List ℕ
+short_rest rest = if nat_le (length rest) 4 then rest else number w32 (head w32 rest - (length rest - 4))
 
 -- what is still owed of the next packet, as a stream that goes on as this one does after its packets
 abbrev pub partial : List ℕ → List ℕ
-partial stream = shortened (split_rest w32 stream)
+partial stream = short_rest (split_rest w32 stream)

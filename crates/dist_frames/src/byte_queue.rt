@@ -51,7 +51,7 @@ impl ByteQueue {
         &self.bytes[self.start..]
     }
 
-    // Moves the bytes to the front of the vector, where it would grow for so many more, and no more of them wait than went.
+    // Moves the bytes to the front of the vector, where it would grow for this many more, and no more of them wait than went.
     fn make_room(&mut self, more: usize)
         ensures { self.new ≡ self.old }
     {

@@ -24,7 +24,7 @@ pub struct Frames {
 enum Stage {
     // Short frames: the bytes that were not moved out.
     Short(ByteQueue),
-    // Packets: how many ended and were not told, and what is owed of the next.
+    // Packets: how many ended and were not reported, and what is owed of the next.
     Linked { ended: usize, left: Partial },
 }
 
@@ -48,7 +48,7 @@ impl Frames {
         }
     }
 
-    fn shown(&self) -> Option<&[u8]>
+    fn next_body(&self) -> Option<&[u8]>
         ensures { option_copied result ≡ next_body self.now }
     {
         match &self.stage {
@@ -64,10 +64,10 @@ impl Frames {
         // It is the first of the bodies still to come.
         ensures first { MatchOption (option_copied result) (to_come self.now ≡ []) (λ body. to_come self.now ≡ body ∷ to_come (without_next self.now)) }
     {
-        self.shown()
+        self.next_body()
     }
 
-    fn drop_shown(&mut self)
+    fn drop_next(&mut self)
         ensures { self.new ≡ without_next self.old }
     {
         match &mut self.stage {
@@ -81,7 +81,7 @@ impl Frames {
         ensures after { self.new ≡ without_next self.old }
         ensures rest { to_come self.new ≡ drop 1 (to_come self.old) }
     {
-        self.drop_shown();
+        self.drop_next();
     }
 
     /// Takes the next piece of the stream, of any number of bytes. An `Err` changes nothing. A linked reader takes no memory,
@@ -107,7 +107,9 @@ impl Frames {
         ensures ok { IfOk result (λ body. (option_map (λ b. b.items) body ≡ next_body self.old) × (self.new ≡ without_next self.old)) }
 
         // It is the first of the bodies still to come.
-        ensures first { IfOk result (λ body. MatchOption (option_map (λ b. b.items) body) (to_come self.old ≡ []) (λ b. to_come self.old ≡ b ∷ to_come self.new)) }
+        ensures first { IfOk result (λ body. MatchOption (option_map (λ b. b.items) body)
+            (to_come self.old ≡ [])
+            (λ b. to_come self.old ≡ b ∷ to_come self.new)) }
         ensures err { OnErr result (IsSome (next_body self.old) × (self.new ≡ self.old)) }
     {
         let Some(body) = self.front() else {

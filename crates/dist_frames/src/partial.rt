@@ -5,7 +5,7 @@
 ghost use Rattle.std.specs.Prelude.{◌≡◌, ℕ, ◌+◌, ◌<◌, ◌≤◌, ◌==◌, ◌++◌, [], length, take, drop, if◌then◌else◌};
 ghost use Rattle.std.specs.Int.{w32, to_be_bytes};
 ghost use Rattle.dist_frames.specs.Stream.{framed, packets, partial};
-ghost use Rattle.dist_frames.specs.Reader.{saturated};
+ghost use Rattle.dist_frames.specs.Reader.{capped_count};
 ghost use Rattle.dist_frames.specs.Kept.{kept_of};
 
 use std::marker::Model;
@@ -79,7 +79,7 @@ impl Partial {
 impl Partial {
     /// Takes all bytes of a piece, and returns how many packets ended with them.
     pub fn feed(&mut self, piece: &[u8]) -> usize
-        ensures count { result ≡ saturated (packets (self.old ++ piece.now)) }
+        ensures count { result ≡ capped_count (packets (self.old ++ piece.now)) }
         ensures left { self.new ≡ partial (self.old ++ piece.now) }
     {
         let mut rest = piece;
@@ -108,7 +108,8 @@ fn take_body(owed: u32, piece: &[u8]) -> (u32, usize)
     requires { 0 < owed }
     ensures used { result.1 ≤ length piece.now }
     ensures some { 0 < length piece.now → 0 < result.1 }
-    ensures count { packets (to_be_bytes w32 owed ++ piece.now) ≡ (if result.0 == 0 then 1 else 0) + packets (kept_of result.0 [] 0 ++ drop result.1 piece.now) }
+    ensures count { packets (to_be_bytes w32 owed ++ piece.now)
+        ≡ (if result.0 == 0 then 1 else 0) + packets (kept_of result.0 [] 0 ++ drop result.1 piece.now) }
     ensures left { partial (to_be_bytes w32 owed ++ piece.now) ≡ partial (kept_of result.0 [] 0 ++ drop result.1 piece.now) }
 {
     if (owed as usize) <= piece.len() {

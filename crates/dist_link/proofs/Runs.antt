@@ -8,8 +8,8 @@ use Rattle.dist_names.specs.Bytes.{IsBytes}
 use Rattle.dist_names.proofs.Bytes.{IsBytes-drop, IsBytes-append}
 use Rattle.dist_frames.specs.Stream.{framed, Fits, head, has_first, front, behind, split_bodies}
 use Rattle.dist_frames.proofs.Splitting.{wide32, begins, bodies-framed}
-use Rattle.dist_link.specs.Reading.{Reading, reading, fed, is_too_long, next_packet, without_next, up_to, packets_within, to_come}
-use Rattle.dist_link.specs.History.{Call, Feed, Take, Seen, opening, given, seen, after_all, FeedBytes}
+use Rattle.dist_link.specs.Reading.{Reading, reading, with_piece, is_too_long, next_packet, without_next, up_to, packets_within, to_come}
+use Rattle.dist_link.specs.History.{Call, Feed, Take, Seen, opening, packets_in, after_call, after_all, FeedBytes}
 use Rattle.dist_link.proofs.Fronts.{answer_of, left_of, Short, up_to-front, is_short}
 
 -- all that a reader keeps
@@ -27,7 +27,7 @@ all_and_one P (y ∷ ys) x h p = (h.0, all_and_one P ys x h.1 p)
 kept_opening : (most : ℕ) (rest : List ℕ) → IsBytes rest → Kept most (reading most rest) rest []
 kept_opening most rest bytes = record { most_is = refl; whole = refl; fit = tt; short = tt; bytes = bytes }
 
-kept_fed : (most : ℕ) (r : Reading) (stream piece : List ℕ) (moved : List (List ℕ)) → IsBytes piece → Kept most r stream moved → Kept most (fed r piece) (stream ++ piece) moved
+kept_fed : (most : ℕ) (r : Reading) (stream piece : List ℕ) (moved : List (List ℕ)) → IsBytes piece → Kept most r stream moved → Kept most (with_piece r piece) (stream ++ piece) moved
 kept_fed most r stream piece moved bytes k = record {
   most_is = k.most_is;
   whole = ap (λ (x : List ℕ). x ++ piece) k.whole ∙ append_assoc (flat_map (framed w32) moved) r.pending piece;
@@ -53,18 +53,18 @@ kept_front most r stream moved k long whole =
 kept_same : (most : ℕ) (r : Reading) (stream : List ℕ) (moved : List (List ℕ)) → Kept most r stream moved → Kept most r stream (moved ++ [])
 kept_same most r stream moved k = subst (λ (x : List (List ℕ)). Kept most r stream x) (sym (append-nil moved)) k
 
-taken_where : (long whole : Bool) (most len : ℕ) (r : Reading) (stream packet rest : List ℕ) (moved : List (List ℕ)) → Kept most r stream moved → (long ≡ false → whole ≡ true → Kept most (reading r.most rest) stream (moved ++ packet ∷ [])) → Kept most (left_of long whole r rest) stream (moved ++ given (answer_of long whole len packet))
+taken_where : (long whole : Bool) (most len : ℕ) (r : Reading) (stream packet rest : List ℕ) (moved : List (List ℕ)) → Kept most r stream moved → (long ≡ false → whole ≡ true → Kept most (reading r.most rest) stream (moved ++ packet ∷ [])) → Kept most (left_of long whole r rest) stream (moved ++ packets_in (answer_of long whole len packet))
 taken_where true whole most len r stream packet rest moved k made = kept_same most r stream moved k
 taken_where false true most len r stream packet rest moved k made = made refl refl
 taken_where false false most len r stream packet rest moved k made = kept_same most r stream moved k
 
-kept_taken : (most : ℕ) (r : Reading) (stream : List ℕ) (moved : List (List ℕ)) → Kept most r stream moved → Kept most (without_next r) stream (moved ++ given (next_packet r))
+kept_taken : (most : ℕ) (r : Reading) (stream : List ℕ) (moved : List (List ℕ)) → Kept most r stream moved → Kept most (without_next r) stream (moved ++ packets_in (next_packet r))
 kept_taken most r stream moved k = taken_where (is_too_long r) (has_first w32 r.pending) most (head w32 r.pending) r stream (front w32 r.pending) (behind w32 r.pending) moved k (kept_front most r stream moved k)
 
 kept_all : (most : ℕ) (calls : List Call) (s : Seen) → FeedBytes calls → Kept most s.reader s.stream s.moved → Kept most (after_all s calls).reader (after_all s calls).stream (after_all s calls).moved
 kept_all most [] s fits k = k
-kept_all most (Feed piece ∷ calls) s fits k = kept_all most calls (seen s (Feed piece)) fits.1 (kept_fed most s.reader s.stream piece s.moved fits.0 k)
-kept_all most (Take ∷ calls) s fits k = kept_all most calls (seen s Take) fits (kept_taken most s.reader s.stream s.moved k)
+kept_all most (Feed piece ∷ calls) s fits k = kept_all most calls (after_call s (Feed piece)) fits.1 (kept_fed most s.reader s.stream piece s.moved fits.0 k)
+kept_all most (Take ∷ calls) s fits k = kept_all most calls (after_call s Take) fits (kept_taken most s.reader s.stream s.moved k)
 
 kept_right : (most : ℕ) (r : Reading) (stream : List ℕ) (moved : List (List ℕ)) → Kept most r stream moved → moved ++ to_come r ≡ packets_within most stream
 kept_right most r stream moved k =

@@ -6,50 +6,50 @@ use Rattle.std.specs.Prelude.{min, max}
 use Rattle.std.specs.List.{AllByRecursion}
 use Rattle.dist_link.specs.declared.ticker.Due.{Due}
 use Rattle.dist_link.specs.declared.ticker.Due.TheVariants as due
-use Rattle.dist_link.specs.Ticking.{Ticking, Act, Heard, Said, after, due_at, heard_at, said_at, WasHeardBefore, WasSaidBefore}
+use Rattle.dist_link.specs.Ticking.{Ticking, Act, Heard, Said, after_acts, due_at, after_read, after_write, WasHeardBefore, WasSaidBefore}
 
 -- ---- what the acts leave
 
-kept : (acts : List Act) (t : Ticking) → (let u = after acts t in u.quarter) ≡ t.quarter
+kept : (acts : List Act) (t : Ticking) → (let u = after_acts acts t in u.quarter) ≡ t.quarter
 kept [] t = refl
-kept (Heard m ∷ acts) t = kept acts (heard_at m t)
-kept (Said m ∷ acts) t = kept acts (said_at m t)
+kept (Heard m ∷ acts) t = kept acts (after_read m t)
+kept (Said m ∷ acts) t = kept acts (after_write m t)
 
 at-least : (a b : ℕ) → (a ≤ max a b) × (b ≤ max a b)
 at-least a b = (omega arith, omega arith)
 
-later-heard : (acts : List Act) (t : Ticking) → t.heard ≤ (let u = after acts t in u.heard)
+later-heard : (acts : List Act) (t : Ticking) → t.heard ≤ (let u = after_acts acts t in u.heard)
 later-heard [] t = omega arith
-later-heard (Heard m ∷ acts) t = let h = later-heard acts (heard_at m t) in let a = at-least t.heard m in omega (arith, h, a.0)
-later-heard (Said m ∷ acts) t = later-heard acts (said_at m t)
+later-heard (Heard m ∷ acts) t = let h = later-heard acts (after_read m t) in let a = at-least t.heard m in omega (arith, h, a.0)
+later-heard (Said m ∷ acts) t = later-heard acts (after_write m t)
 
-later-said : (acts : List Act) (t : Ticking) → t.said ≤ (let u = after acts t in u.said)
+later-said : (acts : List Act) (t : Ticking) → t.said ≤ (let u = after_acts acts t in u.said)
 later-said [] t = omega arith
-later-said (Heard m ∷ acts) t = later-said acts (heard_at m t)
-later-said (Said m ∷ acts) t = let h = later-said acts (said_at m t) in let a = at-least t.said m in omega (arith, h, a.0)
+later-said (Heard m ∷ acts) t = later-said acts (after_read m t)
+later-said (Said m ∷ acts) t = let h = later-said acts (after_write m t) in let a = at-least t.said m in omega (arith, h, a.0)
 
-heard-since : (early late : List Act) (m : ℕ) (t : Ticking) → m ≤ (let u = after (early ++ Heard m ∷ late) t in u.heard)
-heard-since [] late m t = let h = later-heard late (heard_at m t) in let a = at-least t.heard m in omega (arith, h, a.1)
-heard-since (Heard n ∷ early) late m t = heard-since early late m (heard_at n t)
-heard-since (Said n ∷ early) late m t = heard-since early late m (said_at n t)
+heard-since : (early late : List Act) (m : ℕ) (t : Ticking) → m ≤ (let u = after_acts (early ++ Heard m ∷ late) t in u.heard)
+heard-since [] late m t = let h = later-heard late (after_read m t) in let a = at-least t.heard m in omega (arith, h, a.1)
+heard-since (Heard n ∷ early) late m t = heard-since early late m (after_read n t)
+heard-since (Said n ∷ early) late m t = heard-since early late m (after_write n t)
 
-said-since : (early late : List Act) (m : ℕ) (t : Ticking) → m ≤ (let u = after (early ++ Said m ∷ late) t in u.said)
-said-since [] late m t = let h = later-said late (said_at m t) in let a = at-least t.said m in omega (arith, h, a.1)
-said-since (Heard n ∷ early) late m t = said-since early late m (heard_at n t)
-said-since (Said n ∷ early) late m t = said-since early late m (said_at n t)
+said-since : (early late : List Act) (m : ℕ) (t : Ticking) → m ≤ (let u = after_acts (early ++ Said m ∷ late) t in u.said)
+said-since [] late m t = let h = later-said late (after_write m t) in let a = at-least t.said m in omega (arith, h, a.1)
+said-since (Heard n ∷ early) late m t = said-since early late m (after_read n t)
+said-since (Said n ∷ early) late m t = said-since early late m (after_write n t)
 
 both-before : (a b time now : ℕ) → a + time ≤ now → b + time ≤ now → max a b + time ≤ now
 both-before a b time now x y = omega (arith, x, y)
 
-heard-before : (acts : List Act) (t : Ticking) (time now : ℕ) → t.heard + time ≤ now → AllByRecursion (WasHeardBefore time now) acts → (let u = after acts t in u.heard) + time ≤ now
+heard-before : (acts : List Act) (t : Ticking) (time now : ℕ) → t.heard + time ≤ now → AllByRecursion (WasHeardBefore time now) acts → (let u = after_acts acts t in u.heard) + time ≤ now
 heard-before [] t time now h all = h
-heard-before (Heard m ∷ acts) t time now h all = heard-before acts (heard_at m t) time now (both-before t.heard m time now h all.0) all.1
-heard-before (Said m ∷ acts) t time now h all = heard-before acts (said_at m t) time now h all.1
+heard-before (Heard m ∷ acts) t time now h all = heard-before acts (after_read m t) time now (both-before t.heard m time now h all.0) all.1
+heard-before (Said m ∷ acts) t time now h all = heard-before acts (after_write m t) time now h all.1
 
-said-before : (acts : List Act) (t : Ticking) (time now : ℕ) → t.said + time ≤ now → AllByRecursion (WasSaidBefore time now) acts → (let u = after acts t in u.said) + time ≤ now
+said-before : (acts : List Act) (t : Ticking) (time now : ℕ) → t.said + time ≤ now → AllByRecursion (WasSaidBefore time now) acts → (let u = after_acts acts t in u.said) + time ≤ now
 said-before [] t time now h all = h
-said-before (Heard m ∷ acts) t time now h all = said-before acts (heard_at m t) time now h all.1
-said-before (Said m ∷ acts) t time now h all = said-before acts (said_at m t) time now (both-before t.said m time now h all.0) all.1
+said-before (Heard m ∷ acts) t time now h all = said-before acts (after_read m t) time now h all.1
+said-before (Said m ∷ acts) t time now h all = said-before acts (after_write m t) time now (both-before t.said m time now h all.0) all.1
 
 -- ---- what is due then
 
@@ -71,33 +71,33 @@ no-rest true quiet wait left shown is = absurd cc
 no-rest false true wait left shown is = absurd cc
 no-rest false false wait left shown is = false≢true shown
 
-pub heard-in-time : (t : Ticking) (early late : List Act) (m now : ℕ) → 0 < t.quarter → now < m + 4 * t.quarter → due_at now (after (early ++ Heard m ∷ late) t) ≢ due.GiveUp
+pub heard-in-time : (t : Ticking) (early late : List Act) (m now : ℕ) → 0 < t.quarter → now < m + 4 * t.quarter → due_at now (after_acts (early ++ Heard m ∷ late) t) ≢ due.GiveUp
 heard-in-time t early late m now some soon =
-    let u = after (early ++ Heard m ∷ late) t in
+    let u = after_acts (early ++ Heard m ∷ late) t in
     let q : u.quarter ≡ t.quarter = kept (early ++ Heard m ∷ late) t in
     let h : m ≤ u.heard = heard-since early late m t in
     let not-silent : leb (4 * u.quarter) (now - u.heard) ≡ false = grind (arith, nat_tests) in
     no-giving-up (leb (4 * u.quarter) (now - u.heard)) (leb u.quarter (now - u.said)) _ not-silent
 
-pub silent-given-up : (t : Ticking) (acts : List Act) (now : ℕ) → t.heard + 4 * t.quarter ≤ now → AllByRecursion (WasHeardBefore (4 * t.quarter) now) acts → due_at now (after acts t) ≡ due.GiveUp
+pub silent-given-up : (t : Ticking) (acts : List Act) (now : ℕ) → t.heard + 4 * t.quarter ≤ now → AllByRecursion (WasHeardBefore (4 * t.quarter) now) acts → due_at now (after_acts acts t) ≡ due.GiveUp
 silent-given-up t acts now late all =
-    let u = after acts t in
+    let u = after_acts acts t in
     let q : u.quarter ≡ t.quarter = kept acts t in
     let h : u.heard + 4 * t.quarter ≤ now = heard-before acts t (4 * t.quarter) now late all in
     let silent : leb (4 * u.quarter) (now - u.heard) ≡ true = grind (arith, nat_tests) in
     ap (λ b. cond b due.GiveUp (cond (leb u.quarter (now - u.said)) due.Tick (due.Nothing (min (4 * u.quarter - (now - u.heard)) (u.quarter - (now - u.said)))))) silent
 
-pub said-in-time : (t : Ticking) (early late : List Act) (m now : ℕ) → 0 < t.quarter → now < m + t.quarter → due_at now (after (early ++ Said m ∷ late) t) ≢ due.Tick
+pub said-in-time : (t : Ticking) (early late : List Act) (m now : ℕ) → 0 < t.quarter → now < m + t.quarter → due_at now (after_acts (early ++ Said m ∷ late) t) ≢ due.Tick
 said-in-time t early late m now some soon =
-    let u = after (early ++ Said m ∷ late) t in
+    let u = after_acts (early ++ Said m ∷ late) t in
     let q : u.quarter ≡ t.quarter = kept (early ++ Said m ∷ late) t in
     let h : m ≤ u.said = said-since early late m t in
     let not-quiet : leb u.quarter (now - u.said) ≡ false = grind (arith, nat_tests) in
     no-tick (leb (4 * u.quarter) (now - u.heard)) (leb u.quarter (now - u.said)) _ not-quiet
 
-pub quiet-ticks : (t : Ticking) (acts : List Act) (now wait : ℕ) → t.said + t.quarter ≤ now → AllByRecursion (WasSaidBefore t.quarter now) acts → due_at now (after acts t) ≢ due.Nothing wait
+pub quiet-ticks : (t : Ticking) (acts : List Act) (now wait : ℕ) → t.said + t.quarter ≤ now → AllByRecursion (WasSaidBefore t.quarter now) acts → due_at now (after_acts acts t) ≢ due.Nothing wait
 quiet-ticks t acts now wait late all =
-    let u = after acts t in
+    let u = after_acts acts t in
     let q : u.quarter ≡ t.quarter = kept acts t in
     let h : u.said + t.quarter ≤ now = said-before acts t t.quarter now late all in
     let quiet : leb u.quarter (now - u.said) ≡ true = grind (arith, nat_tests) in

@@ -1,8 +1,8 @@
--- What a reader of packets was asked so far, and what it gave.
+-- The calls of a reader of packets so far, and what it returned.
 use Rattle.std.specs.Prelude.{ℕ, List, [], ◌∷◌, ◌++◌, Option, Some, None, Result, Ok, Err}
 pub use Rattle.dist_names.specs.Bytes.{IsBytes}
 use Rattle.dist_link.specs.declared.packet_error.PacketError.{PacketError}
-use Rattle.dist_link.specs.Reading.{Reading, reading, fed, next_packet, without_next}
+use Rattle.dist_link.specs.Reading.{Reading, reading, with_piece, next_packet, without_next}
 
 -- a call; Take moves the next packet out, where there is one
 pub data Call : Type 0 where
@@ -22,20 +22,20 @@ abbrev pub opening : ℕ → List ℕ → Seen
 opening most rest = record { reader = reading most rest; stream = rest; moved = [] }
 
 -- the packet that was given, where one was
-abbrev pub given : Result (Option (List ℕ)) PacketError → List (List ℕ)
-given (Ok (Some packet)) = packet ∷ []
-given (Ok None) = []
-given (Err error) = []
+abbrev pub packets_in : Result (Option (List ℕ)) PacketError → List (List ℕ)
+packets_in (Ok (Some packet)) = packet ∷ []
+packets_in (Ok None) = []
+packets_in (Err error) = []
 
 -- the same after one more call
-abbrev pub seen : Seen → Call → Seen
-seen s (Feed piece) = record s { reader = fed s.reader piece; stream = s.stream ++ piece }
-seen s Take = record s { reader = without_next s.reader; moved = s.moved ++ given (next_packet s.reader) }
+abbrev pub after_call : Seen → Call → Seen
+after_call s (Feed piece) = record s { reader = with_piece s.reader piece; stream = s.stream ++ piece }
+after_call s Take = record s { reader = without_next s.reader; moved = s.moved ++ packets_in (next_packet s.reader) }
 
 -- the same after these calls in turn
 abbrev pub after_all : Seen → List Call → Seen
 after_all s [] = s
-after_all s (call ∷ calls) = after_all (seen s call) calls
+after_all s (call ∷ calls) = after_all (after_call s call) calls
 
 -- the pieces are bytes
 abbrev pub FeedBytes : List Call → Type 0

@@ -1,23 +1,26 @@
 -- What a reader of packets has to give (ERTS User's Guide, Distribution Protocol, Protocol between Connected Nodes). It
 -- speaks of the stream, so that it says nothing of how the bytes are kept.
-use Rattle.std.specs.Prelude.{◌≡◌, ℕ, ◌+◌, ◌≤◌, Bool, ◌&&◌, nat_le, nat_lt, List, [], ◌∷◌, ◌++◌, length, take, drop, Option, Some, None, Result, Ok, Err, if◌then◌else◌}
+use Rattle.std.specs.Prelude.{◌≡◌, ℕ, ◌+◌, ◌≤◌, Bool, ◌&&◌, nat_le, nat_lt, List, [], ◌∷◌, ◌++◌, length, take, drop}
+use Rattle.std.specs.Prelude.{Option, Some, None, Result, Ok, Err, if◌then◌else◌}
 use Rattle.std.specs.Int.{w32}
 use Rattle.dist_frames.specs.Stream.{head, first_body, after_first, split_bodies}
 use Rattle.dist_link.specs.declared.packet_error.PacketError.{PacketError}
 use Rattle.dist_link.specs.declared.packet_error.PacketError.TheVariants as error
 
+-- a reader of packets
 pub record Reading : Type 0 where
   -- how many bytes a packet may have
   pub most : ℕ
   -- the bytes that came and were not moved out
   pub pending : List ℕ
 
+-- the reader that takes packets of at most this many bytes, and holds these bytes
 abbrev pub reading : ℕ → List ℕ → Reading
 reading most pending = record { most = most; pending = pending }
 
 -- the reader when more bytes have come
-abbrev pub fed : Reading → List ℕ → Reading
-fed r piece = reading r.most (r.pending ++ piece)
+abbrev pub with_piece : Reading → List ℕ → Reading
+with_piece r piece = reading r.most (r.pending ++ piece)
 
 -- the length of the next packet has come, and is more than a packet may have
 abbrev pub is_too_long : Reading → Bool
@@ -39,7 +42,10 @@ MayFail r error.NoMemory = (packet : List ℕ) × (next_packet r ≡ Ok (Some pa
 -- the next packet has this many bytes, where it is whole
 abbrev pub HasNext : Reading → Option ℕ → Type 0
 HasNext r None = (next_packet r ≡ Ok None) × (without_next r ≡ r)
-HasNext r (Some len) = (4 + len ≤ length r.pending) × (next_packet r ≡ Ok (Some (take len (drop 4 r.pending)))) × (without_next r ≡ reading r.most (drop (4 + len) r.pending))
+HasNext r (Some len) =
+    (4 + len ≤ length r.pending)
+    × (next_packet r ≡ Ok (Some (take len (drop 4 r.pending))))
+    × (without_next r ≡ reading r.most (drop (4 + len) r.pending))
 
 -- ---- all packets
 

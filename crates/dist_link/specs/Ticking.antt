@@ -4,6 +4,7 @@ use Rattle.std.specs.Prelude.{◌≡◌, ℕ, ◌+◌, ◌-◌, ◌*◌, ◌≤�
 use Rattle.dist_link.specs.declared.ticker.Due.{Due}
 use Rattle.dist_link.specs.declared.ticker.Due.TheVariants as due
 
+-- the times of a link
 pub record Ticking : Type 0 where
   -- a quarter of the time after which a silent peer is given up
   pub quarter : ℕ
@@ -12,15 +13,16 @@ pub record Ticking : Type 0 where
   pub said : ℕ
 
 -- a link that comes up
-abbrev pub opening : ℕ → ℕ → Ticking
-opening quarter now = record { quarter = max quarter 1; heard = now; said = now }
+abbrev pub times_from : ℕ → ℕ → Ticking
+times_from quarter now = record { quarter = max quarter 1; heard = now; said = now }
 
--- something was read, or written
-abbrev pub heard_at : ℕ → Ticking → Ticking
-heard_at now t = record t { heard = max t.heard now }
+-- the times once something is read now
+abbrev pub after_read : ℕ → Ticking → Ticking
+after_read now t = record t { heard = max t.heard now }
 
-abbrev pub said_at : ℕ → Ticking → Ticking
-said_at now t = record t { said = max t.said now }
+-- the times once something is written now
+abbrev pub after_write : ℕ → Ticking → Ticking
+after_write now t = record t { said = max t.said now }
 
 -- WHAT IS DUE: the peer is given up once nothing was read for four quarters, a tick once nothing was written for one
 abbrev pub due_at : ℕ → Ticking → Due
@@ -31,17 +33,20 @@ due_at now t =
 
 -- ---- what was read and written
 
+-- a read or a write, and when it was
 pub data Act : Type 0 where
   Heard : ℕ → Act
   Said : ℕ → Act
 
+-- the times after it
 abbrev pub after_one : Act → Ticking → Ticking
-after_one (Heard now) t = heard_at now t
-after_one (Said now) t = said_at now t
+after_one (Heard now) t = after_read now t
+after_one (Said now) t = after_write now t
 
-abbrev pub after : List Act → Ticking → Ticking
-after [] t = t
-after (act ∷ acts) t = after acts (after_one act t)
+-- the times after these reads and writes in turn
+abbrev pub after_acts : List Act → Ticking → Ticking
+after_acts [] t = t
+after_acts (act ∷ acts) t = after_acts acts (after_one act t)
 
 -- it was no read of this time before now
 abbrev pub WasHeardBefore : ℕ → ℕ → Act → Type 0

@@ -8,7 +8,7 @@ ghost use Rattle.dist_frames.specs.Stream.{framed};
 ghost use Rattle.dist_names.specs.Bytes.{IsBytes};
 ghost use Rattle.dist_link.specs.Reading.{packets_within, to_come};
 ghost use Rattle.dist_link.specs.History.{Call, FeedBytes, opening, after_all};
-ghost use Rattle.dist_link.specs.Ticking.{Act, Ticking, after, due_at, WasHeardBefore, WasSaidBefore};
+ghost use Rattle.dist_link.specs.Ticking.{Act, Ticking, after_acts, due_at, WasHeardBefore, WasSaidBefore};
 ghost use Rattle.dist_link.specs.Ticking.Act.{Heard, Said};
 ghost use Rattle.dist_link.specs.declared.ticker.Due.TheVariants as due;
 
@@ -16,30 +16,42 @@ ghost use Rattle.dist_link.specs.declared.ticker.Due.TheVariants as due;
 pub fn any_pieces()
     // The packets moved out and those still to come are those of the stream: they do not depend on the pieces.
     ensures right { (most : ℕ) (rest : List ℕ) (calls : List Call) → IsBytes rest → FeedBytes calls →
-        (after_all (opening most rest) calls).moved ++ to_come (after_all (opening most rest) calls).reader ≡ packets_within most (after_all (opening most rest) calls).stream }
+        (after_all (opening most rest) calls).moved ++ to_come (after_all (opening most rest) calls).reader
+        ≡ packets_within most (after_all (opening most rest) calls).stream }
 
     // No byte is lost: those that came are the packets moved out, and then those that the reader holds.
     ensures whole { (most : ℕ) (rest : List ℕ) (calls : List Call) → IsBytes rest → FeedBytes calls →
-        (after_all (opening most rest) calls).stream ≡ flat_map (framed w32) (after_all (opening most rest) calls).moved ++ (after_all (opening most rest) calls).reader.pending }
+        (after_all (opening most rest) calls).stream
+        ≡ flat_map (framed w32) (after_all (opening most rest) calls).moved ++ (after_all (opening most rest) calls).reader.pending }
 {}
 
-/// A peer is given up where nothing was read of it for four quarters, and nowhere else.
+/// A peer is given up where nothing was read from it for four quarters, and nowhere else.
 pub fn a_silent_peer_is_given_up()
-    // One that was heard in time is not.
-    ensures heard { (t : Ticking) (early late : List Act) (m now : ℕ) → 0 < t.quarter → now < m + 4 * t.quarter → due_at now (after (early ++ Heard m ∷ late) t) ≢ due.GiveUp }
+    // One from which something was read in time is not.
+    ensures heard { (t : Ticking) (early late : List Act) (m now : ℕ)
+        → 0 < t.quarter → now < m + 4 * t.quarter → due_at now (after_acts (early ++ Heard m ∷ late) t) ≢ due.GiveUp }
 
-    // One that was not is.
-    ensures silent { (t : Ticking) (acts : List Act) (now : ℕ) → t.heard + 4 * t.quarter ≤ now → AllByRecursion (WasHeardBefore (4 * t.quarter) now) acts → due_at now (after acts t) ≡ due.GiveUp }
+    // One from which nothing was read in time is.
+    ensures silent { (t : Ticking) (acts : List Act) (now : ℕ)
+        → t.heard + 4 * t.quarter ≤ now → AllByRecursion (WasHeardBefore (4 * t.quarter) now) acts
+        → due_at now (after_acts acts t) ≡ due.GiveUp }
 {}
 
 /// A tick is due where nothing was written for a quarter, unless the peer is given up, and nowhere else.
 pub fn a_tick_is_due_in_time()
-    ensures said { (t : Ticking) (early late : List Act) (m now : ℕ) → 0 < t.quarter → now < m + t.quarter → due_at now (after (early ++ Said m ∷ late) t) ≢ due.Tick }
-    ensures quiet { (t : Ticking) (acts : List Act) (now wait : ℕ) → t.said + t.quarter ≤ now → AllByRecursion (WasSaidBefore t.quarter now) acts → due_at now (after acts t) ≢ due.Nothing wait }
+    ensures said { (t : Ticking) (early late : List Act) (m now : ℕ)
+        → 0 < t.quarter → now < m + t.quarter → due_at now (after_acts (early ++ Said m ∷ late) t) ≢ due.Tick }
+    ensures quiet { (t : Ticking) (acts : List Act) (now wait : ℕ)
+        → t.said + t.quarter ≤ now → AllByRecursion (WasSaidBefore t.quarter now) acts
+        → due_at now (after_acts acts t) ≢ due.Nothing wait }
 {}
 
-/// Where nothing is due for so long, nothing is due before, and something is then: a caller that waits so long misses nothing.
+/// Where nothing is due for some time, nothing is due before it is over, and something is then: a caller that waits for it misses
+/// nothing.
 pub fn nothing_is_due_before()
-    ensures before { (t : Ticking) (now wait more : ℕ) → t.heard ≤ now → t.said ≤ now → due_at now t ≡ due.Nothing wait → more < wait → (left : ℕ) × (due_at (now + more) t ≡ due.Nothing left) }
-    ensures then_ { (t : Ticking) (now wait left : ℕ) → t.heard ≤ now → t.said ≤ now → due_at now t ≡ due.Nothing wait → due_at (now + wait) t ≢ due.Nothing left }
+    ensures before { (t : Ticking) (now wait more : ℕ)
+        → t.heard ≤ now → t.said ≤ now → due_at now t ≡ due.Nothing wait → more < wait
+        → (left : ℕ) × (due_at (now + more) t ≡ due.Nothing left) }
+    ensures then_ { (t : Ticking) (now wait left : ℕ)
+        → t.heard ≤ now → t.said ≤ now → due_at now t ≡ due.Nothing wait → due_at (now + wait) t ≢ due.Nothing left }
 {}

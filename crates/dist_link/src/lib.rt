@@ -5,7 +5,7 @@
 //! may be. A longer one is refused as soon as its length has come, and no memory is taken for bytes that did not come.
 //!
 //! Whoever carries the link says what time it is, in milliseconds of any clock that does not go back, and when something was
-//! read or written. A node that wrote nothing for a quarter of the time of a tick writes a tick; a peer of which nothing was
+//! read or written. A node that wrote nothing for a quarter of the time of a tick writes a tick; a peer from which nothing was
 //! read for the whole of that time is given up.
 //!
 //! Source: ERTS User's Guide, Distribution Protocol, Protocol between Connected Nodes ("4-byte length"). Erlang/OTP,

@@ -1,9 +1,10 @@
 //! The reader of packets.
 
-ghost use Rattle.std.specs.Prelude.{◌≡◌, ℕ, ◌+◌, ◌≤◌, ◌++◌, ◌∷◌, [], Ok, Err, Some, None, IfOk, IfErr, OnOk, OnErr, MatchOption, length, take, drop, option_map, option_copied};
+ghost use Rattle.std.specs.Prelude.{◌≡◌, ℕ, ◌+◌, ◌≤◌, ◌++◌, ◌∷◌, [], length, take, drop};
+ghost use Rattle.std.specs.Prelude.{Ok, Err, Some, None, IfOk, IfErr, OnOk, OnErr, MatchOption, option_map, option_copied};
 ghost use Rattle.std.specs.Int.{w32};
 ghost use Rattle.dist_frames.specs.Stream.{head};
-ghost use Rattle.dist_link.specs.Reading.{next_packet, without_next, to_come, fed, reading, HasNext, MayFail};
+ghost use Rattle.dist_link.specs.Reading.{next_packet, without_next, to_come, with_piece, reading, HasNext, MayFail};
 
 use crate::packet_error::PacketError;
 use dist_frames::ByteQueue;
@@ -33,7 +34,7 @@ impl Model for Packets {
 }
 
 // The length that stands at the front.
-fn announced(pending: &[u8]) -> usize
+fn length_in_front(pending: &[u8]) -> usize
     requires { 4 ≤ length pending.now }
     ensures { result ≡ head w32 pending.now }
 {
@@ -49,7 +50,7 @@ fn next_len(pending: &[u8], most: usize) -> Result<Option<usize>, PacketError>
     if pending.len() < 4 {
         return Ok(None);
     }
-    let len = announced(pending);
+    let len = length_in_front(pending);
     if len > most {
         return Err(PacketError::TooLong(len));
     }
@@ -84,7 +85,7 @@ impl Packets {
 
     /// Takes the next piece of the stream, of any number of bytes. An `Err` changes nothing.
     pub fn feed(&mut self, piece: &[u8]) -> Result<(), AllocError>
-        ensures ok { OnOk result (self.new ≡ fed self.old piece.now) }
+        ensures ok { OnOk result (self.new ≡ with_piece self.old piece.now) }
         ensures err { OnErr result (self.new ≡ self.old) }
     {
         self.bytes.extend(piece)
@@ -123,7 +124,9 @@ impl Packets {
         ensures ok { IfOk result (λ packet. (next_packet self.old ≡ Ok (option_map (λ p. p.items) packet)) × (self.new ≡ without_next self.old)) }
 
         // It is the first of the packets still to come.
-        ensures first { IfOk result (λ packet. MatchOption (option_map (λ p. p.items) packet) (to_come self.old ≡ []) (λ p. to_come self.old ≡ p ∷ to_come self.new)) }
+        ensures first { IfOk result (λ packet. MatchOption (option_map (λ p. p.items) packet)
+            (to_come self.old ≡ [])
+            (λ p. to_come self.old ≡ p ∷ to_come self.new)) }
         ensures fails { IfErr result (MayFail self.old) }
         ensures err { OnErr result (self.new ≡ self.old) }
     {

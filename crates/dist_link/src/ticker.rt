@@ -1,6 +1,6 @@
 //! The times of a link, and what is due.
 ghost use Rattle.std.specs.Prelude.{◌≡◌, ◌<◌};
-ghost use Rattle.dist_link.specs.Ticking.{due_at, heard_at, said_at, opening};
+ghost use Rattle.dist_link.specs.Ticking.{due_at, after_read, after_write, times_from};
 
 use std::marker::Model;
 
@@ -42,7 +42,7 @@ impl Ticker {
     /// The times of a link that comes up now. A silent peer is given up after four times `quarter` milliseconds, of which there
     /// is at least 1; Erlang/OTP has 60,000 for the whole, so quarters of 15,000.
     pub fn new(quarter: u32, now: u64) -> Ticker
-        ensures { result ≡ opening quarter now }
+        ensures { result ≡ times_from quarter now }
     {
         Ticker {
             quarter: (quarter as u64).max(1),
@@ -51,16 +51,16 @@ impl Ticker {
         }
     }
 
-    /// Something was read now, be it a tick or a part of a packet.
+    /// Something was read now: a tick, or a part of a packet.
     pub fn heard(&mut self, now: u64)
-        ensures { self.new ≡ heard_at now self.old }
+        ensures { self.new ≡ after_read now self.old }
     {
         self.heard = self.heard.max(now);
     }
 
-    /// Something was written now, be it a tick or a part of a packet.
+    /// Something was written now: a tick, or a part of a packet.
     pub fn said(&mut self, now: u64)
-        ensures { self.new ≡ said_at now self.old }
+        ensures { self.new ≡ after_write now self.old }
     {
         self.said = self.said.max(now);
     }

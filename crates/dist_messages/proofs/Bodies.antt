@@ -8,7 +8,7 @@ use Rattle.dist_messages.specs.declared.message.Side.TheVariants.{Dialler, Accep
 use Rattle.dist_messages.specs.Spelling.{Spells, Fits}
 use Rattle.dist_names.specs.Bytes.{IsBytes}
 use Rattle.std.proofs.lemmas.List.{append-nil}
-use Rattle.dist_messages.specs.Reading.{◌>>=◌, number_at, bytes_at, ended, old_name, new_name, old_challenge, new_challenge, complement, reply, ack}
+use Rattle.dist_messages.specs.Reading.{◌>>=◌, number_at, bytes_at, value_at_end, old_name, new_name, old_challenge, new_challenge, complement, reply, ack}
 use Rattle.dist_messages.proofs.FieldLaws.{bind_ok, ok_is, ended_ok, Takes-then, wide16, wide32, wide64, number_takes, number_again, bytes_take, bytes_again}
 
 pub old_name_again : (version flags : ℕ) (name : List ℕ) → version < 2 ^ 16 → flags < 2 ^ 32 → old_name (to_be_bytes w16 version ++ to_be_bytes w32 flags ++ name) ≡ Ok (message.OldName flags name)
@@ -32,8 +32,8 @@ new_challenge_again flags challenge creation name ignored f h c l =
 pub complement_again : (high creation : ℕ) → high < 2 ^ 32 → creation < 2 ^ 32 → complement (to_be_bytes w32 high ++ to_be_bytes w32 creation) ≡ Ok (message.Complement high (record { 0 = creation }))
 unfolding complement
 complement_again high creation h c =
-    ap (λ (r : Option (ℕ × List ℕ)). r >>= λ x. number_at w32 x.1 >>= λ y. ended y.1 (message.Complement x.0 (record { 0 = y.0 }))) (number_again w32 (2 ^ 32) wide32 high (to_be_bytes w32 creation) h)
-    ∙ ap (λ (r : Option (ℕ × List ℕ)). r >>= λ y. ended y.1 (message.Complement high (record { 0 = y.0 }))) (number_again w32 (2 ^ 32) wide32 creation [] c)
+    ap (λ (r : Option (ℕ × List ℕ)). r >>= λ x. number_at w32 x.1 >>= λ y. value_at_end y.1 (message.Complement x.0 (record { 0 = y.0 }))) (number_again w32 (2 ^ 32) wide32 high (to_be_bytes w32 creation) h)
+    ∙ ap (λ (r : Option (ℕ × List ℕ)). r >>= λ y. value_at_end y.1 (message.Complement high (record { 0 = y.0 }))) (number_again w32 (2 ^ 32) wide32 creation [] c)
 
 pub reply_again : (challenge : ℕ) (digest : List ℕ) → challenge < 2 ^ 32 → length digest ≡ 16 → reply (to_be_bytes w32 challenge ++ digest) ≡ Ok (message.Reply challenge digest)
 unfolding reply
@@ -116,8 +116,8 @@ new_challenge_takes bytes m fits e =
 pub complement_takes : (bytes : List ℕ) (m : Message) → IsBytes bytes → complement bytes ≡ Ok m → Reads Dialler 0x63 bytes m
 unfolding complement
 complement_takes bytes m fits e =
-    let a = bind_ok (number_at w32 bytes) (λ high. number_at w32 high.1 >>= λ creation. ended creation.1 (message.Complement high.0 (record { 0 = creation.0 }))) m e in
-    let b = bind_ok (number_at w32 a.0.1) (λ creation. ended creation.1 (message.Complement a.0.0 (record { 0 = creation.0 }))) m a.2 in
+    let a = bind_ok (number_at w32 bytes) (λ high. number_at w32 high.1 >>= λ creation. value_at_end creation.1 (message.Complement high.0 (record { 0 = creation.0 }))) m e in
+    let b = bind_ok (number_at w32 a.0.1) (λ creation. value_at_end creation.1 (message.Complement a.0.0 (record { 0 = creation.0 }))) m a.2 in
     let g = ended_ok b.0.1 (message.Complement a.0.0 (record { 0 = b.0.0 })) m b.2 in
     let t0 = number_takes w32 (2 ^ 32) wide32 bytes a.0.0 a.0.1 fits a.1 in
     let t1 = number_takes w32 (2 ^ 32) wide32 a.0.1 b.0.0 b.0.1 t0.0.rest_fits b.1 in
@@ -128,8 +128,8 @@ complement_takes bytes m fits e =
 pub reply_takes : (bytes : List ℕ) (m : Message) → IsBytes bytes → reply bytes ≡ Ok m → Reads Dialler 0x72 bytes m
 unfolding reply
 reply_takes bytes m fits e =
-    let a = bind_ok (number_at w32 bytes) (λ challenge. bytes_at 16 challenge.1 >>= λ digest. ended digest.1 (message.Reply challenge.0 digest.0)) m e in
-    let b = bind_ok (bytes_at 16 a.0.1) (λ digest. ended digest.1 (message.Reply a.0.0 digest.0)) m a.2 in
+    let a = bind_ok (number_at w32 bytes) (λ challenge. bytes_at 16 challenge.1 >>= λ digest. value_at_end digest.1 (message.Reply challenge.0 digest.0)) m e in
+    let b = bind_ok (bytes_at 16 a.0.1) (λ digest. value_at_end digest.1 (message.Reply a.0.0 digest.0)) m a.2 in
     let g = ended_ok b.0.1 (message.Reply a.0.0 b.0.0) m b.2 in
     let t0 = number_takes w32 (2 ^ 32) wide32 bytes a.0.0 a.0.1 fits a.1 in
     let t1 = bytes_take 16 a.0.1 b.0.0 b.0.1 t0.0.rest_fits b.1 in
@@ -140,7 +140,7 @@ reply_takes bytes m fits e =
 pub ack_takes : (bytes : List ℕ) (m : Message) → IsBytes bytes → ack bytes ≡ Ok m → Reads Acceptor 0x61 bytes m
 unfolding ack
 ack_takes bytes m fits e =
-    let a = bind_ok (bytes_at 16 bytes) (λ digest. ended digest.1 (message.Ack digest.0)) m e in
+    let a = bind_ok (bytes_at 16 bytes) (λ digest. value_at_end digest.1 (message.Ack digest.0)) m e in
     let g = ended_ok a.0.1 (message.Ack a.0.0) m a.2 in
     let t0 = bytes_take 16 bytes a.0.0 a.0.1 fits a.1 in
     let whole : bytes ≡ a.0.0 = t0.0.parts ∙ ap (λ (x : List ℕ). a.0.0 ++ x) g.0 ∙ append-nil a.0.0 in

@@ -8,7 +8,7 @@ use Rattle.dist_messages.specs.declared.message_error.MessageError.{MessageError
 use Rattle.dist_messages.specs.declared.message_error.MessageError.TheVariants.{Long}
 use Rattle.dist_names.specs.Bytes.{IsBytes}
 use Rattle.dist_names.proofs.Bytes.{IsBytes-drop, IsBytes-take}
-use Rattle.dist_messages.specs.Reading.{◌>>=◌, number_at, bytes_at, ended}
+use Rattle.dist_messages.specs.Reading.{◌>>=◌, number_at, bytes_at, value_at_end}
 
 -- the value of a field that was whole
 pub bind_ok : {A B : Type 0} (r : Option A) (f : A → Result B MessageError) (y : B) → (r >>= f) ≡ Ok y → (x : A) × (r ≡ Some x) × (f x ≡ Ok y)
@@ -30,7 +30,7 @@ ended_cases : {A : Type 0} (b : Bool) (x y : A) → cond b (done x) (Err Long) �
 ended_cases true x y e = (refl, cc)
 ended_cases false x y e = absurd cc
 
-pub ended_ok : {A : Type 0} (rest : List ℕ) (x y : A) → ended rest x ≡ Ok y → (rest ≡ []) × (x ≡ y)
+pub ended_ok : {A : Type 0} (rest : List ℕ) (x y : A) → value_at_end rest x ≡ Ok y → (rest ≡ []) × (x ≡ y)
 ended_ok rest x y e = let p = ended_cases (eqb (length rest) 0) x y e in (nil_from_length rest (eqb-true (length rest) 0 p.0), p.1)
 
 -- what a reader took from the front

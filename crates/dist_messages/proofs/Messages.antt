@@ -18,7 +18,7 @@ use Rattle.dist_messages.specs.Spelling.{Spells, Fits, text_of, is_said_by}
 use Rattle.dist_messages.specs.Canonical.{written}
 use Rattle.dist_names.specs.Bytes.{IsBytes}
 use Rattle.dist_names.proofs.Bytes.{IsBytes-rest}
-use Rattle.dist_messages.specs.Reading.{read, old_name, new_name, old_challenge, new_challenge, complement, reply, ack, status_of, known}
+use Rattle.dist_messages.specs.Reading.{read, old_name, new_name, old_challenge, new_challenge, complement, reply, ack, status_of, status_message}
 use Rattle.dist_messages.proofs.FieldLaws.{ok_is}
 use Rattle.dist_messages.proofs.Bodies.{Reads, old_name_again, new_name_again, old_challenge_again, new_challenge_again, complement_again, reply_again, ack_again, old_name_takes, new_name_takes, old_challenge_takes, new_challenge_takes, complement_takes, reply_takes, ack_takes}
 
@@ -78,7 +78,7 @@ status_reads Dialler text s said e = record { spelled = (said, ap (λ (x : List 
 status_reads Acceptor text s said e = record { spelled = (said, ap (λ (x : List ℕ). 0x73 ∷ x) e); fits = tt }
 
 abbrev known_as : Option Status → Message → Type 0
-known_as found m = known found ≡ Ok m
+known_as found m = status_message found ≡ Ok m
 
 at_text : (side : Side) (text : List ℕ) (s : Status) (others : Option Status) (m : Message) → IsTrue (is_said_by s side) → (known_as others m → Reads side 0x73 text m) → known_as (cond (bytes_eq text (text_of s)) (Some s) others) m → Reads side 0x73 text m
 at_text side text s others m said there e =

@@ -4,7 +4,7 @@ use Rattle.std.specs.Prelude.{OnOk, is_ok}
 use Rattle.dist_messages.specs.declared.message.Message.{Message}
 use Rattle.dist_messages.specs.declared.message_error.MessageError.{MessageError}
 use Rattle.dist_messages.specs.Canonical.{bounded}
-use Rattle.dist_messages.specs.Writing.{Checked, name_in}
+use Rattle.dist_messages.specs.Writing.{AnswersCheck, name_in}
 
 -- a piece behind those that are there
 pub more : (old front piece body next : List ℕ) → body ≡ old ++ front → next ≡ body ++ piece → next ≡ old ++ (front ++ piece)
@@ -21,5 +21,5 @@ last_slice (Ok x) old front piece body next e f = more old front piece body next
 last_slice (Err x) old front piece body next e f = tt
 
 -- what the check of a name says of the message that has it
-pub named : (m : Message) (bytes : List ℕ) (r : Result (Unit {0}) MessageError) → bytes ≡ name_in m → ((n : Message) → name_in n ≡ bytes → Checked n r (bounded bytes n)) → Checked m r (bounded (name_in m) m)
-named m bytes r e h = subst (λ (b : List ℕ). Checked m r (bounded b m)) e (h m (sym e))
+pub named : (m : Message) (bytes : List ℕ) (r : Result (Unit {0}) MessageError) → bytes ≡ name_in m → ((n : Message) → name_in n ≡ bytes → AnswersCheck n r (bounded bytes n)) → AnswersCheck m r (bounded (name_in m) m)
+named m bytes r e h = subst (λ (b : List ℕ). AnswersCheck m r (bounded b m)) e (h m (sym e))

@@ -9,7 +9,7 @@ use Rattle.dist_messages.specs.declared.message_error.MessageError.{MessageError
 use Rattle.dist_messages.specs.declared.message_error.MessageError.TheVariants.{Short, Long}
 use Rattle.dist_names.specs.Bytes.{IsBytes}
 use Rattle.dist_names.proofs.Bytes.{IsBytes-append}
-use Rattle.dist_messages.specs.Reading.{◌>>=◌, number_at, bytes_at, ended, old_name, new_name, old_challenge, new_challenge, complement, reply, ack}
+use Rattle.dist_messages.specs.Reading.{◌>>=◌, number_at, bytes_at, value_at_end, old_name, new_name, old_challenge, new_challenge, complement, reply, ack}
 
 -- ---- bytes
 
@@ -73,34 +73,34 @@ rest_reader f = record {
   refusals = λ bytes d e. absurd cc;
 }
 
-behind : (b : ℕ) (rest : List ℕ) (m : Message) → ended (b ∷ rest) m ≡ Err Long
+behind : (b : ℕ) (rest : List ℕ) (m : Message) → value_at_end (b ∷ rest) m ≡ Err Long
 behind b rest m = let e : eqb (length (b ∷ rest)) 0 ≡ false = ne_eqb (length (b ∷ rest)) 0 (λ h. omega (arith, h)) in rw e refl
 
-behind_is : (d : MessageError) (b : ℕ) (rest : List ℕ) (m : Message) → ended (b ∷ rest) m ≡ Err d → d ≡ Long
+behind_is : (d : MessageError) (b : ℕ) (rest : List ℕ) (m : Message) → value_at_end (b ∷ rest) m ≡ Err d → d ≡ Long
 behind_is d b rest m e = let h : refused Long ≡ refused d = sym (behind b rest m) ∙ e in cc
 
-end_short : (m : Message) (bytes : List ℕ) → ended bytes m ≡ Err Short → Completed (λ rest. ended rest m) bytes
+end_short : (m : Message) (bytes : List ℕ) → value_at_end bytes m ≡ Err Short → Completed (λ rest. value_at_end rest m) bytes
 end_short m [] e = absurd cc
 end_short m (b ∷ rest) e = let h = behind_is Short b rest m e in absurd cc
 
-end_long : (m : Message) (bytes : List ℕ) → ended bytes m ≡ Err Long → Overrun (λ rest. ended rest m) bytes
+end_long : (m : Message) (bytes : List ℕ) → value_at_end bytes m ≡ Err Long → Overrun (λ rest. value_at_end rest m) bytes
 end_long m [] e = absurd cc
 end_long m (b ∷ rest) e = record { front = []; next = b; more = rest; parts = refl; message = m; whole = refl }
 
-end_read_stays : (n : Message) (bytes more : List ℕ) (m : Message) → ended bytes n ≡ Ok m → ended (bytes ++ more) n ≡ Err Short → ⊥
+end_read_stays : (n : Message) (bytes more : List ℕ) (m : Message) → value_at_end bytes n ≡ Ok m → value_at_end (bytes ++ more) n ≡ Err Short → ⊥
 end_read_stays n [] [] m e h = read_once m m Short (sym e ∙ h)
 end_read_stays n [] (b ∷ rest) m e h = let k = behind_is Short b rest n h in cc
 end_read_stays n (b ∷ rest) more m e h = read_once m m Long (sym e ∙ behind b rest n)
 
-end_long_stays : (n : Message) (bytes more : List ℕ) (m : Message) → ended bytes n ≡ Err Long → ended (bytes ++ more) n ≡ Ok m → ⊥
+end_long_stays : (n : Message) (bytes more : List ℕ) (m : Message) → value_at_end bytes n ≡ Err Long → value_at_end (bytes ++ more) n ≡ Ok m → ⊥
 end_long_stays n [] more m e h = cc
 end_long_stays n (b ∷ rest) more m e h = read_once m m Long (sym h ∙ behind b (rest ++ more) n)
 
-end_refusals : (m : Message) (bytes : List ℕ) (e : MessageError) → ended bytes m ≡ Err e → (e ≡ Short) ⊎ (e ≡ Long)
+end_refusals : (m : Message) (bytes : List ℕ) (e : MessageError) → value_at_end bytes m ≡ Err e → (e ≡ Short) ⊎ (e ≡ Long)
 end_refusals m [] d e = absurd cc
 end_refusals m (b ∷ rest) d e = inr (behind_is d b rest m e)
 
-pub end_reader : (m : Message) → IsReader (λ rest. ended rest m)
+pub end_reader : (m : Message) → IsReader (λ rest. value_at_end rest m)
 end_reader m = record {
   nothing = record { more = []; more_bytes = λ i. zeros_are_bytes 0 i; message = m; whole = refl };
   short = end_short m;
@@ -231,21 +231,21 @@ old_name_reader =
 pub complement_reader : IsReader complement
 unfolding complement
 complement_reader =
-    then_reader 4 (from_be_bytes w32) (λ high rest. number_at w32 rest >>= λ creation. ended creation.1 (message.Complement high (record { 0 = creation.0 }))) (λ high.
-    then_reader 4 (from_be_bytes w32) (λ creation rest. ended rest (message.Complement high (record { 0 = creation }))) (λ creation.
+    then_reader 4 (from_be_bytes w32) (λ high rest. number_at w32 rest >>= λ creation. value_at_end creation.1 (message.Complement high (record { 0 = creation.0 }))) (λ high.
+    then_reader 4 (from_be_bytes w32) (λ creation rest. value_at_end rest (message.Complement high (record { 0 = creation }))) (λ creation.
     end_reader (message.Complement high (record { 0 = creation }))))
 
 pub reply_reader : IsReader reply
 unfolding reply
 reply_reader =
-    then_reader 4 (from_be_bytes w32) (λ challenge rest. bytes_at 16 rest >>= λ digest. ended digest.1 (message.Reply challenge digest.0)) (λ challenge.
-    then_reader 16 (λ digest. digest) (λ digest rest. ended rest (message.Reply challenge digest)) (λ digest.
+    then_reader 4 (from_be_bytes w32) (λ challenge rest. bytes_at 16 rest >>= λ digest. value_at_end digest.1 (message.Reply challenge digest.0)) (λ challenge.
+    then_reader 16 (λ digest. digest) (λ digest rest. value_at_end rest (message.Reply challenge digest)) (λ digest.
     end_reader (message.Reply challenge digest)))
 
 pub ack_reader : IsReader ack
 unfolding ack
 ack_reader =
-    then_reader 16 (λ digest. digest) (λ digest rest. ended rest (message.Ack digest)) (λ digest.
+    then_reader 16 (λ digest. digest) (λ digest rest. value_at_end rest (message.Ack digest)) (λ digest.
     end_reader (message.Ack digest))
 
 pub old_challenge_reader : IsReader old_challenge

@@ -15,7 +15,7 @@ use Rattle.dist_messages.specs.Spelling.{text_of, is_said_by}
 use Rattle.dist_names.specs.Bytes.{IsBytes}
 use Rattle.dist_names.proofs.Bytes.{IsBytes-append, IsBytes-front}
 use Rattle.dist_messages.specs.Causes.{IsMessage, HasUnknownTag, IsShort, IsLong, HasUnknownStatus, IsCause, status_tag}
-use Rattle.dist_messages.specs.Reading.{read, old_name, new_name, old_challenge, new_challenge, complement, reply, ack, status_of, diallers_status, acceptors_status, known}
+use Rattle.dist_messages.specs.Reading.{read, old_name, new_name, old_challenge, new_challenge, complement, reply, ack, status_of, diallers_status, acceptors_status, status_message}
 use Rattle.dist_messages.proofs.Readers.{Read, IsReader, old_name_reader, new_name_reader, old_challenge_reader, new_challenge_reader, complement_reader, reply_reader, ack_reader}
 use Rattle.dist_messages.proofs.Messages.{spelled_is_read, read_is_spelled, status_again, status_takes}
 
@@ -85,7 +85,7 @@ unfolding read
 read_of_text Dialler text = refl
 read_of_text Acceptor text = refl
 
-known_refuses : (o : Option Status) (d : MessageError) → known o ≡ Err d → d ≡ errors.UnknownStatus
+known_refuses : (o : Option Status) (d : MessageError) → status_message o ≡ Err d → d ≡ errors.UnknownStatus
 known_refuses None d e = cc
 known_refuses (Some s) d e = absurd cc
 
@@ -97,7 +97,7 @@ status_refuses Acceptor text d e = known_refuses _ d e
 tail_is : (x y : List ℕ) → status_tag ∷ x ≡ status_tag ∷ y → x ≡ y
 tail_is x y e = cc
 
-known_some : (o : Option Status) (m : Message) → known o ≡ Ok m → (s : Status) × (o ≡ Some s)
+known_some : (o : Option Status) (m : Message) → status_message o ≡ Ok m → (s : Status) × (o ≡ Some s)
 known_some None m e = absurd cc
 known_some (Some s) m e = (s, refl)
 
@@ -106,11 +106,11 @@ read_text : (side : Side) (text : List ℕ) (m : Message) → status_of side tex
 unfolding status_of
 read_text Dialler text m e none =
     let k = known_some (diallers_status text) m e in
-    let r = status_takes Dialler text (message.Status k.0) (ap known k.1) in
+    let r = status_takes Dialler text (message.Status k.0) (ap status_message k.1) in
     none k.0 r.spelled.0 (tail_is text (text_of k.0) r.spelled.1)
 read_text Acceptor text m e none =
     let k = known_some (acceptors_status text) m e in
-    let r = status_takes Acceptor text (message.Status k.0) (ap known k.1) in
+    let r = status_takes Acceptor text (message.Status k.0) (ap status_message k.1) in
     none k.0 r.spelled.0 (tail_is text (text_of k.0) r.spelled.1)
 
 -- ---- from refusal to cause

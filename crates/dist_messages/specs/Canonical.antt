@@ -19,7 +19,8 @@ canonical (message.OldName flags name) = 0x6e ∷ to_be_bytes w16 written_versio
 canonical (message.NewName flags creation name) = 0x4e ∷ to_be_bytes w64 flags.0 ++ to_be_bytes w32 creation.0 ++ to_be_bytes w16 (length name) ++ name
 canonical (message.Status s) = 0x73 ∷ text_of s
 canonical (message.OldChallenge flags challenge name) = 0x6e ∷ to_be_bytes w16 written_version ++ to_be_bytes w32 flags ++ to_be_bytes w32 challenge ++ name
-canonical (message.NewChallenge flags challenge creation name) = 0x4e ∷ to_be_bytes w64 flags.0 ++ to_be_bytes w32 challenge ++ to_be_bytes w32 creation.0 ++ to_be_bytes w16 (length name) ++ name
+canonical (message.NewChallenge flags challenge creation name) =
+    0x4e ∷ to_be_bytes w64 flags.0 ++ to_be_bytes w32 challenge ++ to_be_bytes w32 creation.0 ++ to_be_bytes w16 (length name) ++ name
 canonical (message.Complement high creation) = 0x63 ∷ to_be_bytes w32 high ++ to_be_bytes w32 creation.0
 canonical (message.Reply challenge digest) = 0x72 ∷ to_be_bytes w32 challenge ++ digest
 canonical (message.Ack digest) = 0x61 ∷ digest

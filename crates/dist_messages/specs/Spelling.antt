@@ -18,6 +18,7 @@ is_said_by status.False Acceptor = false
 is_said_by _ Dialler = false
 is_said_by _ Acceptor = true
 
+-- the text of a status
 abbrev pub text_of : Status → List ℕ
 text_of status.True = codes "true"
 text_of status.False = codes "false"
@@ -30,11 +31,18 @@ text_of status.Alive = codes "alive"
 -- The body spells the message, as this side sends it: a row for each message of the side.
 abbrev pub Spells : Side → Message → List ℕ → Type 0
 Spells Dialler (message.OldName flags name) body = (version : ℕ) × (version < 2 ^ 16) × (body ≡ 0x6e ∷ to_be_bytes w16 version ++ to_be_bytes w32 flags ++ name)
-Spells Dialler (message.NewName flags creation name) body = (ignored : List ℕ) × (length name < 2 ^ 16) × (body ≡ 0x4e ∷ to_be_bytes w64 flags.0 ++ to_be_bytes w32 creation.0 ++ to_be_bytes w16 (length name) ++ name ++ ignored)
+Spells Dialler (message.NewName flags creation name) body =
+    (ignored : List ℕ) × (length name < 2 ^ 16)
+    × (body ≡ 0x4e ∷ to_be_bytes w64 flags.0 ++ to_be_bytes w32 creation.0 ++ to_be_bytes w16 (length name) ++ name ++ ignored)
 Spells Dialler (message.Complement high creation) body = body ≡ 0x63 ∷ to_be_bytes w32 high ++ to_be_bytes w32 creation.0
 Spells Dialler (message.Reply challenge digest) body = body ≡ 0x72 ∷ to_be_bytes w32 challenge ++ digest
-Spells Acceptor (message.OldChallenge flags challenge name) body = (version : ℕ) × (version < 2 ^ 16) × (body ≡ 0x6e ∷ to_be_bytes w16 version ++ to_be_bytes w32 flags ++ to_be_bytes w32 challenge ++ name)
-Spells Acceptor (message.NewChallenge flags challenge creation name) body = (ignored : List ℕ) × (length name < 2 ^ 16) × (body ≡ 0x4e ∷ to_be_bytes w64 flags.0 ++ to_be_bytes w32 challenge ++ to_be_bytes w32 creation.0 ++ to_be_bytes w16 (length name) ++ name ++ ignored)
+Spells Acceptor (message.OldChallenge flags challenge name) body =
+    (version : ℕ) × (version < 2 ^ 16)
+    × (body ≡ 0x6e ∷ to_be_bytes w16 version ++ to_be_bytes w32 flags ++ to_be_bytes w32 challenge ++ name)
+Spells Acceptor (message.NewChallenge flags challenge creation name) body =
+    (ignored : List ℕ) × (length name < 2 ^ 16)
+    × (body ≡ 0x4e ∷ to_be_bytes w64 flags.0 ++ to_be_bytes w32 challenge ++ to_be_bytes w32 creation.0
+    ++ to_be_bytes w16 (length name) ++ name ++ ignored)
 Spells Acceptor (message.Ack digest) body = body ≡ 0x61 ∷ digest
 Spells side (message.Status s) body = IsTrue (is_said_by s side) × (body ≡ 0x73 ∷ text_of s)
 Spells _ _ body = ⊥

@@ -20,9 +20,9 @@ name_in (message.NewChallenge flags challenge creation name) = name
 name_in _ = []
 
 -- What a check before writing answered: the message is written as its spelling and has a short name, or it is refused so.
-abbrev pub Checked : Message → Result (Unit {0}) MessageError → Result (List ℕ) MessageError → Type 0
-Checked m (Ok _) answer = (answer ≡ Ok (canonical m)) × (length (name_in m) ≤ 255)
-Checked m (Err error) answer = RefusedBut (is_want error) error answer
+abbrev pub AnswersCheck : Message → Result (Unit {0}) MessageError → Result (List ℕ) MessageError → Type 0
+AnswersCheck m (Ok _) answer = (answer ≡ Ok (canonical m)) × (length (name_in m) ≤ 255)
+AnswersCheck m (Err error) answer = RefusedBut (is_want error) error answer
 
 -- the same message with a name of no bytes
 abbrev pub nameless : Message → Message

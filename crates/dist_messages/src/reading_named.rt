@@ -10,6 +10,7 @@ use crate::message_error::MessageError;
 use dist_names::{ByteString, Creation, Flags};
 use std::alloc::Global;
 
+/// An old name (tag `n` of the dialling side): version, lower half of the flags, and a name to the end of the body.
 #[tactic(auto, unfolding(crate::specs::Reading::old_name))]
 pub fn read_old_name(alloc: Global, bytes: &[u8]) -> Result<Message, MessageError>
     ensures { Answers (λ m. m) result (old_name bytes.now) }
@@ -20,6 +21,7 @@ pub fn read_old_name(alloc: Global, bytes: &[u8]) -> Result<Message, MessageErro
     Ok(Message::OldName { flags, name })
 }
 
+/// A new name (tag `N` of the dialling side): flags, creation, and a name behind its length. Bytes after the name are ignored.
 #[tactic(auto, unfolding(crate::specs::Reading::new_name))]
 pub fn read_new_name(alloc: Global, bytes: &[u8]) -> Result<Message, MessageError>
     ensures { Answers (λ m. m) result (new_name bytes.now) }
@@ -36,6 +38,8 @@ pub fn read_new_name(alloc: Global, bytes: &[u8]) -> Result<Message, MessageErro
     })
 }
 
+/// An old challenge (tag `n` of the accepting side): version, lower half of the flags, challenge, and a name to the end of the
+/// body.
 #[tactic(auto, unfolding(crate::specs::Reading::old_challenge))]
 pub fn read_old_challenge(alloc: Global, bytes: &[u8]) -> Result<Message, MessageError>
     ensures { Answers (λ m. m) result (old_challenge bytes.now) }
@@ -51,6 +55,8 @@ pub fn read_old_challenge(alloc: Global, bytes: &[u8]) -> Result<Message, Messag
     })
 }
 
+/// A new challenge (tag `N` of the accepting side): flags, challenge, creation, and a name behind its length. Bytes after the
+/// name are ignored.
 #[tactic(auto, unfolding(crate::specs::Reading::new_challenge))]
 pub fn read_new_challenge(alloc: Global, bytes: &[u8]) -> Result<Message, MessageError>
     ensures { Answers (λ m. m) result (new_challenge bytes.now) }

@@ -1,4 +1,4 @@
-//! Writing the messages that have a name, each behind the bytes that are there.
+//! Writing the messages that have a name, each behind the bytes that are there. A call fails only where memory runs out.
 
 ghost use Rattle.std.specs.Prelude.{◌≡◌, ◌≤◌, ◌++◌, length, OnOk};
 ghost use Rattle.dist_messages.specs.declared.message.Message.TheVariants as message;
@@ -8,6 +8,7 @@ use crate::pieces::{put_32, put_64, put_name, put_version};
 use dist_names::{Creation, Flags};
 use std::alloc::AllocError;
 
+/// An old name, with version 5. The name goes on to the end of the body.
 pub fn put_old_name(body: &mut Vec<u8>, flags: u32, name: &[u8]) -> Result<(), AllocError>
     ensures { OnOk result (body.new.items ≡ body.old.items ++ canonical (message.OldName flags name.now)) }
 {
@@ -17,6 +18,7 @@ pub fn put_old_name(body: &mut Vec<u8>, flags: u32, name: &[u8]) -> Result<(), A
     body.extend_from_slice(name)
 }
 
+/// A new name, with nothing behind it. A name has at most 255 bytes.
 pub fn put_new_name(
     body: &mut Vec<u8>,
     flags: Flags,
@@ -33,6 +35,7 @@ pub fn put_new_name(
     put_name(body, name)
 }
 
+/// An old challenge, with version 5. The name goes on to the end of the body.
 pub fn put_old_challenge(
     body: &mut Vec<u8>,
     flags: u32,
@@ -48,6 +51,7 @@ pub fn put_old_challenge(
     body.extend_from_slice(name)
 }
 
+/// A new challenge, with nothing behind its name, which has at most 255 bytes.
 pub fn put_new_challenge(
     body: &mut Vec<u8>,
     flags: Flags,

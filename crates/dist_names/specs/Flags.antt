@@ -3,12 +3,15 @@ use Rattle.std.specs.Prelude.{ℕ, ◌+◌, ◌*◌, ◌/◌, ◌%◌, ◌^◌, 
 
 -- ---- halves: an old name, an old challenge and a complement carry 32 bits each
 
+-- the lower 32 bits of flags
 abbrev pub low_half : ℕ → ℕ
 low_half flags = flags % 2 ^ 32
 
+-- the upper 32 bits
 abbrev pub high_half : ℕ → ℕ
 high_half flags = flags / 2 ^ 32
 
+-- the flags of these two halves
 abbrev pub of_halves : ℕ → ℕ → ℕ
 of_halves high low = high * 2 ^ 32 + low
 

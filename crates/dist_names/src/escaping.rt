@@ -4,7 +4,8 @@ ghost use Rattle.std.specs.Prelude.{◌≡◌, ◌++◌, ◌<◌, IfOk, OnOk};
 ghost use Rattle.std.specs.List.{All};
 ghost use Rattle.std.specs.String.{string_bytes};
 ghost use Rattle.std.specs.Char.{digit_char};
-ghost use Rattle.dist_names.specs.Escaped.{by_digits, escape_of, escape_in_lines, escape_in_quotes, escaped, escaped_lines, quoted, IsPrintable, IsPrintableOrLineFeed};
+ghost use Rattle.dist_names.specs.Escaped.{by_digits, escape_of, escape_in_lines, escape_in_quotes, escaped, escaped_lines, quoted};
+ghost use Rattle.dist_names.specs.Escaped.{IsPrintable, IsPrintableOrLineFeed};
 
 use crate::plain::is_printable;
 use std::alloc::{AllocError, Global};

@@ -49,7 +49,7 @@ impl Flags {
         }
     }
 
-    /// The lower 32 bits, as an old name or an old challenge bears them.
+    /// The lower 32 bits, as an old name or an old challenge carries them.
     pub fn low(self) -> u32
         ensures { result ≡ low_half self.0 }
     {

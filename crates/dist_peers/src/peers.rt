@@ -193,7 +193,8 @@ impl Peers {
     /// Where memory runs out, nothing changes.
     #[tactic(auto, using(crate::proofs::Others::put_there, crate::proofs::Others::put_over))]
     pub fn take_name(&mut self, me: &NodeName, peer: &NodeName, id: EndId) -> Result<(), AllocError>
-        ensures ok { OnOk result (self.new ≡ map.insert self.old peer.now (let r = ruling (is_greater me.now peer.now) id (entry_of self.old peer.now) in r.entry)) }
+        ensures ok { OnOk result (self.new
+            ≡ map.insert self.old peer.now (let r = ruling (is_greater me.now peer.now) id (entry_of self.old peer.now) in r.entry)) }
         ensures err { OnErr result (self.new ≡ self.old) }
     {
         let was = self.put(peer, Entry::In(id))?;

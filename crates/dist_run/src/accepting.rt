@@ -1,7 +1,7 @@
 //! The thread of a node that accepts connections.
 
 use crate::connection::Carrier;
-use crate::crew::{Crew, Rest};
+use crate::crew::{Crew, Post, Rest};
 use crate::site::Site;
 use dist_core::Event;
 use dist_run_hosts::{Challenges, Connection, Host, Pool, accept, link_of};
@@ -15,7 +15,7 @@ fn take_in<'s, E, R: Threads + Wait + Sync, G>(
     number: usize,
     connection: Connection,
 ) {
-    let link = link_of(connection.dialler_port, crew.host().port);
+    let link = link_of(connection.dialler_port, crew.host().listener.port);
     let stream = connection.stream;
     let carrier = Carrier { link, stream };
     match crew.step(&Event::Incoming { link }) {
@@ -26,7 +26,7 @@ fn take_in<'s, E, R: Threads + Wait + Sync, G>(
 
 // Accepts until as many turns in a row were quiet as the plan says, or until the run has failed. A connection for which there is
 // no place is closed, and nothing reports it.
-fn accept_into<'s, E, R: Threads + Wait + Clock + Sync, G>(
+fn fill_crew<'s, E, R: Threads + Wait + Clock + Sync, G>(
     site: &Site<'_, R, G>,
     crew: &mut Crew<'s, E, R, G>,
     places: usize,
@@ -38,7 +38,7 @@ fn accept_into<'s, E, R: Threads + Wait + Clock + Sync, G>(
             break;
         }
         crew.join_ended();
-        match accept(site.rt, &crew.host().listener) {
+        match accept(site.rt, &crew.host().listener.socket) {
             Some(connection) => {
                 if crew.open_count() < places {
                     take_in(crew, number, connection);
@@ -60,10 +60,16 @@ pub fn accept_all<'s, E, R: Threads + Wait + Clock + Sync, G>(
     pool: Pool,
     challenges: Challenges,
 ) -> Rest {
-    let refused = &host.refused.accepting;
     let dials = site.dials_to(host);
     let places = site.places.node.saturating_add(dials);
-    let mut crew = Crew::new(scope, site, host, refused, pool, challenges, dials);
-    accept_into(site, &mut crew, places);
+    let post = Post {
+        host,
+        refused: &host.refused.accepting,
+        pool,
+        challenges,
+        spare: dials,
+    };
+    let mut crew = Crew::new(scope, site, post);
+    fill_crew(site, &mut crew, places);
     crew.join()
 }

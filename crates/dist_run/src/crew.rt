@@ -21,19 +21,26 @@ struct Running {
     handle: JoinHandle<Left>,
 }
 
+/// What a crew has at its node.
+#[derive(Drop)]
+pub struct Post<'s> {
+    pub host: &'s Host,
+    /// Where the crew notes which connection got no thread.
+    pub refused: &'s AtomicUsize,
+    pub pool: Pool,
+    pub challenges: Challenges,
+    /// How many connections of closed ends may still be kept that are of no known dial of the run.
+    pub spare: usize,
+}
+
 /// Threads that were started and not joined yet, with what is left of the others.
 #[derive(Drop)]
 pub struct Crew<'s, E, R, G> {
     scope: &'s Scope<'s, E>,
     site: &'s Site<'s, R, G>,
-    host: &'s Host,
-    refused: &'s AtomicUsize,
-    pool: Pool,
-    challenges: Challenges,
+    post: Post<'s>,
     running: Vec<Running>,
     streams: Vec<SocketStream>,
-    // How many connections of closed ends may still be kept that are of no known dial of the run.
-    spare: usize,
 }
 
 /// What a crew leaves: its seats, and its streams.
@@ -51,32 +58,24 @@ fn end_and_bytes(receipt: Receipt) -> (EndId, ByteString) {
 }
 
 impl<'s, E, R: Threads + Wait + Sync, G> Crew<'s, E, R, G> {
-    /// A crew that has started nothing. It keeps this many connections of closed ends that are of no known dial of the run.
+    /// A crew that has started nothing.
     pub fn new(
         scope: &'s Scope<'s, E>,
         site: &'s Site<'s, R, G>,
-        host: &'s Host,
-        refused: &'s AtomicUsize,
-        pool: Pool,
-        challenges: Challenges,
-        spare: usize,
+        post: Post<'s>,
     ) -> Crew<'s, E, R, G> {
         Crew {
             scope,
             site,
-            host,
-            refused,
-            pool,
-            challenges,
+            post,
             running: Vec::new(site.alloc),
             streams: Vec::new(site.alloc),
-            spare,
         }
     }
 
     /// The node.
     pub fn host(&self) -> &'s Host {
-        self.host
+        self.post.host
     }
 
     /// What all threads of the run share.
@@ -86,8 +85,9 @@ impl<'s, E, R: Threads + Wait + Sync, G> Crew<'s, E, R, G> {
 
     /// Makes a step of the crew's own. The end, and what it sends.
     pub fn step(&mut self, event: &Event) -> Result<(EndId, ByteString), StepError> {
-        let own = &mut self.pool.own;
-        match self.host.node.step(self.site.rt, own, event, 0) {
+        let host = self.post.host;
+        let own = &mut self.post.pool.own;
+        match host.node.step(self.site.rt, own, event, 0) {
             Ok(receipt) => Ok(end_and_bytes(receipt)),
             Err(error) => Err(error),
         }
@@ -95,28 +95,29 @@ impl<'s, E, R: Threads + Wait + Sync, G> Crew<'s, E, R, G> {
 
     /// Loses an end.
     pub fn lose(&mut self, end_: EndId, why: Why) {
-        let own = &mut self.pool.own;
-        lose(self.site.rt, &self.host.node, own, end_, why);
+        let host = self.post.host;
+        let own = &mut self.post.pool.own;
+        lose(self.site.rt, &host.node, own, end_, why);
     }
 
     // Whether the connection of a closed end is to be kept. Both sockets of each dial of the run are, so that no two of them have
     // one pair of ports. A connection may come before its link is noted, so the first few are kept, whoever made them: where no
     // stranger comes, that is all of them.
-    fn keeps_closed(&mut self, link: u64) -> bool {
+    fn claim_place(&mut self, link: u64) -> bool {
         if self.site.is_of_dial(link) {
             return true;
         }
-        if self.spare == 0 {
+        if self.post.spare == 0 {
             return false;
         }
-        self.spare -= 1;
+        self.post.spare -= 1;
         true
     }
 
     /// Closes the connection of a closed end, or keeps it to the end of the run, where its ports must not be used again.
     pub fn part_with(&mut self, carrier: Carrier) {
         say_goodbye(&carrier.stream);
-        if self.keeps_closed(carrier.link) {
+        if self.claim_place(carrier.link) {
             self.site.keep(&mut self.streams, carrier.stream);
         }
     }
@@ -134,7 +135,7 @@ impl<'s, E, R: Threads + Wait + Sync, G> Crew<'s, E, R, G> {
 
     // Keeps what is left of a job. The seat comes back to its place.
     fn keep_rest(&mut self, left: Left) {
-        self.site.keep(&mut self.pool.free, left.seat);
+        self.site.keep(&mut self.post.pool.free, left.seat);
         if left.is_over {
             self.part_with(left.carrier);
         } else {
@@ -144,7 +145,7 @@ impl<'s, E, R: Threads + Wait + Sync, G> Crew<'s, E, R, G> {
 
     // The next thread that has ended.
     fn take_ended(&mut self) -> Option<Running> {
-        let ended = &self.host.ended;
+        let ended = &self.post.host.ended;
         let place = self
             .running
             .iter()
@@ -167,27 +168,27 @@ impl<'s, E, R: Threads + Wait + Sync, G> Crew<'s, E, R, G> {
     }
 
     // A seat and room for a thread, or why an end gets none.
-    fn seat(&mut self) -> Result<Seat, Why> {
+    fn take_seat(&mut self) -> Result<Seat, Why> {
         self.join_ended();
         if self.running.reserve(1).is_err() {
             return Err(Why::NoMemory);
         }
-        self.pool.free.pop().ok_or(Why::GaveUp)
+        self.post.pool.free.pop().ok_or(Why::GaveUp)
     }
 
     /// Starts a thread that drives an end. Where no seat is left, or no thread can be made, the end is lost.
     pub fn start(&mut self, number: usize, end_: EndId, first: ByteString, carrier: Carrier) {
-        match self.seat() {
+        match self.take_seat() {
             Ok(seat) => {
-                self.host.ended.set(seat.number(), false);
+                self.post.host.ended.set(seat.number(), false);
                 let job = Job {
                     number,
-                    host: self.host,
+                    host: self.post.host,
                     end_,
                     seat,
                     carrier,
                     first,
-                    challenges: self.challenges.fork(),
+                    challenges: self.post.challenges.fork(),
                     turns: self.site.turns,
                 };
                 self.spawn(job);
@@ -200,7 +201,7 @@ impl<'s, E, R: Threads + Wait + Sync, G> Crew<'s, E, R, G> {
         let (rt, alloc, refused, number) = (
             self.site.rt,
             self.site.alloc,
-            self.refused,
+            self.post.refused,
             job.number,
         );
         let seat = job.seat.number();
@@ -230,7 +231,7 @@ impl<'s, E, R: Threads + Wait + Sync, G> Crew<'s, E, R, G> {
     pub fn join(mut self) -> Rest {
         self.join_all();
         Rest {
-            pool: self.pool,
+            pool: self.post.pool,
             streams: self.streams,
         }
     }

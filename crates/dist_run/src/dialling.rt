@@ -3,7 +3,8 @@
 ghost use Rattle.std.specs.Prelude.{◌≡◌};
 
 use crate::connection::Carrier;
-use crate::crew::{Crew, Rest};
+use crate::crew::{Crew, Post, Rest};
+use crate::machine::Machine;
 use crate::site::Site;
 use dist_core::{Event, Opening, StepError, Why};
 use dist_drive::{lookup, opening_for};
@@ -14,13 +15,12 @@ use dist_run_hosts::{
     Challenges, Connection, Host, OrderFault, OrderRefusal, Pool, RunError, connect_to_port,
     link_of,
 };
-use std::net::{Net, TcpListener, TcpStream};
 use std::sync::Wait;
 use std::sync::atomic::AtomicUsize;
 use std::thread;
 use std::thread::{Scope, Threads};
 
-/// What a worker is given: its right to take orders, and for each node its seats.
+/// What a worker has: its right to take orders, and for each node its seats.
 #[derive(Drop)]
 pub struct Shift {
     /// 0 or 1: which worker it is.
@@ -37,6 +37,13 @@ pub struct Worked {
     pub faults: Vec<OrderFault>,
 }
 
+// An order, and the worker that took it.
+#[derive(Clone, Copy)]
+struct Task {
+    worker: u32,
+    number: u32,
+}
+
 // Where a peer listens, and how it is spoken to.
 #[derive(Clone, Copy)]
 struct Peer {
@@ -45,10 +52,7 @@ struct Peer {
 }
 
 // Asks the port mapper where a peer listens.
-fn looked_up<R: Net<Listener = TcpListener, Stream = TcpStream>, G>(
-    site: &Site<'_, R, G>,
-    to: &NodeName,
-) -> Result<Peer, OrderRefusal> {
+fn find_peer<R: Machine, G>(site: &Site<'_, R, G>, to: &NodeName) -> Result<Peer, OrderRefusal> {
     let connection = match connect_to_port(site.rt, site.mapper_port) {
         Ok(connection) => connection,
         Err(error) => return Err(OrderRefusal::of_connect(&error)),
@@ -79,7 +83,7 @@ fn begin<'s, E, R: Threads + Wait + Sync, G>(
 }
 
 // Gives the node a connection, between the two moments of the gate: what its end sends, or why it is to be lost.
-fn opened<'s, E, R: Threads + Wait + Sync, G: Gate>(
+fn open_end<'s, E, R: Threads + Wait + Sync, G: Gate>(
     crew: &mut Crew<'s, E, R, G>,
     worker: u32,
     end_: EndId,
@@ -100,20 +104,19 @@ fn opened<'s, E, R: Threads + Wait + Sync, G: Gate>(
 }
 
 // Opens the end of a connection, and starts a thread for it.
-fn open<'s, E, R: Threads + Wait + Sync, G: Gate>(
+fn open_connection<'s, E, R: Threads + Wait + Sync, G: Gate>(
     crew: &mut Crew<'s, E, R, G>,
-    worker: u32,
-    number: u32,
+    task: Task,
     end_: EndId,
     port: u16,
     connection: Connection,
 ) {
     let link = link_of(connection.dialler_port, port);
-    crew.site().note_link(number, link);
+    crew.site().note_link(task.number, link);
     let stream = connection.stream;
     let carrier = Carrier { link, stream };
-    match opened(crew, worker, end_, link) {
-        Ok(first) => crew.start(number as usize, end_, first, carrier),
+    match open_end(crew, task.worker, end_, link) {
+        Ok(first) => crew.start(task.number as usize, end_, first, carrier),
         Err(why) => crew.give_up(end_, why, carrier),
     }
 }
@@ -121,18 +124,17 @@ fn open<'s, E, R: Threads + Wait + Sync, G: Gate>(
 // Does what an order says.
 fn make_dial<'s, E, R, G: Gate>(
     crew: &mut Crew<'s, E, R, G>,
-    worker: u32,
-    number: u32,
+    task: Task,
     to: &NodeName,
 ) -> Result<(), OrderRefusal>
 where
-    R: Net<Listener = TcpListener, Stream = TcpStream> + Threads + Wait + Sync,
+    R: Machine,
 {
     let site = crew.site();
-    let peer = looked_up(site, to)?;
+    let peer = find_peer(site, to)?;
     let end_ = begin(crew, to, peer.opening)?;
     match connect_to_port(site.rt, peer.port) {
-        Ok(connection) => open(crew, worker, number, end_, peer.port, connection),
+        Ok(connection) => open_connection(crew, task, end_, peer.port, connection),
         Err(_) => crew.lose(end_, Why::DialFailed),
     }
     Ok(())
@@ -142,17 +144,16 @@ where
 fn obey<'s, E, R, G: Gate>(
     site: &Site<'_, R, G>,
     crews: &mut [Crew<'s, E, R, G>],
-    worker: u32,
-    number: u32,
+    task: Task,
 ) -> Result<(), OrderRefusal>
 where
-    R: Net<Listener = TcpListener, Stream = TcpStream> + Threads + Wait + Sync,
+    R: Machine,
 {
-    let Some(dial) = site.dials.get(number as usize) else {
+    let Some(dial) = site.dials.get(task.number as usize) else {
         return Ok(());
     };
     match crews.get_mut(dial.from) {
-        Some(crew) => make_dial(crew, worker, number, &dial.to),
+        Some(crew) => make_dial(crew, task, &dial.to),
         None => Ok(()),
     }
 }
@@ -166,7 +167,7 @@ fn take_all<'s, E, R, G: Gate>(
     crews: &mut [Crew<'s, E, R, G>],
 ) -> Vec<OrderFault>
 where
-    R: Net<Listener = TcpListener, Stream = TcpStream> + Threads + Wait + Sync,
+    R: Machine,
     requires { pass.old.table ≡ orders.now.table }
     ensures { (pass.new.table ≡ pass.old.table) × (pass.new.second ≡ pass.old.second) }
 {
@@ -178,7 +179,7 @@ where
                     break;
                 }
                 let number = order.0;
-                if let Err(refusal) = obey(site, crews, worker, number) {
+                if let Err(refusal) = obey(site, crews, Task { worker, number }) {
                     site.keep(&mut faults, OrderFault { number, refusal });
                 }
             }
@@ -189,7 +190,7 @@ where
 }
 
 // Where a worker notes at a node which connection got no thread.
-fn refused_of(host: &Host, worker: u32) -> &AtomicUsize {
+fn refusal_mark(host: &Host, worker: u32) -> &AtomicUsize {
     match worker {
         0 => &host.refused.first,
         _ => &host.refused.second,
@@ -197,7 +198,7 @@ fn refused_of(host: &Host, worker: u32) -> &AtomicUsize {
 }
 
 // A crew for each node, that has started nothing.
-fn crews_of<'s, E, R: Threads + Wait + Sync, G>(
+fn new_crews<'s, E, R: Threads + Wait + Sync, G>(
     scope: &'s Scope<'s, E>,
     site: &'s Site<'s, R, G>,
     worker: u32,
@@ -210,14 +211,20 @@ fn crews_of<'s, E, R: Threads + Wait + Sync, G>(
         let Some(pool) = pools.next() else {
             break;
         };
-        let refused = refused_of(host, worker);
-        crews.push(Crew::new(scope, site, host, refused, pool, challenges.fork(), 0))?;
+        let post = Post {
+            host,
+            refused: refusal_mark(host, worker),
+            pool,
+            challenges: challenges.fork(),
+            spare: 0,
+        };
+        crews.push(Crew::new(scope, site, post))?;
     }
     Ok(crews)
 }
 
 // Joins the threads of all crews.
-fn rests_of<'s, E, R: Threads + Wait + Sync, G>(
+fn join_crews<'s, E, R: Threads + Wait + Sync, G>(
     site: &Site<'_, R, G>,
     crews: Vec<Crew<'s, E, R, G>>,
 ) -> Vec<Rest> {
@@ -229,14 +236,14 @@ fn rests_of<'s, E, R: Threads + Wait + Sync, G>(
 }
 
 /// Takes orders up to the last, and does what they say. Then joins the threads that were started.
-pub fn work_on<'s, E, R, G: Gate>(
+pub fn work<'s, E, R, G: Gate>(
     scope: &'s Scope<'s, E>,
     site: &'s Site<'s, R, G>,
     orders: &Orders,
     shift: Shift,
 ) -> Result<Worked, RunError>
 where
-    R: Net<Listener = TcpListener, Stream = TcpStream> + Threads + Wait + Sync,
+    R: Machine,
     requires { shift.pass.table ≡ orders.now.table }
 {
     let Shift {
@@ -245,8 +252,8 @@ where
         pools,
         challenges,
     } = shift;
-    let mut crews = crews_of(scope, site, worker, pools, challenges)?;
+    let mut crews = new_crews(scope, site, worker, pools, challenges)?;
     let faults = take_all(site, orders, worker, &mut pass, crews.as_mut_slice());
-    let rests = rests_of(site, crews);
+    let rests = join_crews(site, crews);
     Ok(Worked { rests, faults })
 }

@@ -10,10 +10,12 @@ mod accepting;
 mod connection;
 mod crew;
 mod dialling;
+mod machine;
 mod running;
 mod site;
 mod threads;
 
 pub use dist_drive::opening_for;
 pub use dist_run_hosts::{Challenges, OrderFault, OrderRefusal, RunError};
+pub use machine::Machine;
 pub use running::{Ran, run_plan};

@@ -6,24 +6,22 @@ ghost use Rattle.dist_run_hosts.specs.Orders.{AreObeyed};
 ghost use Rattle.dist_run.specs.Runs.{AreInOrder};
 
 use crate::crew::Rest;
+use crate::machine::Machine;
 use crate::site::{Dial, Site};
 use crate::threads::{Ended, Pools, run_threads};
 use dist_locked::{Book, Closed, Gate, Seat, Tickets, close};
 use dist_run_hosts::{
-    Challenges, Host, OrderFault, Places, Pool, RunError, SharedOut, are_obeyed, are_of_plans,
-    listen, most_descriptors, places_of, serve_all, start,
+    Challenges, Host, LocalListener, MapperAccess, OrderFault, Places, Pool, RunError, Shares,
+    are_obeyed, are_of_plans, listen, mapper_limits, most_descriptors, places_of, serve_mapper,
+    start,
 };
 use dist_run_plan::{DialPlan, NodePlan, Plan};
 use rand::make_rng;
 use rand::rngs::StdRng;
 use std::alloc::Global;
-use std::net::{Net, TcpListener, TcpStream};
-use std::random::RandomSource;
+use std::sync::Arc;
 use std::sync::atomic::{AtomicBool, Ordering};
-use std::sync::{Arc, Wait};
 use std::thread;
-use std::thread::Threads;
-use std::time::Clock;
 use std::vec::IntoIter;
 
 /// What a run leaves.
@@ -45,19 +43,18 @@ struct Started {
 }
 
 impl Started {
-    fn add(&mut self, host: Host, shares: SharedOut) -> Result<(), RunError> {
+    fn add(&mut self, host: Host, shares: Shares) -> Result<(), RunError> {
         self.hosts.push(host)?;
         self.pools.add(shares)
     }
 }
 
 // Starts each node.
-fn start_all<R: Net<Listener = TcpListener, Stream = TcpStream>>(
+fn start_all<R: Machine>(
     rt: &R,
     alloc: Global,
     plans: &[NodePlan],
-    mapper_port: u16,
-    turns: usize,
+    mapper: MapperAccess,
 ) -> Result<Started, RunError> {
     let tickets = Arc::new(alloc, Tickets::new())?;
     let mut all = Started {
@@ -65,14 +62,14 @@ fn start_all<R: Net<Listener = TcpListener, Stream = TcpStream>>(
         pools: Pools::new(alloc),
     };
     for plan in plans {
-        let (host, shares) = start(rt, alloc, plan, mapper_port, turns, &tickets)?;
+        let (host, shares) = start(rt, alloc, plan, mapper, &tickets)?;
         all.add(host, shares)?;
     }
     Ok(all)
 }
 
 // The place of the node that makes a dial. A plan has no dial by another.
-fn place_of(nodes: &[NodePlan], dial: &DialPlan) -> usize {
+fn node_index(nodes: &[NodePlan], dial: &DialPlan) -> usize {
     nodes
         .iter()
         .position(|node| node.name.is_same(&dial.from))
@@ -83,11 +80,20 @@ fn place_of(nodes: &[NodePlan], dial: &DialPlan) -> usize {
 fn dials_of(alloc: Global, nodes: &[NodePlan], plans: &[DialPlan]) -> Result<Vec<Dial>, RunError> {
     let mut dials = Vec::new(alloc);
     for plan in plans {
-        let from = place_of(nodes, plan);
+        let from = node_index(nodes, plan);
         let to = plan.to.try_clone(alloc)?;
         dials.push(Dial::new(from, to))?;
     }
     Ok(dials)
+}
+
+// What a run is made from.
+#[derive(Drop)]
+struct Run<'a, R, G> {
+    rt: &'a R,
+    alloc: Global,
+    plan: &'a Plan,
+    gate: &'a G,
 }
 
 // What is left of all threads, in the order of the nodes.
@@ -137,7 +143,7 @@ fn close_next(alloc: Global, host: Host, rests: &mut Rests) -> Result<Closed, Ru
 }
 
 // Closes all nodes.
-fn closed_all(alloc: Global, hosts: Vec<Host>, mut rests: Rests) -> Result<Vec<Closed>, RunError> {
+fn close_all(alloc: Global, hosts: Vec<Host>, mut rests: Rests) -> Result<Vec<Closed>, RunError> {
     let mut all = Vec::new(alloc);
     for host in hosts {
         all.push(close_next(alloc, host, &mut rests)?)?;
@@ -160,7 +166,7 @@ fn faults_of(first: Vec<OrderFault>, second: Vec<OrderFault>) -> Result<Vec<Orde
 }
 
 // What is left of the nodes, closed.
-fn ran_of(alloc: Global, hosts: Vec<Host>, ended: Ended) -> Result<Ran, RunError>
+fn end_run(alloc: Global, hosts: Vec<Host>, ended: Ended) -> Result<Ran, RunError>
     ensures order { IfOk result (λ ran. AreInOrder ran.faults.items) }
     ensures all { IfOk result (λ ran. IsPermutation (ended.first.faults.items ++ ended.second.faults.items) ran.faults.items) }
 {
@@ -174,7 +180,7 @@ fn ran_of(alloc: Global, hosts: Vec<Host>, ended: Ended) -> Result<Ran, RunError
         first: first.rests.into_iter(),
         second: second.rests.into_iter(),
     };
-    let closed = closed_all(alloc, hosts, rests)?;
+    let closed = close_all(alloc, hosts, rests)?;
     Ok(Ran {
         faults: faults_of(first.faults, second.faults)?,
         closed,
@@ -183,22 +189,24 @@ fn ran_of(alloc: Global, hosts: Vec<Host>, ended: Ended) -> Result<Ran, RunError
 
 // Starts the nodes, runs their threads, and closes what is left of them.
 fn run_hosts<R, G>(
-    rt: &R,
-    alloc: Global,
-    plan: &Plan,
+    run: &Run<'_, R, G>,
     mapper_port: u16,
     places: Places,
-    gate: &G,
     challenges: Challenges,
 ) -> Result<Ran, RunError>
 where
-    R: Net<Listener = TcpListener, Stream = TcpStream> + Threads + Wait + Clock + Sync,
+    R: Machine,
     G: Gate + Sync,
 {
+    let (rt, alloc, plan) = (run.rt, run.alloc, run.plan);
     let turns = plan.turns as usize;
     let nodes = plan.node.as_slice();
     let dials = dials_of(alloc, nodes, plan.dial.as_slice())?;
-    let Started { hosts, pools } = start_all(rt, alloc, nodes, mapper_port, turns)?;
+    let mapper = MapperAccess {
+        port: mapper_port,
+        turns,
+    };
+    let Started { hosts, pools } = start_all(rt, alloc, nodes, mapper)?;
     let site = Site {
         rt,
         alloc,
@@ -207,11 +215,11 @@ where
         mapper_port,
         places,
         turns,
-        gate,
+        gate: run.gate,
         failed: AtomicBool::new(false),
     };
     let ended = run_threads(site, pools, challenges)?;
-    ran_of(alloc, hosts, ended)
+    end_run(alloc, hosts, ended)
 }
 
 // How the descriptors of the process are shared out among what a plan has.
@@ -222,45 +230,34 @@ fn places_for(plan: &Plan) -> Places {
 }
 
 // Serves the port mapper while the nodes run. Where it stopped before it was asked to, that is the run's fault.
-fn run_beside<R, G>(
-    rt: &R,
-    alloc: Global,
-    listener: TcpListener,
-    port: u16,
-    plan: &Plan,
-    gate: &G,
+fn serve_beside<R, G>(
+    run: &Run<'_, R, G>,
+    listener: LocalListener,
     challenges: Challenges,
 ) -> Result<Ran, RunError>
 where
-    R: Net<Listener = TcpListener, Stream = TcpStream> + Threads + Wait + Clock + Sync,
+    R: Machine,
     G: Gate + Sync,
 {
     let stop = AtomicBool::new(false);
-    let (turns, stop) = (plan.turns as usize, &stop);
-    let places = places_for(plan);
-    let clients = places.clients;
+    let (rt, alloc, stop, port) = (run.rt, run.alloc, &stop, listener.port);
+    let places = places_for(run.plan);
+    let limits = mapper_limits(places.clients, run.plan.turns as usize);
     thread::scope(thread::scope_env(), rt, move |scope| {
-        let serving = scope.spawn(move || serve_all(
-            rt, alloc, listener, port, clients, turns, stop,
-        ));
+        let serving = scope.spawn(move || serve_mapper(rt, alloc, listener, limits, stop));
         let Ok(handle) = serving else {
             return Err(RunError::ThreadFailed);
         };
-        let ran = run_hosts(rt, alloc, plan, port, places, gate, challenges);
+        let ran = run_hosts(run, port, places, challenges);
         stop.store(true, Ordering::SeqCst);
         handle.join(rt).and(ran)
     })
 }
 
 // Runs a plan to its end, whatever nodes are then closed.
-fn run_all<R, G>(rt: &R, alloc: Global, plan: &Plan, gate: &G) -> Result<Ran, RunError>
+fn carry_out<R, G>(rt: &R, alloc: Global, plan: &Plan, gate: &G) -> Result<Ran, RunError>
 where
-    R: Net<Listener = TcpListener, Stream = TcpStream>
-        + Threads
-        + Wait
-        + Clock
-        + RandomSource
-        + Sync,
+    R: Machine,
     G: Gate + Sync,
     ensures { IfOk result (λ ran. AreInOrder ran.faults.items) }
 {
@@ -268,10 +265,16 @@ where
         return Err(RunError::NoRandomBytes);
     };
     let challenges = Challenges::new(generator);
-    let Ok((listener, port)) = listen(rt, plan.port) else {
+    let Ok(listener) = listen(rt, plan.port) else {
         return Err(RunError::ListenFailed);
     };
-    run_beside(rt, alloc, listener, port, plan, gate, challenges)
+    let run = Run {
+        rt,
+        alloc,
+        plan,
+        gate,
+    };
+    serve_beside(&run, listener, challenges)
 }
 
 /// Runs a plan to its end: until each node's accepting thread was quiet for as many turns as the plan says, and all
@@ -281,18 +284,13 @@ where
 /// dials that were made and the orders that are reported are not the plan's, each once. No run that was seen has had either.
 pub fn run_plan<R, G>(rt: &R, alloc: Global, plan: &Plan, gate: &G) -> Result<Ran, RunError>
 where
-    R: Net<Listener = TcpListener, Stream = TcpStream>
-        + Threads
-        + Wait
-        + Clock
-        + RandomSource
-        + Sync,
+    R: Machine,
     G: Gate + Sync,
     ensures order { IfOk result (λ ran. AreInOrder ran.faults.items) }
     ensures nodes { IfOk result (λ ran. AreOfPlans plan.now.node ran.closed.items) }
     ensures orders { IfOk result (λ ran. AreObeyed plan.now.dial ran.faults.items ran.closed.items) }
 {
-    let ran = run_all(rt, alloc, plan, gate)?;
+    let ran = carry_out(rt, alloc, plan, gate)?;
     if !are_of_plans(plan.node.as_slice(), ran.closed.as_slice()) {
         return Err(RunError::OtherSetup);
     }

@@ -4,23 +4,29 @@ ghost use Rattle.std.specs.Prelude.{◌≡◌, ◌≤◌};
 
 use crate::accepting::accept_all;
 use crate::crew::Rest;
-use crate::dialling::{Shift, Worked, work_on};
+use crate::dialling::{Shift, Worked, work};
+use crate::machine::Machine;
 use crate::site::{Dial, Site};
 use dist_locked::{CAPACITY, Gate, MOST_ORDERS, Orders, dispatch};
-use dist_run_hosts::{Challenges, Pool, RunError, SharedOut};
+use dist_run_hosts::{Challenges, Pool, RunError, Shares};
 use std::alloc::Global;
-use std::net::{Net, TcpListener, TcpStream};
 use std::sync::Wait;
 use std::thread;
 use std::thread::{JoinHandle, Scope, Threads};
 use std::time::Clock;
 
-/// The seats of all nodes, by the threads that have them. Each list is in the order of the nodes.
+/// The seats of both workers at all nodes. Each list is in the order of the nodes.
+#[derive(Drop)]
+pub struct WorkerPools {
+    pub first: Vec<Pool>,
+    pub second: Vec<Pool>,
+}
+
+/// The seats of all nodes, by the threads that have them. The list is in the order of the nodes.
 #[derive(Drop)]
 pub struct Pools {
     pub accepting: Vec<Pool>,
-    pub first: Vec<Pool>,
-    pub second: Vec<Pool>,
+    pub workers: WorkerPools,
 }
 
 impl Pools {
@@ -28,16 +34,18 @@ impl Pools {
     pub fn new(alloc: Global) -> Pools {
         Pools {
             accepting: Vec::new(alloc),
-            first: Vec::new(alloc),
-            second: Vec::new(alloc),
+            workers: WorkerPools {
+                first: Vec::new(alloc),
+                second: Vec::new(alloc),
+            },
         }
     }
 
     /// Adds the seats of the next node.
-    pub fn add(&mut self, shares: SharedOut) -> Result<(), RunError> {
+    pub fn add(&mut self, shares: Shares) -> Result<(), RunError> {
         self.accepting.push(shares.accepting)?;
-        self.first.push(shares.first)?;
-        self.second.push(shares.second)?;
+        self.workers.first.push(shares.first)?;
+        self.workers.second.push(shares.second)?;
         Ok(())
     }
 }
@@ -51,7 +59,7 @@ pub struct Ended {
 }
 
 // The number of the orders. A nodes file has no more than 64 of them.
-fn count_of(dials: &[Dial]) -> u32
+fn order_count(dials: &[Dial]) -> u32
     ensures { result ≤ 64 }
 {
     match u32::try_from(dials.len()) {
@@ -61,7 +69,7 @@ fn count_of(dials: &[Dial]) -> u32
 }
 
 // What both workers leave, where they had memory to begin.
-fn both<T: Drop>(
+fn pair_of<T: Drop>(
     first: Result<T, RunError>,
     second: Result<T, RunError>,
 ) -> Result<(T, T), RunError> {
@@ -69,7 +77,7 @@ fn both<T: Drop>(
 }
 
 // Both workers, until all orders are taken and all their connections have ended.
-fn work_both<'s, E, R, G>(
+fn run_workers<'s, E, R, G>(
     scope: &'s Scope<'s, E>,
     site: &'s Site<'s, R, G>,
     orders: &Orders,
@@ -77,7 +85,7 @@ fn work_both<'s, E, R, G>(
     two: Shift,
 ) -> Result<(Worked, Worked), RunError>
 where
-    R: Net<Listener = TcpListener, Stream = TcpStream> + Threads + Wait + Sync,
+    R: Machine,
     G: Gate + Sync,
     requires { (one.pass.table ≡ orders.now.table) × (two.pass.table ≡ orders.now.table) }
 {
@@ -85,45 +93,44 @@ where
         site.rt,
         move || -> Result<Worked, RunError>
             requires { one.pass.table ≡ orders.now.table }
-        { work_on(scope, site, orders, one) },
+        { work(scope, site, orders, one) },
         move || -> Result<Worked, RunError>
             requires { two.pass.table ≡ orders.now.table }
-        { work_on(scope, site, orders, two) },
+        { work(scope, site, orders, two) },
     );
-    both(first, second)
+    pair_of(first, second)
 }
 
 // The dispatcher and both workers.
-fn work_all<'s, E, R, G>(
+fn work_off_orders<'s, E, R, G>(
     scope: &'s Scope<'s, E>,
     site: &'s Site<'s, R, G>,
-    first: Vec<Pool>,
-    second: Vec<Pool>,
+    pools: WorkerPools,
     mut challenges: Challenges,
 ) -> Result<(Worked, Worked), RunError>
 where
-    R: Net<Listener = TcpListener, Stream = TcpStream> + Threads + Wait + Sync,
+    R: Machine,
     G: Gate + Sync,
 {
     let (orders, put, one, two) = Orders::new(site.alloc, CAPACITY)?;
-    let _put = dispatch(site.rt, &orders, put, count_of(site.dials));
+    let _put = dispatch(site.rt, &orders, put, order_count(site.dials));
     let one = Shift {
         worker: 0,
         pass: one,
-        pools: first,
+        pools: pools.first,
         challenges: challenges.fork(),
     };
     let two = Shift {
         worker: 1,
         pass: two,
-        pools: second,
+        pools: pools.second,
         challenges,
     };
-    work_both(scope, site, &orders, one, two)
+    run_workers(scope, site, &orders, one, two)
 }
 
 // Starts the accepting threads. A node that gets none has no handle.
-fn accept_on<'s, E, R: Threads + Wait + Clock + Sync, G: Sync>(
+fn start_accepting<'s, E, R: Threads + Wait + Clock + Sync, G: Sync>(
     scope: &'s Scope<'s, E>,
     site: &'s Site<'s, R, G>,
     pools: Vec<Pool>,
@@ -144,7 +151,10 @@ fn accept_on<'s, E, R: Threads + Wait + Clock + Sync, G: Sync>(
 }
 
 // Joins the accepting threads.
-fn rests_of<R: Threads, G>(site: &Site<'_, R, G>, handles: Vec<JoinHandle<Rest>>) -> Vec<Rest> {
+fn join_accepting<R: Threads, G>(
+    site: &Site<'_, R, G>,
+    handles: Vec<JoinHandle<Rest>>,
+) -> Vec<Rest> {
     let mut rests = Vec::new(site.alloc);
     for handle in handles {
         site.keep(&mut rests, handle.join(site.rt));
@@ -153,48 +163,40 @@ fn rests_of<R: Threads, G>(site: &Site<'_, R, G>, handles: Vec<JoinHandle<Rest>>
 }
 
 // Has the workers work while the nodes accept, if each has a thread for that.
-fn work_beside<'s, E, R, G>(
+fn dial_and_join<'s, E, R, G>(
     scope: &'s Scope<'s, E>,
     site: &'s Site<'s, R, G>,
     handles: Vec<JoinHandle<Rest>>,
-    first: Vec<Pool>,
-    second: Vec<Pool>,
+    pools: WorkerPools,
     challenges: Challenges,
 ) -> (Vec<Rest>, Result<(Worked, Worked), RunError>)
 where
-    R: Net<Listener = TcpListener, Stream = TcpStream> + Threads + Wait + Clock + Sync,
+    R: Machine,
     G: Gate + Sync,
 {
     let worked = if handles.len() == site.hosts.len() {
-        work_all(scope, site, first, second, challenges)
+        work_off_orders(scope, site, pools, challenges)
     } else {
         Err(RunError::ThreadFailed)
     };
     if worked.is_err() {
         site.fail();
     }
-    (rests_of(site, handles), worked)
+    (join_accepting(site, handles), worked)
 }
 
-fn run_in<'s, E, R, G>(
+fn accept_and_dial<'s, E, R, G>(
     scope: &'s Scope<'s, E>,
     site: &'s Site<'s, R, G>,
     pools: Pools,
     mut challenges: Challenges,
 ) -> Result<Ended, RunError>
 where
-    R: Net<Listener = TcpListener, Stream = TcpStream> + Threads + Wait + Clock + Sync,
+    R: Machine,
     G: Gate + Sync,
 {
-    let handles = accept_on(scope, site, pools.accepting, &mut challenges)?;
-    let (accepting, worked) = work_beside(
-        scope,
-        site,
-        handles,
-        pools.first,
-        pools.second,
-        challenges,
-    );
+    let handles = start_accepting(scope, site, pools.accepting, &mut challenges)?;
+    let (accepting, worked) = dial_and_join(scope, site, handles, pools.workers, challenges);
     match worked {
         Ok(_) if site.has_failed() => Err(RunError::NoMemory),
         Ok((first, second)) => Ok(Ended {
@@ -214,13 +216,13 @@ pub fn run_threads<R, G>(
     challenges: Challenges,
 ) -> Result<Ended, RunError>
 where
-    R: Net<Listener = TcpListener, Stream = TcpStream> + Threads + Wait + Clock + Sync,
+    R: Machine,
     G: Gate + Sync,
 {
     let site = &site;
     thread::scope(
         thread::scope_env(),
         site.rt,
-        move |scope| run_in(scope, site, pools, challenges),
+        move |scope| accept_and_dial(scope, site, pools, challenges),
     )
 }

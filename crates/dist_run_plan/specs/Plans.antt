@@ -1,5 +1,6 @@
 -- What a nodes file says, and which TOML trees are nodes files.
-use Rattle.std.specs.Prelude.{ℕ, Bool, true, not, ◌&&◌, nat_le, if◌then◌else◌, List, [], ◌∷◌, length, map, codes, Option, Some, None, option_map, option_and_then}
+use Rattle.std.specs.Prelude.{ℕ, Bool, true, not, ◌&&◌, nat_le, if◌then◌else◌, List, [], ◌∷◌, length}
+use Rattle.std.specs.Prelude.{map, codes, Option, Some, None, option_map, option_and_then}
 use Rattle.std.specs.List.{list_all, list_any}
 use Rattle.toml.specs.Data.{Data, Members, no_members, member, get_member, as_table}
 use Rattle.toml.specs.Parse.{parse_document}
@@ -31,8 +32,8 @@ has_only keys no_members = true
 has_only keys (member key value rest) = is_one_of keys key && has_only keys rest
 
 -- what a key's value says that must be there
-abbrev pub needed : {T : Type 0} → (Data → Option T) → List ℕ → Members → Option T
-needed says key table = get_member key table >>= says
+abbrev pub needed_member : {T : Type 0} → (Data → Option T) → List ℕ → Members → Option T
+needed_member says key table = get_member key table >>= says
 
 -- what a key's value says, or the usual where the key is absent
 abbrev pub or_usual : {T : Type 0} → (Data → Option T) → T → Option Data → Option T
@@ -56,8 +57,8 @@ usual_alone cookie = record { usual = cookie; own = [] }
 -- who the node of a table is, and its secrets
 abbrev pub identity_of : Members → Option Identity
 identity_of table =
-    needed name_in (codes "name") table >>= (λ name.
-    needed cookie_in (codes "cookie") table >>= (λ cookie.
+    needed_member name_in (codes "name") table >>= (λ name.
+    needed_member cookie_in (codes "cookie") table >>= (λ cookie.
     or_usual (cookies_in (usual_alone cookie)) (usual_alone cookie) (get_member (codes "cookies") table) >>= (λ cookies.
     Some (record { name = name; cookie = cookie; cookies = cookies }))))
 
@@ -65,7 +66,7 @@ identity_of table =
 abbrev pub terms_of : Members → Option Terms
 terms_of table =
     or_usual version_in versions.Six (get_member (codes "version") table) >>= (λ version.
-    needed flags_in (codes "flags") table >>= (λ flags.
+    needed_member flags_in (codes "flags") table >>= (λ flags.
     or_usual flags_in (record { 0 = 0 }) (get_member (codes "required") table) >>= (λ required.
     or_usual port_in 0 (get_member (codes "listen") table) >>= (λ listen.
     Some (record { version = version; flags = flags; required = required; listen = listen })))))
@@ -80,7 +81,16 @@ node_of table =
     identity_of table >>= (λ i.
     terms_of table >>= (λ t.
     allowed_of table >>= (λ allow.
-    Some (record { name = i.name; cookie = i.cookie; cookies = i.cookies; version = t.version; flags = t.flags; required = t.required; listen = t.listen; allow = allow }))))
+    Some (record {
+      name = i.name;
+      cookie = i.cookie;
+      cookies = i.cookies;
+      version = t.version;
+      flags = t.flags;
+      required = t.required;
+      listen = t.listen;
+      allow = allow;
+    }))))
 
 -- a table that is a node
 abbrev pub node_in : Data → Option NodePlan
@@ -93,8 +103,8 @@ dial_keys = codes "from" ∷ codes "to" ∷ []
 -- the dial of a table whose keys are a dial's
 abbrev pub dial_of : Members → Option DialPlan
 dial_of table =
-    needed name_in (codes "from") table >>= (λ from.
-    needed name_in (codes "to") table >>= (λ to.
+    needed_member name_in (codes "from") table >>= (λ from.
+    needed_member name_in (codes "to") table >>= (λ to.
     Some (record { from = from; to = to })))
 
 -- a table that is a dial
@@ -137,17 +147,17 @@ abbrev pub parts_of : Members → Option Plan
 parts_of table =
     or_usual port_in 0 (get_member (codes "port") table) >>= (λ port.
     or_usual (number_in 1 1000000) 200 (get_member (codes "turns") table) >>= (λ turns.
-    needed nodes_in (codes "node") table >>= (λ nodes.
+    needed_member nodes_in (codes "node") table >>= (λ nodes.
     or_usual dials_in [] (get_member (codes "dial") table) >>= (λ dials.
     Some (record { port = port; turns = turns; node = nodes; dial = dials })))))
 
 -- the plan, where the nodes and dials fit together
-abbrev pub whole : Plan → Option Plan
-whole plan = if are_apart plan.node && are_made_by plan.node plan.dial then Some plan else None
+abbrev pub sound_plan : Plan → Option Plan
+sound_plan plan = if are_apart plan.node && are_made_by plan.node plan.dial then Some plan else None
 
 -- the plan of a document
 abbrev pub plan_in : Members → Option Plan
-plan_in table = if has_only plan_keys table then parts_of table >>= whole else None
+plan_in table = if has_only plan_keys table then parts_of table >>= sound_plan else None
 
 -- the plan of a text
 abbrev pub plan_of : List ℕ → Option Plan

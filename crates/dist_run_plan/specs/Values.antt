@@ -26,14 +26,14 @@ abbrev pub cookie_in : Data → Option (List ℕ)
 cookie_in value = option_and_then (λ text. if list_all is_printable text then result_ok (cookie_of text) else None) (as_str value)
 
 -- a further cookie, where there is room for it
-abbrev pub cookie_added : CookieTable → Option (List ℕ) → Option (List ℕ) → Option CookieTable
-cookie_added cookies (Some name) (Some cookie) = if is_full_for cookies name then None else Some (with_cookie cookies name cookie)
-cookie_added cookies _ _ = None
+abbrev pub cookies_with : CookieTable → Option (List ℕ) → Option (List ℕ) → Option CookieTable
+cookies_with cookies (Some name) (Some cookie) = if is_full_for cookies name then None else Some (with_cookie cookies name cookie)
+cookies_with cookies _ _ = None
 
 -- these cookies, and then those of a table: its keys are names, and its values are cookies
 abbrev pub cookies_of : CookieTable → Members → Option CookieTable
 cookies_of cookies no_members = Some cookies
-cookies_of cookies (member key value rest) = option_and_then (λ more. cookies_of more rest) (cookie_added cookies (result_ok (named key)) (cookie_in value))
+cookies_of cookies (member key value rest) = option_and_then (λ more. cookies_of more rest) (cookies_with cookies (result_ok (named key)) (cookie_in value))
 
 -- these cookies, and then those of a value that is a table
 abbrev pub cookies_in : CookieTable → Data → Option CookieTable

@@ -8,7 +8,8 @@ ghost use Rattle.dist_names.specs.NodeName.{named};
 ghost use Rattle.dist_secret.specs.Cookie.{cookie_of};
 ghost use Rattle.dist_run_plan.specs.declared.plan_error.PlanError.TheVariants.{Bad, NoMemory};
 ghost use Rattle.dist_run_plan.specs.Answer.{Reads, ReadsPlainly};
-ghost use Rattle.dist_run_plan.specs.Values.{number_in, name_in, cookie_in, cookie_added, cookies_of, cookies_in, version_in, flags_in, names_in, array_in, all_some};
+ghost use Rattle.dist_run_plan.specs.Values.{number_in, name_in, cookie_in, cookies_with, cookies_of};
+ghost use Rattle.dist_run_plan.specs.Values.{cookies_in, version_in, flags_in, names_in, array_in, all_some};
 
 use crate::plan_error::PlanError;
 use dist_core_setup::{NameList, Version};
@@ -27,7 +28,9 @@ fn text_of(value: &Value) -> Result<&str, PlanError>
 /// The values of an array, in order.
 #[tactic(auto, using(crate::proofs::Found::list_of_view))]
 pub fn array_of(value: &Value) -> Result<&[Value], PlanError>
-    ensures { MatchResult result (λ values. array_in (view value.now) ≡ Some (map view values.now)) (λ error. (error ≡ Bad) × (array_in (view value.now) ≡ None)) }
+    ensures { MatchResult result
+        (λ values. array_in (view value.now) ≡ Some (map view values.now))
+        (λ error. (error ≡ Bad) × (array_in (view value.now) ≡ None)) }
 {
     match value.as_array() {
         Some(values) => Ok(values.as_slice()),
@@ -37,7 +40,9 @@ pub fn array_of(value: &Value) -> Result<&[Value], PlanError>
 
 /// The members of a table.
 pub fn table_of(value: &Value) -> Result<&Table, PlanError>
-    ensures { MatchResult result (λ table. as_table (view value.now) ≡ Some (table_view table.now)) (λ error. (error ≡ Bad) × (as_table (view value.now) ≡ None)) }
+    ensures { MatchResult result
+        (λ table. as_table (view value.now) ≡ Some (table_view table.now))
+        (λ error. (error ≡ Bad) × (as_table (view value.now) ≡ None)) }
 {
     value.as_table().ok_or(PlanError::Bad)
 }
@@ -74,7 +79,7 @@ pub fn turns_of(value: &Value) -> Result<u32, PlanError>
 }
 
 // The name of a text.
-fn name_from(alloc: Global, text: &[u8]) -> Result<NodeName, PlanError>
+fn name_of_text(alloc: Global, text: &[u8]) -> Result<NodeName, PlanError>
     ensures { Reads result (result_ok (named text.now)) }
 {
     match NodeName::new(alloc, text) {
@@ -89,11 +94,11 @@ pub fn name_of(alloc: Global, value: &Value) -> Result<NodeName, PlanError>
     ensures { Reads result (name_in (view value.now)) }
 {
     let text = text_of(value)?;
-    name_from(alloc, text.as_bytes())
+    name_of_text(alloc, text.as_bytes())
 }
 
 // The cookie of a text.
-fn cookie_from(alloc: Global, text: &[u8]) -> Result<Cookie, PlanError>
+fn cookie_of_text(alloc: Global, text: &[u8]) -> Result<Cookie, PlanError>
     ensures { Reads result (result_ok (cookie_of text.now)) }
 {
     match Cookie::from_bytes(alloc, text) {
@@ -109,7 +114,7 @@ pub fn cookie_of(alloc: Global, value: &Value) -> Result<Cookie, PlanError>
 {
     let text = text_of(value)?;
     if are_printable(text.as_bytes()) {
-        cookie_from(alloc, text.as_bytes())
+        cookie_of_text(alloc, text.as_bytes())
     } else {
         Err(PlanError::Bad)
     }
@@ -117,7 +122,9 @@ pub fn cookie_of(alloc: Global, value: &Value) -> Result<Cookie, PlanError>
 
 // Adds a cookie, where there is room for it.
 fn set_cookie(cookies: &mut Cookies, name: NodeName, cookie: Cookie) -> Result<(), PlanError>
-    ensures { MatchResult result (λ _. cookie_added cookies.old (Some name) (Some cookie) ≡ Some cookies.new) (λ error. error ≡ Bad → cookie_added cookies.old (Some name) (Some cookie) ≡ None) }
+    ensures { MatchResult result
+        (λ _. cookies_with cookies.old (Some name) (Some cookie) ≡ Some cookies.new)
+        (λ error. error ≡ Bad → cookies_with cookies.old (Some name) (Some cookie) ≡ None) }
 {
     match cookies.set(name, cookie) {
         Ok(()) => Ok(()),
@@ -133,16 +140,20 @@ fn add_cookie(
     key: &str,
     value: &Value,
 ) -> Result<(), PlanError>
-    ensures { MatchResult result (λ _. cookie_added cookies.old (result_ok (named key.now)) (cookie_in (view value.now)) ≡ Some cookies.new) (λ error. error ≡ Bad → cookie_added cookies.old (result_ok (named key.now)) (cookie_in (view value.now)) ≡ None) }
+    ensures { MatchResult result
+        (λ _. cookies_with cookies.old (result_ok (named key.now)) (cookie_in (view value.now)) ≡ Some cookies.new)
+        (λ error. error ≡ Bad → cookies_with cookies.old (result_ok (named key.now)) (cookie_in (view value.now)) ≡ None) }
 {
-    let name = name_from(alloc, key.as_bytes())?;
+    let name = name_of_text(alloc, key.as_bytes())?;
     let cookie = cookie_of(alloc, value)?;
     set_cookie(cookies, name, cookie)
 }
 
 // Adds the cookies of a table.
 fn add_cookies(alloc: Global, cookies: &mut Cookies, table: &Table) -> Result<(), PlanError>
-    ensures { MatchResult result (λ _. cookies_of cookies.old (table_view table.now) ≡ Some cookies.new) (λ error. error ≡ Bad → cookies_of cookies.old (table_view table.now) ≡ None) }
+    ensures { MatchResult result
+        (λ _. cookies_of cookies.old (table_view table.now) ≡ Some cookies.new)
+        (λ error. error ≡ Bad → cookies_of cookies.old (table_view table.now) ≡ None) }
 {
     for row in table.iter() {
         let (key, value) = row;
@@ -153,7 +164,9 @@ fn add_cookies(alloc: Global, cookies: &mut Cookies, table: &Table) -> Result<()
 
 /// Adds the cookies of a value: a table from names to cookies, with room for each.
 pub fn add_cookies_in(alloc: Global, cookies: &mut Cookies, value: &Value) -> Result<(), PlanError>
-    ensures { MatchResult result (λ _. cookies_in cookies.old (view value.now) ≡ Some cookies.new) (λ error. error ≡ Bad → cookies_in cookies.old (view value.now) ≡ None) }
+    ensures { MatchResult result
+        (λ _. cookies_in cookies.old (view value.now) ≡ Some cookies.new)
+        (λ error. error ≡ Bad → cookies_in cookies.old (view value.now) ≡ None) }
 {
     let table = table_of(value)?;
     add_cookies(alloc, cookies, table)

@@ -10,7 +10,8 @@ ghost use Rattle.dist_names.specs.NodeName.{short_of};
 ghost use Rattle.dist_run_plan.specs.declared.plan_error.PlanError.TheVariants.{Bad};
 ghost use Rattle.dist_run_plan.specs.Answer.{Reads, ReadsPlainly};
 ghost use Rattle.dist_run_plan.specs.Values.{number_in, names_in, flags_in, name_in, cookie_in, cookies_in, version_in, all_some};
-ghost use Rattle.dist_run_plan.specs.Plans.{or_usual, usual_alone, needed, port_in, identity_of, terms_of, allowed_of, node_of, node_in, dial_of, dial_in, are_within, nodes_in, dials_in, are_apart, are_made_by, parts_of, whole, plan_in, plan_of};
+ghost use Rattle.dist_run_plan.specs.Plans.{or_usual, usual_alone, needed_member, port_in, identity_of, terms_of, allowed_of, node_of, node_in, dial_of};
+ghost use Rattle.dist_run_plan.specs.Plans.{dial_in, are_within, nodes_in, dials_in, are_apart, are_made_by, parts_of, sound_plan, plan_in, plan_of};
 
 use crate::fields::{
     add_cookies_in, array_of, cookie_of, flags_of, name_of, names_of, port_of, table_of, turns_of,
@@ -36,8 +37,10 @@ const MOST_NODES: usize = 16;
 const MOST_DIALS: usize = 64;
 
 // The value at a key that must be there.
-fn value_of<'a>(table: &'a Table, key: &str) -> Result<&'a Value, PlanError>
-    ensures { MatchResult result (λ v. get_member key.now (table_view table.now) ≡ Some (view v.now)) (λ error. (error ≡ Bad) × (get_member key.now (table_view table.now) ≡ None)) }
+fn needed_value<'a>(table: &'a Table, key: &str) -> Result<&'a Value, PlanError>
+    ensures { MatchResult result
+        (λ v. get_member key.now (table_view table.now) ≡ Some (view v.now))
+        (λ error. (error ≡ Bad) × (get_member key.now (table_view table.now) ≡ None)) }
 {
     match value_at(table, key) {
         Some(value) => Ok(value),
@@ -46,15 +49,15 @@ fn value_of<'a>(table: &'a Table, key: &str) -> Result<&'a Value, PlanError>
 }
 
 // The name at a key.
-fn name_at(alloc: Global, table: &Table, key: &str) -> Result<NodeName, PlanError>
-    ensures { Reads result (needed name_in key.now (table_view table.now)) }
+fn name_member(alloc: Global, table: &Table, key: &str) -> Result<NodeName, PlanError>
+    ensures { Reads result (needed_member name_in key.now (table_view table.now)) }
 {
-    let value = value_of(table, key)?;
+    let value = needed_value(table, key)?;
     name_of(alloc, value)
 }
 
 // The port at a key, or 0 for any.
-fn port_at(table: &Table, key: &str) -> Result<u16, PlanError>
+fn port_member(table: &Table, key: &str) -> Result<u16, PlanError>
     ensures { ReadsPlainly result (or_usual port_in 0 (get_member key.now (table_view table.now))) }
 {
     match value_at(table, key) {
@@ -64,7 +67,7 @@ fn port_at(table: &Table, key: &str) -> Result<u16, PlanError>
 }
 
 // The number of turns, or the usual one.
-fn turns_at(table: &Table) -> Result<u32, PlanError>
+fn turns_member(table: &Table) -> Result<u32, PlanError>
     ensures { ReadsPlainly result (or_usual (number_in 1 1000000) 200 (get_member (codes "turns") (table_view table.now))) }
 {
     match value_at(table, "turns") {
@@ -74,7 +77,7 @@ fn turns_at(table: &Table) -> Result<u32, PlanError>
 }
 
 // The version, or the usual one.
-fn version_at(table: &Table) -> Result<Version, PlanError>
+fn version_member(table: &Table) -> Result<Version, PlanError>
     ensures { ReadsPlainly result (or_usual version_in Version.Six (get_member (codes "version") (table_view table.now))) }
 {
     match value_at(table, "version") {
@@ -84,7 +87,7 @@ fn version_at(table: &Table) -> Result<Version, PlanError>
 }
 
 // The flags that are asked for, or no flag.
-fn required_at(table: &Table) -> Result<Flags, PlanError>
+fn required_member(table: &Table) -> Result<Flags, PlanError>
     ensures { ReadsPlainly result (or_usual flags_in (record { 0 = 0 }) (get_member (codes "required") (table_view table.now))) }
 {
     match value_at(table, "required") {
@@ -94,15 +97,15 @@ fn required_at(table: &Table) -> Result<Flags, PlanError>
 }
 
 // The flags that are announced.
-fn flags_at(table: &Table) -> Result<Flags, PlanError>
-    ensures { ReadsPlainly result (needed flags_in (codes "flags") (table_view table.now)) }
+fn flags_member(table: &Table) -> Result<Flags, PlanError>
+    ensures { ReadsPlainly result (needed_member flags_in (codes "flags") (table_view table.now)) }
 {
-    let value = value_of(table, "flags")?;
+    let value = needed_value(table, "flags")?;
     flags_of(value)
 }
 
 // The peers that may connect, or no limit.
-fn allowed_at(alloc: Global, table: &Table) -> Result<Option<NameList>, PlanError>
+fn allowed_member(alloc: Global, table: &Table) -> Result<Option<NameList>, PlanError>
     ensures { Reads result (allowed_of (table_view table.now)) }
 {
     match value_at(table, "allow") {
@@ -112,15 +115,15 @@ fn allowed_at(alloc: Global, table: &Table) -> Result<Option<NameList>, PlanErro
 }
 
 // The node's own secret.
-fn cookie_at(alloc: Global, table: &Table) -> Result<Cookie, PlanError>
-    ensures { Reads result (needed cookie_in (codes "cookie") (table_view table.now)) }
+fn cookie_member(alloc: Global, table: &Table) -> Result<Cookie, PlanError>
+    ensures { Reads result (needed_member cookie_in (codes "cookie") (table_view table.now)) }
 {
-    let value = value_of(table, "cookie")?;
+    let value = needed_value(table, "cookie")?;
     cookie_of(alloc, value)
 }
 
 // The usual cookie, and the cookies of peers that have their own.
-fn cookies_at(alloc: Global, cookie: &Cookie, table: &Table) -> Result<Cookies, PlanError>
+fn cookies_member(alloc: Global, cookie: &Cookie, table: &Table) -> Result<Cookies, PlanError>
     ensures { Reads result (or_usual (cookies_in (usual_alone cookie.now)) (usual_alone cookie.now) (get_member (codes "cookies") (table_view table.now))) }
 {
     let mut cookies = Cookies::new(alloc, cookie.try_clone(alloc)?);
@@ -134,9 +137,9 @@ fn cookies_at(alloc: Global, cookie: &Cookie, table: &Table) -> Result<Cookies, 
 fn identity_of(alloc: Global, table: &Table) -> Result<Identity, PlanError>
     ensures { Reads result (identity_of (table_view table.now)) }
 {
-    let name = name_at(alloc, table, "name")?;
-    let cookie = cookie_at(alloc, table)?;
-    let cookies = cookies_at(alloc, &cookie, table)?;
+    let name = name_member(alloc, table, "name")?;
+    let cookie = cookie_member(alloc, table)?;
+    let cookies = cookies_member(alloc, &cookie, table)?;
     Ok(Identity {
         name,
         cookie,
@@ -148,10 +151,10 @@ fn identity_of(alloc: Global, table: &Table) -> Result<Identity, PlanError>
 fn terms_of(table: &Table) -> Result<Terms, PlanError>
     ensures { ReadsPlainly result (terms_of (table_view table.now)) }
 {
-    let version = version_at(table)?;
-    let flags = flags_at(table)?;
-    let required = required_at(table)?;
-    let listen = port_at(table, "listen")?;
+    let version = version_member(table)?;
+    let flags = flags_member(table)?;
+    let required = required_member(table)?;
+    let listen = port_member(table, "listen")?;
     Ok(Terms {
         version,
         flags,
@@ -166,7 +169,7 @@ fn node_of(alloc: Global, table: &Table) -> Result<NodePlan, PlanError>
 {
     let identity = identity_of(alloc, table)?;
     let terms = terms_of(table)?;
-    let allow = allowed_at(alloc, table)?;
+    let allow = allowed_member(alloc, table)?;
     Ok(NodePlan {
         name: identity.name,
         cookie: identity.cookie,
@@ -200,8 +203,8 @@ fn node_in(alloc: Global, value: &Value) -> Result<NodePlan, PlanError>
 fn dial_of(alloc: Global, table: &Table) -> Result<DialPlan, PlanError>
     ensures { Reads result (dial_of (table_view table.now)) }
 {
-    let from = name_at(alloc, table, "from")?;
-    let to = name_at(alloc, table, "to")?;
+    let from = name_member(alloc, table, "from")?;
+    let to = name_member(alloc, table, "to")?;
     Ok(DialPlan { from, to })
 }
 
@@ -272,15 +275,15 @@ fn dials_in(alloc: Global, value: &Value) -> Result<DialList, PlanError>
 }
 
 // The nodes of the file.
-fn nodes_at(alloc: Global, table: &Table) -> Result<NodeList, PlanError>
-    ensures { Reads result (needed nodes_in (codes "node") (table_view table.now)) }
+fn nodes_member(alloc: Global, table: &Table) -> Result<NodeList, PlanError>
+    ensures { Reads result (needed_member nodes_in (codes "node") (table_view table.now)) }
 {
-    let value = value_of(table, "node")?;
+    let value = needed_value(table, "node")?;
     nodes_in(alloc, value)
 }
 
 // The dials of the file, or no dial.
-fn dials_at(alloc: Global, table: &Table) -> Result<DialList, PlanError>
+fn dials_member(alloc: Global, table: &Table) -> Result<DialList, PlanError>
     ensures { Reads result (or_usual dials_in [] (get_member (codes "dial") (table_view table.now))) }
 {
     match value_at(table, "dial") {
@@ -339,10 +342,10 @@ fn are_made_by(nodes: &[NodePlan], dials: &[DialPlan]) -> bool
 fn parts_of(alloc: Global, table: &Table) -> Result<Plan, PlanError>
     ensures { Reads result (parts_of (table_view table.now)) }
 {
-    let port = port_at(table, "port")?;
-    let turns = turns_at(table)?;
-    let node = nodes_at(alloc, table)?;
-    let dial = dials_at(alloc, table)?;
+    let port = port_member(table, "port")?;
+    let turns = turns_member(table)?;
+    let node = nodes_member(alloc, table)?;
+    let dial = dials_member(alloc, table)?;
     Ok(Plan {
         port,
         turns,
@@ -352,8 +355,8 @@ fn parts_of(alloc: Global, table: &Table) -> Result<Plan, PlanError>
 }
 
 // The plan, where its nodes and dials fit together.
-fn whole(plan: Plan) -> Result<Plan, PlanError>
-    ensures { Reads result (whole plan) }
+fn sound_plan(plan: Plan) -> Result<Plan, PlanError>
+    ensures { Reads result (sound_plan plan) }
 {
     if are_apart(plan.node.as_slice()) && are_made_by(plan.node.as_slice(), plan.dial.as_slice()) {
         Ok(plan)
@@ -367,7 +370,7 @@ fn plan_in(alloc: Global, table: &Table) -> Result<Plan, PlanError>
     ensures { Reads result (plan_in (table_view table.now)) }
 {
     if has_only(table, &["port", "turns", "node", "dial"]) {
-        whole(parts_of(alloc, table)?)
+        sound_plan(parts_of(alloc, table)?)
     } else {
         Err(PlanError::Bad)
     }

@@ -131,4 +131,9 @@ applied_line k m = codes "applied " ++ decimal k ++ codes " of " ++ decimal m ++
 
 -- agree NAME NAME conn C common COMMON creations X Y
 abbrev pub agree_line : Name → Name → Agreement → List ℕ
-agree_line a b g = concat (codes "agree " ∷ a ∷ codes " " ∷ b ∷ codes " conn " ∷ decimal g.conn ∷ codes " common " ∷ flags_text g.common ∷ codes " creations " ∷ creation_text g.creation_a ∷ codes " " ∷ creation_text g.creation_b ∷ codes "\n" ∷ [])
+agree_line a b g = concat (
+    codes "agree " ∷ a ∷ codes " " ∷ b
+    ∷ codes " conn " ∷ decimal g.conn
+    ∷ codes " common " ∷ flags_text g.common
+    ∷ codes " creations " ∷ creation_text g.creation_a ∷ codes " " ∷ creation_text g.creation_b
+    ∷ codes "\n" ∷ [])

@@ -41,7 +41,9 @@ told_line w a b told = pair_line told (slice_get w.setups a) (slice_get w.setups
 -- these are the lines of what is returned of each of these pairs, one behind the other
 abbrev pub AreLinesOf : World → List (ℕ × ℕ) → List ℕ → Type 0
 AreLinesOf w [] text = text ≡ []
-AreLinesOf w (p ∷ ps) text = (told : Option Agreement) × (rest : List ℕ) × IsTold w p.0 p.1 told × AreLinesOf w ps rest × (text ≡ told_line w p.0 p.1 told ++ rest)
+AreLinesOf w (p ∷ ps) text =
+    (told : Option Agreement) × (rest : List ℕ) × IsTold w p.0 p.1 told × AreLinesOf w ps rest
+    × (text ≡ told_line w p.0 p.1 told ++ rest)
 
 -- the places from a on, this many of them
 abbrev pub places_from : ℕ → ℕ → List ℕ

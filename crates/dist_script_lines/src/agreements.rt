@@ -124,7 +124,8 @@ fn print_found<W: Write>(
 // What two nodes have in common, where they are up with one another.
 fn print_agreement<W: Write>(world: &World, a: usize, b: usize, out: &mut W) -> io::Result<()>
     requires { a < b }
-    ensures { OnOk result ((told : Option Found) × IsTold world.now a b told × Appends (W.contents out.old) (W.contents out.new) (told_line world.now a b told)) }
+    ensures { OnOk result ((told : Option Found) × IsTold world.now a b told
+        × Appends (W.contents out.old) (W.contents out.new) (told_line world.now a b told)) }
 {
     let setups = world.setups();
     match world.both_up(a, b) {

@@ -31,7 +31,7 @@ impl Model for Cookies {
 }
 
 // The same cookies by name.
-fn copied(
+fn copy_entries(
     alloc: Global,
     cookies: &BTreeMap<NodeName, Cookie>,
 ) -> Result<BTreeMap<NodeName, Cookie>, AllocError>
@@ -131,7 +131,7 @@ impl Cookies {
     {
         Ok(Cookies {
             usual: self.usual.try_clone(alloc)?,
-            own: copied(alloc, &self.own)?,
+            own: copy_entries(alloc, &self.own)?,
         })
     }
 

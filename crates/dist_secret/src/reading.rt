@@ -52,7 +52,7 @@ fn fill<R: Read>(reader: &mut R, has_failed: &mut bool, room: &mut [u8]) -> Opti
 }
 
 // Reads until the room is full or nothing more comes, and takes the cookie of that.
-fn hear<R: Read>(
+fn take_cookie<R: Read>(
     alloc: Global,
     reader: &mut R,
     has_failed: &mut bool,
@@ -82,5 +82,5 @@ pub fn read_cookie<R: Read>(alloc: Global, reader: &mut R) -> Result<Cookie, Coo
     ensures hears { Hears (R.remaining reader.old) (R.remaining reader.new) result }
 {
     let mut has_failed = false;
-    hear(alloc, reader, &mut has_failed)
+    take_cookie(alloc, reader, &mut has_failed)
 }

@@ -4,7 +4,7 @@ use Rattle.std.proofs.lemmas.List.{append-nil}
 use Rattle.std.specs.Io.KnownBytes.{prepend_known, append_known}
 use Rattle.dist_stream.specs.declared.turn_error.TurnError.{TurnError}
 use Rattle.dist_stream.specs.Stream.{StreamState, one_more}
-use Rattle.dist_stream.specs.Turns.{is_end_told, is_read_failed, is_write_failed, Rises, Spends, Says, Hears}
+use Rattle.dist_stream.specs.Turns.{reports_end, reports_failed_read, reports_failed_write, Rises, Spends, Says, Hears}
 
 pub append_known-append : (known : Option (List ℕ)) (a b : List ℕ) → append_known (append_known known a) b ≡ append_known known (a ++ b)
 append_known-append None a b = refl
@@ -50,23 +50,23 @@ Spends-none s turns = record {
   cause = tt;
 }
 
-pub Spends-trans : {old mid new : StreamState} {turns between left : ℕ} {told : Option TurnError} → Spends old mid turns between None → Spends mid new between left told → Spends old new turns left told
-Spends-trans {old = old} {mid = mid} {new = new} {turns = turns} {between = between} {left = left} {told = told} p q =
+pub Spends-trans : {old mid new : StreamState} {turns between left : ℕ} {error : Option TurnError} → Spends old mid turns between None → Spends mid new between left error → Spends old new turns left error
+Spends-trans {old = old} {mid = mid} {new = new} {turns = turns} {between = between} {left = left} {error = error} p q =
     let p-within : between ≤ turns = p.within in
     let q-within : left ≤ between = q.within in
     record {
       within = omega arith;
       calls = Rises-trans (turns - between) (between - left) (turns - left) old.calls mid.calls new.calls (omega arith) p.calls q.calls;
-      ended = q.ended ∙ ap (λ b. is_end_told told || b) p.ended;
-      read_failed = q.read_failed ∙ ap (λ b. is_read_failed told || b) p.read_failed;
-      write_failed = q.write_failed ∙ ap (λ b. is_write_failed told || b) p.write_failed;
+      ended = q.ended ∙ ap (λ b. reports_end error || b) p.ended;
+      read_failed = q.read_failed ∙ ap (λ b. reports_failed_read error || b) p.read_failed;
+      write_failed = q.write_failed ∙ ap (λ b. reports_failed_write error || b) p.write_failed;
       cause = q.cause;
     }
 
 pub Says-none : (s : StreamState) (turns : ℕ) → Says s s turns turns None []
 Says-none s turns = record { written = sym (append_known-none s.written); unread = refl; spends = Spends-none s turns; fault_is = tt }
 
-pub Says-trans : {old mid new : StreamState} {turns between left : ℕ} {told : Option TurnError} {a b : List ℕ} → Says old mid turns between None a → Says mid new between left told b → Says old new turns left told (a ++ b)
+pub Says-trans : {old mid new : StreamState} {turns between left : ℕ} {error : Option TurnError} {a b : List ℕ} → Says old mid turns between None a → Says mid new between left error b → Says old new turns left error (a ++ b)
 Says-trans {old = old} {a = a} {b = b} p q = record {
   written = q.written ∙ ap (λ known. append_known known b) p.written ∙ append_known-append old.written a b;
   unread = q.unread ∙ p.unread;
@@ -77,7 +77,7 @@ Says-trans {old = old} {a = a} {b = b} p q = record {
 pub Hears-none : (s : StreamState) (turns : ℕ) → Hears s s turns turns None []
 Hears-none s turns = record { unread = sym (prepend_known-none s.unread); written = refl; spends = Spends-none s turns; fault_is = tt }
 
-pub Hears-trans : {old mid new : StreamState} {turns between left : ℕ} {told : Option TurnError} {a b : List ℕ} → Hears old mid turns between None a → Hears mid new between left told b → Hears old new turns left told (a ++ b)
+pub Hears-trans : {old mid new : StreamState} {turns between left : ℕ} {error : Option TurnError} {a b : List ℕ} → Hears old mid turns between None a → Hears mid new between left error b → Hears old new turns left error (a ++ b)
 Hears-trans {new = new} {a = a} {b = b} p q = record {
   unread = p.unread ∙ ap (λ known. prepend_known a known) q.unread ∙ prepend_known-append new.unread a b;
   written = q.written ∙ p.written;

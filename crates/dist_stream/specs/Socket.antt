@@ -17,11 +17,11 @@ is_quiet kind.Interrupted = true
 is_quiet _ = false
 
 -- what a read gave that the system answered so
-abbrev pub heard_as : Result ℕ Error → Heard
-heard_as (Ok count) = heard.Bytes count
-heard_as (Err error) = if is_quiet (error_kind error) then heard.Quiet else heard.Failed
+abbrev pub read_outcome : Result ℕ Error → Heard
+read_outcome (Ok count) = heard.Bytes count
+read_outcome (Err error) = if is_quiet (error_kind error) then heard.Quiet else heard.Failed
 
 -- what a write took that the system answered so
-abbrev pub took_as : Result ℕ Error → Took
-took_as (Ok count) = took.Bytes count
-took_as (Err error) = if is_quiet (error_kind error) then took.Quiet else took.Failed
+abbrev pub write_outcome : Result ℕ Error → Took
+write_outcome (Ok count) = took.Bytes count
+write_outcome (Err error) = if is_quiet (error_kind error) then took.Quiet else took.Failed

@@ -6,6 +6,7 @@ use Rattle.dist_stream.specs.declared.stream.Heard.TheVariants as heard
 use Rattle.dist_stream.specs.declared.stream.Took.{Took}
 use Rattle.dist_stream.specs.declared.stream.Took.TheVariants as took
 
+-- what a stream shows of itself
 pub record StreamState : Type 0 where
   -- the bytes that reads will give, where the stream shows them
   pub unread : Option (List ℕ)
@@ -42,6 +43,7 @@ is_end (heard.Bytes n) = n == 0
 is_end heard.Quiet = false
 is_end heard.Failed = false
 
+-- the read failed
 abbrev pub is_failed_read : Heard → Bool
 is_failed_read (heard.Bytes n) = false
 is_failed_read heard.Quiet = false
@@ -66,6 +68,7 @@ took_count (took.Bytes n) = n
 took_count took.Quiet = 0
 took_count took.Failed = 0
 
+-- the write failed: one that took no bytes did
 abbrev pub is_failed_write : Took → Bool
 is_failed_write (took.Bytes n) = n == 0
 is_failed_write took.Quiet = false

@@ -13,36 +13,36 @@ fault_of (Ok value) = None
 fault_of (Err error) = Some error
 
 -- the fault is that the stream has ended
-abbrev pub is_end_told : Option TurnError → Bool
-is_end_told (Some fault.Ended) = true
-is_end_told told = false
+abbrev pub reports_end : Option TurnError → Bool
+reports_end (Some fault.Ended) = true
+reports_end error = false
 
 -- the fault is that a read failed
-abbrev pub is_read_failed : Option TurnError → Bool
-is_read_failed (Some fault.ReadFailed) = true
-is_read_failed told = false
+abbrev pub reports_failed_read : Option TurnError → Bool
+reports_failed_read (Some fault.ReadFailed) = true
+reports_failed_read error = false
 
 -- the fault is that a write failed
-abbrev pub is_write_failed : Option TurnError → Bool
-is_write_failed (Some fault.WriteFailed) = true
-is_write_failed told = false
+abbrev pub reports_failed_write : Option TurnError → Bool
+reports_failed_write (Some fault.WriteFailed) = true
+reports_failed_write error = false
 
 -- `Ended` is returned where no byte is left, and `Limit` where no turn is left.
 abbrev pub HasCause : Option TurnError → StreamState → ℕ → Type 0
 HasCause (Some fault.Ended) new left = IsAtEnd new.unread
 HasCause (Some fault.Limit) new left = left ≡ 0
-HasCause told new left = Unit {0}
+HasCause error new left = Unit {0}
 
 -- the faults that reads can return
 abbrev pub IsReadFault : Option TurnError → Type 0
 IsReadFault (Some fault.WriteFailed) = ⊥
-IsReadFault told = Unit {0}
+IsReadFault error = Unit {0}
 
 -- the faults that writes can return
 abbrev pub IsWriteFault : Option TurnError → Type 0
 IsWriteFault (Some fault.ReadFailed) = ⊥
 IsWriteFault (Some fault.Ended) = ⊥
-IsWriteFault told = Unit {0}
+IsWriteFault error = Unit {0}
 
 -- ---- turns
 
@@ -52,27 +52,27 @@ pub record Rises (made old new : ℕ) : Type 0 where
   pub exact : new < 2 ^ 64 - 1 → new ≡ old + made
 
 -- This many of the turns are left. Each mark is set exactly where its fault is returned, or was set before.
-pub record Spends (old new : StreamState) (turns left : ℕ) (told : Option TurnError) : Type 0 where
+pub record Spends (old new : StreamState) (turns left : ℕ) (error : Option TurnError) : Type 0 where
   pub within : left ≤ turns
   pub calls : Rises (turns - left) old.calls new.calls
-  pub ended : new.ended ≡ (is_end_told told || old.ended)
-  pub read_failed : new.read_failed ≡ (is_read_failed told || old.read_failed)
-  pub write_failed : new.write_failed ≡ (is_write_failed told || old.write_failed)
-  pub cause : HasCause told new left
+  pub ended : new.ended ≡ (reports_end error || old.ended)
+  pub read_failed : new.read_failed ≡ (reports_failed_read error || old.read_failed)
+  pub write_failed : new.write_failed ≡ (reports_failed_write error || old.write_failed)
+  pub cause : HasCause error new left
 
 -- Bytes were written, and none were read.
-pub record Says (old new : StreamState) (turns left : ℕ) (told : Option TurnError) (said : List ℕ) : Type 0 where
+pub record Says (old new : StreamState) (turns left : ℕ) (error : Option TurnError) (said : List ℕ) : Type 0 where
   pub written : new.written ≡ append_known old.written said
   pub unread : new.unread ≡ old.unread
-  pub spends : Spends old new turns left told
-  pub fault_is : IsWriteFault told
+  pub spends : Spends old new turns left error
+  pub fault_is : IsWriteFault error
 
 -- Bytes were read, and none were written.
-pub record Hears (old new : StreamState) (turns left : ℕ) (told : Option TurnError) (heard : List ℕ) : Type 0 where
+pub record Hears (old new : StreamState) (turns left : ℕ) (error : Option TurnError) (heard : List ℕ) : Type 0 where
   pub unread : old.unread ≡ prepend_known heard new.unread
   pub written : new.written ≡ old.written
-  pub spends : Spends old new turns left told
-  pub fault_is : IsReadFault told
+  pub spends : Spends old new turns left error
+  pub fault_is : IsReadFault error
 
 -- the number in an Ok, else 0
 abbrev pub count_of : Result ℕ TurnError → ℕ
@@ -87,15 +87,15 @@ IsAllUnless None count all = count ≡ all
 IsAllUnless (Some error) count all = count < all
 
 -- A front of the text was written: all of it, unless a fault is returned.
-pub record SaysFront (old new : StreamState) (turns left : ℕ) (told : Option TurnError) (text : List ℕ) : Type 0 where
+pub record SaysFront (old new : StreamState) (turns left : ℕ) (error : Option TurnError) (text : List ℕ) : Type 0 where
   pub count : ℕ
   pub fits : count ≤ length text
-  pub says : Says old new turns left told (take count text)
-  pub whole : IsAllUnless told count (length text)
+  pub says : Says old new turns left error (take count text)
+  pub whole : IsAllUnless error count (length text)
 
 -- The front of a room was filled: all of it, unless a fault is returned.
-pub record HearsFront (old new : StreamState) (turns left : ℕ) (told : Option TurnError) (room : List ℕ) : Type 0 where
+pub record HearsFront (old new : StreamState) (turns left : ℕ) (error : Option TurnError) (room : List ℕ) : Type 0 where
   pub count : ℕ
   pub fits : count ≤ length room
-  pub hears : Hears old new turns left told (take count room)
-  pub whole : IsAllUnless told count (length room)
+  pub hears : Hears old new turns left error (take count room)
+  pub whole : IsAllUnless error count (length room)

@@ -36,7 +36,7 @@ fn wait_of(left: Duration) -> Duration
 }
 
 // What is left at `now` until the deadline.
-fn left_at(now: Instant, deadline: Instant) -> Duration
+fn time_until(now: Instant, deadline: Instant) -> Duration
     ensures { as_nanos result ≡ nanos_until now deadline }
 {
     deadline.saturating_duration_since(now)
@@ -71,7 +71,7 @@ pub fn time_left<C: Clock>(clock: &C, deadline: Instant) -> Duration
     ensures most { as_nanos result ≤ instant_nanos deadline }
 {
     match Instant::now(clock) {
-        Ok(now) => left_at(now, deadline),
+        Ok(now) => time_until(now, deadline),
         Err(_) => Duration::ZERO,
     }
 }

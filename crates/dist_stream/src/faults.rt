@@ -84,7 +84,7 @@ impl FaultStream {
 }
 
 // Moves some of the input into the room. With a size of 0 it is quiet.
-fn heard_at(input: &mut Vec<u8>, room: &mut [u8], most: usize) -> Heard
+fn take_input(input: &mut Vec<u8>, room: &mut [u8], most: usize) -> Heard
     requires { 0 < length room.old }
     ensures fits { heard_count result ≤ length room.new }
     ensures bytes { input.old.items ≡ take (heard_count result) room.new ++ input.new.items }
@@ -101,7 +101,7 @@ fn heard_at(input: &mut Vec<u8>, room: &mut [u8], most: usize) -> Heard
 }
 
 // Adds some bytes to the output. With a size of 0 it is quiet, and it fails where memory runs out.
-fn taken_at(output: &mut Vec<u8>, bytes: &[u8], most: usize) -> Took
+fn push_output(output: &mut Vec<u8>, bytes: &[u8], most: usize) -> Took
     ensures fits { took_count result ≤ length bytes.now }
     ensures bytes { output.new.items ≡ output.old.items ++ take (took_count result) bytes.now }
 {
@@ -116,7 +116,14 @@ fn taken_at(output: &mut Vec<u8>, bytes: &[u8], most: usize) -> Took
 }
 
 impl Stream for FaultStream {
-    ghost meaning = { λ s. record { unread = Some s.input.items; written = Some s.output.items; calls = s.calls; ended = s.ended; read_failed = s.read_failed; write_failed = s.write_failed } };
+    ghost meaning = { λ s. record {
+      unread = Some s.input.items;
+      written = Some s.output.items;
+      calls = s.calls;
+      ended = s.ended;
+      read_failed = s.read_failed;
+      write_failed = s.write_failed;
+    } };
 
     fn read(&mut self, room: &mut [u8]) -> Heard {
         self.calls = self.calls.saturating_add(1);
@@ -125,7 +132,7 @@ impl Stream for FaultStream {
             Heard::Failed
         } else {
             let most = size_at(&self.read_sizes, self.reads);
-            heard_at(&mut self.input, room, most)
+            take_input(&mut self.input, room, most)
         };
         self.ended = is_end(heard) || self.ended;
         self.read_failed = is_failed_read(heard) || self.read_failed;
@@ -139,7 +146,7 @@ impl Stream for FaultStream {
             Took::Failed
         } else {
             let most = size_at(&self.write_sizes, self.writes);
-            taken_at(&mut self.output, bytes, most)
+            push_output(&mut self.output, bytes, most)
         };
         self.write_failed = is_failed_write(took) || self.write_failed;
         took

@@ -5,6 +5,7 @@ ghost use Rattle.dist_stream.specs.Stream.{is_end, is_failed_read, is_failed_wri
 
 use crate::stream::{Heard, Took};
 
+/// Whether the read showed that the stream has ended: it gave no bytes.
 pub fn is_end(heard: Heard) -> bool
     ensures { result ≡ is_end heard }
 {
@@ -14,6 +15,7 @@ pub fn is_end(heard: Heard) -> bool
     }
 }
 
+/// Whether the read failed.
 pub fn is_failed_read(heard: Heard) -> bool
     ensures { result ≡ is_failed_read heard }
 {
@@ -23,6 +25,7 @@ pub fn is_failed_read(heard: Heard) -> bool
     }
 }
 
+/// Whether the write failed. One that took no bytes did.
 pub fn is_failed_write(took: Took) -> bool
     ensures { result ≡ is_failed_write took }
 {

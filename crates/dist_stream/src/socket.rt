@@ -4,7 +4,7 @@ ghost use Rattle.std.specs.Prelude.{◌≡◌, ℕ, ◌≤◌, None, List, lengt
 ghost use Rattle.std.specs.Duration.{as_nanos};
 ghost use Rattle.std.specs.IoError.{error_kind};
 ghost use Rattle.dist_stream.specs.Stream.{Reads, Writes, heard_count, took_count, unused};
-ghost use Rattle.dist_stream.specs.Socket.{is_quiet, heard_as, took_as};
+ghost use Rattle.dist_stream.specs.Socket.{is_quiet, read_outcome, write_outcome};
 
 use crate::marks::{is_end, is_failed_read, is_failed_write};
 use crate::stream::{Heard, Stream, Took};
@@ -123,8 +123,8 @@ fn is_quiet(kind: ErrorKind) -> bool
 }
 
 // What a read gave that the system answered so.
-fn heard_of(answer: io::Result<usize>) -> Heard
-    ensures { result ≡ heard_as answer }
+fn read_outcome(answer: io::Result<usize>) -> Heard
+    ensures { result ≡ read_outcome answer }
 {
     match answer {
         Ok(count) => Heard::Bytes(count),
@@ -139,8 +139,8 @@ fn heard_of(answer: io::Result<usize>) -> Heard
 }
 
 // What a write took that the system answered so.
-fn took_of(answer: io::Result<usize>) -> Took
-    ensures { result ≡ took_as answer }
+fn write_outcome(answer: io::Result<usize>) -> Took
+    ensures { result ≡ write_outcome answer }
 {
     match answer {
         Ok(count) => Took::Bytes(count),
@@ -154,24 +154,31 @@ fn took_of(answer: io::Result<usize>) -> Took
     }
 }
 
-fn read_from(socket: &mut TcpStream, room: &mut [u8]) -> Heard
+fn read_socket(socket: &mut TcpStream, room: &mut [u8]) -> Heard
     ensures { heard_count result ≤ length room.new }
 {
-    heard_of(socket.read(room))
+    read_outcome(socket.read(room))
 }
 
-fn write_to(socket: &mut TcpStream, bytes: &[u8]) -> Took
+fn write_socket(socket: &mut TcpStream, bytes: &[u8]) -> Took
     ensures { took_count result ≤ length bytes.now }
 {
-    took_of(socket.write(bytes))
+    write_outcome(socket.write(bytes))
 }
 
 impl Stream for SocketStream {
-    ghost meaning = { λ s. record { unread = None; written = None; calls = s.calls; ended = s.ended; read_failed = s.read_failed; write_failed = s.write_failed } };
+    ghost meaning = { λ s. record {
+      unread = None;
+      written = None;
+      calls = s.calls;
+      ended = s.ended;
+      read_failed = s.read_failed;
+      write_failed = s.write_failed;
+    } };
 
     fn read(&mut self, room: &mut [u8]) -> Heard {
         self.calls = self.calls.saturating_add(1);
-        let heard = read_from(&mut self.socket, room);
+        let heard = read_socket(&mut self.socket, room);
         self.ended = is_end(heard) || self.ended;
         self.read_failed = is_failed_read(heard) || self.read_failed;
         heard
@@ -179,7 +186,7 @@ impl Stream for SocketStream {
 
     fn write(&mut self, bytes: &[u8]) -> Took {
         self.calls = self.calls.saturating_add(1);
-        let took = write_to(&mut self.socket, bytes);
+        let took = write_socket(&mut self.socket, bytes);
         self.write_failed = is_failed_write(took) || self.write_failed;
         took
     }

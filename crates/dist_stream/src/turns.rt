@@ -38,7 +38,8 @@ impl<'a, S: Stream> Limited<'a, S> {
     fn write(&mut self, bytes: &[u8]) -> Result<usize, TurnError>
         requires { 0 < length bytes.now }
         ensures fits { count_of result ≤ length bytes.now }
-        ensures says { Says (S.meaning self.old.stream.now) (S.meaning self.new.stream.now) self.old.left self.new.left (fault_of result) (take (count_of result) bytes.now) }
+        ensures says { Says (S.meaning self.old.stream.now) (S.meaning self.new.stream.now) self.old.left self.new.left
+            (fault_of result) (take (count_of result) bytes.now) }
         ensures turn { OnOk result (self.old.left ≡ self.new.left + 1) }
         ensures one { self.old.left ≤ self.new.left + 1 }
         ensures loan { self.new.stream.ghost_name ≡ self.old.stream.ghost_name }
@@ -60,7 +61,8 @@ impl<'a, S: Stream> Limited<'a, S> {
     pub fn read(&mut self, room: &mut [u8]) -> Result<usize, TurnError>
         requires { 0 < length room.old }
         ensures fits { count_of result ≤ length room.new }
-        ensures hears { Hears (S.meaning self.old.stream.now) (S.meaning self.new.stream.now) self.old.left self.new.left (fault_of result) (take (count_of result) room.new) }
+        ensures hears { Hears (S.meaning self.old.stream.now) (S.meaning self.new.stream.now) self.old.left self.new.left
+            (fault_of result) (take (count_of result) room.new) }
         ensures turn { OnOk result (self.old.left ≡ self.new.left + 1) }
         ensures one { self.old.left ≤ self.new.left + 1 }
         ensures loan { self.new.stream.ghost_name ≡ self.old.stream.ghost_name }

@@ -17,10 +17,10 @@ use Rattle.dist_world_model.specs.World.{World, Life, Conn, runs, running, row_o
 use Rattle.dist_world_model.specs.Delivery.{says, spoken, text_to, change_to, body_taken}
 use Rattle.dist_world_model.specs.Happenings.{lived, tell, unclosed, accept, accepted_by, next_end, take_frame}
 use Rattle.dist_world_model.proofs.Conditions.{there, holds, succeeds}
-use Rattle.dist_world_lives.specs.Hearing.{wire_of, said_at}
-use Rattle.dist_world_lives.specs.Telling.{wire_at, HasTold}
+use Rattle.dist_world_lives.specs.Stepping.{wire_of, conns_after}
+use Rattle.dist_world_lives.specs.Telling.{event_wire, HasTold}
 use Rattle.dist_world_lives.specs.Wires.{unaccepted, front_at}
-use Rattle.dist_world_lives.specs.declared.hearing.Heard.{Heard}
+use Rattle.dist_world_lives.specs.declared.stepping.LifeStep.{LifeStep}
 use Rattle.dist_world_lives.proofs.Wired.{AreOwn, as_wired}
 
 told_is : (w : World) (i : ℕ) (v : Event) (fresh : ℕ) (l : Life) (r : Reply) (n : NodeState) → slice_get w.lives i ≡ Some l → runs l ≡ true → step l.node v fresh ≡ Ok (r, n)
@@ -32,18 +32,18 @@ swap f g h [] i = refl
 swap f g h (x ∷ cs) zero = ap (λ y. y ∷ cs) (h x)
 swap f g h (x ∷ cs) (suc i) = ap (λ ys. x ∷ ys) (swap f g h cs i)
 
-module _ (are : AreOwn) (w : World) (c i fresh : ℕ) (side : Side) (v : Event) (who : ℕ) (h : Heard) (new : List Life) (said : List Conn) (k : HasTold who h i w.clock v fresh w.lives new w.conns said) (wired : wire_at k.life.rows v ≡ Some (side, c)) where
+module _ (are : AreOwn) (w : World) (c i fresh : ℕ) (side : Side) (v : Event) (who : ℕ) (h : LifeStep) (new : List Life) (said : List Conn) (k : HasTold who h i w.clock v fresh w.lives new w.conns said) (wired : event_wire k.life.rows v ≡ Some (side, c)) where
   said_there : said ≡ at_place c (says side k.reply.say) w.conns
-  said_there = k.spoken_ ∙ (as_wired w.clock k.reply k.life.rows w.conns are k.life.node v fresh k.node k.stepped ∙ ap (λ o. said_at w.conns o k.reply.say) wired)
+  said_there = k.spoken_ ∙ (as_wired w.clock k.reply k.life.rows w.conns are k.life.node v fresh k.node k.stepped ∙ ap (λ o. conns_after w.conns o k.reply.say) wired)
 
   pub told_marked : (g : Conn → Conn) → ((s : List ℕ) (x : Conn) → says side s (g x) ≡ g (says side s x)) → tell (record (unclosed w) { conns = at_place c g w.conns }) i v fresh ≡ Some (record { setups = w.setups; lives = new; conns = at_place c g said; clock = w.clock; last_closed = option_map (λ y. (who, y)) h.closed })
   told_marked g apart =
       let r = k.reply in
       let there : spoken (at_place c g w.conns) (slice_get (rows_after w.clock v r k.life.rows) r.end_.0) r.say ≡ at_place c g said =
       as_wired w.clock r k.life.rows (at_place c g w.conns) are k.life.node v fresh k.node k.stepped
-      ∙ (ap (λ o. said_at (at_place c g w.conns) o r.say) wired
+      ∙ (ap (λ o. conns_after (at_place c g w.conns) o r.say) wired
       ∙ (swap (says side r.say) g (apart r.say) w.conns c ∙ ap (at_place c g) (sym said_there))) in
-      let shut : option_map (λ y. (let l = k.life in l.who, y)) r.closed ≡ option_map (λ y. (who, y)) h.closed = λ j. option_map (λ y. (sym k.whose j, y)) (let x : Heard = sym k.heard j in x.closed) in
+      let shut : option_map (λ y. (let l = k.life in l.who, y)) r.closed ≡ option_map (λ y. (who, y)) h.closed = λ j. option_map (λ y. (sym k.whose j, y)) (let x : LifeStep = sym k.made j in x.closed) in
       told_is (record (unclosed w) { conns = at_place c g w.conns }) i v fresh k.life r k.node k.there k.running k.stepped
       ∙ (λ j. Some (record { setups = w.setups; lives = sym k.lived_ j; conns = there j; clock = w.clock; last_closed = shut j }))
 
@@ -76,11 +76,11 @@ accepting w c target e =
 accepts_apart : (y : ℕ) (s : List ℕ) (x : Conn) → says Acceptor s (accepted_by y x) ≡ accepted_by y (says Acceptor s x)
 accepts_apart y s x = refl
 
-pub accepted_is : AreOwn → (w : World) (c target who : ℕ) (h : Heard) (new : List Life) (said : List Conn) → unaccepted (slice_get w.conns c) ≡ Some target → HasTold who h target w.clock (event.Incoming c) 0 w.lives new w.conns said
+pub accepted_is : AreOwn → (w : World) (c target who : ℕ) (h : LifeStep) (new : List Life) (said : List Conn) → unaccepted (slice_get w.conns c) ≡ Some target → HasTold who h target w.clock (event.Incoming c) 0 w.lives new w.conns said
     → accept (unclosed w) c ≡ Some (record { setups = w.setups; lives = new; conns = at_place c (accepted_by h.end_.0) said; clock = w.clock; last_closed = option_map (λ y. (who, y)) h.closed })
 accepted_is are w c target who h new said free k =
     let given = are k.life.node (event.Incoming c) 0 k.reply k.node k.stepped in
-    let next : next_end (slice_get w.lives target) ≡ h.end_.0 = ap next_end k.there ∙ (ap (λ (x : EndId). x.0) (sym given.0) ∙ ap (λ (x : Heard). x.end_.0) (sym k.heard)) in
+    let next : next_end (slice_get w.lives target) ≡ h.end_.0 = ap next_end k.there ∙ (ap (λ (x : EndId). x.0) (sym given.0) ∙ ap (λ (x : LifeStep). x.end_.0) (sym k.made)) in
     accepting w c target free
     ∙ (ap (λ y. tell (record (unclosed w) { conns = at_place c (accepted_by y) w.conns }) target (event.Incoming c) 0) next
     ∙ told_marked are w c target 0 Acceptor (event.Incoming c) who h new said k refl (accepted_by h.end_.0) (accepts_apart h.end_.0))
@@ -132,8 +132,8 @@ takes_apart : (side : Side) (s : List ℕ) (x : Conn) → says side s (change_to
 takes_apart Dialler s x = refl
 takes_apart Acceptor s x = refl
 
-module _ (are : AreOwn) (w : World) (node place c fresh : ℕ) (id : EndId) (side : Side) (body : List ℕ) (who : ℕ) (h : Heard) (new : List Life) (said : List Conn) (run : running w node ≡ Some place) (placed : wire_of (row_of_life (slice_get w.lives place) id.0) ≡ Some (side, c)) (first : front_at (slice_get w.conns c) side ≡ Some body) (k : HasTold who h place w.clock (event.Frame id body) fresh w.lives new w.conns said) where
-  wired : wire_at k.life.rows (event.Frame id body) ≡ Some (side, c)
+module _ (are : AreOwn) (w : World) (node place c fresh : ℕ) (id : EndId) (side : Side) (body : List ℕ) (who : ℕ) (h : LifeStep) (new : List Life) (said : List Conn) (run : running w node ≡ Some place) (placed : wire_of (row_of_life (slice_get w.lives place) id.0) ≡ Some (side, c)) (first : front_at (slice_get w.conns c) side ≡ Some body) (k : HasTold who h place w.clock (event.Frame id body) fresh w.lives new w.conns said) where
+  wired : event_wire k.life.rows (event.Frame id body) ≡ Some (side, c)
   wired = sym (ap (λ o. wire_of (row_of_life o id.0)) k.there) ∙ placed
 
   pub taken_is : take_frame (unclosed w) node id fresh ≡ Some (record { setups = w.setups; lives = new; conns = at_place c (change_to side body_taken) said; clock = w.clock; last_closed = option_map (λ y. (who, y)) h.closed })

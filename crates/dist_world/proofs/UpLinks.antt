@@ -8,7 +8,7 @@ use Rattle.dist_world_model.specs.World.{World, Life, running}
 use Rattle.dist_world_model.specs.Happenings.{conn_of}
 use Rattle.dist_world_model.specs.Agreement.{IsUp}
 use Rattle.dist_world_lives.specs.Links.{up_on, FindsLink}
-use Rattle.dist_world.specs.Ups.{FindsPeer, FindsBoth, agreed, agreed_of}
+use Rattle.dist_world.specs.Ups.{FindsPeer, FindsBoth, agreement_on, both_agreement}
 
 -- an end with a connection has a row
 row_there : (o : Option EndRow) (c : ℕ) → conn_of o ≡ Some c → (row : EndRow) × (o ≡ Some row) × (row.conn ≡ Some c)
@@ -37,10 +37,10 @@ module _ (w : World) (a b place : ℕ) (life : Life) (other : Setup) (runs : run
       (u.peer ∙ ap (λ (s : Setup). s.name) same_other)
       (sym (ap (λ (l : Life). conn_of (slice_get l.rows u.id)) same) ∙ (ap conn_of u.beside ∙ u.on))
 
-pub both_found : (w : World) (a b : ℕ) → a ≢ b → (o q : Option (ℕ × UpRecord)) → FindsPeer w a b o → FindsPeer w b a q → FindsBoth w a b (agreed_of o q)
+pub both_found : (w : World) (a b : ℕ) → a ≢ b → (o q : Option (ℕ × UpRecord)) → FindsPeer w a b o → FindsPeer w b a q → FindsBoth w a b (both_agreement o q)
 both_found w a b apart None q k m = tt
 both_found w a b apart (Some x) None k m = tt
-both_found w a b apart (Some x) (Some y) k m = (apart, (y.0, k.0, m.0, λ i. agreed x.0 (sym k.1 i) (sym m.1 i)))
+both_found w a b apart (Some x) (Some y) k m = (apart, (y.0, k.0, m.0, λ i. agreement_on x.0 (sym k.1 i) (sym m.1 i)))
 
-pub both_only : (o q : Option (ℕ × UpRecord)) (c d : ℕ) (here there : UpRecord) → o ≡ up_on c here → q ≡ up_on d there → agreed_of o q ≡ Some (agreed c here there)
-both_only o q c d here there e f = λ i. agreed_of (e i) (f i)
+pub both_only : (o q : Option (ℕ × UpRecord)) (c d : ℕ) (here there : UpRecord) → o ≡ up_on c here → q ≡ up_on d there → both_agreement o q ≡ Some (agreement_on c here there)
+both_only o q c d here there e f = λ i. both_agreement (e i) (f i)

@@ -7,7 +7,7 @@ use Rattle.dist_core_ends.specs.declared.why.Why.{Why}
 use Rattle.dist_core.specs.Node.{NodeState}
 use Rattle.dist_world_model.specs.World.{World, Life, running, row_at}
 use Rattle.dist_world_model.specs.Delivery.{text_to}
-use Rattle.dist_world_lives.specs.Hearing.{wire_of}
+use Rattle.dist_world_lives.specs.Stepping.{wire_of}
 
 -- the running incarnation of a node, itself
 abbrev pub running_life : World → ℕ → Option Life
@@ -32,5 +32,5 @@ SaidNext b None bytes = b ≡ false
 SaidNext b (Some s) bytes = IsTrue b ↔ ((rest : List ℕ) × (bytes ++ rest ≡ s))
 
 -- the same three in one row
-abbrev pub closing : ℕ × (EndId × Why) → ℕ × EndId × Why
-closing x = (x.0, (let y = x.1 in y.0), (let y = x.1 in y.1))
+abbrev pub flat_closed : ℕ × (EndId × Why) → ℕ × EndId × Why
+flat_closed x = (x.0, (let y = x.1 in y.0), (let y = x.1 in y.1))

@@ -14,19 +14,19 @@ FindsPeer w a b None = Unit {0}
 FindsPeer w a b (Some x) = (u : IsUp w a b x.0) × (u.kept ≡ x.1)
 
 -- what is returned of two records
-abbrev pub agreed : ℕ → UpRecord → UpRecord → Agreement
-agreed c here there = record { conn = c; common = here.common; creation_a = there.creation; creation_b = here.creation }
+abbrev pub agreement_on : ℕ → UpRecord → UpRecord → Agreement
+agreement_on c here there = record { conn = c; common = here.common; creation_a = there.creation; creation_b = here.creation }
 
-abbrev pub agreed_of : Option (ℕ × UpRecord) → Option (ℕ × UpRecord) → Option Agreement
-agreed_of None there = None
-agreed_of (Some x) None = None
-agreed_of (Some x) (Some y) = Some (agreed x.0 x.1 y.1)
+abbrev pub both_agreement : Option (ℕ × UpRecord) → Option (ℕ × UpRecord) → Option Agreement
+both_agreement None there = None
+both_agreement (Some x) None = None
+both_agreement (Some x) (Some y) = Some (agreement_on x.0 x.1 y.1)
 
 -- what was found is that two different nodes each count the other as up: the connection of the first one's end, and the
 -- values of the two records
 abbrev pub FindsBoth : World → ℕ → ℕ → Option Agreement → Type 0
 FindsBoth w a b None = Unit {0}
-FindsBoth w a b (Some g) = (a ≢ b) × ((d : ℕ) × (x : IsUp w a b g.conn) × (y : IsUp w b a d) × (g ≡ agreed g.conn x.kept y.kept))
+FindsBoth w a b (Some g) = (a ≢ b) × ((d : ℕ) × (x : IsUp w a b g.conn) × (y : IsUp w b a d) × (g ≡ agreement_on g.conn x.kept y.kept))
 
 -- the setup of the incarnation that runs
 abbrev pub setup_of : {w : World} {a b c : ℕ} → IsUp w a b c → Setup
@@ -47,4 +47,4 @@ FindsAgreed w a b (Some g) = (d : ℕ) × (x : IsUp w a b g.conn) × (y : IsUp w
 
 -- these two records were returned, on whatever connection
 abbrev pub IsTold : Option Agreement → UpRecord → UpRecord → Type 0
-IsTold o here there = (c : ℕ) × (o ≡ Some (agreed c here there))
+IsTold o here there = (c : ℕ) × (o ≡ Some (agreement_on c here there))

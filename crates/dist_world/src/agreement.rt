@@ -1,7 +1,7 @@
 //! Two nodes that each count the other as up.
 ghost use Rattle.std.specs.Prelude.{◌≡◌, ◌≢◌, ℕ, Some};
 ghost use Rattle.std.specs.Option.{option_map};
-ghost use Rattle.dist_world.specs.Ups.{agreed, agreed_of, FindsBoth};
+ghost use Rattle.dist_world.specs.Ups.{agreement_on, both_agreement, FindsBoth};
 ghost use Rattle.dist_world_model.specs.Agreement.{IsUp};
 
 use crate::scene::Scene;
@@ -22,11 +22,11 @@ pub struct Agreement {
     pub creation_b: Option<Creation>,
 }
 
-fn agreed_of(
+fn both_agreement(
     here: Option<(usize, &UpRecord)>,
     there: Option<(usize, &UpRecord)>,
 ) -> Option<Agreement>
-    ensures { result ≡ agreed_of (option_map (λ r. (r.0, r.1.now)) here.entry) (option_map (λ r. (r.0, r.1.now)) there.entry) }
+    ensures { result ≡ both_agreement (option_map (λ r. (r.0, r.1.now)) here.entry) (option_map (λ r. (r.0, r.1.now)) there.entry) }
 {
     match (here, there) {
         (Some((conn, here)), Some((_, there))) => Some(Agreement {
@@ -44,11 +44,11 @@ impl Scene {
     /// is the other.
     pub fn both_up(&self, a: usize, b: usize) -> Option<Agreement>
         ensures found { FindsBoth self.now a b result }
-        ensures only { (c d : ℕ) (x : IsUp self.now a b c) (y : IsUp self.now b a d) → a ≢ b → result ≡ Some (agreed c x.kept y.kept) }
+        ensures only { (c d : ℕ) (x : IsUp self.now a b c) (y : IsUp self.now b a d) → a ≢ b → result ≡ Some (agreement_on c x.kept y.kept) }
     {
         if a == b {
             return None;
         }
-        agreed_of(self.up_with(a, b), self.up_with(b, a))
+        both_agreement(self.up_with(a, b), self.up_with(b, a))
     }
 }

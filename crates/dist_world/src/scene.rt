@@ -3,7 +3,7 @@ ghost use Rattle.std.specs.Prelude.{◌≡◌, ◌↔◌, ◌++◌, IsTrue, List
 ghost use Rattle.std.specs.Option.{option_map};
 ghost use Rattle.dist_world_model.specs.World.{empty, running};
 ghost use Rattle.dist_world.specs.Setups.{names_repeat};
-ghost use Rattle.dist_world.specs.Asking.{node_of, said_to, SaidNext, closing};
+ghost use Rattle.dist_world.specs.Asking.{node_of, said_to, SaidNext, flat_closed};
 ghost use Rattle.dist_world_lives.specs.Links.{up_on};
 ghost use Rattle.dist_world.specs.Ups.{FindsPeer};
 ghost use Rattle.dist_world_model.specs.Agreement.{AreSetups, IsUp};
@@ -93,7 +93,7 @@ impl Scene {
     /// The node, end and cause that the step of the last happening that applied closed. `None` where it closed none or made
     /// no step, or none applied yet.
     pub fn last_closed(&self) -> Option<(usize, EndId, Why)>
-        ensures { result ≡ option_map closing self.now.last_closed }
+        ensures { result ≡ option_map flat_closed self.now.last_closed }
     {
         match self.last_closed {
             Some((node, (id, why))) => Some((node, id, why)),

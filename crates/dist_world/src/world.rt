@@ -4,10 +4,10 @@ ghost use Rattle.std.specs.Option.{option_map};
 ghost use Rattle.dist_world_model.specs.World.{empty};
 ghost use Rattle.dist_world_model.specs.Run.{run, count_applied};
 ghost use Rattle.dist_world.specs.Setups.{names_repeat};
-ghost use Rattle.dist_world.specs.Asking.{node_of, said_to, SaidNext, closing};
+ghost use Rattle.dist_world.specs.Asking.{node_of, said_to, SaidNext, flat_closed};
 ghost use Rattle.dist_world_model.specs.Laws.{AllLives, Decided};
 ghost use Rattle.dist_world_model.specs.Agreement.{Agreement as NodesAgree, Counts, IsUp};
-ghost use Rattle.dist_world.specs.Ups.{agreed, FindsBoth, FindsAgreed, IsTold};
+ghost use Rattle.dist_world.specs.Ups.{agreement_on, FindsBoth, FindsAgreed, IsTold};
 
 use crate::agreement::Agreement;
 use crate::run::Stopped;
@@ -84,7 +84,7 @@ impl World {
     /// and each has an end that is up and whose peer is the other. `None` otherwise, also where one of them is no node.
     pub fn both_up(&self, a: usize, b: usize) -> Option<Agreement>
         ensures found { FindsBoth self.now a b result }
-        ensures only { (c d : ℕ) (x : IsUp self.now a b c) (y : IsUp self.now b a d) → a ≢ b → result ≡ Some (agreed c x.kept y.kept) }
+        ensures only { (c d : ℕ) (x : IsUp self.now a b c) (y : IsUp self.now b a d) → a ≢ b → result ≡ Some (agreement_on c x.kept y.kept) }
         ensures counted { (x : Counts self.now a b) (y : Counts self.now b a) → a ≢ b → IsTold result x.kept y.kept }
 
         // What is returned is what they agree on.
@@ -113,7 +113,7 @@ impl World {
     /// The node, end and cause that the step of the last happening that applied closed: its own end, or another one. `None`
     /// where it closed none or made no step (`Begin`, `Halt`, `Reset`, `Reach`, `Deliver`), or none applied yet.
     pub fn last_closed(&self) -> Option<(usize, EndId, Why)>
-        ensures { result ≡ option_map closing self.now.last_closed }
+        ensures { result ≡ option_map flat_closed self.now.last_closed }
     {
         self.scene.last_closed()
     }

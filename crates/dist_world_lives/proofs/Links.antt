@@ -7,9 +7,9 @@ use Rattle.dist_core_ends.specs.declared.known.UpRecord.{UpRecord}
 use Rattle.dist_core_ends.specs.Ends.{FindsUp}
 use Rattle.dist_world_model.specs.World.{Life}
 use Rattle.dist_world_model.specs.Happenings.{conn_of}
-use Rattle.dist_world_lives.specs.Links.{linked, FindsLink}
+use Rattle.dist_world_lives.specs.Links.{link_of_record, FindsLink}
 
-pub link_found : (l : Life) (p : Name) (o : Option (EndId × UpRecord)) → FindsUp l.node.ends p o → FindsLink l p (linked l.rows o)
+pub link_found : (l : Life) (p : Name) (o : Option (EndId × UpRecord)) → FindsUp l.node.ends p o → FindsLink l p (link_of_record l.rows o)
 link_found l p None k = tt
 link_found l p (Some x) k = by (conn_of (slice_get l.rows (let y = x.0 in y.0))) refl
   where

@@ -6,7 +6,7 @@ use Rattle.dist_frames.specs.Stream.{first_body, after_first}
 use Rattle.dist_frames.specs.Reader.{Reader, Short, Linked, fed, next_body, without_next}
 use Rattle.dist_world_model.specs.World.{Text}
 use Rattle.dist_world_model.specs.Delivery.{more_said, delivered, body_taken}
-use Rattle.dist_world_lives.specs.Wires.{unsaid}
+use Rattle.dist_world_lives.specs.Wires.{without_last}
 use Rattle.dist_world_lives.specs.Reading.{come_of, IsShort}
 
 -- ---- the reader
@@ -46,7 +46,7 @@ pub as_taken : (said : List ℕ) (r : Reader) → IsShort r → (let t : Text = 
 as_taken said r k = λ i. record { said = said; come = come_taken r k i }
 
 -- what was sent last is taken back
-pub said_back : (s : List ℕ) (x : Text) → unsaid (length s) (more_said s x) ≡ x
+pub said_back : (s : List ℕ) (x : Text) → without_last (length s) (more_said s x) ≡ x
 said_back s x =
     let len : length (x.said ++ s) - length s ≡ length x.said = omega (arith, length-append x.said s) in
     let left : take (length (x.said ++ s) - length s) (x.said ++ s) ≡ x.said = take_at x.said s (length (x.said ++ s) - length s) (sym len) in

@@ -13,9 +13,9 @@ use Rattle.dist_core.specs.Answers.{Refuses}
 use Rattle.dist_world_model.specs.World.{World, Life, Conn, runs}
 use Rattle.dist_world_model.specs.Happenings.{lived}
 use Rattle.dist_world_model.proofs.Conditions.{there, not_there, not_held, is_refused, nothing_behind}
-use Rattle.dist_world_lives.specs.Hearing.{IsHeard, said_at}
-use Rattle.dist_world_lives.specs.Telling.{wire_at, HasTold, Declines, is_short}
-use Rattle.dist_world_lives.specs.declared.hearing.Heard.{Heard}
+use Rattle.dist_world_lives.specs.Stepping.{IsLifeStep, conns_after}
+use Rattle.dist_world_lives.specs.Telling.{event_wire, HasTold, Declines, is_out_of_memory}
+use Rattle.dist_world_lives.specs.declared.stepping.LifeStep.{LifeStep}
 use Rattle.dist_world_lives.proofs.Edits.{at_set}
 use Rattle.dist_world_lives.proofs.Wired.{AreOwn, as_wired}
 
@@ -29,7 +29,7 @@ get_none [] i past = refl
 get_none (x ∷ xs) zero past = absurd (omega arith)
 get_none (x ∷ xs) (suc i) past = get_none xs i (omega arith)
 
-pub refused : (e : StepError) (s : Result (Reply × NodeState) StepError) → is_short e ≡ false → Refuses e s → s ≡ Err e
+pub refused : (e : StepError) (s : Result (Reply × NodeState) StepError) → is_out_of_memory e ≡ false → Refuses e s → s ≡ Err e
 refused (error.Busy x) s h r = r
 refused error.Full s h r = r
 refused error.NoSuchEnd s h r = r
@@ -62,7 +62,7 @@ module _ (lives : List Life) (i : ℕ) (l : Life) (few : i < length lives) (is :
   pub put_back : (m : Life) → m ≡ l → set lives i m ≡ lives
   put_back m same = ap (set lives i) (same ∙ is) ∙ set-get_or lives i l
 
-  pub has_told : AreOwn → (t : ℕ) (v : Event) (fresh : ℕ) (conns said : List Conn) (m : Life) (h : Heard) (who : ℕ) (wire : Option (Side × ℕ)) → runs l ≡ true → who ≡ m.who → wire ≡ wire_at l.rows v → IsHeard (Ok h) (step l.node v fresh) t v l m wire conns said → HasTold who h i t v fresh lives (set lives i m) conns said
+  pub has_told : AreOwn → (t : ℕ) (v : Event) (fresh : ℕ) (conns said : List Conn) (m : Life) (h : LifeStep) (who : ℕ) (wire : Option (Side × ℕ)) → runs l ≡ true → who ≡ m.who → wire ≡ event_wire l.rows v → IsLifeStep (Ok h) (step l.node v fresh) t v l m wire conns said → HasTold who h i t v fresh lives (set lives i m) conns said
   has_told are t v fresh conns said m h who wire run whose placed k =
       let r = k.0 in
       record {
@@ -73,7 +73,7 @@ module _ (lives : List Life) (i : ℕ) (l : Life) (few : i < length lives) (is :
         running = run;
         stepped = k.2;
         whose = whose ∙ ap (λ (x : Life). x.who) k.4;
-        heard = k.3;
+        made = k.3;
         lived_ = ap (set lives i) k.4 ∙ at_set (λ old. lived t v k.0 k.1 l) lives i l few is;
-        spoken_ = k.5 ∙ (ap (λ o. said_at conns o r.say) placed ∙ sym (as_wired t k.0 l.rows conns are l.node v fresh k.1 k.2));
+        spoken_ = k.5 ∙ (ap (λ o. conns_after conns o r.say) placed ∙ sym (as_wired t k.0 l.rows conns are l.node v fresh k.1 k.2));
       }

@@ -10,7 +10,7 @@ use Rattle.dist_core_ends.specs.declared.why.Why.{Why}
 use Rattle.dist_world_model.specs.Lists.{at_place, at_each, add_some}
 use Rattle.dist_world_model.specs.Rows.{EndRow, once, takes_name, says_reply, peer_by, rises, dooms, is_end, shuts_end, written, mark}
 use Rattle.dist_world_model.specs.Happenings.{shut_row}
-use Rattle.dist_world_lives.specs.Hearing.{own_row, doomed_row, shut_by, doomed_by, doomed_of}
+use Rattle.dist_world_lives.specs.Stepping.{own_row, doomed_row, rows_shut, rows_doomed, doomed_end}
 use Rattle.dist_world_lives.proofs.Edits.{changed_if, get_at, get_each, unchanged, same_places}
 
 stays : (t : ℕ) (o : Option ℕ) → o ≡ once false t o
@@ -49,25 +49,25 @@ module _ (t : ℕ) (r : Reply) where
   in_option own doomed closed None = refl
   in_option own doomed closed (Some row) = ap (λ x. Some x) (all_parts own doomed closed row)
 
-  get_shut : (closed : Option (EndId × Why)) (rows : List EndRow) (j : ℕ) → slice_get (shut_by t closed rows) j ≡ option_map (changed_if (shuts_end closed j) (shut_row t)) (slice_get rows j)
+  get_shut : (closed : Option (EndId × Why)) (rows : List EndRow) (j : ℕ) → slice_get (rows_shut t closed rows) j ≡ option_map (changed_if (shuts_end closed j) (shut_row t)) (slice_get rows j)
   get_shut None rows j = unchanged (shut_row t) (slice_get rows j)
   get_shut (Some x) rows j = get_at (shut_row t) rows (let y = x.0 in y.0) j
 
-  get_doomed : (x : Option EndId) (rows : List EndRow) (j : ℕ) → slice_get (doomed_by t x rows) j ≡ option_map (changed_if (is_end j x) (doomed_row t)) (slice_get rows j)
+  get_doomed : (x : Option EndId) (rows : List EndRow) (j : ℕ) → slice_get (rows_doomed t x rows) j ≡ option_map (changed_if (is_end j x) (doomed_row t)) (slice_get rows j)
   get_doomed None rows j = unchanged (doomed_row t) (slice_get rows j)
   get_doomed (Some x) rows j = get_at (doomed_row t) rows x.0 j
 
-  is_doomed : (n : Note) (j : ℕ) → is_end j (doomed_of n) ≡ dooms n j
+  is_doomed : (n : Note) (j : ℕ) → is_end j (doomed_end n) ≡ dooms n j
   is_doomed note.Nothing j = refl
   is_doomed (note.NameTaken p x) j = refl
   is_doomed note.ReplySaid j = refl
 
   -- the rows of the event's own end, of the doomed one and of the closed one are all that a reply changes
-  pub as_marked : (rows : List EndRow) → at_place r.end_.0 (own_row t r.note (rises r.up)) (doomed_by t (doomed_of r.note) (shut_by t r.closed rows)) ≡ at_each 0 (mark t r) rows
+  pub as_marked : (rows : List EndRow) → at_place r.end_.0 (own_row t r.note (rises r.up)) (rows_doomed t (doomed_end r.note) (rows_shut t r.closed rows)) ≡ at_each 0 (mark t r) rows
   as_marked rows = same_places _ _ (λ j.
       let first : 0 + j ≡ j = omega arith in
-      get_at (own_row t r.note (rises r.up)) (doomed_by t (doomed_of r.note) (shut_by t r.closed rows)) r.end_.0 j
-      ∙ (ap (option_map (changed_if (r.end_.0 == j) (own_row t r.note (rises r.up)))) (get_doomed (doomed_of r.note) (shut_by t r.closed rows) j ∙ ((λ i. option_map (changed_if (is_doomed r.note j i) (doomed_row t)) (get_shut r.closed rows j i))))
+      get_at (own_row t r.note (rises r.up)) (rows_doomed t (doomed_end r.note) (rows_shut t r.closed rows)) r.end_.0 j
+      ∙ (ap (option_map (changed_if (r.end_.0 == j) (own_row t r.note (rises r.up)))) (get_doomed (doomed_end r.note) (rows_shut t r.closed rows) j ∙ ((λ i. option_map (changed_if (is_doomed r.note j i) (doomed_row t)) (get_shut r.closed rows j i))))
       ∙ (in_option (r.end_.0 == j) (dooms r.note j) (shuts_end r.closed j) (slice_get rows j)
       ∙ sym (get_each (mark t r) rows 0 j ∙ ap (λ n. option_map (mark t r n) (slice_get rows j)) first))))
 

@@ -1,6 +1,6 @@
 pub mod Wires
 pub mod Reading
-pub mod Hearing
+pub mod Stepping
 pub mod Telling
 pub mod Resetting
 pub mod Index

@@ -10,9 +10,9 @@ use Rattle.dist_world_model.specs.World.{Life, row_of_life, end_of_life}
 use Rattle.dist_world_model.specs.Happenings.{conn_of}
 
 -- the connection of an end beside its record
-abbrev pub linked : List EndRow → Option (EndId × UpRecord) → Option (ℕ × UpRecord)
-linked rows None = None
-linked rows (Some x) = option_map (λ c. (c, x.1)) (conn_of (slice_get rows (let y = x.0 in y.0)))
+abbrev pub link_of_record : List EndRow → Option (EndId × UpRecord) → Option (ℕ × UpRecord)
+link_of_record rows None = None
+link_of_record rows (Some x) = option_map (λ c. (c, x.1)) (conn_of (slice_get rows (let y = x.0 in y.0)))
 
 -- a connection and the record of an end on it
 abbrev pub up_on : ℕ → UpRecord → Option (ℕ × UpRecord)

@@ -14,20 +14,20 @@ use Rattle.dist_world_model.specs.Rows.{EndRow, rows_after}
 use Rattle.dist_world_model.specs.World.{World, Life, Conn, runs}
 use Rattle.dist_world_model.specs.Delivery.{spoken}
 use Rattle.dist_world_model.specs.Happenings.{lived, tell}
-use Rattle.dist_world_lives.specs.Hearing.{heard_of, wire_of}
-use Rattle.dist_world_lives.specs.declared.hearing.Heard.{Heard}
+use Rattle.dist_world_lives.specs.Stepping.{life_step_of, wire_of}
+use Rattle.dist_world_lives.specs.declared.stepping.LifeStep.{LifeStep}
 
 -- which side of which connection the end of an event is
-abbrev pub wire_at : List EndRow → Event → Option (Side × ℕ)
-wire_at rows (event.Dial p o) = None
-wire_at rows (event.Opened id link) = wire_of (slice_get rows id.0)
-wire_at rows (event.Incoming link) = Some (Acceptor, link)
-wire_at rows (event.Frame id body) = wire_of (slice_get rows id.0)
-wire_at rows (event.Lost id w) = wire_of (slice_get rows id.0)
-wire_at rows (event.Tick id) = wire_of (slice_get rows id.0)
+abbrev pub event_wire : List EndRow → Event → Option (Side × ℕ)
+event_wire rows (event.Dial p o) = None
+event_wire rows (event.Opened id link) = wire_of (slice_get rows id.0)
+event_wire rows (event.Incoming link) = Some (Acceptor, link)
+event_wire rows (event.Frame id body) = wire_of (slice_get rows id.0)
+event_wire rows (event.Lost id w) = wire_of (slice_get rows id.0)
+event_wire rows (event.Tick id) = wire_of (slice_get rows id.0)
 
 -- incarnation i ran, and got the event
-pub record HasTold (who : ℕ) (h : Heard) (i t : ℕ) (v : Event) (fresh : ℕ) (lives new : List Life) (conns said : List Conn) : Type 0 where
+pub record HasTold (who : ℕ) (h : LifeStep) (i t : ℕ) (v : Event) (fresh : ℕ) (lives new : List Life) (conns said : List Conn) : Type 0 where
   pub life : Life
   pub reply : Reply
   pub node : NodeState
@@ -35,7 +35,7 @@ pub record HasTold (who : ℕ) (h : Heard) (i t : ℕ) (v : Event) (fresh : ℕ)
   pub running : runs life ≡ true
   pub stepped : step life.node v fresh ≡ Ok (reply, node)
   pub whose : who ≡ life.who
-  pub heard : h ≡ heard_of reply
+  pub made : h ≡ life_step_of reply
   pub lived_ : new ≡ at_place i (λ old. lived t v reply node life) lives
   pub spoken_ : said ≡ spoken conns (slice_get (rows_after t v reply life.rows) reply.end_.0) reply.say
 
@@ -44,6 +44,6 @@ abbrev pub Declines : List Life → ℕ → Event → ℕ → Type 0
 Declines lives i v fresh = (w : World) → w.lives ≡ lives → tell w i v fresh ≡ None
 
 -- out of memory, and no refusal of the event
-abbrev pub is_short : StepError → Bool
-is_short error.NoMemory = true
-is_short e = false
+abbrev pub is_out_of_memory : StepError → Bool
+is_out_of_memory error.NoMemory = true
+is_out_of_memory e = false

@@ -19,9 +19,9 @@ abbrev pub undelivered_to : Side → Option Conn → Option (List ℕ)
 undelivered_to side o = option_map (λ c. (let t = text_to side c in t.said)) o
 
 -- this many bytes can come to this side of a connection
-abbrev pub comes : Option Conn → Side → ℕ → Bool
-comes None side k = false
-comes (Some x) side k = nat_lt 0 k && is_nonempty (let t = text_to side x in t.said)
+abbrev pub can_come : Option Conn → Side → ℕ → Bool
+can_come None side k = false
+can_come (Some x) side k = nat_lt 0 k && is_nonempty (let t = text_to side x in t.said)
 
 -- the first body that came to this side of a connection
 abbrev pub front_at : Option Conn → Side → Option (List ℕ)
@@ -29,13 +29,13 @@ front_at None side = None
 front_at (Some x) side = first_body w16 (let t = text_to side x in t.come)
 
 -- the last k bytes were not sent
-abbrev pub unsaid : ℕ → Text → Text
-unsaid k x = record x { said = take (length x.said - k) x.said }
+abbrev pub without_last : ℕ → Text → Text
+without_last k x = record x { said = take (length x.said - k) x.said }
 
 -- this side did not send the last k bytes
 abbrev pub unsays : Side → ℕ → Conn → Conn
-unsays Dialler k c = record c { there = unsaid k c.there }
-unsays Acceptor k c = record c { back = unsaid k c.back }
+unsays Dialler k c = record c { there = without_last k c.there }
+unsays Acceptor k c = record c { back = without_last k c.back }
 
 -- all that this side sent is delivered
 abbrev pub is_quiet : Side → Conn → Bool
@@ -43,6 +43,6 @@ is_quiet Dialler c = nat_eq (length c.there.said) 0
 is_quiet Acceptor c = nat_eq (length c.back.said) 0
 
 -- the same of a connection, if there is one
-abbrev pub is_quiet_at : Option Conn → Side → Bool
-is_quiet_at None side = true
-is_quiet_at (Some c) side = is_quiet side c
+abbrev pub is_conn_quiet : Option Conn → Side → Bool
+is_conn_quiet None side = true
+is_conn_quiet (Some c) side = is_quiet side c

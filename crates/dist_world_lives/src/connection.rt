@@ -34,7 +34,14 @@ impl Model for Connection {
 
     ghost Value = { Conn };
 
-    ghost view = { λ c. record { life = c.life; dialler = c.dialler.0; target = c.target; accepted = option_map (λ x. x.0) c.accepted; there = c.there; back = c.back } };
+    ghost view = { λ c. record {
+      life = c.life;
+      dialler = c.dialler.0;
+      target = c.target;
+      accepted = option_map (λ x. x.0) c.accepted;
+      there = c.there;
+      back = c.back;
+    } };
 }
 
 impl Connection {

@@ -4,7 +4,7 @@ ghost use Rattle.dist_world_model.specs.Lists.{at_place};
 ghost use Rattle.dist_world_model.specs.World.{Conn};
 ghost use Rattle.dist_world_model.specs.Happenings.{new_conn, accepted_by};
 ghost use Rattle.dist_world_model.specs.Delivery.{says, change_to, delivered, body_taken};
-ghost use Rattle.dist_world_lives.specs.Wires.{unaccepted, undelivered_to, comes, front_at, unsays, is_quiet_at};
+ghost use Rattle.dist_world_lives.specs.Wires.{unaccepted, undelivered_to, can_come, front_at, unsays, is_conn_quiet};
 
 use crate::connection::Connection;
 use dist_messages::Side;
@@ -99,7 +99,7 @@ impl Connections {
     pub fn accept(&mut self, place: usize, id: EndId)
         ensures { self.new ≡ at_place place (accepted_by id.0) self.old }
     {
-        accept_at(&mut self.all, place, id);
+        mark_accepted(&mut self.all, place, id);
     }
 
     /// This side of a connection sends these bytes. An `Err` changes nothing.
@@ -107,12 +107,12 @@ impl Connections {
         ensures ok { OnOk result (self.new ≡ at_place place (says side bytes.now) self.old) }
         ensures err { OnErr result (self.new ≡ self.old) }
     {
-        say_at(&mut self.all, place, side, bytes)
+        append_bytes(&mut self.all, place, side, bytes)
     }
 
     /// All that this side of a connection sent is delivered; so too where there is no such connection.
     pub fn is_quiet(&self, place: usize, side: Side) -> bool
-        ensures { result ≡ is_quiet_at (slice_get self.now place) side }
+        ensures { result ≡ is_conn_quiet (slice_get self.now place) side }
     {
         match self.all.get(place) {
             Some(conn) => conn.is_quiet(side),
@@ -122,39 +122,39 @@ impl Connections {
 
     /// This side of a connection sends these bytes, where all that it sent is delivered. It takes no memory.
     pub fn say_first(&mut self, place: usize, side: Side, bytes: ByteString)
-        requires { is_quiet_at (slice_get self.old place) side ≡ true }
+        requires { is_conn_quiet (slice_get self.old place) side ≡ true }
         ensures { self.new ≡ at_place place (says side bytes) self.old }
     {
-        say_first_at(&mut self.all, place, side, bytes);
+        put_bytes(&mut self.all, place, side, bytes);
     }
 
     /// Takes back the last `count` bytes that this side of a connection sent: all is as it was before it sent them.
     pub fn unsay(&mut self, place: usize, side: Side, count: usize)
         ensures { (before : List Conn) (bytes : List ℕ) → self.old ≡ at_place place (says side bytes) before → length bytes ≡ count → self.new ≡ before }
     {
-        unsay_at(&mut self.all, place, side, count);
+        remove_bytes(&mut self.all, place, side, count);
     }
 
     /// `count` bytes come to this side of a connection, or what is left: whether there were any. An `Err` changes nothing.
     pub fn deliver(&mut self, place: usize, side: Side, count: usize) -> Result<bool, AllocError>
-        ensures comes { IfOk result (λ came. came ≡ comes (slice_get self.old place) side count) }
+        ensures comes { IfOk result (λ came. came ≡ can_come (slice_get self.old place) side count) }
         ensures ok { IfOk result (λ came. self.new ≡ (if came then at_place place (change_to side (delivered count)) self.old else self.old)) }
         ensures err { OnErr result (self.new ≡ self.old) }
     {
-        deliver_at(&mut self.all, place, side, count)
+        move_bytes(&mut self.all, place, side, count)
     }
 
     /// This side of a connection takes the first frame that came to it. With none it changes nothing.
     pub fn take(&mut self, place: usize, side: Side)
         ensures { self.new ≡ at_place place (change_to side body_taken) self.old }
     {
-        take_at(&mut self.all, place, side);
+        drop_body(&mut self.all, place, side);
     }
 }
 
 // ---- one connection among all
 
-fn accept_at(conns: &mut Vec<Connection>, place: usize, id: EndId)
+fn mark_accepted(conns: &mut Vec<Connection>, place: usize, id: EndId)
     ensures { conns.new.items ≡ at_place place (accepted_by id.0) conns.old.items }
 {
     if place < conns.len() {
@@ -163,7 +163,7 @@ fn accept_at(conns: &mut Vec<Connection>, place: usize, id: EndId)
     }
 }
 
-fn say_at(
+fn append_bytes(
     conns: &mut Vec<Connection>,
     place: usize,
     side: Side,
@@ -180,8 +180,8 @@ fn say_at(
     Ok(())
 }
 
-fn say_first_at(conns: &mut Vec<Connection>, place: usize, side: Side, bytes: ByteString)
-    requires { is_quiet_at (slice_get conns.old.items place) side ≡ true }
+fn put_bytes(conns: &mut Vec<Connection>, place: usize, side: Side, bytes: ByteString)
+    requires { is_conn_quiet (slice_get conns.old.items place) side ≡ true }
     ensures { conns.new.items ≡ at_place place (says side bytes) conns.old.items }
 {
     if place < conns.len() {
@@ -190,7 +190,7 @@ fn say_first_at(conns: &mut Vec<Connection>, place: usize, side: Side, bytes: By
     }
 }
 
-fn unsay_at(conns: &mut Vec<Connection>, place: usize, side: Side, count: usize)
+fn remove_bytes(conns: &mut Vec<Connection>, place: usize, side: Side, count: usize)
     ensures { conns.new.items ≡ at_place place (unsays side count) conns.old.items }
 {
     if place < conns.len() {
@@ -199,13 +199,13 @@ fn unsay_at(conns: &mut Vec<Connection>, place: usize, side: Side, count: usize)
     }
 }
 
-fn deliver_at(
+fn move_bytes(
     conns: &mut Vec<Connection>,
     place: usize,
     side: Side,
     count: usize,
 ) -> Result<bool, AllocError>
-    ensures comes { IfOk result (λ came. came ≡ comes (slice_get conns.old.items place) side count) }
+    ensures comes { IfOk result (λ came. came ≡ can_come (slice_get conns.old.items place) side count) }
     ensures ok { IfOk result (λ came. conns.new.items ≡ (if came then at_place place (change_to side (delivered count)) conns.old.items else conns.old.items)) }
     ensures err { OnErr result (conns.new.items ≡ conns.old.items) }
 {
@@ -220,7 +220,7 @@ fn deliver_at(
     Ok(true)
 }
 
-fn take_at(conns: &mut Vec<Connection>, place: usize, side: Side)
+fn drop_body(conns: &mut Vec<Connection>, place: usize, side: Side)
     ensures { conns.new.items ≡ at_place place (change_to side body_taken) conns.old.items }
 {
     if place < conns.len() {

@@ -3,7 +3,7 @@ ghost use Rattle.std.specs.Prelude.{◌≡◌, [], option_copied, OnOk, OnErr};
 ghost use Rattle.std.specs.Int.{w16};
 ghost use Rattle.dist_frames.specs.Stream.{first_body};
 ghost use Rattle.dist_world_model.specs.Delivery.{empty_text, more_said, delivered, body_taken};
-ghost use Rattle.dist_world_lives.specs.Wires.{unsaid};
+ghost use Rattle.dist_world_lives.specs.Wires.{without_last};
 
 use dist_frames::{ByteQueue, Frames};
 use dist_names::ByteString;
@@ -66,7 +66,7 @@ impl Direction {
 
     /// Takes back the last `count` bytes that were sent.
     pub fn unsay(&mut self, count: usize)
-        ensures { self.new ≡ unsaid count self.old }
+        ensures { self.new ≡ without_last count self.old }
     {
         self.said.drop_back(count);
     }

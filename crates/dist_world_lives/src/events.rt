@@ -1,18 +1,18 @@
 //! An event that an incarnation gets, among all incarnations and connections.
 ghost use Rattle.std.specs.Prelude.{◌≡◌, IfOk, OnErr, MatchOption};
-ghost use Rattle.dist_world_lives.specs.Telling.{wire_at, HasTold, Declines, is_short};
+ghost use Rattle.dist_world_lives.specs.Telling.{event_wire, HasTold, Declines, is_out_of_memory};
 
 use crate::Connections;
-use crate::hearing::Heard;
 use crate::life::Life;
+use crate::stepping::{LifeStep, Occasion};
 use dist_core::{Event, StepError};
 use dist_core_laws::a_reply_is_of_its_end;
 use dist_messages::Side;
-use std::alloc::{AllocError, Global};
+use std::alloc::AllocError;
 
 // Which side of which connection the end of an event is.
-fn wire(life: &Life, event: &Event) -> Option<(Side, usize)>
-    ensures { result ≡ wire_at life.now.rows event.now }
+fn event_wire(life: &Life, event: &Event) -> Option<(Side, usize)>
+    ensures { result ≡ event_wire life.now.rows event.now }
 {
     match event {
         Event::Dial {
@@ -28,8 +28,8 @@ fn wire(life: &Life, event: &Event) -> Option<(Side, usize)>
 }
 
 // Out of memory, and no refusal of the event.
-fn is_short(refusal: StepError) -> bool
-    ensures { result ≡ is_short refusal }
+fn is_out_of_memory(refusal: StepError) -> bool
+    ensures { result ≡ is_out_of_memory refusal }
 {
     matches!(refusal, StepError::NoMemory)
 }
@@ -39,12 +39,11 @@ pub fn tell(
     lives: &mut Vec<Life>,
     conns: &mut Connections,
     place: usize,
-    alloc: Global,
-    clock: u64,
-    event: &Event,
-    fresh: u32,
-) -> Result<Option<(usize, Heard)>, AllocError>
-    ensures ok { IfOk result (λ told. MatchOption told (Declines lives.old.items place event.now fresh × (lives.new.items ≡ lives.old.items) × (conns.new ≡ conns.old)) (λ x. HasTold x.0 x.1 place clock event.now fresh lives.old.items lives.new.items conns.old conns.new)) }
+    occasion: &Occasion<'_>,
+) -> Result<Option<(usize, LifeStep)>, AllocError>
+    ensures ok { IfOk result (λ made. MatchOption made
+        (Declines lives.old.items place occasion.now.event.now occasion.now.fresh × (lives.new.items ≡ lives.old.items) × (conns.new ≡ conns.old))
+        (λ x. HasTold x.0 x.1 place occasion.now.clock occasion.now.event.now occasion.now.fresh lives.old.items lives.new.items conns.old conns.new)) }
     ensures err { OnErr result ((lives.new.items ≡ lives.old.items) × (conns.new ≡ conns.old)) }
 {
     a_reply_is_of_its_end();
@@ -55,11 +54,11 @@ pub fn tell(
     if !life.runs() {
         return Ok(None);
     }
-    let wire = wire(life, event);
-    match life.hear(conns, wire, alloc, clock, event, fresh) {
-        Ok(heard) => Ok(Some((life.who(), heard))),
+    let wire = event_wire(life, occasion.event);
+    match life.step(conns, wire, occasion) {
+        Ok(made) => Ok(Some((life.who(), made))),
         Err(refusal) => {
-            if is_short(refusal) {
+            if is_out_of_memory(refusal) {
                 return Err(AllocError);
             }
             Ok(None)

@@ -4,17 +4,17 @@ ghost use Rattle.dist_world_model.specs.Lists.{at_place, first_where};
 ghost use Rattle.std.specs.Option.{option_map};
 ghost use Rattle.dist_world_model.specs.World.{runs_for, row_of_life, end_of_life};
 ghost use Rattle.dist_world_model.specs.Happenings.{ended, new_life, reached_life, is_open_end};
-ghost use Rattle.dist_world_lives.specs.Hearing.{wire_of};
+ghost use Rattle.dist_world_lives.specs.Stepping.{wire_of};
 ghost use Rattle.dist_world_lives.specs.Links.{is_unreached};
 ghost use Rattle.dist_world_lives.specs.Index.{index_at};
 ghost use Rattle.dist_world_lives.specs.Telling.{HasTold, Declines};
-ghost use Rattle.dist_world_lives.specs.Resetting.{Resets, lacks_memory};
+ghost use Rattle.dist_world_lives.specs.Resetting.{Resets, is_out_of_memory};
 
 use crate::Connections;
 use crate::events::tell;
-use crate::hearing::Heard;
 use crate::life::{Life, is_open};
-use dist_core::{Change, ChangeError, Event, Node, Setup};
+use crate::stepping::{LifeStep, Occasion};
+use dist_core::{Change, ChangeError, Node, Setup};
 use dist_messages::Side;
 use dist_names::Creation;
 use dist_peers::EndId;
@@ -107,14 +107,14 @@ impl Lives {
     pub fn wire(&self, place: usize, id: EndId) -> Option<(Side, usize)>
         ensures { result ≡ wire_of (row_of_life (slice_get self.now place) id.0) }
     {
-        wire_at(&self.lives, place, id)
+        life_wire(&self.lives, place, id)
     }
 
     /// The end is open.
     pub fn is_open(&self, place: usize, id: EndId) -> bool
         ensures { result ≡ is_open_end (end_of_life (slice_get self.now place) id.0) }
     {
-        is_open_at(&self.lives, place, id)
+        is_end_open(&self.lives, place, id)
     }
 
     /// The end waits for a connection, and was not led to one yet.
@@ -128,7 +128,7 @@ impl Lives {
     pub fn node(&self, place: usize) -> Option<&Node>
         ensures { option_copied result ≡ option_map (λ l. l.node) (slice_get self.now place) }
     {
-        node_at(&self.lives, place)
+        life_node(&self.lives, place)
     }
 
     /// A node that does not run begins anew. An `Err` changes nothing.
@@ -146,19 +146,22 @@ impl Lives {
     {
         widen(&mut self.index, node)?;
         let place = self.lives.len();
-        push_new(&mut self.lives, alloc, node, clock, setup, creation)?;
+        let life = Life::new(alloc, node, clock, setup, creation)?;
+        push(&mut self.lives, life)?;
         set_place(&mut self.index, node, Some(place));
         Ok(())
     }
 
     /// The running incarnation of a node stops, where there is one.
     pub fn end(&mut self, node: usize, clock: u64) -> bool
-        ensures { MatchOption (first_where (runs_for node) self.old) ((result ≡ false) × (self.new ≡ self.old)) (λ place. (result ≡ true) × (self.new ≡ at_place place (ended clock) self.old)) }
+        ensures { MatchOption (first_where (runs_for node) self.old)
+            ((result ≡ false) × (self.new ≡ self.old))
+            (λ place. (result ≡ true) × (self.new ≡ at_place place (ended clock) self.old)) }
     {
         let Some(place) = place_of_node(&self.index, node) else {
             return false;
         };
-        end_at(&mut self.lives, place, clock);
+        end_life(&mut self.lives, place, clock);
         set_place(&mut self.index, node, None);
         true
     }
@@ -167,14 +170,14 @@ impl Lives {
     pub fn reset(&mut self, place: usize, wanted: Change) -> Result<bool, AllocError>
         ensures { Resets result place wanted self.old self.new }
     {
-        reset_at(&mut self.lives, place, wanted)
+        reset_life(&mut self.lives, place, wanted)
     }
 
     /// An end of an incarnation gets a connection.
     pub fn reach(&mut self, place: usize, id: EndId, conn: usize)
         ensures { self.new ≡ at_place place (reached_life id.0 conn) self.old }
     {
-        reach_at(&mut self.lives, place, id, conn);
+        reach_life(&mut self.lives, place, id, conn);
     }
 
     /// An incarnation gets an event. `None` where it does not run or refuses the event, which changes nothing.
@@ -182,38 +185,29 @@ impl Lives {
         &mut self,
         conns: &mut Connections,
         place: usize,
-        alloc: Global,
-        clock: u64,
-        event: &Event,
-        fresh: u32,
-    ) -> Result<Option<(usize, Heard)>, AllocError>
-        ensures ok { IfOk result (λ told. MatchOption told (Declines self.old place event.now fresh × (self.new ≡ self.old) × (conns.new ≡ conns.old)) (λ x. HasTold x.0 x.1 place clock event.now fresh self.old self.new conns.old conns.new)) }
+        occasion: &Occasion<'_>,
+    ) -> Result<Option<(usize, LifeStep)>, AllocError>
+        ensures ok { IfOk result (λ made. MatchOption made
+            (Declines self.old place occasion.now.event.now occasion.now.fresh × (self.new ≡ self.old) × (conns.new ≡ conns.old))
+            (λ x. HasTold x.0 x.1 place occasion.now.clock occasion.now.event.now occasion.now.fresh self.old self.new conns.old conns.new)) }
         ensures err { OnErr result ((self.new ≡ self.old) × (conns.new ≡ conns.old)) }
     {
-        tell(&mut self.lives, conns, place, alloc, clock, event, fresh)
+        tell(&mut self.lives, conns, place, occasion)
     }
 }
 
 // ---- incarnations
 
-// A new incarnation of a node stands behind all others. An `Err` changes nothing.
-fn push_new(
-    lives: &mut Vec<Life>,
-    alloc: Global,
-    node: usize,
-    clock: u64,
-    setup: &Setup,
-    creation: Creation,
-) -> Result<(), AllocError>
-    ensures ok { OnOk result (lives.new.items ≡ lives.old.items ++ new_life node clock setup.now creation ∷ []) }
+// A new incarnation stands behind all others. An `Err` changes nothing.
+fn push(lives: &mut Vec<Life>, life: Life) -> Result<(), AllocError>
+    ensures ok { OnOk result (lives.new.items ≡ lives.old.items ++ life ∷ []) }
     ensures err { OnErr result (lives.new.items ≡ lives.old.items) }
 {
-    let life = Life::new(alloc, node, clock, setup, creation)?;
     lives.push(life)?;
     Ok(())
 }
 
-fn end_at(lives: &mut Vec<Life>, place: usize, clock: u64)
+fn end_life(lives: &mut Vec<Life>, place: usize, clock: u64)
     ensures { lives.new.items ≡ at_place place (ended clock) lives.old.items }
 {
     if place < lives.len() {
@@ -222,7 +216,7 @@ fn end_at(lives: &mut Vec<Life>, place: usize, clock: u64)
     }
 }
 
-fn reset_at(lives: &mut Vec<Life>, place: usize, wanted: Change) -> Result<bool, AllocError>
+fn reset_life(lives: &mut Vec<Life>, place: usize, wanted: Change) -> Result<bool, AllocError>
     ensures { Resets result place wanted lives.old.items lives.new.items }
 {
     if place >= lives.len() {
@@ -232,7 +226,7 @@ fn reset_at(lives: &mut Vec<Life>, place: usize, wanted: Change) -> Result<bool,
     match life.reset(wanted) {
         Ok(()) => Ok(true),
         Err(refusal) => {
-            if lacks_memory(refusal) {
+            if is_out_of_memory(refusal) {
                 return Err(AllocError);
             }
             Ok(false)
@@ -241,13 +235,13 @@ fn reset_at(lives: &mut Vec<Life>, place: usize, wanted: Change) -> Result<bool,
 }
 
 // Out of memory, and no refusal of the change.
-fn lacks_memory(refusal: ChangeError) -> bool
-    ensures { result ≡ lacks_memory refusal }
+fn is_out_of_memory(refusal: ChangeError) -> bool
+    ensures { result ≡ is_out_of_memory refusal }
 {
     matches!(refusal, ChangeError::NoMemory)
 }
 
-fn reach_at(lives: &mut Vec<Life>, place: usize, id: EndId, conn: usize)
+fn reach_life(lives: &mut Vec<Life>, place: usize, id: EndId, conn: usize)
     ensures { lives.new.items ≡ at_place place (reached_life id.0 conn) lives.old.items }
 {
     if place < lives.len() {
@@ -256,13 +250,13 @@ fn reach_at(lives: &mut Vec<Life>, place: usize, id: EndId, conn: usize)
     }
 }
 
-fn wire_at(lives: &[Life], place: usize, id: EndId) -> Option<(Side, usize)>
+fn life_wire(lives: &[Life], place: usize, id: EndId) -> Option<(Side, usize)>
     ensures { result ≡ wire_of (row_of_life (slice_get lives.now place) id.0) }
 {
     lives.get(place)?.wire(id)
 }
 
-fn is_open_at(lives: &[Life], place: usize, id: EndId) -> bool
+fn is_end_open(lives: &[Life], place: usize, id: EndId) -> bool
     ensures { result ≡ is_open_end (end_of_life (slice_get lives.now place) id.0) }
 {
     match lives.get(place) {
@@ -281,7 +275,7 @@ fn is_unreached(lives: &[Life], place: usize, id: EndId) -> bool
 }
 
 // The node of an incarnation.
-fn node_at(lives: &[Life], place: usize) -> Option<&Node>
+fn life_node(lives: &[Life], place: usize) -> Option<&Node>
     ensures { option_copied result ≡ option_map (λ l. l.node) (slice_get lives.now place) }
 {
     let life = lives.get(place)?;

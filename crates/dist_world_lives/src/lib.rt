@@ -5,7 +5,7 @@
 //! Contracts see neither, but the texts of the definition in `dist_world_model`.
 //!
 //! An incarnation: a node from its beginning to its end, with a row for each of its ends. It gets an event, makes its
-//! step, writes down in its rows what the step did, and its words are put on the connection of the end that sends them. Which
+//! step, writes down in its rows what the step did, and what it says is put on the connection of the end that sends it. Which
 //! incarnations run is known here; what may happen to several nodes is decided in the crate above. There are no sockets.
 #![tactic(auto)]
 
@@ -13,12 +13,12 @@ mod connection;
 mod connections;
 mod direction;
 mod events;
-mod hearing;
 mod incarnations;
 mod life;
 mod row;
+mod stepping;
 
 pub use connections::Connections;
-pub use hearing::Heard;
 pub use incarnations::Lives;
 pub use life::Life;
+pub use stepping::{LifeStep, Occasion};

@@ -5,17 +5,17 @@ ghost use Rattle.dist_core.specs.Step.{step};
 ghost use Rattle.dist_world_model.specs.World.{runs, runs_for};
 ghost use Rattle.dist_world_model.specs.Happenings.{ended, with_node, reached_life, is_open_end, shut_all, new_life};
 ghost use Rattle.dist_world_model.specs.Lists.{at_place};
-ghost use Rattle.dist_world_lives.specs.Hearing.{IsHeard, wire_of};
+ghost use Rattle.dist_world_lives.specs.Stepping.{IsLifeStep, wire_of};
 ghost use Rattle.dist_world_model.specs.Happenings.{reached_row, conn_of};
 ghost use Rattle.dist_core_ends.specs.declared.known.UpRecord.{UpRecord};
 ghost use Rattle.dist_core_ends.specs.declared.known.End.TheVariants as end;
-ghost use Rattle.dist_world_lives.specs.Links.{FindsLink, linked, up_on};
+ghost use Rattle.dist_world_lives.specs.Links.{FindsLink, link_of_record, up_on};
 ghost use Rattle.std.specs.Option.{option_map};
 
 use crate::Connections;
-use crate::hearing::{Heard, hear};
 use crate::row::EndRow;
-use dist_core::{Change, ChangeError, Event, Node, Setup, StepError, Still, UpRecord};
+use crate::stepping::{LifeStep, Occasion, step_life};
+use dist_core::{Change, ChangeError, Node, Setup, StepError, Still, UpRecord};
 use dist_messages::Side;
 use dist_names::{Creation, NodeName};
 use dist_peers::EndId;
@@ -96,39 +96,30 @@ impl Life {
     pub fn wire(&self, id: EndId) -> Option<(Side, usize)>
         ensures { result ≡ wire_of (slice_get self.now.rows id.0) }
     {
-        wire(&self.rows, id)
+        row_wire(&self.rows, id)
     }
 
     /// The connection of the end that is up with this peer, and its record.
     pub fn up_with(&self, peer: &NodeName) -> Option<(usize, &UpRecord)>
         ensures found { FindsLink self.now peer.now (option_map (λ r. (r.0, r.1.now)) result) }
-        ensures only { (i c : ℕ) (kept : UpRecord) → slice_get self.now.node.ends i ≡ Some (end.Up kept) → kept.peer ≡ peer.now → conn_of (slice_get self.now.rows i) ≡ Some c → option_map (λ r. (r.0, r.1.now)) result ≡ up_on c kept }
+        ensures only { (i c : ℕ) (kept : UpRecord)
+            → slice_get self.now.node.ends i ≡ Some (end.Up kept) → kept.peer ≡ peer.now → conn_of (slice_get self.now.rows i) ≡ Some c
+            → option_map (λ r. (r.0, r.1.now)) result ≡ up_on c kept }
     {
         link_of_record(&self.rows, self.node.up_of(peer))
     }
 
     /// It gets an event, and sends what the reply says on this side of a connection. A refusal changes nothing.
-    pub fn hear(
+    pub fn step(
         &mut self,
         conns: &mut Connections,
         wire: Option<(Side, usize)>,
-        alloc: Global,
-        clock: u64,
-        event: &Event,
-        fresh: u32,
-    ) -> Result<Heard, StepError>
-        ensures { IsHeard result (step self.old.node event.now fresh) clock event.now self.old self.new wire conns.old conns.new }
+        occasion: &Occasion<'_>,
+    ) -> Result<LifeStep, StepError>
+        ensures { IsLifeStep result (step self.old.node occasion.now.event.now occasion.now.fresh)
+            occasion.now.clock occasion.now.event.now self.old self.new wire conns.old conns.new }
     {
-        hear(
-            &mut self.node,
-            &mut self.rows,
-            conns,
-            wire,
-            alloc,
-            clock,
-            event,
-            fresh,
-        )
+        step_life(&mut self.node, &mut self.rows, conns, wire, occasion)
     }
 
     /// Its node changes its setup, or refuses the change.
@@ -143,7 +134,7 @@ impl Life {
     pub fn reach(&mut self, id: EndId, conn: usize)
         ensures { self.new ≡ reached_life id.0 conn self.old }
     {
-        reach(&mut self.rows, id, conn);
+        reach_row(&mut self.rows, id, conn);
     }
 
     /// It is over, and all its ends are closed.
@@ -155,7 +146,7 @@ impl Life {
     }
 }
 
-fn wire(rows: &[EndRow], id: EndId) -> Option<(Side, usize)>
+fn row_wire(rows: &[EndRow], id: EndId) -> Option<(Side, usize)>
     ensures { result ≡ wire_of (slice_get rows.now id.0) }
 {
     let row = rows.get(id.0 as usize)?;
@@ -165,7 +156,7 @@ fn wire(rows: &[EndRow], id: EndId) -> Option<(Side, usize)>
     }
 }
 
-fn reach(rows: &mut Vec<EndRow>, id: EndId, conn: usize)
+fn reach_row(rows: &mut Vec<EndRow>, id: EndId, conn: usize)
     ensures { rows.new.items ≡ at_place id.0 (reached_row conn) rows.old.items }
 {
     let i = id.0 as usize;
@@ -200,7 +191,7 @@ fn link_of_record<'a>(
     rows: &[EndRow],
     up: Option<(EndId, &'a UpRecord)>,
 ) -> Option<(usize, &'a UpRecord)>
-    ensures { option_map (λ r. (r.0, r.1.now)) result ≡ linked rows.now (option_map (λ r. (r.0, r.1.now)) up.entry) }
+    ensures { option_map (λ r. (r.0, r.1.now)) result ≡ link_of_record rows.now (option_map (λ r. (r.0, r.1.now)) up.entry) }
 {
     let (id, kept) = up?;
     let row = rows.get(id.0 as usize)?;

@@ -2,7 +2,7 @@
 ghost use Rattle.std.specs.Prelude.{◌≡◌, true};
 ghost use Rattle.dist_world_model.specs.Rows.{new_row, once};
 ghost use Rattle.dist_world_model.specs.Happenings.{shut_row, reached_row};
-ghost use Rattle.dist_world_lives.specs.Hearing.{own_row, doomed_row};
+ghost use Rattle.dist_world_lives.specs.Stepping.{own_row, doomed_row};
 
 use dist_core::Note;
 use dist_messages::Side;
@@ -29,7 +29,17 @@ impl Model for EndRow {
 
     ghost Value = { rows.EndRow };
 
-    ghost view = { λ r. record { side = r.side; peer = r.peer; conn = r.conn; given = r.given; named = r.named; doomed = r.doomed; replied = r.replied; rose = r.rose; closed = r.closed } };
+    ghost view = { λ r. record {
+      side = r.side;
+      peer = r.peer;
+      conn = r.conn;
+      given = r.given;
+      named = r.named;
+      doomed = r.doomed;
+      replied = r.replied;
+      rose = r.rose;
+      closed = r.closed;
+    } };
 }
 
 impl EndRow {

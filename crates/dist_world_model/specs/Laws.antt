@@ -31,8 +31,12 @@ InTurn l = DialsIdle l.rows × RisesFirst l.rows × TakesOver l.rows × Replaces
 
 -- every end of a running incarnation that is up has a row with a connection
 abbrev pub UpsAreLinked : Life → Type 0
-UpsAreLinked l = runs l ≡ true → (i : ℕ) (r : UpRecord) → slice_get l.node.ends i ≡ Some (ends.Up r) → (row : EndRow) × (c : ℕ) × (slice_get l.rows i ≡ Some row) × (row.conn ≡ Some c)
+UpsAreLinked l =
+    runs l ≡ true → (i : ℕ) (r : UpRecord) → slice_get l.node.ends i ≡ Some (ends.Up r)
+    → (row : EndRow) × (c : ℕ) × (slice_get l.rows i ≡ Some row) × (row.conn ≡ Some c)
 
 -- every end that is up holds the digest of the own cookie and its own challenge
 abbrev pub OwnDigests : Life → Type 0
-OwnDigests l = (i : ℕ) (r : UpRecord) → slice_get l.node.ends i ≡ Some (ends.Up r) → same_bytes r.digest_received (own_digest l.node.setup r.peer r.challenge) ≡ true
+OwnDigests l =
+    (i : ℕ) (r : UpRecord) → slice_get l.node.ends i ≡ Some (ends.Up r)
+    → same_bytes r.digest_received (own_digest l.node.setup r.peer r.challenge) ≡ true

@@ -53,7 +53,8 @@ pub record SayingLaws : Type 0 where
   pub announced : (s : Setup) → announced_by s < 2 ^ 64
   pub digest_len : (cookie : List ℕ) (challenge : ℕ) → length (digest_of cookie challenge) ≡ 16
   pub versions : (s : Setup) → has_all (low_half (announced_by s)) handshake_23 ≡ knows_six s
-  pub halves : (own other : Setup) → (knows_six own && knows_six other) ≡ false → common (announced_by own) (low_half (announced_by other)) ≡ common (announced_by own) (announced_by other)
+  pub halves : (own other : Setup) → (knows_six own && knows_six other) ≡ false
+      → common (announced_by own) (low_half (announced_by other)) ≡ common (announced_by own) (announced_by other)
 
 -- THE LAWS OF ONE STEP: it is a row of the tables; legal ends stay legal; its reply is of the end that was named; the other
 -- end that it changes is another one, which is there; what stands at each place afterwards. And the records of ends that are up
@@ -65,9 +66,12 @@ pub record NodeLaws : Type 0 where
   pub opening_legal : (s : Setup) → AreLegal (opening s).ends
   pub step_legal : (n : NodeState) (v : Event) (fresh : ℕ) → AreLegal n.ends → AreLegal (settled n (step n v fresh)).ends
   pub own_end : (n : NodeState) (id : EndId) (fresh : ℕ) (e : End) (m : Message) (f : Effect) → Heard n id fresh e m f → f.reply.end_ ≡ id
-  pub other : (n : NodeState) (v : Event) (fresh : ℕ) (f : Effect) (x : EndId) (s : End) → AreLegal n.ends → effect_of n v fresh ≡ Ok f → f.other ≡ Some (x, s) → IsOther n f.reply.end_ x
-  pub places : (n : NodeState) (v : Event) (fresh : ℕ) (f : Effect) → AreLegal n.ends → effect_of n v fresh ≡ Ok f → (f.reply.end_.0 ≤ length n.ends) × IsThere n.ends f.other
-  pub after : (es : List End) (f : Effect) (i : ℕ) → f.reply.end_.0 ≤ length es → IsThere es f.other → slice_get (ends_after es f) i ≡ view_after es f.reply.end_ f.this f.other i
+  pub other : (n : NodeState) (v : Event) (fresh : ℕ) (f : Effect) (x : EndId) (s : End) → AreLegal n.ends → effect_of n v fresh ≡ Ok f
+      → f.other ≡ Some (x, s) → IsOther n f.reply.end_ x
+  pub places : (n : NodeState) (v : Event) (fresh : ℕ) (f : Effect) → AreLegal n.ends → effect_of n v fresh ≡ Ok f
+      → (f.reply.end_.0 ≤ length n.ends) × IsThere n.ends f.other
+  pub after : (es : List End) (f : Effect) (i : ℕ) → f.reply.end_.0 ≤ length es → IsThere es f.other
+      → slice_get (ends_after es f) i ≡ view_after es f.reply.end_ f.this f.other i
   pub right_opening : (s : Setup) → AreRight (opening s)
   pub right_step : (n : NodeState) (v : Event) (fresh : ℕ) → AreLegal n.ends → AreRight n → AreRight (settled n (step n v fresh))
   pub right_change : (n : NodeState) (v : Change) → AreLegal n.ends → AreRight n → AreRight (changed_or n (change n v))

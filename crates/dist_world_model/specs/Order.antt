@@ -14,7 +14,9 @@ pub record Numbers (P : ℕ → Type 0) (row : EndRow) : Type 0 where
 
 -- ALL NUMBERS OF AN INCARNATION ARE ABOVE those of the same node's earlier ones
 abbrev pub AreAbove : World → Type 0
-AreAbove w = (i j : ℕ) (a b : Life) (p q : ℕ) (x y : EndRow) → i < j → slice_get w.lives i ≡ Some a → slice_get w.lives j ≡ Some b → a.who ≡ b.who → slice_get a.rows p ≡ Some x → slice_get b.rows q ≡ Some y → Numbers (λ m. Numbers (λ n. n < m) x) y
+AreAbove w =
+    (i j : ℕ) (a b : Life) (p q : ℕ) (x y : EndRow) → i < j → slice_get w.lives i ≡ Some a → slice_get w.lives j ≡ Some b → a.who ≡ b.who
+    → slice_get a.rows p ≡ Some x → slice_get b.rows q ≡ Some y → Numbers (λ m. Numbers (λ n. n < m) x) y
 
 -- OF A NODE'S INCARNATIONS at most the last one runs
 abbrev pub OnlyLastRuns : World → Type 0
@@ -52,4 +54,6 @@ pub record InOrder (k : Conn) (a b : Life) (x : EndRow) : Type 0 where
 
 -- EACH CONNECTION IS IN ORDER
 abbrev pub AreInOrder : World → Type 0
-AreInOrder w = (c : ℕ) (k : Conn) (a b : Life) (x : EndRow) → slice_get w.conns c ≡ Some k → slice_get w.lives k.life ≡ Some a → slice_get w.lives k.target ≡ Some b → slice_get a.rows k.dialler ≡ Some x → InOrder k a b x
+AreInOrder w =
+    (c : ℕ) (k : Conn) (a b : Life) (x : EndRow) → slice_get w.conns c ≡ Some k → slice_get w.lives k.life ≡ Some a
+    → slice_get w.lives k.target ≡ Some b → slice_get a.rows k.dialler ≡ Some x → InOrder k a b x

@@ -138,4 +138,5 @@ claim_when side p there left risen = if there && not left then option_map (λ q.
 -- WHAT AN END HELD JUST BEFORE NUMBER t: a dialled end holds its peer once it is given out, an accepted one once it took
 -- the name, and each until it is doomed or closed
 abbrev pub claim_before : ℕ → EndRow → Option Claim
-claim_before t row = claim_when row.side row.peer (entered row.side (nat_lt row.given t) (past t row.named)) (past t row.doomed || past t row.closed) (past t row.rose)
+claim_before t row =
+    claim_when row.side row.peer (entered row.side (nat_lt row.given t) (past t row.named)) (past t row.doomed || past t row.closed) (past t row.rose)

@@ -14,7 +14,7 @@ abbrev pub question : List ℕ
 question = 0 ∷ 1 ∷ 0x6e ∷ []
 
 -- What came stands behind what was there, and where the end is reported, nothing is left.
-pub record HearsRest (old new : StreamState) (turns left : ℕ) (is_ended : Bool) (before after : List ℕ) : Type 0 where
+pub record ReadsRest (old new : StreamState) (turns left : ℕ) (is_ended : Bool) (before after : List ℕ) : Type 0 where
   pub heard : List ℕ
   pub stop : Option TurnError
   pub hears : Hears old new turns left stop heard

@@ -1,5 +1,6 @@
 -- What the words of a port mapper ask for (ERTS Reference Manual, epmd).
-use Rattle.std.specs.Prelude.{ℕ, Bool, true, false, ◌&&◌, ◌==◌, List, [], ◌∷◌, Option, Some, None, Result, Ok, Err, length, codes, nat_lt, nat_le, if◌then◌else◌}
+use Rattle.std.specs.Prelude.{ℕ, Bool, true, false, ◌&&◌, ◌==◌, List, [], ◌∷◌, Option, Some, None}
+use Rattle.std.specs.Prelude.{Result, Ok, Err, length, codes, nat_lt, nat_le, if◌then◌else◌}
 use Rattle.std.specs.List.{find}
 use Rattle.std.proofs.Common.{Bor}
 use Rattle.std.specs.Cmp.Lexicographic.{pointwise}
@@ -59,21 +60,21 @@ number_of most word = if is_number most word then Some (digits_value 10 word) el
 abbrev pub Read : Type 0
 Read = Result Reading Refusal
 
-abbrev pub reads : Settings → Awaits → Read
-reads settings what = Ok (record { settings = settings; awaits = what })
+abbrev pub reading_of : Settings → Awaits → Read
+reading_of settings what = Ok (record { settings = settings; awaits = what })
 
 -- what a word that stands by itself makes of what was read before it
 abbrev pub after_key : Settings → Option Key → Read
 after_key s None = Err UnknownWord
-after_key s (Some key.Port) = reads s awaits.Port
-after_key s (Some key.Mapper) = reads s awaits.Port
-after_key s (Some key.Address) = reads s awaits.Address
-after_key s (Some key.Timeout) = reads s awaits.Timeout
-after_key s (Some key.Clients) = reads s awaits.Clients
-after_key s (Some key.Systemd) = reads (record s { systemd = true }) awaits.Key
-after_key s (Some key.Names) = reads (record s { task = task.Names }) awaits.Key
-after_key s (Some key.Help) = reads (record s { task = task.Help }) awaits.Key
-after_key s (Some key.Version) = reads (record s { task = task.Version }) awaits.Key
+after_key s (Some key.Port) = reading_of s awaits.Port
+after_key s (Some key.Mapper) = reading_of s awaits.Port
+after_key s (Some key.Address) = reading_of s awaits.Address
+after_key s (Some key.Timeout) = reading_of s awaits.Timeout
+after_key s (Some key.Clients) = reading_of s awaits.Clients
+after_key s (Some key.Systemd) = reading_of (record s { systemd = true }) awaits.Key
+after_key s (Some key.Names) = reading_of (record s { task = task.Names }) awaits.Key
+after_key s (Some key.Help) = reading_of (record s { task = task.Help }) awaits.Key
+after_key s (Some key.Version) = reading_of (record s { task = task.Version }) awaits.Key
 after_key s (Some key.Daemon) = Err NotDone
 after_key s (Some key.Kill) = Err NotDone
 after_key s (Some key.Stop) = Err NotDone
@@ -83,19 +84,19 @@ after_key s (Some key.Relaxed) = Err NotDone
 -- the number that an option awaited, or why there is none
 abbrev pub with_number : Option ℕ → Refusal → (ℕ → Settings) → Read
 with_number None refusal with = Err refusal
-with_number (Some n) refusal with = reads (with n) awaits.Key
+with_number (Some n) refusal with = reading_of (with n) awaits.Key
 
 -- a word as it was handed over
 abbrev pub Word : Type 0
 Word = Bor (List ℕ)
 
 -- what a word makes of what was read before it, by what it is to be
-abbrev pub after_awaited : Settings → Awaits → Word → Read
-after_awaited s awaits.Key word = after_key s (key_named word.now)
-after_awaited s awaits.Port word = with_number (number_of 65535 word.now) BadPort (λ n. record s { port = n })
-after_awaited s awaits.Address word = reads (record s { addresses = Some word }) awaits.Key
-after_awaited s awaits.Timeout word = with_number (number_of 4294967295 word.now) BadTimeout (λ n. record s { seconds = n })
-after_awaited s awaits.Clients word = with_number (number_of 4294967295 word.now) BadClients (λ n. record s { clients = n })
+abbrev pub after_word : Settings → Awaits → Word → Read
+after_word s awaits.Key word = after_key s (key_named word.now)
+after_word s awaits.Port word = with_number (number_of 65535 word.now) BadPort (λ n. record s { port = n })
+after_word s awaits.Address word = reading_of (record s { addresses = Some word }) awaits.Key
+after_word s awaits.Timeout word = with_number (number_of 4294967295 word.now) BadTimeout (λ n. record s { seconds = n })
+after_word s awaits.Clients word = with_number (number_of 4294967295 word.now) BadClients (λ n. record s { clients = n })
 
 -- ---- all words
 
@@ -103,24 +104,24 @@ after_awaited s awaits.Clients word = with_number (number_of 4294967295 word.now
 abbrev pub after_words : Read → List Word → Read
 after_words (Err refusal) words = Err refusal
 after_words (Ok r) [] = Ok r
-after_words (Ok r) (word ∷ words) = after_words (after_awaited r.settings r.awaits word) words
+after_words (Ok r) (word ∷ words) = after_words (after_word r.settings r.awaits word) words
 
 -- what is asked for without any word, at this port, with the addresses of ERL_EPMD_ADDRESS
-abbrev pub usual : ℕ → Option Word → Settings
-usual port address = record { task = task.Serve; port = port; addresses = address; seconds = 60; clients = 4096; systemd = false }
+abbrev pub usual_settings : ℕ → Option Word → Settings
+usual_settings port address = record { task = task.Serve; port = port; addresses = address; seconds = 60; clients = 4096; systemd = false }
 
 -- behind the last word none is awaited that is a value
-abbrev pub settled_at : Settings → Awaits → Result Settings Refusal
-settled_at s awaits.Key = Ok s
-settled_at s awaits.Port = Err NoValue
-settled_at s awaits.Address = Err NoValue
-settled_at s awaits.Timeout = Err NoValue
-settled_at s awaits.Clients = Err NoValue
+abbrev pub final_settings : Settings → Awaits → Result Settings Refusal
+final_settings s awaits.Key = Ok s
+final_settings s awaits.Port = Err NoValue
+final_settings s awaits.Address = Err NoValue
+final_settings s awaits.Timeout = Err NoValue
+final_settings s awaits.Clients = Err NoValue
 
-abbrev pub settled : Read → Result Settings Refusal
-settled (Ok r) = settled_at r.settings r.awaits
-settled (Err refusal) = Err refusal
+abbrev pub settings_after : Read → Result Settings Refusal
+settings_after (Ok r) = final_settings r.settings r.awaits
+settings_after (Err refusal) = Err refusal
 
 -- WHAT THE WORDS ASK FOR, with the port and the addresses that the environment says
 abbrev pub settings_of : ℕ → Option Word → List Word → Result Settings Refusal
-settings_of port address words = settled (after_words (reads (usual port address) awaits.Key) words)
+settings_of port address words = settings_after (after_words (reading_of (usual_settings port address) awaits.Key) words)

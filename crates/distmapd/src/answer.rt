@@ -2,7 +2,7 @@
 //! Guide, Distribution Protocol, Get All Registered Names from EPMD).
 
 ghost use Rattle.std.specs.Prelude.{◌≡◌, IfOk, IfErr};
-ghost use Rattle.distmapd.specs.Answers.{AnswersNames, HearsRest, IsFaultOfAsking};
+ghost use Rattle.distmapd.specs.Answers.{AnswersNames, ReadsRest, IsFaultOfAsking};
 
 use crate::fault::Fault;
 use dist_stream::{AMPLE_TURNS, Limited, Stream, TurnError};
@@ -32,7 +32,8 @@ fn read_rest<S: Stream>(
     limited: &mut Limited<'_, S>,
     bytes: &mut Vec<u8>,
 ) -> Result<bool, AllocError>
-    ensures heard { IfOk result (λ is_ended. HearsRest (S.meaning limited.old.stream.now) (S.meaning limited.new.stream.now) limited.old.left limited.new.left is_ended bytes.old.items bytes.new.items) }
+    ensures reads { IfOk result (λ is_ended. ReadsRest (S.meaning limited.old.stream.now) (S.meaning limited.new.stream.now)
+        limited.old.left limited.new.left is_ended bytes.old.items bytes.new.items) }
     ensures loan { limited.new.stream.ghost_name ≡ limited.old.stream.ghost_name }
 {
     let mut room = [0u8; PIECE];

@@ -84,7 +84,7 @@ impl Key {
         ensures every { (key : Key) → name_of key ≡ word.now → result ≡ Some key }
         ensures named { result ≡ key_named word.now }
     {
-        called(word, &ALL)
+        key_of(word, &ALL)
     }
 
     // Whether it is this word.
@@ -96,7 +96,7 @@ impl Key {
 }
 
 // The first of these that is this word.
-fn called(word: &str, keys: &[Key]) -> Option<Key>
+fn key_of(word: &str, keys: &[Key]) -> Option<Key>
     ensures { result ≡ find (has_name word.now) keys.now }
 {
     keys.iter().copied().find(|key| key.has_name(word))

@@ -3,7 +3,7 @@
 //! It reads no environment, and it knows no address: words come in as texts, and the addresses stay a text.
 
 ghost use Rattle.std.specs.Prelude.{◌≡◌, ◌≤◌, IfSome};
-ghost use Rattle.distmapd.specs.Words.{number_of, after_awaited, after_key, key_named, reads, settled_at, settings_of, usual};
+ghost use Rattle.distmapd.specs.Words.{number_of, after_word, after_key, key_named, reading_of, final_settings, settings_of, usual_settings};
 
 use crate::key::Key;
 use crate::refusal::Refusal;
@@ -40,8 +40,8 @@ pub struct Reading<'a> {
     pub awaits: Awaits,
 }
 
-fn reads<'a>(settings: Settings<'a>, awaits: Awaits) -> Result<Reading<'a>, Refusal>
-    ensures { result ≡ reads settings.entry awaits }
+fn reading_of<'a>(settings: Settings<'a>, awaits: Awaits) -> Result<Reading<'a>, Refusal>
+    ensures { result ≡ reading_of settings.entry awaits }
 {
     Ok(Reading { settings, awaits })
 }
@@ -62,7 +62,7 @@ fn number_of(word: &str, most: u32) -> Option<u32>
 impl<'a> Settings<'a> {
     // What is asked for without any word, at this port, with these addresses.
     fn usual(port: u16, addresses: Option<&'a str>) -> Settings<'a>
-        ensures { result ≡ usual port addresses.entry }
+        ensures { result ≡ usual_settings port addresses.entry }
     {
         Settings {
             task: Task::Serve,
@@ -80,22 +80,22 @@ impl<'a> Settings<'a> {
     {
         match Key::of_word(word) {
             None => return Err(Refusal::UnknownWord),
-            Some(Key::Port | Key::Mapper) => return reads(self, Awaits::Port),
-            Some(Key::Address) => return reads(self, Awaits::Address),
-            Some(Key::Timeout) => return reads(self, Awaits::Timeout),
-            Some(Key::Clients) => return reads(self, Awaits::Clients),
+            Some(Key::Port | Key::Mapper) => return reading_of(self, Awaits::Port),
+            Some(Key::Address) => return reading_of(self, Awaits::Address),
+            Some(Key::Timeout) => return reading_of(self, Awaits::Timeout),
+            Some(Key::Clients) => return reading_of(self, Awaits::Clients),
             Some(Key::Systemd) => self.systemd = true,
             Some(Key::Names) => self.task = Task::Names,
             Some(Key::Help) => self.task = Task::Help,
             Some(Key::Version) => self.task = Task::Version,
             Some(_) => return Err(Refusal::NotDone),
         }
-        reads(self, Awaits::Key)
+        reading_of(self, Awaits::Key)
     }
 
     // Takes a word that is to be this.
-    fn after(mut self, awaits: Awaits, word: &'a str) -> Result<Reading<'a>, Refusal>
-        ensures { result ≡ after_awaited self.entry awaits word.entry }
+    fn after_word(mut self, awaits: Awaits, word: &'a str) -> Result<Reading<'a>, Refusal>
+        ensures { result ≡ after_word self.entry awaits word.entry }
     {
         match awaits {
             Awaits::Key => return self.after_key(word),
@@ -110,12 +110,12 @@ impl<'a> Settings<'a> {
                 self.clients = number_of(word, u32::MAX).ok_or(Refusal::BadClients)?;
             }
         }
-        reads(self, Awaits::Key)
+        reading_of(self, Awaits::Key)
     }
 }
 
 /// What the words after the program's name ask for. Without any it is to serve at `port`, and at the addresses of ERL_EPMD_ADDRESS. A
-/// later word stands for an earlier one, and the first that is bad is told.
+/// later word stands for an earlier one, and the first that is bad is refused.
 pub fn settings_of<'a>(
     words: &[&'a str],
     port: u16,
@@ -124,9 +124,9 @@ pub fn settings_of<'a>(
     ensures { result ≡ settings_of port address.entry words.now }
 {
     let settings = Settings::usual(port, address);
-    let mut reading = reads(settings, Awaits::Key)?;
+    let mut reading = reading_of(settings, Awaits::Key)?;
     for word in words {
-        reading = reading.settings.after(reading.awaits, word)?;
+        reading = reading.settings.after_word(reading.awaits, word)?;
     }
     match reading.awaits {
         Awaits::Key => Ok(reading.settings),

@@ -12,20 +12,20 @@ use std::net::{IpAddr, Ipv4Addr, Ipv6Addr, Net, SocketAddr};
 const HANDED_OVER: i32 = 3;
 
 // Listens at an address.
-fn at(net: &impl Net, address: IpAddr, port: u16) -> io::Result<TcpListener> {
+fn listen_at(net: &impl Net, address: IpAddr, port: u16) -> io::Result<TcpListener> {
     TcpListener::bind(net, SocketAddr::new(address, port))
 }
 
 // All addresses of both kinds where the system has both, else those of IPv4.
-fn at_all(net: &impl Net, port: u16) -> io::Result<TcpListener> {
-    match at(net, IpAddr::V6(Ipv6Addr::UNSPECIFIED), port) {
+fn listen_at_all(net: &impl Net, port: u16) -> io::Result<TcpListener> {
+    match listen_at(net, IpAddr::V6(Ipv6Addr::UNSPECIFIED), port) {
         Ok(listener) => Ok(listener),
-        Err(_) => at(net, IpAddr::V4(Ipv4Addr::UNSPECIFIED), port),
+        Err(_) => listen_at(net, IpAddr::V4(Ipv4Addr::UNSPECIFIED), port),
     }
 }
 
 // The socket that the one who started the program handed over.
-fn handed_over() -> io::Result<TcpListener> {
+fn inherited_socket() -> io::Result<TcpListener> {
     let listener = unsafe { std::net::TcpListener::from_raw_fd(HANDED_OVER) };
     listener.set_nonblocking(true)?;
     Ok(TcpListener::from_std(listener))
@@ -55,7 +55,7 @@ fn add(addresses: &mut Vec<IpAddr>, address: IpAddr) -> Result<(), Fault> {
 }
 
 // Listens at the loopback and at these addresses.
-fn at_each(
+fn listen_at_each(
     net: &impl Net,
     alloc: Global,
     addresses: &[IpAddr],
@@ -63,16 +63,16 @@ fn at_each(
 ) -> io::Result<Vec<TcpListener>> {
     let loopback = IpAddr::V4(Ipv4Addr::LOCALHOST);
     let mut found = Vec::new(alloc);
-    found.push(at(net, loopback, port)?)?;
+    found.push(listen_at(net, loopback, port)?)?;
     for address in addresses.iter() {
         if *address != loopback {
-            found.push(at(net, *address, port)?)?;
+            found.push(listen_at(net, *address, port)?)?;
         }
     }
     Ok(found)
 }
 
-fn one(alloc: Global, listener: TcpListener) -> io::Result<Vec<TcpListener>> {
+fn list_of(alloc: Global, listener: TcpListener) -> io::Result<Vec<TcpListener>> {
     let mut found = Vec::new(alloc);
     found.push(listener)?;
     Ok(found)
@@ -86,11 +86,11 @@ pub fn listeners(
 ) -> Result<Vec<TcpListener>, Fault> {
     let addresses = addresses_in(alloc, settings.addresses.unwrap_or(""))?;
     let found = if settings.systemd {
-        handed_over().and_then(|listener| one(alloc, listener))
+        inherited_socket().and_then(|listener| list_of(alloc, listener))
     } else if addresses.is_empty() {
-        at_all(net, settings.port).and_then(|listener| one(alloc, listener))
+        listen_at_all(net, settings.port).and_then(|listener| list_of(alloc, listener))
     } else {
-        at_each(net, alloc, &addresses, settings.port)
+        listen_at_each(net, alloc, &addresses, settings.port)
     };
     match found {
         Ok(listeners) => Ok(listeners),

@@ -4,7 +4,7 @@ use Rattle.dist_frames.specs.Stream.{bodies}
 use Rattle.dist_peers.specs.declared.entry.EndId.{EndId}
 use Rattle.dist_c_guest.specs.Calls.{answer_to, frame_to}
 use Rattle.dist_c_guest.specs.declared.guest.Guest.{Guest}
-use Rattle.distnode_c.specs.declared.told.DnReply.{DnReply}
+use Rattle.distnode_c.specs.declared.replies.DnReply.{DnReply}
 use Rattle.distnode_c.specs.Mapper.{Leaves}
 use Rattle.distnode_c.specs.Steps.{Copies, Keeps, Makes, said}
 

@@ -16,7 +16,7 @@ use Rattle.distnode_c.specs.declared.desk.DeskError.{DeskError}
 use Rattle.distnode_c.specs.declared.desk.DeskError.TheVariants as desk
 use Rattle.distnode_c.specs.declared.registry.DnServed.{DnServed}
 use Rattle.distnode_c.specs.Codes.{epmd_code}
-use Rattle.distnode_c.specs.Mapper.{Leaves, Untold}
+use Rattle.distnode_c.specs.Mapper.{Leaves, Unreported}
 use Rattle.distnode_c.specs.Steps.{Copies}
 
 -- 1 where an answer registers the node that asked
@@ -31,16 +31,16 @@ IsAnswered (Ok u) conn request old new = (given : Answer) × Allows old.registry
 IsAnswered (Err e) conn request old new = (e ≡ epmd.NoMemory) × (new ≡ old)
 
 -- the same of the request that a frame's body spells, or why it is refused
-abbrev pub IsHeardOf : Result ℕ DeskError → ℕ → ℕ → Result Request EpmdError → Desk → Desk → Type 0
-IsHeardOf (Ok n) conn taken (Ok request) old new = (n ≡ taken) × IsAnswered (Ok tt) conn request old new
-IsHeardOf (Ok n) conn taken (Err e) old new = ⊥
-IsHeardOf (Err desk.Awaits) conn taken read old new = ⊥
-IsHeardOf (Err (desk.Request e)) conn taken read old new = RefusedBut (is_want e) e read × (new ≡ old)
+abbrev pub IsReceivedIn : Result ℕ DeskError → ℕ → ℕ → Result Request EpmdError → Desk → Desk → Type 0
+IsReceivedIn (Ok n) conn taken (Ok request) old new = (n ≡ taken) × IsAnswered (Ok tt) conn request old new
+IsReceivedIn (Ok n) conn taken (Err e) old new = ⊥
+IsReceivedIn (Err desk.Awaits) conn taken read old new = ⊥
+IsReceivedIn (Err (desk.Request e)) conn taken read old new = RefusedBut (is_want e) e read × (new ≡ old)
 
 -- the same of the frame at the front of bytes, or none has come whole
-abbrev pub IsHeard : Result ℕ DeskError → ℕ → Option (List ℕ) → Desk → Desk → Type 0
-IsHeard result conn None old new = (result ≡ Err desk.Awaits) × (new ≡ old)
-IsHeard result conn (Some body) old new = IsHeardOf result conn (2 + length body) (read_request body) old new
+abbrev pub IsReceived : Result ℕ DeskError → ℕ → Option (List ℕ) → Desk → Desk → Type 0
+IsReceived result conn None old new = (result ≡ Err desk.Awaits) × (new ≡ old)
+IsReceived result conn (Some body) old new = IsReceivedIn result conn (2 + length body) (read_request body) old new
 
 -- ---- the exports
 
@@ -54,21 +54,21 @@ abbrev pub Serves : ℕ → Request → ℕ → ℕ → Desk → Option Desk →
 Serves conn request taken code d new was is =
     ((given : Answer) × (after : Registrations) × Allows d.registry conn request given after × (code ≡ 0)
     × (new ≡ Some (record { registry = after; last = Some given })) × (is ≡ record { taken = taken; registered = registered_number given }))
-    ⊎ Untold 3 code (Some d) new was is
+    ⊎ Unreported 3 code (Some d) new was is
 
 -- the same of what a frame's body spells, or why it is refused
 abbrev pub ServesBody : ℕ → Result Request EpmdError → ℕ → ℕ → Desk → Option Desk → DnServed → DnServed → Type 0
 ServesBody conn (Ok request) taken code d new was is = Serves conn request taken code d new was is
-ServesBody conn (Err e) taken code d new was is = Untold (epmd_code e) code (Some d) new was is
+ServesBody conn (Err e) taken code d new was is = Unreported (epmd_code e) code (Some d) new was is
 
 -- the same of the frame at the front of bytes, or none has come whole (5)
 abbrev pub ServesFront : ℕ → Option (List ℕ) → ℕ → Desk → Option Desk → DnServed → DnServed → Type 0
-ServesFront conn None code d new was is = Untold 5 code (Some d) new was is
+ServesFront conn None code d new was is = Unreported 5 code (Some d) new was is
 ServesFront conn (Some body) code d new was is = ServesBody conn (read_request body) (2 + length body) code d new was is
 
 -- the same at a struct that may hold no registry (1)
 abbrev pub Asked : ℕ → Option (List ℕ) → ℕ → Option Desk → Option Desk → DnServed → DnServed → Type 0
-Asked conn front code None new was is = Untold 1 code None new was is
+Asked conn front code None new was is = Unreported 1 code None new was is
 Asked conn front code (Some d) new was is = ServesFront conn front code d new was is
 
 -- the bytes of the newest answer, and none before the first

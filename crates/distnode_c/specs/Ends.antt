@@ -8,7 +8,7 @@ use Rattle.dist_core_ends.specs.declared.known.End.{End}
 use Rattle.dist_core_ends.specs.declared.known.End.TheVariants as ends
 use Rattle.dist_core_ends.specs.Ends.{is_open, oldest_pending}
 use Rattle.dist_core_ends.specs.Forgetting.{forgotten}
-use Rattle.dist_c_guest.specs.Calls.{renewed}
+use Rattle.dist_c_guest.specs.Calls.{restarted_guest}
 use Rattle.dist_c_guest.specs.declared.guest.Guest.{Guest}
 use Rattle.distnode_c.specs.declared.ends.DnEnd.{DnEnd}
 use Rattle.distnode_c.specs.Codes.{why_number}
@@ -46,12 +46,12 @@ end_peer (Some (ends.Up r)) = r.peer
 end_peer _ = []
 
 -- how an end stands
-abbrev pub end_told : Option End → DnEnd
-end_told o = record { peer = length (end_peer o); phase = end_number o; why = end_why o }
+abbrev pub end_report : Option End → DnEnd
+end_report o = record { peer = length (end_peer o); phase = end_number o; why = end_why o }
 
 -- an end is reported, and the name of its peer copied
 abbrev pub TellsEnd : Option End → ℕ → DnEnd → DnEnd → List ℕ → List ℕ → Type 0
-TellsEnd o code was is old new = (is ≡ end_told o) × CopiesIf (nat_le (length (end_peer o)) (length old)) (end_peer o) code old new
+TellsEnd o code was is old new = (is ≡ end_report o) × CopiesIf (nat_le (length (end_peer o)) (length old)) (end_peer o) code old new
 
 -- the same at a node that may hold no guest (1)
 abbrev pub TellsEndAt : ℕ → Option Guest → ℕ → DnEnd → DnEnd → List ℕ → List ℕ → Type 0
@@ -74,7 +74,7 @@ forgetful below s = record s { node = record s.node { ends = forgotten below s.n
 
 -- a guest begins anew, or is left as it is while ends are open (16), of which there are this many
 abbrev pub RenewsWith : ℕ → ℕ → Guest → Option Guest → Type 0
-RenewsWith zero code s new = (code ≡ 0) × (new ≡ Some (renewed s))
+RenewsWith zero code s new = (code ≡ 0) × (new ≡ Some (restarted_guest s))
 RenewsWith (suc open_ends) code s new = (code ≡ 16) × (new ≡ Some s)
 
 -- the same, where there is a guest (1)

@@ -14,16 +14,16 @@ abbrev pub row : ℕ → ℕ → ℕ → DnEntry
 row state up pending = record { state = state; up = up; pending = pending }
 
 -- what is reported of an entry, where a peer without one is idle: 0 stands for an end where there is none
-abbrev pub entry_told : Option Entry → DnEntry
-entry_told None = row 0 0 0
-entry_told (Some (Out x)) = row 1 0 x.0
-entry_told (Some (In x)) = row 2 0 x.0
-entry_told (Some (Up x)) = row 3 x.0 0
-entry_told (Some (Challenged x y)) = row 4 x.0 y.0
+abbrev pub entry_report : Option Entry → DnEntry
+entry_report None = row 0 0 0
+entry_report (Some (Out x)) = row 1 0 x.0
+entry_report (Some (In x)) = row 2 0 x.0
+entry_report (Some (Up x)) = row 3 x.0 0
+entry_report (Some (Challenged x y)) = row 4 x.0 y.0
 
 -- the entry of the peer of this name is reported, where there is a guest (1), or why the bytes are no name; memory may run out
 -- for the name (3)
 abbrev pub TellsEntry : Result (List ℕ) NameError → ℕ → Option Guest → DnEntry → DnEntry → Type 0
 TellsEntry name code None was is = Silent 1 code was is
-TellsEntry (Ok p) code (Some s) was is = ((code ≡ 0) × (is ≡ entry_told (entry_in s.node.ends p))) ⊎ Silent 3 code was is
+TellsEntry (Ok p) code (Some s) was is = ((code ≡ 0) × (is ≡ entry_report (entry_in s.node.ends p))) ⊎ Silent 3 code was is
 TellsEntry (Err e) code (Some s) was is = Silent (name_code e) code was is

@@ -36,24 +36,24 @@ alive_of i name = request.Alive (record {
 })
 
 -- nothing was reported but this code
-abbrev pub Untold : {X Y : Type 0} → ℕ → ℕ → X → X → Y → Y → Type 0
-Untold wanted code was is had has = (code ≡ wanted) × (is ≡ was) × (has ≡ had)
+abbrev pub Unreported : {X Y : Type 0} → ℕ → ℕ → X → X → Y → Y → Type 0
+Unreported wanted code was is had has = (code ≡ wanted) × (is ≡ was) × (has ≡ had)
 
 -- what is reported of the answer to a registration, which takes no memory
-abbrev pub AliveTold : Result Answer EpmdError → ℕ → ℕ → ℕ → ℕ → ℕ → Type 0
-AliveTold (Ok (answer.AliveX r c)) code was is had has = (code ≡ 0) × (is ≡ r) × (has ≡ c)
-AliveTold (Ok (answer.Alive r c)) code was is had has = (code ≡ 0) × (is ≡ r) × (has ≡ c)
-AliveTold (Ok other) code was is had has = Untold 40 code was is had has ⊎ Untold 3 code was is had has
-AliveTold (Err e) code was is had has = Untold (epmd_code e) code was is had has
+abbrev pub ReportsAlive : Result Answer EpmdError → ℕ → ℕ → ℕ → ℕ → ℕ → Type 0
+ReportsAlive (Ok (answer.AliveX r c)) code was is had has = (code ≡ 0) × (is ≡ r) × (has ≡ c)
+ReportsAlive (Ok (answer.Alive r c)) code was is had has = (code ≡ 0) × (is ≡ r) × (has ≡ c)
+ReportsAlive (Ok other) code was is had has = Unreported 40 code was is had has ⊎ Unreported 3 code was is had has
+ReportsAlive (Err e) code was is had has = Unreported (epmd_code e) code was is had has
 
 -- what is reported of the answer to a lookup: memory may run out only for a node
-abbrev pub PortTold : Result Answer EpmdError → ℕ → ℕ → ℕ → DnInfo → DnInfo → Type 0
-PortTold (Ok (answer.Port (Ok i))) code was is had has =
+abbrev pub ReportsPort : Result Answer EpmdError → ℕ → ℕ → ℕ → DnInfo → DnInfo → Type 0
+ReportsPort (Ok (answer.Port (Ok i))) code was is had has =
     ((code ≡ 0) × (is ≡ 0) × (has ≡ record { port = i.port; highest = i.highest; lowest = i.lowest; node_type = i.node_type; protocol = i.protocol }))
-    ⊎ Untold 3 code was is had has
-PortTold (Ok (answer.Port (Err r))) code was is had has = (code ≡ 0) × (is ≡ r) × (has ≡ had)
-PortTold (Ok other) code was is had has = Untold 40 code was is had has ⊎ Untold 3 code was is had has
-PortTold (Err e) code was is had has = Untold (epmd_code e) code was is had has
+    ⊎ Unreported 3 code was is had has
+ReportsPort (Ok (answer.Port (Err r))) code was is had has = (code ≡ 0) × (is ≡ r) × (has ≡ had)
+ReportsPort (Ok other) code was is had has = Unreported 40 code was is had has ⊎ Unreported 3 code was is had has
+ReportsPort (Err e) code was is had has = Unreported (epmd_code e) code was is had has
 
 -- the digest under a cookie, or the reason why there is none
 abbrev pub Digests : Result (List ℕ) CookieError → ℕ → ℕ → List ℕ → List ℕ → Type 0

@@ -8,23 +8,23 @@ use Rattle.dist_core.specs.declared.event.Event.{Event}
 use Rattle.dist_core.specs.declared.event.Event.TheVariants as event
 use Rattle.dist_c_guest.specs.declared.guest.Guest.{Guest}
 use Rattle.dist_c_guest.specs.Room.{MakesRoom, room_for}
-use Rattle.distnode_c.specs.declared.told.DnReply.{DnReply}
+use Rattle.distnode_c.specs.declared.replies.DnReply.{DnReply}
 use Rattle.distnode_c.specs.Codes.{name_code, why_number}
 use Rattle.distnode_c.specs.Steps.{Keeps, Steps}
 
 -- a reply beside which it is reported which end made room, and why it was closed; 0 where none did
-abbrev pub beside : Option EndId → DnReply → DnReply
-beside None r = record r { closed = 0; closed_id = 0 }
-beside (Some x) r = record r { closed = why_number why.GaveUp; closed_id = x.0 }
+abbrev pub with_room : Option EndId → DnReply → DnReply
+with_room None r = record r { closed = 0; closed_id = 0 }
+with_room (Some x) r = record r { closed = why_number why.GaveUp; closed_id = x.0 }
 
 -- nothing changed, no end made room, and the call answered so
 abbrev pub Declines : ℕ → ℕ → Option Guest → Option Guest → DnReply → DnReply → Type 0
-Declines wanted code old new was is = Keeps wanted code old new (beside None was) is
+Declines wanted code old new was is = Keeps wanted code old new (with_room None was) is
 
 -- THE STEP OF A NEWCOMER: first an end made room for it, where one has to; then its own step was made, or refused. Which end made
 -- room is reported in any case.
 abbrev pub ComesAt : Option EndId → Event → ℕ → Guest → Option Guest → DnReply → DnReply → Type 0
-ComesAt lost v code s new was is = (mid : Guest) × (r : DnReply) × MakesRoom lost s mid × Steps v 0 code (Some mid) new was r × (is ≡ beside lost r)
+ComesAt lost v code s new was is = (mid : Guest) × (r : DnReply) × MakesRoom lost s mid × Steps v 0 code (Some mid) new was r × (is ≡ with_room lost r)
 
 -- the same at a node that may hold no guest (1)
 abbrev pub Comes : Event → ℕ → Option Guest → Option Guest → DnReply → DnReply → Type 0

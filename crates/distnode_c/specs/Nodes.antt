@@ -16,7 +16,7 @@ use Rattle.dist_c_guest.specs.declared.guest.Guest.{Guest}
 use Rattle.distnode_c.specs.declared.nodes.DnSetup.{DnSetup}
 use Rattle.distnode_c.specs.declared.nodes.DnPeer.{DnPeer}
 use Rattle.distnode_c.specs.Codes.{name_code, cookie_code}
-use Rattle.distnode_c.specs.Told.{creation_number, is_known}
+use Rattle.distnode_c.specs.Replies.{creation_number, is_known}
 use Rattle.distnode_c.specs.Steps.{Copies, CopiesIf, said}
 
 -- a guest of a node without ends, to which DFLAG_MANDATORY_25_DIGEST stands for these flags

@@ -3,7 +3,7 @@ use Rattle.std.specs.Prelude.{◌≡◌, ℕ, Option, Some, None, option_and_the
 use Rattle.dist_messages.specs.declared.message.Status.{Status}
 use Rattle.dist_messages.specs.declared.message.Status.TheVariants as status
 use Rattle.dist_c_guest.specs.declared.guest.Guest.{Guest}
-use Rattle.dist_c_guest.specs.Statuses.{said_in}
+use Rattle.dist_c_guest.specs.Statuses.{status_sent}
 
 -- the number of a status, and 0 where there is none
 abbrev pub status_number : Option Status → ℕ
@@ -19,4 +19,4 @@ status_number (Some status.False) = 7
 -- the status that the newest step sent and the one that it received are reported, where there is a guest (1)
 abbrev pub TellsStatuses : Option Guest → ℕ → ℕ → ℕ → ℕ → ℕ → Type 0
 TellsStatuses None code was is had has = (code ≡ 1) × (is ≡ was) × (has ≡ had)
-TellsStatuses (Some s) code was is had has = (code ≡ 0) × (is ≡ status_number (option_and_then said_in s.last)) × (has ≡ status_number s.heard)
+TellsStatuses (Some s) code was is had has = (code ≡ 0) × (is ≡ status_number (option_and_then status_sent s.last)) × (has ≡ status_number s.received_status)

@@ -10,13 +10,13 @@ use Rattle.dist_core.specs.Node.{NodeState}
 use Rattle.dist_core.specs.Step.{step}
 use Rattle.dist_c_guest.specs.Calls.{answer_to, frame_to}
 use Rattle.dist_c_guest.specs.declared.guest.Guest.{Guest}
-use Rattle.dist_c_guest.specs.Statuses.{heard_in}
-use Rattle.distnode_c.specs.declared.told.DnReply.{DnReply}
+use Rattle.dist_c_guest.specs.Statuses.{status_received}
+use Rattle.distnode_c.specs.declared.replies.DnReply.{DnReply}
 use Rattle.dist_messages.specs.declared.opening.Opening.{Opening}
 use Rattle.dist_messages.specs.declared.opening.Opening.TheVariants.{Old, New}
 use Rattle.dist_core_ends.specs.declared.why.Why.{Why}
 use Rattle.distnode_c.specs.Codes.{step_code, why_number}
-use Rattle.distnode_c.specs.Told.{told}
+use Rattle.distnode_c.specs.Replies.{reply_of}
 
 -- nothing changed, and the call answered so
 abbrev pub Keeps : ℕ → ℕ → Option Guest → Option Guest → DnReply → DnReply → Type 0
@@ -30,7 +30,7 @@ Silent wanted code was is = (code ≡ wanted) × (is ≡ was)
 -- its refusal is returned; where it refuses nothing memory may run out (3)
 abbrev pub Makes : Event → Result (Reply × NodeState) StepError → ℕ → ℕ → Guest → Option Guest → DnReply → DnReply → Type 0
 Makes v (Ok x) taken code s new was is =
-    ((code ≡ 0) × (new ≡ Some (record s { node = x.1; last = Some x.0; heard = heard_in v })) × (is ≡ told x.0 taken))
+    ((code ≡ 0) × (new ≡ Some (record s { node = x.1; last = Some x.0; received_status = status_received v })) × (is ≡ reply_of x.0 taken))
     ⊎ Keeps 3 code (Some s) new was is
 Makes v (Err e) taken code s new was is = Keeps (step_code e) code (Some s) new was is
 

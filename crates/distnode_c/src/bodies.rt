@@ -5,15 +5,22 @@ ghost use Rattle.distnode_c.specs.Steps.{said};
 ghost use Rattle.dist_frames.specs.Stream.{bodies};
 
 use crate::codes::{NO_SUCH, NOT_A_NODE, OK, TOO_LONG, step_code};
-use crate::copies::copied;
+use crate::copies::copy_out;
 use crate::held::DnNode;
-use crate::told::{DnReply, told};
+use crate::replies::{DnReply, reply_of};
 use dist_c_guest::{Guest, body_at};
 use dist_peers::EndId;
 use std::alloc::Global;
 
 // The longest body of a frame, by its length of 2 bytes.
 const LONGEST: usize = 65535;
+
+/// An end, and the challenge that its step may send.
+#[derive(Clone, Copy)]
+pub struct EndDraw {
+    pub id: EndId,
+    pub challenge: u32,
+}
 
 /// Whether a frame can have this body.
 pub fn is_short(body: &[u8]) -> bool
@@ -23,20 +30,19 @@ pub fn is_short(body: &[u8]) -> bool
 }
 
 // The step of a body that a frame can have.
-fn taken(
+fn take_body(
     guest: &mut Guest,
     alloc: Global,
-    id: u32,
+    draw: EndDraw,
     body: &[u8],
-    challenge: u32,
     reply: &mut DnReply,
 ) -> u32
-    ensures { TakesBody true body.now (record { 0 = id }) challenge result guest.old (Some guest.new) reply.old reply.new }
+    ensures { TakesBody true body.now draw.id draw.challenge result guest.old (Some guest.new) reply.old reply.new }
 {
-    match guest.take(alloc, EndId(id), body, challenge) {
+    match guest.take(alloc, draw.id, body, draw.challenge) {
         Ok(()) => {
             if let Some(last) = &guest.last {
-                *reply = told(last, body.len());
+                *reply = reply_of(last, body.len());
             }
             OK
         }
@@ -59,8 +65,12 @@ pub extern "C" fn dn_node_body(
     let Some(mut guest) = node.open(alloc) else {
         return NOT_A_NODE;
     };
+    let draw = EndDraw {
+        id: EndId(id),
+        challenge,
+    };
     let code = if is_short(body) {
-        taken(&mut guest, alloc, id, body, challenge, reply)
+        take_body(&mut guest, alloc, draw, body, reply)
     } else {
         TOO_LONG
     };
@@ -68,7 +78,7 @@ pub extern "C" fn dn_node_body(
     code
 }
 
-fn say_body(guest: &Guest, place: usize, room: &mut [u8], len: &mut usize) -> u32
+fn copy_body(guest: &Guest, place: usize, room: &mut [u8], len: &mut usize) -> u32
     ensures { CopiesAt (slice_get (bodies (said guest.now.last)) place) result len.old len.new room.old room.new }
 {
     let said = match &guest.last {
@@ -76,7 +86,7 @@ fn say_body(guest: &Guest, place: usize, room: &mut [u8], len: &mut usize) -> u3
         None => body_at(&[], place),
     };
     match said {
-        Some(body) => copied(body, room, len),
+        Some(body) => copy_out(body, room, len),
         None => NO_SUCH,
     }
 }
@@ -96,7 +106,7 @@ pub extern "C" fn dn_node_say_body(
     let Some(guest) = node.open(alloc) else {
         return NOT_A_NODE;
     };
-    let code = say_body(&guest, place, room, len);
+    let code = copy_body(&guest, place, room, len);
     node.shut(guest);
     code
 }

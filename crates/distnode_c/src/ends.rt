@@ -2,12 +2,12 @@
 ghost use Rattle.std.specs.Prelude.{◌≡◌, Some, slice_get, count_by};
 ghost use Rattle.dist_core_ends.specs.Ends.{is_open, oldest_pending};
 ghost use Rattle.dist_core_ends.specs.declared.known.End.{End};
-ghost use Rattle.distnode_c.specs.Ends.{TellsEnd, TellsEndAt, TellsId, TellsOldest, Forgets, Renews, RenewsWith, phase_number, end_told};
+ghost use Rattle.distnode_c.specs.Ends.{TellsEnd, TellsEndAt, TellsId, TellsOldest, Forgets, Renews, RenewsWith, phase_number, end_report};
 ghost use Rattle.distnode_c.specs.Steps.{CopiesIf};
 ghost use Rattle.std.specs.Prelude.{length, nat_le};
 
 use crate::codes::{NO_SUCH, NOT_A_NODE, OK, OPEN_ENDS, why_number};
-use crate::copies::copied;
+use crate::copies::copy_out;
 use crate::held::DnNode;
 use dist_c_guest::Guest;
 use dist_core::{Absent, End, Phase};
@@ -46,12 +46,12 @@ fn phase_number(phase: Phase) -> u32
 }
 
 // Reports this of an end, and copies the name of its peer.
-fn tell(phase: u32, why: u32, peer: &[u8], end: &mut DnEnd, room: &mut [u8]) -> u32
-    ensures told { end.new ≡ record { peer = length peer.now; phase = phase; why = why } }
+fn write_end(phase: u32, why: u32, peer: &[u8], end: &mut DnEnd, room: &mut [u8]) -> u32
+    ensures stands { end.new ≡ record { peer = length peer.now; phase = phase; why = why } }
     ensures copied { CopiesIf (nat_le (length peer.now) (length room.old)) peer.now result room.old room.new }
 {
     let mut len = 0;
-    let code = copied(peer, room, &mut len);
+    let code = copy_out(peer, room, &mut len);
     *end = DnEnd {
         peer: len,
         phase,
@@ -61,30 +61,30 @@ fn tell(phase: u32, why: u32, peer: &[u8], end: &mut DnEnd, room: &mut [u8]) -> 
 }
 
 // An end that is open.
-fn tell_open(open: &End, end: &mut DnEnd, room: &mut [u8]) -> u32
+fn report_open_end(open: &End, end: &mut DnEnd, room: &mut [u8]) -> u32
     ensures { TellsEnd (Some open.now) result end.old end.new room.old room.new }
 {
     match open {
-        End::Unnamed => tell(3, 0, &[], end, room),
-        End::Attempt(attempt) => tell(
+        End::Unnamed => write_end(3, 0, &[], end, room),
+        End::Attempt(attempt) => write_end(
             phase_number(attempt.phase),
             0,
             attempt.peer.bytes(),
             end,
             room,
         ),
-        End::Up(kept) => tell(12, 0, kept.peer.bytes(), end, room),
-        End::Closed(why) => tell(1, why_number(*why), &[], end, room),
+        End::Up(kept) => write_end(12, 0, kept.peer.bytes(), end, room),
+        End::Closed(why) => write_end(1, why_number(*why), &[], end, room),
     }
 }
 
-fn tell_end(guest: &Guest, id: u32, end: &mut DnEnd, room: &mut [u8]) -> u32
+fn report_end(guest: &Guest, id: u32, end: &mut DnEnd, room: &mut [u8]) -> u32
     ensures { TellsEnd (slice_get guest.now.node.ends id) result end.old end.new room.old room.new }
 {
     match guest.node.open_end(EndId(id)) {
-        Ok(open) => tell_open(open, end, room),
-        Err(Absent::NoSuchEnd) => tell(0, 0, &[], end, room),
-        Err(Absent::Gone(why)) => tell(1, why_number(why), &[], end, room),
+        Ok(open) => report_open_end(open, end, room),
+        Err(Absent::NoSuchEnd) => write_end(0, 0, &[], end, room),
+        Err(Absent::Gone(why)) => write_end(1, why_number(why), &[], end, room),
     }
 }
 
@@ -103,12 +103,12 @@ pub extern "C" fn dn_node_end(
     let Some(guest) = node.open(alloc) else {
         return NOT_A_NODE;
     };
-    let code = tell_end(&guest, id, end, room);
+    let code = report_end(&guest, id, end, room);
     node.shut(guest);
     code
 }
 
-fn tell_oldest(guest: &mut Guest, id: &mut u32) -> u32
+fn report_oldest(guest: &mut Guest, id: &mut u32) -> u32
     ensures tells { TellsId (oldest_pending guest.old.node.ends) result id.old id.new }
     ensures same { guest.new ≡ guest.old }
 {
@@ -130,7 +130,7 @@ pub extern "C" fn dn_node_oldest(node: &mut DnNode, alloc: Global, id: &mut u32)
     let Some(mut guest) = node.open(alloc) else {
         return NOT_A_NODE;
     };
-    let code = tell_oldest(&mut guest, id);
+    let code = report_oldest(&mut guest, id);
     node.shut(guest);
     code
 }

@@ -1,7 +1,7 @@
 //! A peer's entry, as C sees it.
 ghost use Rattle.std.specs.Prelude.{◌≡◌, Some};
 ghost use Rattle.dist_names.specs.NodeName.{named};
-ghost use Rattle.distnode_c.specs.Entries.{TellsEntry, entry_told, row};
+ghost use Rattle.distnode_c.specs.Entries.{TellsEntry, entry_report, row};
 
 use crate::codes::{NOT_A_NODE, OK, name_code};
 use crate::held::DnNode;
@@ -31,8 +31,8 @@ fn row(state: u32, up: u32, pending: u32) -> DnEntry
     DnEntry { state, up, pending }
 }
 
-fn entry_words(entry: Option<Entry>) -> DnEntry
-    ensures { result ≡ entry_told entry }
+fn entry_report(entry: Option<Entry>) -> DnEntry
+    ensures { result ≡ entry_report entry }
 {
     match entry {
         None => row(0, 0, 0),
@@ -43,12 +43,12 @@ fn entry_words(entry: Option<Entry>) -> DnEntry
     }
 }
 
-fn entry_of(guest: &Guest, alloc: Global, peer: &[u8], entry: &mut DnEntry) -> u32
+fn report_entry(guest: &Guest, alloc: Global, peer: &[u8], entry: &mut DnEntry) -> u32
     ensures { TellsEntry (named peer.now) result (Some guest.now) entry.old entry.new }
 {
     match NodeName::new(alloc, peer) {
         Ok(peer) => {
-            *entry = entry_words(guest.node.entry_of(&peer));
+            *entry = entry_report(guest.node.entry_of(&peer));
             OK
         }
         Err(error) => name_code(error),
@@ -69,7 +69,7 @@ pub extern "C" fn dn_node_entry(
     let Some(guest) = node.open(alloc) else {
         return NOT_A_NODE;
     };
-    let code = entry_of(&guest, alloc, peer, entry);
+    let code = report_entry(&guest, alloc, peer, entry);
     node.shut(guest);
     code
 }

@@ -3,10 +3,10 @@ ghost use Rattle.std.specs.Prelude.{◌≡◌};
 ghost use Rattle.dist_secret.specs.Cookie.{cookie_of};
 ghost use Rattle.dist_epmd.specs.Reading.{read_answer};
 ghost use Rattle.dist_epmd.specs.Layout.{written_request};
-ghost use Rattle.distnode_c.specs.Mapper.{Asks, AliveTold, PortTold, Digests, alive_of};
+ghost use Rattle.distnode_c.specs.Mapper.{Asks, ReportsAlive, ReportsPort, Digests, alive_of};
 
 use crate::codes::{NO_MEMORY, OK, cookie_code, epmd_code};
-use crate::copies::copied;
+use crate::copies::copy_out;
 use dist_epmd::{Answer, Asked, EpmdError, NodeInfo, Request, decode_answer, encode_request};
 use dist_frames::{FrameError, write_short};
 use dist_names::ByteString;
@@ -41,7 +41,7 @@ fn copy_request(alloc: Global, request: &Request, room: &mut [u8], len: &mut usi
 {
     match encode_request(alloc, request) {
         Ok(body) => match write_short(alloc, &body) {
-            Ok(frame) => copied(&frame, room, len),
+            Ok(frame) => copy_out(&frame, room, len),
             Err(FrameError::NoMemory) => NO_MEMORY,
             Err(FrameError::TooLong) => epmd_code(EpmdError::Malformed),
         },
@@ -113,7 +113,7 @@ pub extern "C" fn dn_epmd_alive_answer(
     outcome: &mut u32,
     creation: &mut u32,
 ) -> u32
-    ensures { AliveTold (read_answer Asked.Alive bytes.now) result outcome.old outcome.new creation.old creation.new }
+    ensures { ReportsAlive (read_answer Asked.Alive bytes.now) result outcome.old outcome.new creation.old creation.new }
 {
     match decode_answer(alloc, Asked::Alive, bytes) {
         Ok(
@@ -149,7 +149,7 @@ pub extern "C" fn dn_epmd_port_answer(
     outcome: &mut u32,
     info: &mut DnInfo,
 ) -> u32
-    ensures { PortTold (read_answer Asked.Port bytes.now) result outcome.old outcome.new info.old info.new }
+    ensures { ReportsPort (read_answer Asked.Port bytes.now) result outcome.old outcome.new info.old info.new }
 {
     match decode_answer(alloc, Asked::Port, bytes) {
         Ok(Answer::Port(Ok(found))) => {

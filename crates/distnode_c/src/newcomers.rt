@@ -3,12 +3,12 @@ ghost use Rattle.std.specs.Prelude.{◌≡◌, Some};
 ghost use Rattle.dist_names.specs.NodeName.{named};
 ghost use Rattle.dist_c_guest.specs.Room.{room_for};
 ghost use Rattle.distnode_c.specs.Steps.{Steps, opening_of};
-ghost use Rattle.distnode_c.specs.Newcomers.{ComesAt, Comes, Dials, beside};
+ghost use Rattle.distnode_c.specs.Newcomers.{ComesAt, Comes, Dials, with_room};
 
 use crate::codes::{NOT_A_NODE, OK, name_code, step_code, why_number};
-use crate::exports::stepped_at;
+use crate::exports::step_guest;
 use crate::held::DnNode;
-use crate::told::DnReply;
+use crate::replies::DnReply;
 use dist_c_guest::Guest;
 use dist_core::{Event, Opening, Why};
 use dist_names::NodeName;
@@ -26,8 +26,8 @@ fn opening_of(number: u32) -> Opening
 }
 
 // Reports which end made room, also where the newcomer was refused.
-fn tell_beside(lost: Option<EndId>, reply: &mut DnReply)
-    ensures { reply.new ≡ beside lost reply.old }
+fn report_room(lost: Option<EndId>, reply: &mut DnReply)
+    ensures { reply.new ≡ with_room lost reply.old }
 {
     match lost {
         Some(id) => {
@@ -42,12 +42,12 @@ fn tell_beside(lost: Option<EndId>, reply: &mut DnReply)
 }
 
 // The step of a newcomer at a guest.
-fn come_at(guest: &mut Guest, alloc: Global, event: &Event, reply: &mut DnReply) -> u32
+fn step_newcomer(guest: &mut Guest, alloc: Global, event: &Event, reply: &mut DnReply) -> u32
     ensures { ComesAt (room_for event.now guest.old.node) event.now result guest.old (Some guest.new) reply.old reply.new }
 {
     let lost = guest.make_room(alloc, event);
-    let code = stepped_at(guest, alloc, event, 0, reply);
-    tell_beside(lost, reply);
+    let code = step_guest(guest, alloc, event, 0, reply);
+    report_room(lost, reply);
     code
 }
 
@@ -55,10 +55,10 @@ fn take_newcomer(node: &mut DnNode, alloc: Global, event: &Event, reply: &mut Dn
     ensures { Comes event.now result node.old.slot.guest node.new.slot.guest reply.old reply.new }
 {
     let Some(mut guest) = node.open(alloc) else {
-        tell_beside(None, reply);
+        report_room(None, reply);
         return NOT_A_NODE;
     };
-    let code = come_at(&mut guest, alloc, event, reply);
+    let code = step_newcomer(&mut guest, alloc, event, reply);
     node.shut(guest);
     code
 }
@@ -88,7 +88,7 @@ pub extern "C" fn dn_node_dial(
             take_newcomer(node, alloc, &Event::Dial { peer, opening }, reply)
         }
         Err(error) => {
-            tell_beside(None, reply);
+            report_room(None, reply);
             name_code(error)
         }
     }

@@ -10,9 +10,9 @@ ghost use Rattle.distnode_c.specs.Steps.{Copies, said};
 ghost use Rattle.distnode_c.specs.Nodes.{Makes, News, ReadsBoth, version_of, limit_of, limits_in, number_or, Frees, Says, Tells, TellsAt};
 
 use crate::codes::{IN_USE, NO_MEMORY, NO_SUCH, NOT_A_NODE, OK, cookie_code, name_code};
-use crate::copies::copied;
+use crate::copies::copy_out;
 use crate::held::{DnNode, MARK};
-use crate::told::creation_parts;
+use crate::replies::creation_parts;
 use dist_c_guest::Guest;
 use dist_core::{Limits, NameList, Setup, UpRecord, Version};
 use dist_names::{Creation, Flags, NameError, NodeName};
@@ -196,12 +196,12 @@ pub extern "C" fn dn_node_free(node: &mut DnNode, alloc: Global) -> u32
     }
 }
 
-fn say_of(guest: &Guest, room: &mut [u8], len: &mut usize) -> u32
+fn copy_say(guest: &Guest, room: &mut [u8], len: &mut usize) -> u32
     ensures { Copies (said guest.now.last) result len.new room.old room.new }
 {
     match &guest.last {
-        Some(reply) => copied(reply.say.as_slice(), room, len),
-        None => copied(&[], room, len),
+        Some(reply) => copy_out(reply.say.as_slice(), room, len),
+        None => copy_out(&[], room, len),
     }
 }
 
@@ -219,20 +219,20 @@ pub extern "C" fn dn_node_say(
     let Some(guest) = node.open(alloc) else {
         return NOT_A_NODE;
     };
-    let code = say_of(&guest, room, len);
+    let code = copy_say(&guest, room, len);
     node.shut(guest);
     code
 }
 
 // Reports a record and copies its name, where there is one.
-fn tell(found: Option<(EndId, &UpRecord)>, room: &mut [u8], peer: &mut DnPeer) -> u32
+fn report_peer(found: Option<(EndId, &UpRecord)>, room: &mut [u8], peer: &mut DnPeer) -> u32
     ensures { Tells (option_map (λ r. (r.0, r.1.now)) found.entry) result peer.old peer.new room.old room.new }
 {
     let Some((id, kept)) = found else {
         return NO_SUCH;
     };
     let mut len = 0;
-    let code = copied(kept.peer.bytes(), room, &mut len);
+    let code = copy_out(kept.peer.bytes(), room, &mut len);
     let (creation, has_creation) = creation_parts(kept.creation);
     *peer = DnPeer {
         name: len,
@@ -260,7 +260,7 @@ pub extern "C" fn dn_node_peer_at(
     let Some(guest) = node.open(alloc) else {
         return NOT_A_NODE;
     };
-    let code = tell(guest.node.up_at(place), room, peer);
+    let code = report_peer(guest.node.up_at(place), room, peer);
     node.shut(guest);
     code
 }
@@ -281,7 +281,7 @@ pub extern "C" fn dn_node_peer_of(
         return NOT_A_NODE;
     };
     let code = match guest.node.record_of(EndId(id)) {
-        Some(kept) => tell(Some((EndId(id), kept)), room, peer),
+        Some(kept) => report_peer(Some((EndId(id), kept)), room, peer),
         None => NO_SUCH,
     };
     node.shut(guest);

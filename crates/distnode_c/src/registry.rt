@@ -6,7 +6,7 @@ ghost use Rattle.distnode_c.specs.Nodes.{Frees};
 ghost use Rattle.distnode_c.specs.Desks.{Opens, Asked, Answers, CopiesText, Closes, answer_text};
 
 use crate::codes::{AWAITS, IN_USE, NO_MEMORY, NOT_A_NODE, OK, epmd_code};
-use crate::copies::copied;
+use crate::copies::copy_out;
 use crate::desk::{Desk, DeskError, registered_number};
 use crate::held::{DnRegistry, REGISTRY_MARK};
 use dist_epmd::{Answer, encode_answer};
@@ -75,7 +75,7 @@ pub extern "C" fn dn_registry_asked(
     let Some(mut desk) = registry.open(alloc) else {
         return NOT_A_NODE;
     };
-    let code = match desk.heard(alloc, connection, bytes) {
+    let code = match desk.receive(alloc, connection, bytes) {
         Ok(taken) => {
             if let Some(answer) = &desk.last {
                 *served = DnServed {
@@ -92,15 +92,15 @@ pub extern "C" fn dn_registry_asked(
     code
 }
 
-fn answer_of(alloc: Global, last: &Option<Answer>, room: &mut [u8], len: &mut usize) -> u32
+fn copy_answer(alloc: Global, last: &Option<Answer>, room: &mut [u8], len: &mut usize) -> u32
     ensures { CopiesText (answer_text last.now) result len.old len.new room.old room.new }
 {
     match last {
         Some(answer) => match encode_answer(alloc, answer) {
-            Ok(text) => copied(&text, room, len),
+            Ok(text) => copy_out(&text, room, len),
             Err(error) => epmd_code(error),
         },
-        None => copied(&[], room, len),
+        None => copy_out(&[], room, len),
     }
 }
 
@@ -118,7 +118,7 @@ pub extern "C" fn dn_registry_say(
     let Some(desk) = registry.open(alloc) else {
         return NOT_A_NODE;
     };
-    let code = answer_of(alloc, &desk.last, room, len);
+    let code = copy_answer(alloc, &desk.last, room, len);
     registry.shut(desk);
     code
 }

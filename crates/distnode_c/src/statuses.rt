@@ -1,11 +1,11 @@
 //! The statuses of the newest step, as C sees them.
 ghost use Rattle.std.specs.Prelude.{◌≡◌, option_and_then};
-ghost use Rattle.dist_c_guest.specs.Statuses.{said_in};
+ghost use Rattle.dist_c_guest.specs.Statuses.{status_sent};
 ghost use Rattle.distnode_c.specs.Statuses.{TellsStatuses, status_number};
 
 use crate::codes::{NOT_A_NODE, OK};
 use crate::held::DnNode;
-use dist_c_guest::{Guest, said_in};
+use dist_c_guest::{Guest, status_sent};
 use dist_messages::Status;
 use std::alloc::Global;
 
@@ -24,11 +24,11 @@ fn status_number(status: Option<Status>) -> u32
     }
 }
 
-fn said_by(guest: &Guest, alloc: Global) -> Option<Status>
-    ensures { result ≡ option_and_then said_in guest.now.last }
+fn newest_status(guest: &Guest, alloc: Global) -> Option<Status>
+    ensures { result ≡ option_and_then status_sent guest.now.last }
 {
     match &guest.last {
-        Some(reply) => said_in(alloc, reply),
+        Some(reply) => status_sent(alloc, reply),
         None => None,
     }
 }
@@ -47,8 +47,8 @@ pub extern "C" fn dn_node_status(
     let Some(guest) = node.open(alloc) else {
         return NOT_A_NODE;
     };
-    *said = status_number(said_by(&guest, alloc));
-    *heard = status_number(guest.heard);
+    *said = status_number(newest_status(&guest, alloc));
+    *heard = status_number(guest.received_status);
     node.shut(guest);
     OK
 }

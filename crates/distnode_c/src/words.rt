@@ -4,7 +4,7 @@ ghost use Rattle.distnode_c.specs.Words.{code_word, IsWordOf};
 ghost use Rattle.distnode_c.specs.Steps.{Copies};
 
 use crate::codes::{NO_SUCH, why_of};
-use crate::copies::copied;
+use crate::copies::copy_out;
 
 fn code_word(code: u32) -> &'static str
     ensures { result.now ≡ code_word code }
@@ -45,7 +45,7 @@ fn code_word(code: u32) -> &'static str
 pub extern "C" fn dn_code_name(code: u32, room: &mut [u8], len: &mut usize) -> u32
     ensures { Copies (code_word code) result len.new room.old room.new }
 {
-    copied(code_word(code).as_bytes(), room, len)
+    copy_out(code_word(code).as_bytes(), room, len)
 }
 
 /// Copies the word of a cause.
@@ -54,7 +54,7 @@ pub extern "C" fn dn_why_name(why: u32, room: &mut [u8], len: &mut usize) -> u32
     ensures { IsWordOf why result len.old len.new room.old room.new }
 {
     match why_of(why) {
-        Some(why) => copied(why.name().as_bytes(), room, len),
+        Some(why) => copy_out(why.name().as_bytes(), room, len),
         None => NO_SUCH,
     }
 }

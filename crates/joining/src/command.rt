@@ -60,13 +60,13 @@ const COOKIE_FILE: &str = "cookie-file";
 const UNSAFE: &str = "cookie-unsafe";
 
 // A word that takes a value.
-fn value<'a>(alloc: Global, word: &'a str) -> Arg<'a> {
+fn value_arg<'a>(alloc: Global, word: &'a str) -> Arg<'a> {
     Arg::new(alloc, word).long(word).action(ArgAction::Set)
 }
 
 // The program with the node and the file of the cookie alone.
-fn bare<'a>(alloc: Global) -> Result<Command<'a>, AllocError> {
-    let cookie = value(alloc, COOKIE).alias(COOKIE_FILE)?;
+fn bare_program<'a>(alloc: Global) -> Result<Command<'a>, AllocError> {
+    let cookie = value_arg(alloc, COOKIE).alias(COOKIE_FILE)?;
     Command::new(alloc, "joining")
         .no_binary_name(true)
         .version("0")
@@ -78,14 +78,14 @@ fn program<'a>(alloc: Global) -> Result<Command<'a>, AllocError> {
     let unsafe_ = Arg::new(alloc, UNSAFE)
         .long(UNSAFE)
         .action(ArgAction::SetTrue);
-    let mut program = bare(alloc)?.arg(unsafe_)?;
+    let mut program = bare_program(alloc)?.arg(unsafe_)?;
     for word in VALUES {
-        program = program.arg(value(alloc, word))?;
+        program = program.arg(value_arg(alloc, word))?;
     }
     Ok(program)
 }
 
-fn matched_in<'a>(matches: &ArgMatches<'a>) -> Matched<'a> {
+fn matched_values<'a>(matches: &ArgMatches<'a>) -> Matched<'a> {
     Matched {
         node: matches.get_str("node"),
         name: matches.get_str("name"),
@@ -97,12 +97,12 @@ fn matched_in<'a>(matches: &ArgMatches<'a>) -> Matched<'a> {
 }
 
 // What the parser makes of the words.
-fn matched_of<'a>(alloc: Global, words: &'a [String]) -> Result<Matched<'a>, ErrorKind> {
+fn match_words<'a>(alloc: Global, words: &'a [String]) -> Result<Matched<'a>, ErrorKind> {
     let Ok(program) = program(alloc) else {
         return Err(ErrorKind::OutOfMemory);
     };
     match program.try_get_matches_from(words) {
-        Ok(matches) => Ok(matched_in(&matches)),
+        Ok(matches) => Ok(matched_values(&matches)),
         Err(error) => Err(error.kind()),
     }
 }
@@ -132,12 +132,12 @@ fn wanted_of<'a>(matched: Matched<'a>, mapper_port: u16) -> Option<Wanted<'a>> {
 }
 
 /// What these words ask for. `mapper_port` is the port mapper's port, where they name none.
-pub fn asked_of<'a>(
+pub fn request_of<'a>(
     alloc: Global,
     words: &'a [String],
     mapper_port: u16,
 ) -> Result<Asked<'a>, Fault> {
-    match matched_of(alloc, words) {
+    match match_words(alloc, words) {
         Ok(matched) => match wanted_of(matched, mapper_port) {
             Some(wanted) => Ok(Asked::Joins(wanted)),
             None => Err(Fault::BadCommandLine),

@@ -2,7 +2,7 @@
 //! these has its time by the clock.
 
 use crate::fault::Fault;
-use crate::handshake::shaken;
+use crate::handshake::shake_hands;
 use crate::link::Link;
 use dist_program::{CONNECT_SECONDS, connect, draw, one_turn, resolve, talk_over};
 use distribution::{
@@ -42,7 +42,7 @@ pub fn draw_number(rt: &HostRuntime) -> Result<u32, Fault> {
     }
 }
 
-// The IPv4 address of a host. A node listens at one unless it is told otherwise.
+// The IPv4 address of a host. A node listens at one unless it is configured otherwise.
 fn address_of(rt: &HostRuntime, host: &[u8]) -> Option<SocketAddr> {
     let host = std::str::from_utf8(host).ok()?;
     match resolve(rt, host) {
@@ -114,7 +114,7 @@ fn with_turns(stream: Connection<'_>) -> Result<SocketStream, Fault> {
 }
 
 // The link over a connection that an end dialled.
-fn linked(
+fn link_over(
     alloc: Global,
     stream: Connection<'_>,
     node: Node,
@@ -122,7 +122,7 @@ fn linked(
     challenge: u32,
 ) -> Result<Link, Fault> {
     let mut stream = stream;
-    let (record, rest) = shaken(alloc, &mut stream, node, end_, challenge)?;
+    let (record, rest) = shake_hands(alloc, &mut stream, node, end_, challenge)?;
     Ok(Link {
         stream: with_turns(stream)?,
         record,
@@ -141,7 +141,7 @@ fn join_by(
     let mut node = node;
     let end_ = dial(alloc, &mut node, peer, way.opening)?;
     match connect_in_time(rt, &way.address)? {
-        Some(stream) => linked(alloc, stream, node, end_, way.challenge),
+        Some(stream) => link_over(alloc, stream, node, end_, way.challenge),
         None => Err(Fault::NoNode),
     }
 }

@@ -45,7 +45,7 @@ pub enum Fault {
 }
 
 /// The link is lost, since a read or a write failed.
-pub fn lost(error: TurnError) -> Fault {
+pub fn loss_fault(error: TurnError) -> Fault {
     Fault::Lost(match error {
         TurnError::Ended => Why::Ended,
         TurnError::ReadFailed => Why::ReadFailed,

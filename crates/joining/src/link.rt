@@ -1,7 +1,7 @@
 //! The link, once it is up: what comes is printed, a tick is sent where nothing was sent for a while, and a silent peer is given
 //! up.
 
-use crate::fault::{Fault, lost};
+use crate::fault::{Fault, loss_fault};
 use distribution::{Due, Limited, Packets, SocketStream, Ticker, UpRecord, Why, tick};
 use std::io::Write;
 use std::sync::atomic::{AtomicBool, Ordering};
@@ -34,7 +34,7 @@ fn millis_since<R: Clock>(rt: &R, start: &Instant) -> Result<u64, Fault> {
 
 impl Link {
     // Reads what has come, if something comes within a turn.
-    fn hear(&mut self, ticker: &mut Ticker, now: u64) -> Result<(), Fault> {
+    fn read_piece(&mut self, ticker: &mut Ticker, now: u64) -> Result<(), Fault> {
         let mut room = [0u8; PIECE];
         let mut limited = Limited {
             stream: &mut self.stream,
@@ -46,12 +46,12 @@ impl Link {
                 ticker.heard(now);
                 Ok(self.packets.feed(&room[..count])?)
             }
-            Err(error) => Err(lost(error)),
+            Err(error) => Err(loss_fault(error)),
         }
     }
 
     // Prints the next packet that came whole. Whether there was one.
-    fn tell_packet<W: Write>(&mut self, out: &mut W) -> Result<bool, Fault> {
+    fn print_packet<W: Write>(&mut self, out: &mut W) -> Result<bool, Fault> {
         let len = match self.packets.front()? {
             Some(packet) => packet.len(),
             None => return Ok(false),
@@ -62,9 +62,9 @@ impl Link {
     }
 
     // Prints the packets that came whole. A piece has fewer than it has bytes.
-    fn tell_packets<W: Write>(&mut self, out: &mut W) -> Result<(), Fault> {
+    fn print_packets<W: Write>(&mut self, out: &mut W) -> Result<(), Fault> {
         for _ in 0..PIECE {
-            if !self.tell_packet(out)? {
+            if !self.print_packet(out)? {
                 break;
             }
         }
@@ -72,7 +72,7 @@ impl Link {
     }
 
     // Sends a tick.
-    fn say_tick(&mut self, ticker: &mut Ticker, now: u64) -> Result<(), Fault> {
+    fn send_tick(&mut self, ticker: &mut Ticker, now: u64) -> Result<(), Fault> {
         let mut limited = Limited {
             stream: &mut self.stream,
             left: TURNS_OF_A_TICK,
@@ -82,12 +82,12 @@ impl Link {
                 ticker.said(now);
                 Ok(())
             }
-            Err(error) => Err(lost(error)),
+            Err(error) => Err(loss_fault(error)),
         }
     }
 
     // Does what is due now. `start` is the time from which the ticker counts.
-    fn turn<R: Clock>(
+    fn take_turn<R: Clock>(
         &mut self,
         rt: &R,
         start: &Instant,
@@ -95,8 +95,8 @@ impl Link {
     ) -> Result<(), Fault> {
         let now = millis_since(rt, start)?;
         match ticker.due(now) {
-            Due::Nothing { wait: _ } => self.hear(ticker, now),
-            Due::Tick => self.say_tick(ticker, now),
+            Due::Nothing { wait: _ } => self.read_piece(ticker, now),
+            Due::Tick => self.send_tick(ticker, now),
             Due::GiveUp => Err(Fault::Lost(Why::GaveUp)),
         }
     }
@@ -115,11 +115,11 @@ impl Link {
         };
         let mut ticker = Ticker::new(quarter, 0);
         for _ in 0..u64::MAX {
-            self.tell_packets(out)?;
+            self.print_packets(out)?;
             if ended.load(Ordering::SeqCst) {
                 break;
             }
-            self.turn(rt, &start, &mut ticker)?;
+            self.take_turn(rt, &start, &mut ticker)?;
         }
         Ok(())
     }

@@ -10,9 +10,9 @@ mod dialling;
 mod fault;
 mod handshake;
 mod link;
-mod telling;
+mod printing;
 
-use command::{Asked, Wanted, asked_of};
+use command::{Asked, Wanted, request_of};
 use dialling::{draw_number, join_node};
 use dist_program::{cookie_at, home_cookie, mapper_port, report, words_of};
 use distribution::{
@@ -20,13 +20,13 @@ use distribution::{
 };
 use fault::Fault;
 use link::Link;
+use printing::print_up;
 use std::alloc::{AllocError, Global};
 use std::io::{self, Write};
 use std::process::ExitCode;
 use std::sync::Arc;
 use std::sync::atomic::{AtomicBool, Ordering};
 use std::thread;
-use telling::tell_up;
 
 /// How the program is called.
 const HELP: &str = "usage: joining NODE [--name NAME] [--cookie FILE] [--cookie-unsafe]
@@ -83,7 +83,7 @@ fn watch<R: Input + Drop>(rt: R, ended: &AtomicBool) {
 fn perform(rt: &HostRuntime, ended: &AtomicBool) -> Result<(), Fault> {
     let words = words_of(rt)?;
     let mapper_port = mapper_port(rt)?;
-    let asked = asked_of(rt.alloc(), &words, mapper_port)?;
+    let asked = request_of(rt.alloc(), &words, mapper_port)?;
     follow(rt, asked, ended)
 }
 
@@ -152,7 +152,7 @@ fn node_of(rt: &HostRuntime, wanted: &Wanted<'_>, peer: &NodeName) -> Result<Nod
 }
 
 // Joins the node.
-fn joined(rt: &HostRuntime, wanted: &Wanted<'_>) -> Result<Link, Fault> {
+fn join(rt: &HostRuntime, wanted: &Wanted<'_>) -> Result<Link, Fault> {
     let alloc = rt.alloc();
     let peer = name_of(alloc, wanted.node.as_bytes())?;
     let node = node_of(rt, wanted, &peer)?;
@@ -167,7 +167,7 @@ fn stay<W: Write>(
     ended: &AtomicBool,
     out: &mut W,
 ) -> Result<(), Fault> {
-    tell_up(out, &link.record)?;
+    print_up(out, &link.record)?;
     link.stay(rt, quarter, ended, out)?;
     let _ = link.stream.shut();
     Ok(out.write_all(b"left\n")?)
@@ -175,7 +175,7 @@ fn stay<W: Write>(
 
 // Joins the node, and keeps the link until the input ends.
 fn join_and_stay(rt: &HostRuntime, wanted: &Wanted<'_>, ended: &AtomicBool) -> Result<(), Fault> {
-    let mut link = joined(rt, wanted)?;
+    let mut link = join(rt, wanted)?;
     let quarter = u32::from(wanted.net_ticktime) * 250;
     stay(rt, &mut link, quarter, ended, &mut rt.stdout())
 }

@@ -2,7 +2,8 @@
 ghost use Rattle.std.specs.Prelude.{◌≡◌, Ok, slice_get, IfOk, OnErr, MatchOption};
 ghost use Rattle.std.specs.Option.{option_map};
 ghost use Rattle.dist_world_model.specs.World.{running};
-ghost use Rattle.dist_world_model.specs.Happenings.{tell, tell_node, unclosed, begin, halt, reset, reach, tell_opened, accept, deliver, take_frame, applied, applied_at};
+ghost use Rattle.dist_world_model.specs.Happenings.{tell, tell_node, unclosed, begin, halt, reset};
+ghost use Rattle.dist_world_model.specs.Happenings.{reach, tell_opened, accept, deliver, take_frame, applied, applied_at};
 ghost use Rattle.dist_world_lives.specs.Telling.{HasTold, Declines};
 ghost use Rattle.dist_world.specs.Doing.{Did, Happened};
 
@@ -11,7 +12,7 @@ use dist_core::{Change, Event, Opening, Why};
 use dist_core_laws::a_reply_is_of_its_end;
 use dist_names::{ByteString, Creation, NodeName};
 use dist_peers::EndId;
-use dist_world_lives::{Connections, Heard, Lives};
+use dist_world_lives::{Connections, LifeStep, Lives, Occasion};
 use dist_world_model::Happening;
 use std::alloc::{AllocError, Global};
 
@@ -43,11 +44,19 @@ fn tell_once(
     clock: u64,
     event: Event,
     fresh: u32,
-) -> Result<Option<(usize, Heard)>, AllocError>
-    ensures ok { IfOk result (λ told. MatchOption told (Declines lives.old place event fresh × (lives.new ≡ lives.old) × (conns.new ≡ conns.old)) (λ x. HasTold x.0 x.1 place clock event fresh lives.old lives.new conns.old conns.new)) }
+) -> Result<Option<(usize, LifeStep)>, AllocError>
+    ensures ok { IfOk result (λ made. MatchOption made
+        (Declines lives.old place event fresh × (lives.new ≡ lives.old) × (conns.new ≡ conns.old))
+        (λ x. HasTold x.0 x.1 place clock event fresh lives.old lives.new conns.old conns.new)) }
     ensures err { OnErr result ((lives.new ≡ lives.old) × (conns.new ≡ conns.old)) }
 {
-    lives.tell(conns, place, alloc, clock, &event, fresh)
+    let occasion = Occasion {
+        alloc,
+        clock,
+        event: &event,
+        fresh,
+    };
+    lives.tell(conns, place, &occasion)
 }
 
 impl Scene {
@@ -71,14 +80,14 @@ impl Scene {
             fresh,
         )? {
             None => Ok(false),
-            Some((who, heard)) => {
-                self.last_closed = closed_at(who, heard.closed);
+            Some((who, made)) => {
+                self.last_closed = closed_at(who, made.closed);
                 Ok(true)
             }
         }
     }
 
-    // The running incarnation of a node is told an event.
+    // The running incarnation of a node gets an event.
     fn tell_node(&mut self, alloc: Global, node: usize, event: Event) -> Result<bool, AllocError>
         ensures { Did result (tell_node (unclosed self.old) node event) self.old self.new }
     {
@@ -199,9 +208,9 @@ impl Scene {
             0,
         )? {
             None => Ok(false),
-            Some((who, heard)) => {
-                self.conns.accept(conn, heard.end_);
-                self.last_closed = closed_at(who, heard.closed);
+            Some((who, made)) => {
+                self.conns.accept(conn, made.end_);
+                self.last_closed = closed_at(who, made.closed);
                 Ok(true)
             }
         }
@@ -259,9 +268,9 @@ impl Scene {
             fresh,
         )? {
             None => Ok(false),
-            Some((who, heard)) => {
+            Some((who, made)) => {
                 self.conns.take(conn, side);
-                self.last_closed = closed_at(who, heard.closed);
+                self.last_closed = closed_at(who, made.closed);
                 Ok(true)
             }
         }

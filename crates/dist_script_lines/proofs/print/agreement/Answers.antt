@@ -17,4 +17,4 @@ returns g c =
     ∙ ap (λ b. line c.args.a.now b x y) c.bytes-2.ensures.same
     ∙ ap (λ t. line c.args.a.now c.args.b.now t y) c.creation.ensures
     ∙ ap (line c.args.a.now c.args.b.now (creation_text found.creation_a)) c.creation-2.ensures
-    ) c.put.ensures
+    ) c.put.ensures.text

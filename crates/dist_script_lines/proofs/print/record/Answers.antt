@@ -9,4 +9,4 @@ returns-in-Some g c =
     let found = c.in-Some.found.now in
     let same : codes " common " ++ (flags_text found.common ++ (codes " creation " ++ (text_of c.creation.result ++ codes "\n"))) ≡ record_text (option_copied c.args.kept) =
     ap (λ t. codes " common " ++ (flags_text found.common ++ (codes " creation " ++ (t ++ codes "\n")))) c.creation.ensures ∙ ap (λ o. record_text (option_copied o)) (sym c.in-Some.is) in
-    subst (λ t. OnOk c.put.result (Appends (g.W.Write.contents c.args.out.now) (g.W.Write.contents c.put.new.out) t)) same c.put.ensures
+    subst (λ t. OnOk c.put.result (Appends (g.W.Write.contents c.args.out.now) (g.W.Write.contents c.put.new.out) t)) same c.put.ensures.text

@@ -13,8 +13,8 @@ invariant_of-self-2 c =
     let rows : values c.register.new.rows ≡ with_row row (values c.self.inside.rows) = search rules in
     (subst (λ (r : List Row). IsLegal (record { port = c.self.inside.port; next = c.self.inside.next + 1; rows = r })) (sym rows) (registered_legal c.args.conn c.args.request.now registrations c.self.invariant.0 ok), c.register.ensures.names)
 
-pub returns-then-not-accepts-clause-answer : goal.returns-then-not-accepts-clause-answer
-returns-then-not-accepts-clause-answer c = search rules
+pub returns-then-not-is_accepted-clause-answer : goal.returns-then-not-is_accepted-clause-answer
+returns-then-not-is_accepted-clause-answer c = search rules
 
-pub returns-then-not-accepts-clause-after : goal.returns-then-not-accepts-clause-after
-returns-then-not-accepts-clause-after c = search rules
+pub returns-then-not-is_accepted-clause-after : goal.returns-then-not-is_accepted-clause-after
+returns-then-not-is_accepted-clause-after c = search rules

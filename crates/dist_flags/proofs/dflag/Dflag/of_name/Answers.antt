@@ -9,8 +9,8 @@ pub returns-clause-found : goal.returns-clause-found
 unfolding flag_named
 returns-clause-found c =
     let P : Option Dflag → Type 0 = λ o. IfSome o (λ w. name_of w ≡ c.args.word.now) in
-    subst P (sym c.called.ensures) (found c.args.word.now)
+    subst P (sym c.flag_named.ensures) (found c.args.word.now)
 
 pub returns-clause-every : goal.returns-clause-every
 unfolding flag_named
-returns-clause-every c why same = c.called.ensures ∙ every c.args.word.now why same
+returns-clause-every c why same = c.flag_named.ensures ∙ every c.args.word.now why same

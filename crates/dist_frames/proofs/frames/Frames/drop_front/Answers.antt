@@ -4,4 +4,4 @@ use Rattle.dist_frames.proofs.Readers.{drops_next}
 use Rattle.dist_frames.proofs.frames.Frames.drop_front.Goals as goal
 
 pub returns-clause-rest : goal.returns-clause-rest
-returns-clause-rest c = ap to_come c.drop_shown.ensures ∙ drops_next c.args.self.now
+returns-clause-rest c = ap to_come c.drop_next.ensures ∙ drops_next c.args.self.now

@@ -1,4 +1,4 @@
-use Rattle.std.proofs.Common.{sym, ap, ◌∙◌, arith, Some}
+use Rattle.std.proofs.Common.{sym, ap, ◌∙◌, Some}
 use Rattle.std.specs.FinMap as map
 use Rattle.dist_peers.proofs.Maps.{updated, sorted-from, found-there, get-table, find-lookup}
 use Rattle.dist_peers.proofs.peers.Peers.change.Goals as goal

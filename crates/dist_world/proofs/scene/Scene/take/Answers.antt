@@ -1,6 +1,6 @@
 use Rattle.std.proofs.Common.{◌≡◌, ◌∙◌, ℕ, List, Some, slice_get, ap, sym}
 use Rattle.dist_world_model.specs.World.{World, running, row_of_life}
-use Rattle.dist_world_lives.specs.Hearing.{wire_of}
+use Rattle.dist_world_lives.specs.Stepping.{wire_of}
 use Rattle.dist_world_lives.specs.Wires.{front_at}
 use Rattle.dist_world.proofs.Marked.{taken_is}
 use Rattle.dist_world.proofs.scene.Scene.take.Goals as goal
@@ -13,4 +13,4 @@ returns-in-Some-2 c =
     let placed : wire_of (row_of_life (slice_get c.self.inside.lives c.in-Some.place) c.args.id.0) ≡ Some (c.in-Some-wire.side, c.in-Some-wire.conn) = sym c.in-Some-wire.ensures in
     let first : front_at (slice_get c.self.inside.conns c.in-Some-wire.conn) c.in-Some-wire.side ≡ Some c.in_ok-body.body = sym c.in-Some-front.ensures ∙ ap (λ (xs : List ℕ). Some xs) (sym c.in_ok-body.ensures) in
     let k = rw c.in-Some-2.is at c.in_ok-tell_once.ensures.ok in
-    rw (← c.self.view_is, c.take.ensures, c.closed_at-self-inside.ensures) (taken_is c.a_reply_is_of_its_end.ensures.step w c.args.node c.in-Some.place c.in-Some-wire.conn c.args.fresh c.args.id c.in-Some-wire.side c.in_ok-body.body c.in-Some-2.who c.in-Some-2.heard c.tell_once.new.lives c.tell_once.new.conns run placed first k)
+    rw (← c.self.view_is, c.take.ensures, c.closed_at-self-inside.ensures) (taken_is c.a_reply_is_of_its_end.ensures.step w c.args.node c.in-Some.place c.in-Some-wire.conn c.args.fresh c.args.id c.in-Some-wire.side c.in_ok-body.body c.in-Some-2.who c.in-Some-2.made c.tell_once.new.lives c.tell_once.new.conns run placed first k)

@@ -3,4 +3,4 @@ use Rattle.dist_world_lives.proofs.Places.{unsaid_at}
 use Rattle.dist_world_lives.proofs.connections.Connections.unsay.Goals as goal
 
 pub returns : goal.returns
-returns c before bytes is len = c.unsay_at.ensures ∙ unsaid_at before c.self.inside.all.items c.args.place c.args.side bytes c.args.count (c.self.view_is ∙ is) len
+returns c before bytes is len = c.remove_bytes.ensures ∙ unsaid_at before c.self.inside.all.items c.args.place c.args.side bytes c.args.count (c.self.view_is ∙ is) len

@@ -1,4 +1,4 @@
-use Rattle.std.proofs.Common.{◌≡◌, length, None, ◌∙◌, ap, refl, arith}
+use Rattle.std.proofs.Common.{◌≡◌, length, None, ◌∙◌, ap, arith}
 use Rattle.dist_world_model.specs.Lists.{first_where}
 use Rattle.dist_world_model.specs.World.{Life, runs_for}
 use Rattle.dist_world_model.specs.Happenings.{new_life}
@@ -8,7 +8,7 @@ use Rattle.dist_world_lives.proofs.incarnations.Lives.begin.Goals as goal
 pub invariant_of-self-2 : goal.invariant_of-self-2
 invariant_of-self-2 c =
     let lives = c.self.inside.lives.items in
-    let life : Life = new_life c.args.node c.args.clock c.args.setup.now c.args.creation in
+    let made : c.in_ok-life.life ≡ new_life c.args.node c.args.clock c.args.setup.now c.args.creation = c.in_ok-life.ensures in
     let place : c.len-place.result ≡ length lives = omega arith in
     let idle : first_where (runs_for c.args.node) lives ≡ None = ap (first_where (runs_for c.args.node)) c.self.view_is ∙ c.requires in
-    rw (c.in_ok-push_new.ensures.ok, c.set_place.ensures, place) (pushed lives c.widen.new.index.items c.args.node life idle c.in_ok-widen.ensures.ok refl refl (as_wide lives c.self.inside.index.items c.widen.new.index.items c.in_ok-widen.ensures.same c.self.invariant))
+    rw (c.in_ok-push.ensures.ok, c.set_place.ensures, place) (pushed lives c.widen.new.index.items c.args.node c.in_ok-life.life idle c.in_ok-widen.ensures.ok (ap (λ (l : Life). l.who) made) (ap (λ (l : Life). l.over) made) (as_wide lives c.self.inside.index.items c.widen.new.index.items c.in_ok-widen.ensures.same c.self.invariant))

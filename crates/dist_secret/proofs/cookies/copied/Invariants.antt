@@ -1,6 +1,0 @@
--- What was copied and what is left are all cookies.
-use Rattle.std.proofs.Common.{◌≡◌, ◌++◌}
-use Rattle.dist_secret.proofs.cookies.copied.Given as goal
-
-abbrev pub invariant-loop-row : goal.invariant-loop-row
-invariant-loop-row l = l.copy.entries ++ l.row-iterator ≡ l.cookies.entries
