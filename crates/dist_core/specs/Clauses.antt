@@ -34,7 +34,8 @@ IsFrame v = ⊥
 
 -- where the event is a frame, the reply reports an end that was up as closed only if it is a right reply
 abbrev pub ClosesOnReply : NodeState → Event → Reply → Type 0
-ClosesOnReply n v r = (x : EndId) (w : Why) (kept : UpRecord) → IsFrame v → r.closed ≡ Some (x, w) → slice_get n.ends x.0 ≡ Some (ends.Up kept) → IsRightReply n v
+ClosesOnReply n v r = (x : EndId) (w : Why) (kept : UpRecord) → IsFrame v → r.closed ≡ Some (x, w)
+    → slice_get n.ends x.0 ≡ Some (ends.Up kept) → IsRightReply n v
 
 -- the end that an event names
 abbrev pub end_of : Event → Option EndId

@@ -71,7 +71,9 @@ fn send_reply(
     attempt: &Attempt,
     came: Challenge,
 ) -> Result<Effect, AllocError>
-    ensures { IfOk result (λ f. f ≡ goes_on id (reply_text setup.now came.form attempt.now.peer fresh came.challenge) (End.Attempt (record attempt.now { phase = Phase.AwaitAck; challenge = fresh; flags = came.flags; creation = came.creation })) Note.ReplySaid) }
+    ensures { IfOk result (λ f. f ≡ goes_on id (reply_text setup.now came.form attempt.now.peer fresh came.challenge)
+        (End.Attempt (record attempt.now { phase = Phase.AwaitAck; challenge = fresh; flags = came.flags; creation = came.creation }))
+        Note.ReplySaid) }
 {
     let say = reply_frame(
         alloc,

@@ -1,8 +1,10 @@
 //! A node, and its steps.
-ghost use Rattle.std.specs.Prelude.{◌≡◌, ◌≤◌, ◌<◌, ◌+◌, ◌^◌, ◌||◌, List, [], ◌∷◌, ℕ, length, IfOk, IfErr, ◌≢◌, IsTrue, IsOk, OnOk, OnErr, true, false, Ok, Err, Some, None, slice_get, count_by};
+ghost use Rattle.std.specs.Prelude.{◌≡◌, ◌≢◌, ℕ, ◌≤◌, ◌<◌, ◌+◌, ◌^◌, ◌||◌, List, [], ◌∷◌, length, slice_get, count_by};
+ghost use Rattle.std.specs.Prelude.{IfOk, IfErr, IsTrue, IsOk, OnOk, OnErr, true, false, Ok, Err, Some, None};
 ghost use Rattle.std.specs.Option.{option_map};
 ghost use Rattle.std.specs.FinMap as map;
-ghost use Rattle.dist_core_ends.specs.Ends.{AreLegal, Finds, FindsUp, oldest_pending, record_in, up_from, up_pair, up_ids, claim_of, is_open, is_dialing, entry_in, table_of, still_of, awaited_of};
+ghost use Rattle.dist_core_ends.specs.Ends.{AreLegal, Finds, FindsUp, entry_in, table_of, is_open, is_dialing, claim_of};
+ghost use Rattle.dist_core_ends.specs.Ends.{oldest_pending, record_in, up_from, up_pair, up_ids, still_of, awaited_of};
 ghost use Rattle.dist_core_ends.specs.Forgetting.{forgotten};
 ghost use Rattle.dist_core.specs.Node.{NodeState, ends_after, is_crowded, is_full_for, is_given_out, is_spent, limits_of, new_id};
 ghost use Rattle.dist_core.specs.Clauses.{ClosesOnReply, end_of, loss_reply};
@@ -148,7 +150,8 @@ impl Node {
     /// The up end whose peer has this name, and its record. There is at most one.
     pub fn up_of(&self, peer: &NodeName) -> Option<(EndId, &UpRecord)>
         ensures found { FindsUp self.now.ends peer.now (option_map (λ r. (r.0, r.1.now)) result) }
-        ensures only { (i : ℕ) (kept : UpRecord) → slice_get self.now.ends i ≡ Some (End.Up kept) → kept.peer ≡ peer.now → option_map (λ r. (r.0, r.1.now)) result ≡ up_pair i kept }
+        ensures only { (i : ℕ) (kept : UpRecord) → slice_get self.now.ends i ≡ Some (End.Up kept) → kept.peer ≡ peer.now
+            → option_map (λ r. (r.0, r.1.now)) result ≡ up_pair i kept }
     {
         self.ends.up_of(peer)
     }
@@ -201,6 +204,7 @@ impl Node {
     ///
     /// `fresh` is the challenge of a step that sends a challenge or a reply; any other step ignores it. The caller draws it
     /// anew for each step, so that no digest is known beforehand.
+    #[inline(always)]
     pub fn step(&mut self, alloc: Global, event: &Event, fresh: u32) -> Result<Reply, StepError>
         // The reply and the node afterwards are those of the definition, or the refusal is.
         ensures step { IsStep result (step self.old event.now fresh) self.old self.new }
@@ -240,13 +244,13 @@ impl Node {
 
     // A step, with what is shown of it at once.
     #[tactic(auto, unfolding(crate::specs::Step::effect_of))]
+    #[inline(always)]
     fn make_step(&mut self, alloc: Global, event: &Event, fresh: u32) -> Result<Reply, StepError>
         ensures step { IsStep result (step self.old event.now fresh) self.old self.new }
         ensures loss { IsLoss event.now → result ≢ Err StepError.NoMemory }
         ensures legal { AreLegal self.old.ends }
     {
-        // This shows what the ends are before the step, also where it is refused.
-        let _ = self.open_ends();
+        self.show_legal();
         match event {
             Event::Tick { end_: id } => self.tick(alloc, *id),
             Event::Lost { end_: id, why } => self.lose(alloc, *id, *why),
@@ -255,7 +259,17 @@ impl Node {
         }
     }
 
-    // A step by its effect.
+    // Does nothing: its clause shows what the ends of a node are, where a proof needs it before the step.
+    #[inline(always)]
+    pub(crate) fn show_legal(&self)
+        ensures { AreLegal self.now.ends }
+    {
+        let _ = self.open_ends();
+    }
+
+    // A step by its effect. It stays a call of its own, while the short steps become part of their caller: an effect is a large
+    // value, and a tick or a loss would clear the room for one.
+    #[inline(never)]
     fn step_by_effect(
         &mut self,
         alloc: Global,
@@ -266,19 +280,19 @@ impl Node {
         ensures loss { IsLoss event.now → result ≢ Err StepError.NoMemory }
         ensures legal { AreLegal self.old.ends }
     {
-        // This shows what the ends are before the step, also where it is refused.
-        let _ = self.open_ends();
+        self.show_legal();
         let effect = self.effect(alloc, event, fresh)?;
         self.apply_effect(effect, cost(event))
     }
 
     // A loss, which closes its end and sends nothing.
+    #[inline(always)]
     fn lose(&mut self, alloc: Global, id: EndId, why: Why) -> Result<Reply, StepError>
-        ensures step { IsStep result (stepped self.old (Event.Lost id why) (at_end (slice_get self.old.ends id.0) (λ e. Ok (closes id why)))) self.old self.new }
+        ensures step { IsStep result (stepped self.old (Event.Lost id why) (at_end (slice_get self.old.ends id.0) (λ e. Ok (closes id why))))
+            self.old self.new }
         ensures loss { result ≢ Err StepError.NoMemory }
     {
-        // This shows what the ends are before the step.
-        let _ = self.open_ends();
+        self.show_legal();
         let _end = open_end(&self.ends, id)?;
         self.ends.close(id, why);
         let mut reply = reply_that_says(id, ByteString::new(alloc));
@@ -287,11 +301,11 @@ impl Node {
     }
 
     // A connection that came, which gives out the next end.
+    #[inline(always)]
     fn come_in(&mut self, alloc: Global, _link: u64) -> Result<Reply, StepError>
         ensures { IsStep result (stepped self.old (Event.Incoming _link) (came_in self.old)) self.old self.new }
     {
-        // This shows what the ends are before the step.
-        let _ = self.open_ends();
+        self.show_legal();
         if self.gives_no_end() {
             return Err(StepError::Spent);
         }
@@ -309,6 +323,7 @@ impl Node {
 
     // A tick, which leaves all ends as they are.
     #[tactic(auto, using(crate::proofs::Ticks::ticks))]
+    #[inline(always)]
     fn tick(&mut self, alloc: Global, id: EndId) -> Result<Reply, StepError>
         ensures { IsStep result (stepped self.old (Event.Tick id) (at_end (slice_get self.old.ends id.0) (ticked self.old id))) self.old self.new }
     {
@@ -340,7 +355,8 @@ impl Node {
         requires few { length (ends_after self.old.ends effect) ≤ self.old.steps + cost }
         requires bounded { self.old.steps + cost ≤ (let l = limits_of self.old in l.steps) }
         requires numbered { length (ends_after self.old.ends effect) ≤ (let l = limits_of self.old in l.ends) }
-        ensures ok { IfOk result (λ r. (r ≡ effect.reply) × (self.new ≡ record { setup = self.old.setup; steps = self.old.steps + cost; ends = ends_after self.old.ends effect })) }
+        ensures ok { IfOk result (λ r. (r ≡ effect.reply)
+            × (self.new ≡ record { setup = self.old.setup; steps = self.old.steps + cost; ends = ends_after self.old.ends effect })) }
         ensures err { IfErr result (λ e. (e ≡ StepError.NoMemory) × (self.new ≡ self.old)) }
         ensures loss { claim_of effect.this ≡ None → effect.reply.end_.0 < length self.old.ends → IsOk result }
     {
@@ -487,7 +503,8 @@ impl Node {
     }
 }
 
-// The end says this, and nothing else is told.
+// The reply of a step that sends this on the end, and does nothing else that is reported.
+#[inline(always)]
 pub(crate) fn reply_that_says(id: EndId, say: ByteString) -> Reply
     ensures { result ≡ record { end_ = id; say = say; closed = None; up = None; note = Note.Nothing } }
 {

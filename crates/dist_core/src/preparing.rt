@@ -174,8 +174,8 @@ impl Node {
         ensures err { IfErr result (λ e. (e ≡ StepError.NoMemory) × (self.new ≡ self.old)) }
         ensures loss { (v : Event) (fresh : ℕ) → IsPrepared self.old v fresh (record { reply = reply; change = change; cost = cost }) → IsLoss v → IsOk result }
     {
-        // These tell what every node keeps.
-        let _ = self.open_ends();
+        self.show_legal();
+        // This shows what every node keeps.
         let _ = self.counted_steps();
         match change {
             EndChange::Stay => {

@@ -4,28 +4,34 @@ ghost use Rattle.dist_core.specs.Words.{refusal_name};
 
 use dist_core_ends::Why;
 use dist_peers::Entry;
-use std::error::Error;
-use std::fmt;
+use thiserror::Error;
 
 /// Why a step is refused. Each leaves the node unchanged. The variants stand in the order of refusals: the first that holds is
 /// returned. Our own choice; the ERTS User's Guide has no such machine.
-#[derive(Clone, Copy, Debug, PartialEq, Eq)]
+#[derive(Clone, Copy, Debug, PartialEq, Eq, Error)]
 pub enum StepError {
     /// The number was never given out. The caller's fault, as the four that follow.
+    #[error("no such end")]
     NoSuchEnd,
     /// The end is closed, for this cause; for `Ended` also where the node forgot the cause.
+    #[error("end is closed")]
     Gone(Why),
     /// The end is open and takes no such event: `Opened` where no connection is awaited, `Frame` before there is one or
     /// once the end is up, `Tick` before it is up.
+    #[error("end takes no such event now")]
     WrongPhase,
     /// A dial to a peer that is not idle, and its entry.
+    #[error("peer is not idle")]
     Busy(Entry),
     /// As many steps that reported no loss were made as the node's limits allow; of a new end also where as many ends were given
     /// out as they allow.
+    #[error("node has made all its steps")]
     Spent,
     /// A dial with as many entries as the node's limits allow, or a new end with as many open ends as they allow.
+    #[error("node is full")]
     Full,
     /// Nothing else refuses the step, and no memory was left for it.
+    #[error("out of memory")]
     NoMemory,
 }
 
@@ -45,24 +51,3 @@ impl StepError {
         }
     }
 }
-
-// The sentence for it.
-fn sentence(error: StepError) -> &'static str {
-    match error {
-        StepError::NoSuchEnd => "no such end",
-        StepError::Gone(_) => "end is closed",
-        StepError::WrongPhase => "end takes no such event now",
-        StepError::Busy(_) => "peer is not idle",
-        StepError::Spent => "node has made all its steps",
-        StepError::Full => "node is full",
-        StepError::NoMemory => "out of memory",
-    }
-}
-
-impl fmt::Display for StepError {
-    fn fmt<W: fmt::Write>(&self, f: &mut fmt::Formatter<W>) -> fmt::Result {
-        f.write_str(sentence(*self))
-    }
-}
-
-impl Error for StepError {}

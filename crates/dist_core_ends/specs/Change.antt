@@ -1,5 +1,6 @@
 -- What a change of one end, and of another with it, makes of the ends and of the table of entries.
-use Rattle.std.specs.Prelude.{◌≡◌, ℕ, ◌==◌, Bool, ◌<◌, ◌≤◌, true, false, nat_lt, if◌then◌else◌, length, List, [], ◌∷◌, ◌++◌, Option, Some, None, slice_get, slice_set}
+use Rattle.std.specs.Prelude.{◌≡◌, ℕ, ◌==◌, Bool, ◌<◌, ◌≤◌, true, false, nat_lt, if◌then◌else◌}
+use Rattle.std.specs.Prelude.{List, [], ◌∷◌, ◌++◌, length, Option, Some, None, slice_get, slice_set}
 use Rattle.std.specs.FinMap as map
 use Rattle.dist_names.specs.Order.{Name, same_name}
 use Rattle.dist_peers.specs.declared.entry.EndId.{EndId}

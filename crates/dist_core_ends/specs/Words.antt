@@ -25,7 +25,9 @@ why_word why.NoMemory = codes "NoMemory"
 
 -- all causes
 abbrev pub all_whys : List Why
-all_whys = why.Ended ∷ why.ReadFailed ∷ why.WriteFailed ∷ why.GaveUp ∷ why.DialFailed ∷ why.Malformed ∷ why.Unexpected ∷ why.WrongName ∷ why.WrongFlags ∷ why.WrongDigest ∷ why.StatusRefused ∷ why.Refused ∷ why.Crossed ∷ why.Replaced ∷ why.NoMemory ∷ []
+all_whys =
+    why.Ended ∷ why.ReadFailed ∷ why.WriteFailed ∷ why.GaveUp ∷ why.DialFailed ∷ why.Malformed ∷ why.Unexpected ∷ why.WrongName
+    ∷ why.WrongFlags ∷ why.WrongDigest ∷ why.StatusRefused ∷ why.Refused ∷ why.Crossed ∷ why.Replaced ∷ why.NoMemory ∷ []
 
 -- the word is that of this cause
 abbrev pub has_word : List ℕ → Why → Bool

@@ -3,7 +3,8 @@ ghost use Rattle.std.specs.Prelude.{◌≡◌, ℕ, ◌<◌, ◌+◌, ◌^◌, [
 ghost use Rattle.std.specs.Option.{option_map, option_and_then};
 ghost use Rattle.std.specs.FinMap as map;
 ghost use Rattle.dist_peers.specs.Verdicts.{is_full};
-ghost use Rattle.dist_core_ends.specs.Ends.{AreLegal, FindsUp, record_in, up_from, up_pair, up_id, up_ids, claim_of, is_open, is_dialing, entry_in, table_of, oldest_pending, still_of, awaited_of, end_id, verdict_of, Finds};
+ghost use Rattle.dist_core_ends.specs.Ends.{AreLegal, FindsUp, Finds, entry_in, table_of, is_open, is_dialing, claim_of, end_id};
+ghost use Rattle.dist_core_ends.specs.Ends.{record_in, up_from, up_pair, up_id, up_ids, oldest_pending, still_of, awaited_of, verdict_of};
 ghost use Rattle.dist_core_ends.specs.Change.{Fits, StaysClosed, changed};
 ghost use Rattle.dist_core_ends.specs.Forgetting.{forgotten};
 
@@ -118,6 +119,7 @@ impl Ends {
     }
 
     /// The end of this number, where it is open.
+    #[inline(always)]
     pub fn open_end(&self, id: EndId) -> Result<&End, Absent>
         ensures { Finds result (slice_get self.now id.0) }
     {
@@ -183,7 +185,8 @@ impl Ends {
     /// The up end whose peer has this name, and its record. There is at most one.
     pub fn up_of(&self, peer: &NodeName) -> Option<(EndId, &UpRecord)>
         ensures found { FindsUp self.now peer.now (option_map (λ r. (r.0, r.1.now)) result) }
-        ensures only { (i : ℕ) (kept : UpRecord) → slice_get self.now i ≡ Some (End.Up kept) → kept.peer ≡ peer.now → option_map (λ r. (r.0, r.1.now)) result ≡ up_pair i kept }
+        ensures only { (i : ℕ) (kept : UpRecord) → slice_get self.now i ≡ Some (End.Up kept) → kept.peer ≡ peer.now
+            → option_map (λ r. (r.0, r.1.now)) result ≡ up_pair i kept }
     {
         // This shows that the entries are those of the ends.
         let _ = self.open_ends();
@@ -242,6 +245,7 @@ impl Ends {
     }
 
     /// Closes an end that is open. It takes no memory.
+    #[inline(always)]
     pub fn close(&mut self, id: EndId, why: Why)
         // `still` is the test.
         requires there { id.0 < length self.old }
@@ -254,6 +258,7 @@ impl Ends {
     }
 
     /// Gives out the next end, of which nothing is known yet.
+    #[inline(always)]
     pub fn add(&mut self) -> Result<(), AllocError>
         requires { length self.old < 2 ^ 32 }
         ensures ok { OnOk result (self.new ≡ changed self.old (end_id (length self.old)) End.Unnamed None) }

@@ -32,7 +32,10 @@ impl Model for PastRows {
 
     ghost Value = { RowList };
 
-    ghost view = { λ r. record { items = rows_from (get nat_eq r.places) 0 (all_causes r.base r.causes.items); room = min (spare r.places) (vec_capacity r.causes - length r.causes.items) } };
+    ghost view = { λ r. record {
+      items = rows_from (get nat_eq r.places) 0 (all_causes r.base r.causes.items);
+      room = min (spare r.places) (vec_capacity r.causes - length r.causes.items);
+    } };
 
     ghost invariant = { λ r. AreWithin r.base r.causes.items (get nat_eq r.places) };
 }
@@ -58,6 +61,7 @@ impl PastRows {
     }
 
     /// The row of this number.
+    #[inline(never)]
     pub fn at(&self, i: usize) -> Row
         requires { i < length self.now.items }
         ensures { slice_get self.now.items i ≡ Some result }
@@ -69,6 +73,7 @@ impl PastRows {
     }
 
     /// Closes the open end of this number. It takes no memory.
+    #[inline(never)]
     pub fn close(&mut self, i: usize, why: Why)
         requires { IsSlot (slice_get self.old.items i) }
         ensures { self.new.items ≡ slice_set self.old.items i (Row.Closed why) }
@@ -104,9 +109,9 @@ impl PastRows {
                 let next = self.base + self.causes.len();
                 let added: Result<_, _> = self.places.insert(next, row);
                 let _ = added.unwrap();
-                self.causes.push(Why::Ended).unwrap();
+                self.causes.push_reserved(Why::Ended);
             }
-            Row::Closed(why) => self.causes.push(why).unwrap(),
+            Row::Closed(why) => self.causes.push_reserved(why),
         }
     }
 

@@ -17,23 +17,27 @@ const MOST_RECENT: usize = 1_024;
 /// Most ends are closed soon after they were given out, so the rows of the last ones stand in an array, where one is found by
 /// its number alone. When the array is full, its rows become past ones: a closed end costs a byte from then on, and only an
 /// end that is still open takes a place in a map.
+///
+/// Each event looks here: what concerns the array becomes part of its caller, and what concerns past rows stays a call.
 #[derive(Drop)]
 pub struct Rows {
     /// The rows of the numbers before those of `recent`.
     past: PastRows,
+    /// How many past rows there are, which each look asks first.
+    before: usize,
     /// The rows of the numbers that were given out last.
     recent: Vec<Row>,
 }
 
 impl Model for Rows {
-    ghost use Rattle.std.specs.Prelude.{◌≤◌, ◌-◌, ◌^◌, ◌++◌, length, vec_capacity};
+    ghost use Rattle.std.specs.Prelude.{◌≡◌, ◌≤◌, ◌-◌, ◌^◌, ◌++◌, length, vec_capacity};
     ghost use Rattle.dist_core_ends.specs.Places.{RowList};
 
     ghost Value = { RowList };
 
     ghost view = { λ r. record { items = r.past.items ++ r.recent.items; room = vec_capacity r.recent - length r.recent.items } };
 
-    ghost invariant = { λ r. length (r.past.items ++ r.recent.items) ≤ 2 ^ 32 };
+    ghost invariant = { λ r. (r.before ≡ length r.past.items) × (length (r.past.items ++ r.recent.items) ≤ 2 ^ 32) };
 }
 
 impl Rows {
@@ -43,45 +47,48 @@ impl Rows {
     {
         Rows {
             past: PastRows::new(alloc),
+            before: 0,
             recent: Vec::new(alloc),
         }
     }
 
     /// How many there are.
+    #[inline(always)]
     pub fn len(&self) -> usize
         ensures len { result ≡ length self.now.items }
         ensures few { result ≤ 2 ^ 32 }
     {
-        self.past.len() + self.recent.len()
+        self.before + self.recent.len()
     }
 
     /// The row of this number.
+    #[inline(always)]
     pub fn at(&self, i: usize) -> Row
         requires { i < length self.now.items }
         ensures { slice_get self.now.items i ≡ Some result }
     {
-        let before = self.past.len();
-        if i < before {
+        if i < self.before {
             self.past.at(i)
         } else {
-            self.recent[i - before]
+            self.recent[i - self.before]
         }
     }
 
     /// Closes the open end of this number. It takes no memory.
+    #[inline(always)]
     pub fn close(&mut self, i: usize, why: Why)
         requires { IsSlot (slice_get self.old.items i) }
         ensures { self.new.items ≡ slice_set self.old.items i (Row.Closed why) }
     {
-        let before = self.past.len();
-        if i < before {
+        if i < self.before {
             self.past.close(i, why);
         } else {
-            self.recent[i - before] = Row::Closed(why);
+            self.recent[i - self.before] = Row::Closed(why);
         }
     }
 
     /// Makes room for one row more.
+    #[inline(always)]
     pub fn reserve(&mut self) -> Result<(), AllocError>
         ensures same { self.new.items ≡ self.old.items }
         ensures ok { OnOk result (0 < self.new.room) }
@@ -89,11 +96,13 @@ impl Rows {
         if self.recent.len() >= MOST_RECENT {
             self.past.reserve(self.recent.len())?;
             move_rows(&mut self.recent, &mut self.past);
+            self.before = self.past.len();
         }
         self.recent.reserve(1)
     }
 
     /// Adds the row of the next number, for which room was made.
+    #[inline(always)]
     pub fn push(&mut self, row: Row)
         requires room { 0 < self.old.room }
         requires few { length self.old.items < 2 ^ 32 }
@@ -106,13 +115,13 @@ impl Rows {
     pub fn forget(&mut self, below: usize)
         ensures { self.new.items ≡ rows_forgotten below self.old.items }
     {
-        let before = self.past.len();
         self.past.forget(below);
-        forget_first(&mut self.recent, below.saturating_sub(before));
+        forget_first(&mut self.recent, below.saturating_sub(self.before));
     }
 }
 
 // Moves all rows of an array behind the past ones.
+#[cold]
 fn move_rows(recent: &mut Vec<Row>, past: &mut PastRows)
     requires room { length recent.old.items ≤ past.old.room }
     requires few { length (past.old.items ++ recent.old.items) ≤ 2 ^ 32 }

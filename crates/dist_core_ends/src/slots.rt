@@ -22,6 +22,7 @@ pub enum Row {
 }
 
 // The end of this number, where it is open.
+#[inline(always)]
 pub fn find<'a>(rows: &Rows, slots: &'a Slab<End>, id: EndId) -> Result<&'a End, Absent>
     requires { AreKept rows.now.items slots.now.slots }
     ensures { Finds result (slice_get (shown rows.now.items slots.now.slots) id.0) }
@@ -47,7 +48,8 @@ fn refill(slots: &mut Slab<End>, slot: usize, end: End)
 }
 
 // The slot has no end.
-fn empty(slots: &mut Slab<End>, slot: usize)
+#[inline(always)]
+pub fn empty(slots: &mut Slab<End>, slot: usize)
     requires { ContainsKey slots.old slot }
     ensures { Empties slots.old slots.new slot }
 {
@@ -110,6 +112,7 @@ pub fn put_second(rows: &mut Rows, slots: &mut Slab<End>, other: Option<(EndId, 
 }
 
 // The row of a further end, which stands in a slot where it is open.
+#[inline(always)]
 pub fn keep(slots: &mut Slab<End>, end: End) -> Row
     requires { HasRoomFor slots.old 1 }
     ensures { Gives slots.old.slots slots.new.slots end result }

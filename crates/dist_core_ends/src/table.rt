@@ -1,14 +1,16 @@
 //! The ends and the table of peers, changed together.
-ghost use Rattle.std.specs.Prelude.{◌≡◌, ◌≤◌, ◌<◌, length, IfOk, IsOk, OnOk, OnErr, true, false, Ok, Err, Some, None, slice_get, ◌+◌, ◌++◌, ◌∷◌, [], ◌^◌, count_by};
+ghost use Rattle.std.specs.Prelude.{◌≡◌, ◌≤◌, ◌<◌, ◌+◌, ◌^◌, ◌++◌, ◌∷◌, [], length, slice_get, count_by};
+ghost use Rattle.std.specs.Prelude.{IfOk, IsOk, OnOk, OnErr, true, false, Ok, Err, Some, None};
 ghost use Rattle.std.specs.Option.{option_map};
 ghost use Rattle.dist_core_ends.specs.Ends.{Claim, claim_of, kind_in, end_id};
 ghost use Rattle.dist_core_ends.specs.Keeping.{shown, AreKept};
-ghost use Rattle.dist_core_ends.specs.Change.{put_end, put_other, changed, StaysClosed, OtherStaysClosed, shifted, claim_at, IsThere, AsksShift, entered, AsksEnter, raised, AsksRaise};
+ghost use Rattle.dist_core_ends.specs.Change.{put_end, put_other, changed, claim_at, IsThere, StaysClosed, OtherStaysClosed};
+ghost use Rattle.dist_core_ends.specs.Change.{shifted, AsksShift, entered, AsksEnter, raised, AsksRaise};
 
 use crate::known::End;
 use crate::phase::{Kind, Phase};
 use crate::rows::Rows;
-use crate::slots::{close, find, keep, put, put_second};
+use crate::slots::{Row, empty, find, keep, put, put_second};
 use crate::why::Why;
 use dist_names::NodeName;
 use dist_peers::{EndId, Peers};
@@ -100,6 +102,7 @@ fn raise(peers: &mut Peers, id: EndId, was: Kind, is: Kind, peer: &NodeName)
 }
 
 // What an end held is held no longer.
+#[inline(always)]
 fn leave(peers: &mut Peers, id: EndId, old: &End)
     ensures { peers.new ≡ shifted peers.old [] id (claim_of old.now) None }
 {
@@ -108,17 +111,8 @@ fn leave(peers: &mut Peers, id: EndId, old: &End)
     }
 }
 
-// The same, of the end of a number.
-fn leave_at(peers: &mut Peers, rows: &Rows, slots: &Slab<End>, id: EndId)
-    requires { AreKept rows.now.items slots.now.slots }
-    ensures { peers.new ≡ shifted peers.old [] id (claim_at (slice_get (shown rows.now.items slots.now.slots) id.0)) None }
-{
-    if let Ok(end) = find(rows, slots, id) {
-        leave(peers, id, end);
-    }
-}
-
 // Closes an end.
+#[inline(always)]
 pub fn close_end(peers: &mut Peers, rows: &mut Rows, slots: &mut Slab<End>, id: EndId, why: Why)
     requires place { id.0 < length rows.old.items }
     requires stays { StaysClosed (slice_get (shown rows.old.items slots.old.slots) id.0) (End.Closed why) }
@@ -127,15 +121,21 @@ pub fn close_end(peers: &mut Peers, rows: &mut Rows, slots: &mut Slab<End>, id: 
     ensures ends { shown rows.new.items slots.new.slots ≡ changed (shown rows.old.items slots.old.slots) id (End.Closed why) None }
     ensures kept { AreKept rows.new.items slots.new.slots }
 {
-    leave_at(peers, rows, slots, id);
-    close(rows, slots, id.0 as usize, why);
+    let i = id.0 as usize;
+    if let Row::Slot(slot) = rows.at(i) {
+        leave(peers, id, &slots[slot]);
+        empty(slots, slot);
+        rows.close(i, why);
+    }
 }
 
 // Adds an end of which nothing is known.
+#[inline(always)]
 pub fn add(rows: &mut Rows, slots: &mut Slab<End>) -> Result<(), AllocError>
     requires few { length rows.old.items < 2 ^ 32 }
     requires kept { AreKept rows.old.items slots.old.slots }
-    ensures ends { OnOk result (shown rows.new.items slots.new.slots ≡ changed (shown rows.old.items slots.old.slots) (end_id (length (shown rows.old.items slots.old.slots))) End.Unnamed None) }
+    ensures ends { OnOk result (shown rows.new.items slots.new.slots
+        ≡ changed (shown rows.old.items slots.old.slots) (end_id (length (shown rows.old.items slots.old.slots))) End.Unnamed None) }
     ensures kept { AreKept rows.new.items slots.new.slots }
     ensures err { OnErr result (shown rows.new.items slots.new.slots ≡ shown rows.old.items slots.old.slots) }
 {

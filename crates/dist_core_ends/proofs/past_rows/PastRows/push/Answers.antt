@@ -1,4 +1,4 @@
-use Rattle.std.proofs.Common.{◌≡◌, ◌∙◌, ◌++◌, ◌∷◌, [], ◌+◌, ◌<◌, ◌^◌, arith, ap, sym, subst, refl, length, Option, List, Some, None, rules}
+use Rattle.std.proofs.Common.{◌≡◌, ◌∙◌, ◌++◌, ◌∷◌, [], ◌+◌, ◌<◌, ◌^◌, arith, ap, sym, subst, refl, length, Option, List, Some, None}
 use Rattle.std.specs.Prelude.{nat_eq}
 use Rattle.std.specs.HashMap.{get, Updates}
 use Rattle.dist_core_ends.specs.declared.why.Why.{Why}
@@ -15,7 +15,7 @@ invariant_of-self c =
     let b = c.self.inside.base in
     let ws = c.self.inside.causes.items in
     let n = b + c.len.result in
-    let more : c.push.new.self.items ≡ ws ++ why.Ended ∷ [] = search rules in
+    let more : c.push_reserved.new.self.items ≡ ws ++ why.Ended ∷ [] = c.push_reserved.ensures.items in
     let u = done (Updates nat_eq c.self.inside.places c.insert-added.new.self n (Some c.args.row)) c.insert-added.result c.unwrap.result c.unwrap.ensures c.insert-added.ensures.updates in
     let Q : List Why → Type 0 = λ xs. AreWithin b xs g in
     let len : n ≡ b + length ws = omega (arith, c.len.ensures) in
@@ -27,7 +27,7 @@ invariant_of-self-in-Closed c =
     let f = get nat_eq c.self.inside.places in
     let b = c.self.inside.base in
     let ws = c.self.inside.causes.items in
-    let more : c.push-in-Closed.new.self.items ≡ ws ++ c.in-Closed.why ∷ [] = search rules in
+    let more : c.push_reserved-in-Closed.new.self.items ≡ ws ++ c.in-Closed.why ∷ [] = c.push_reserved-in-Closed.ensures.items in
     let Q : List Why → Type 0 = λ xs. AreWithin b xs f in
     let few : b + length ws < 2 ^ 32 = omega (arith, c.requires.few, ap (λ (r : RowList). length r.items) c.self.view_is, rows-length f 0 (all_causes b ws), all-length b ws) in
     subst Q (sym more) (within-more f f b ws (b + length ws) c.in-Closed.why c.self.invariant refl few (λ q d. refl))
@@ -39,7 +39,7 @@ returns-in-Slot-clause-rows c =
     let b = c.self.inside.base in
     let ws = c.self.inside.causes.items in
     let n = b + c.len.result in
-    let more : c.push.new.self.items ≡ ws ++ why.Ended ∷ [] = search rules in
+    let more : c.push_reserved.new.self.items ≡ ws ++ why.Ended ∷ [] = c.push_reserved.ensures.items in
     let u = done (Updates nat_eq c.self.inside.places c.insert-added.new.self n (Some c.args.row)) c.insert-added.result c.unwrap.result c.unwrap.ensures c.insert-added.ensures.updates in
     ap (λ (xs : List Why). rows_from g 0 (all_causes b xs)) more
     ∙ ap (rows_from g 0) (all-more b ws why.Ended)
@@ -52,7 +52,7 @@ returns-in-Closed-clause-rows c =
     let b = c.self.inside.base in
     let ws = c.self.inside.causes.items in
     let all = all_causes b ws in
-    let more : c.push-in-Closed.new.self.items ≡ ws ++ c.in-Closed.why ∷ [] = search rules in
+    let more : c.push_reserved-in-Closed.new.self.items ≡ ws ++ c.in-Closed.why ∷ [] = c.push_reserved-in-Closed.ensures.items in
     let none : f (length all) ≡ None = c.self.invariant.beyond (length all) (omega (arith, all-length b ws)) in
     let here : row_by (f (length all)) c.in-Closed.why ≡ c.args.row = ap (λ (o : Option Row). row_by o c.in-Closed.why) none ∙ sym c.in-Closed.is in
     ap (λ (xs : List Why). rows_from f 0 (all_causes b xs)) more

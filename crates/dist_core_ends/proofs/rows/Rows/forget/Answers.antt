@@ -1,4 +1,4 @@
-use Rattle.std.proofs.Common.{◌≡◌, ◌≤◌, ◌∙◌, ◌+◌, ◌++◌, ◌^◌, arith, ap, length, length-append}
+use Rattle.std.proofs.Common.{◌≤◌, ◌∙◌, ◌+◌, ◌++◌, ◌^◌, arith, ap, length, length-append}
 use Rattle.dist_core_ends.specs.declared.slots.Row.{Row}
 use Rattle.dist_core_ends.specs.Keeping.{rows_forgotten}
 use Rattle.dist_core_ends.specs.Places.{RowList}
@@ -9,8 +9,10 @@ pub invariant_of-self : goal.invariant_of-self
 invariant_of-self c =
     let past = c.self.inside.past.items in
     let recent = c.self.inside.recent.items in
-    let before : length past + length recent ≤ 2 ^ 32 = omega (arith, c.self.invariant, length-append {A = Row} past recent) in
-    omega (arith, before, ap length c.forget.ensures, ap length c.forget_first.ensures, forgotten-length c.args.below past, forgotten-length c.saturating_sub.result recent, length-append {A = Row} c.forget.new.self.items c.forget_first.new.rows.items)
+    let before : length past + length recent ≤ 2 ^ 32 = omega (arith, c.self.invariant.1, length-append {A = Row} past recent) in (
+      omega (arith, c.self.invariant.0, ap length c.forget.ensures, forgotten-length c.args.below past),
+      omega (arith, before, ap length c.forget.ensures, ap length c.forget_first.ensures, forgotten-length c.args.below past, forgotten-length c.saturating_sub.result recent, length-append {A = Row} c.forget.new.self.items c.forget_first.new.rows.items),
+    )
 
 pub returns : goal.returns
 returns c =
@@ -18,5 +20,5 @@ returns c =
     let recent = c.self.inside.recent.items in
     ap (λ xs. xs ++ c.forget_first.new.rows.items) c.forget.ensures
     ∙ ap (λ xs. rows_forgotten c.args.below past ++ xs) c.forget_first.ensures
-    ∙ forgotten-both past recent c.args.below c.saturating_sub.result c.len-before.result c.len-before.ensures.len c.saturating_sub.ensures
+    ∙ forgotten-both past recent c.args.below c.saturating_sub.result c.self.inside.before c.self.invariant.0 c.saturating_sub.ensures
     ∙ ap (λ (l : RowList). rows_forgotten c.args.below l.items) c.self.view_is
