@@ -20,7 +20,7 @@ use Rattle.dist_world_model.specs.Lists.{at_place}
 use Rattle.dist_world_model.specs.Rows.{EndRow}
 use Rattle.dist_world_model.specs.World.{World, Conn, Text, empty, runs, running, row_at, end_at}
 use Rattle.dist_world_model.specs.Delivery.{says, spoken, spoken_on, text_to, change_to, delivered, body_taken}
-use Rattle.dist_world_lives.specs.Hearing.{wire_of}
+use Rattle.dist_world_lives.specs.Stepping.{wire_of}
 use Rattle.dist_world.specs.Asking.{said_to, undelivered}
 use Rattle.dist_world_model.specs.Happenings.{◌>>◌, tell, tell_node, new_conn, reach as happening_reach, conn_of, tell_opened, accept, accepted_by, next_end, begin, is_open_end, is_nonempty, applied, unclosed, ticked_on, applied_at, happens}
 use Rattle.dist_world_model.proofs.Conditions.{if_there, if_ok, if_holds, there}

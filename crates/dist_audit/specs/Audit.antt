@@ -21,7 +21,7 @@ use Rattle.dist_locked_book.specs.declared.closing.Closed.{Closed}
 use Rattle.dist_world_model.specs.declared.happening.Happening.{Happening}
 use Rattle.dist_world_model.specs.World.{World, empty, running, row_at}
 use Rattle.dist_world_model.specs.Delivery.{text_to}
-use Rattle.dist_world_lives.specs.Hearing.{wire_of}
+use Rattle.dist_world_lives.specs.Stepping.{wire_of}
 use Rattle.dist_world.specs.Asking.{node_of, said_to}
 use Rattle.dist_world_model.specs.Run.{run, count_applied}
 use Rattle.dist_audit.specs.declared.audit_error.AuditError.{AuditError}

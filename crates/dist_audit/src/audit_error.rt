@@ -5,24 +5,29 @@ ghost use Rattle.dist_audit.specs.Refusals.{refusal_name, refusal_number};
 ghost use Rattle.dist_audit.specs.declared.audit_error.AuditError.TheVariants.{NoMemory};
 
 use std::alloc::{AllocError, AllocFailed};
-use std::error::Error;
-use std::fmt;
+use thiserror::Error;
 
 /// Why histories make no world. Of the first three the first that holds is returned, in this order.
-#[derive(Clone, Copy, Debug, PartialEq, Eq)]
+#[derive(Clone, Copy, Debug, PartialEq, Eq, Error)]
 pub enum AuditError {
     /// In one history a ticket is not greater than the one before. The fault of whoever kept it.
+    #[error("the tickets of a node do not rise")]
     TicketFalls,
     /// A ticket stands in two histories.
+    #[error("a ticket stands in two histories")]
     TicketTwice,
     /// There are more than 1,048,576 nodes, or two of one name; or a link was dialled twice, or came twice, or came and was
     /// not dialled.
+    #[error("nodes or links are not in pairs")]
     Unpaired,
     /// A frame is not the next one that the other end had sent by then.
+    #[error("a frame was not sent")]
     NotSent,
     /// A line does not happen, or is answered otherwise, or a node ends with other entries or records.
+    #[error("a node answers otherwise")]
     OtherReply,
     /// Nothing else stood against it, and no memory was left.
+    #[error("out of memory")]
     NoMemory,
 }
 
@@ -55,26 +60,6 @@ impl AuditError {
         }
     }
 }
-
-// The sentence for it.
-fn sentence(error: AuditError) -> &'static str {
-    match error {
-        AuditError::TicketFalls => "the tickets of a node do not rise",
-        AuditError::TicketTwice => "a ticket stands in two histories",
-        AuditError::Unpaired => "nodes or links are not in pairs",
-        AuditError::NotSent => "a frame was not sent",
-        AuditError::OtherReply => "a node answers otherwise",
-        AuditError::NoMemory => "out of memory",
-    }
-}
-
-impl fmt::Display for AuditError {
-    fn fmt<W: fmt::Write>(&self, f: &mut fmt::Formatter<W>) -> fmt::Result {
-        f.write_str(sentence(*self))
-    }
-}
-
-impl Error for AuditError {}
 
 impl From<AllocError> for AuditError {
     ghost from_gives = { λ _ error. error ≡ NoMemory };

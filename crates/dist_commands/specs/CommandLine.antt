@@ -35,7 +35,9 @@ bare_app =
     record app { top = record app.top { no_binary_name = true; disable_help_subcommand = true; subcommand_required = true } }
 
 abbrev pub program_app : App
-program_app = with_subcommand (with_subcommand (with_subcommand (with_subcommand bare_app (new_app (codes "enact")).top) cookie_app.top) names_app.top) run_app.top
+program_app =
+    with_subcommand (with_subcommand (with_subcommand (with_subcommand bare_app
+    (new_app (codes "enact")).top) cookie_app.top) names_app.top) run_app.top
 
 -- the number of this many bits that a value writes in decimal digits, and without a value another
 abbrev pub HasNumber : ℕ → ℕ → Option Text → ℕ → Type 0
@@ -46,7 +48,10 @@ HasNumber bits other (Some text) n = (IsNumeral 10 text × (digits_value 10 text
 -- name it
 abbrev pub IsOrderOf : ℕ → Order → Text × List Row → Type 0
 IsOrderOf usual Enact m = m.0 ≡ codes "enact"
-IsOrderOf usual (Cookie file challenge) m = (m.0 ≡ codes "cookie") × (first_of (codes "file") m.1 ≡ Some file.now) × HasNumber 32 0 (first_of (codes "challenge") m.1) challenge
+IsOrderOf usual (Cookie file challenge) m =
+    (m.0 ≡ codes "cookie")
+    × (first_of (codes "file") m.1 ≡ Some file.now)
+    × HasNumber 32 0 (first_of (codes "challenge") m.1) challenge
 IsOrderOf usual (Names port) m = (m.0 ≡ codes "names") × HasNumber 16 usual (first_of (codes "port") m.1) port
 IsOrderOf usual (Run file) m = (m.0 ≡ codes "run") × (first_of (codes "file") m.1 ≡ Some file.now)
 

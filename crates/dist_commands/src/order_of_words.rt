@@ -8,9 +8,9 @@ ghost use Rattle.dist_commands.specs.CommandLine.{Asks, AsksWith};
 
 use crate::matched::order_in;
 use crate::program::program;
-use clap::Error;
 use clap::error::ErrorKind;
 use std::alloc::{AllocError, Global};
+use thiserror::Error;
 
 // Where a port mapper listens, unless the environment or the command line says otherwise. Source: ERTS User's Guide, epmd.
 const MAPPER_PORT: u16 = 4369;
@@ -29,11 +29,13 @@ pub enum Order<'a> {
 }
 
 /// Why the words ask for nothing.
-#[derive(Clone, Copy)]
+#[derive(Clone, Copy, Debug, PartialEq, Eq, Error)]
 pub enum OrderError {
     /// They are no command of this program. Asking for help or the version is none.
+    #[error("words are no command")]
     Bad,
     /// No memory was left to read them.
+    #[error("out of memory")]
     NoMemory,
 }
 
@@ -46,7 +48,7 @@ impl From<AllocError> for OrderError {
 }
 
 // Why the parser refuses the words.
-fn refusal(error: &Error) -> OrderError
+fn refusal(error: &clap::Error) -> OrderError
     ensures { kind_of error.now ≡ ErrorKind.OutOfMemory → result ≡ OrderError.NoMemory }
 {
     match error.kind() {

@@ -67,7 +67,8 @@ fn with_command<'a>(
     program: Command<'a>,
     command: Result<Command<'a>, AllocError>,
 ) -> Result<Command<'a>, AllocError>
-    ensures { (app : App) → app.top.is_plain ≡ true → IfOk command.entry (λ c. app_of c ≡ app) → IfOk result (λ c. app_of c ≡ with_subcommand (app_of program.entry) app.top) }
+    ensures { (app : App) → app.top.is_plain ≡ true → IfOk command.entry (λ c. app_of c ≡ app)
+        → IfOk result (λ c. app_of c ≡ with_subcommand (app_of program.entry) app.top) }
 {
     match command {
         Ok(command) => program.subcommand(command),

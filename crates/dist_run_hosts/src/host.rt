@@ -6,8 +6,8 @@ ghost use Rattle.dist_run_hosts.specs.Setups as setups;
 
 use crate::end_marks::EndMarks;
 use crate::run_error::RunError;
-use crate::seats::{SEATS, SharedOut, shared_out};
-use crate::sockets::{connect_to_port, listen};
+use crate::seats::{SEATS, Shares, share_out};
+use crate::sockets::{LocalListener, connect_to_port, listen};
 use dist_core::{Limits, Setup, Version};
 use dist_drive::{SocketStream, register};
 use dist_epmd::{AliveReq, HIGHEST, LOWEST};
@@ -38,13 +38,19 @@ impl Refused {
     }
 }
 
+/// How the port mapper is reached: its port, and the most turns of a call.
+#[derive(Clone, Copy)]
+pub struct MapperAccess {
+    pub port: u16,
+    pub turns: usize,
+}
+
 /// A node under its lock, with the socket that it listens on, and the connection that keeps it registered.
 #[derive(Drop)]
 pub struct Host {
     pub name: NodeName,
     pub node: LockedNode,
-    pub listener: TcpListener,
-    pub port: u16,
+    pub listener: LocalListener,
     pub registered: SocketStream,
     pub refused: Refused,
     /// Which of the threads that had its seats have ended.
@@ -64,7 +70,7 @@ fn highest(version: Version) -> u16
 
 // What a node sends to the port mapper to be registered.
 fn registration(alloc: Global, plan: &NodePlan, port: u16) -> Result<AliveReq, AllocError>
-    ensures told { IfOk result (λ r. r
+    ensures fields { IfOk result (λ r. r
         ≡ record { port = port; node_type = 77; protocol = 0; highest = r.highest; lowest = 5; name = short_of plan.now.name; extra = [] }) }
     ensures six { IfOk result (λ r. plan.now.version ≡ Version.Six → r.highest ≡ 6) }
     ensures five { IfOk result (λ r. plan.now.version ≡ Version.Five → r.highest ≡ 5) }
@@ -78,15 +84,14 @@ fn registration(alloc: Global, plan: &NodePlan, port: u16) -> Result<AliveReq, A
 fn ask_for_registration<R: Net<Listener = TcpListener, Stream = TcpStream>>(
     rt: &R,
     alloc: Global,
-    mapper_port: u16,
+    mapper: MapperAccess,
     request: &AliveReq,
-    turns: usize,
 ) -> Result<(SocketStream, Creation), RunError> {
-    let Ok(connection) = connect_to_port(rt, mapper_port) else {
+    let Ok(connection) = connect_to_port(rt, mapper.port) else {
         return Err(RunError::ConnectFailed);
     };
     let mut stream = connection.stream;
-    match register(alloc, &mut stream, request, turns) {
+    match register(alloc, &mut stream, request, mapper.turns) {
         Ok(creation) => Ok((stream, creation)),
         Err(error) => Err(RunError::NotRegistered(error)),
     }
@@ -116,13 +121,12 @@ fn setup_of(alloc: Global, plan: &NodePlan, creation: Creation) -> Result<Setup,
 fn register_node<R: Net<Listener = TcpListener, Stream = TcpStream>>(
     rt: &R,
     alloc: Global,
-    mapper_port: u16,
+    mapper: MapperAccess,
     plan: &NodePlan,
     port: u16,
-    turns: usize,
 ) -> Result<(SocketStream, Setup), RunError> {
     let request = registration(alloc, plan, port)?;
-    let (stream, creation) = ask_for_registration(rt, alloc, mapper_port, &request, turns)?;
+    let (stream, creation) = ask_for_registration(rt, alloc, mapper, &request)?;
     Ok((stream, setup_of(alloc, plan, creation)?))
 }
 
@@ -131,10 +135,10 @@ fn lock_node(
     alloc: Global,
     setup: Setup,
     tickets: &Arc<Tickets, Global>,
-) -> Result<(LockedNode, SharedOut), AllocError> {
+) -> Result<(LockedNode, Shares), AllocError> {
     let tickets = Arc::try_clone(tickets)?;
     let (node, seats) = LockedNode::new(alloc, setup, tickets, SEATS)?;
-    Ok((node, shared_out(seats)?))
+    Ok((node, share_out(seats)?))
 }
 
 /// Starts a node: it listens, and the port mapper gives it its creation. Refusals, in order: ListenFailed, ConnectFailed,
@@ -143,14 +147,13 @@ pub fn start<R: Net<Listener = TcpListener, Stream = TcpStream>>(
     rt: &R,
     alloc: Global,
     plan: &NodePlan,
-    mapper_port: u16,
-    turns: usize,
+    mapper: MapperAccess,
     tickets: &Arc<Tickets, Global>,
-) -> Result<(Host, SharedOut), RunError> {
-    let Ok((listener, port)) = listen(rt, plan.listen) else {
+) -> Result<(Host, Shares), RunError> {
+    let Ok(listener) = listen(rt, plan.listen) else {
         return Err(RunError::ListenFailed);
     };
-    let (registered, setup) = register_node(rt, alloc, mapper_port, plan, port, turns)?;
+    let (registered, setup) = register_node(rt, alloc, mapper, plan, listener.port)?;
     let (node, shares) = lock_node(alloc, setup, tickets)?;
     let ended = EndMarks::new(alloc, SEATS)?;
     let name = plan.name.try_clone(alloc)?;
@@ -158,7 +161,6 @@ pub fn start<R: Net<Listener = TcpListener, Stream = TcpStream>>(
         name,
         node,
         listener,
-        port,
         registered,
         refused: Refused::nobody(),
         ended,

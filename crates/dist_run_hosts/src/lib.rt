@@ -19,11 +19,13 @@ mod sockets;
 pub use challenges::Challenges;
 pub use descriptors::{Places, most_descriptors, places_of};
 pub use end_marks::EndMarks;
-pub use host::{Host, start};
-pub use mapping::serve_all;
+pub use host::{Host, MapperAccess, start};
+pub use mapping::{mapper_limits, serve_mapper};
 pub use order_fault::{OrderFault, OrderRefusal};
 pub use orders::are_obeyed;
 pub use run_error::RunError;
-pub use seats::{Pool, SharedOut};
+pub use seats::{Pool, Shares};
 pub use setups::are_of_plans;
-pub use sockets::{Connection, accept, connect_to_port, link_of, listen, say_goodbye};
+pub use sockets::{
+    Connection, LocalListener, accept, connect_to_port, link_of, listen, say_goodbye,
+};

@@ -5,11 +5,12 @@ ghost use Rattle.std.specs.IoError.{error_kind};
 ghost use Rattle.dist_run_hosts.specs.declared.run_error.RunError.TheVariants.{ListenFailed, NoMemory};
 
 use crate::run_error::RunError;
+use crate::sockets::LocalListener;
 use dist_epmd_server::{Limits, Server, serve};
 use dist_program::one_turn;
 use std::alloc::Global;
 use std::io::{self, ErrorKind};
-use std::net::{Net, TcpListener};
+use std::net::Net;
 use std::sync::Wait;
 use std::sync::atomic::AtomicBool;
 use std::time::Clock;
@@ -39,36 +40,42 @@ fn fault_of(error: io::Error) -> RunError
     }
 }
 
-fn serve_at<R: Net + Wait + Clock>(
+/// What the port mapper of a run allows: this many clients at once, and this many turns until a client is closed that has not
+/// asked.
+pub fn mapper_limits(clients: usize, turns: usize) -> Limits
+    ensures clients { result.clients ≡ clients }
+    ensures enough { turns + 100 ≤ result.seconds * 100 }
+    ensures no_more { result.seconds * 100 ≤ turns + 200 }
+{
+    Limits {
+        clients,
+        seconds: seconds_for(turns),
+    }
+}
+
+fn run_server<R: Net + Wait + Clock>(
     rt: &R,
     alloc: Global,
-    listener: TcpListener,
-    port: u16,
+    listener: LocalListener,
     limits: Limits,
     stop: &AtomicBool,
 ) -> io::Result<()> {
-    let mut server = Server::new(rt, alloc, port, FIRST_CREATION, limits)?;
-    server.add_listener(mio::net::TcpListener::from_std(listener))?;
+    let mut server = Server::new(rt, alloc, listener.port, FIRST_CREATION, limits)?;
+    server.add_listener(mio::net::TcpListener::from_std(listener.socket))?;
     serve(rt, alloc, &mut server, one_turn(), stop)
 }
 
-/// Serves the clients of the port mapper at this listener and its port, this many at once, until it is asked to stop. A node
-/// stays registered as long as its connection does. Where it stops before it is asked to, the listener is closed: ListenFailed
-/// where the system does not report what comes.
-pub fn serve_all<R: Net + Wait + Clock>(
+/// Serves the clients of the port mapper at this listener and its port until it is asked to stop. A node stays registered
+/// as long as its connection does. Where it stops before it is asked to, the listener is closed: ListenFailed where the system
+/// does not report what comes.
+pub fn serve_mapper<R: Net + Wait + Clock>(
     rt: &R,
     alloc: Global,
-    listener: TcpListener,
-    port: u16,
-    clients: usize,
-    turns: usize,
+    listener: LocalListener,
+    limits: Limits,
     stop: &AtomicBool,
 ) -> Result<(), RunError> {
-    let limits = Limits {
-        clients,
-        seconds: seconds_for(turns),
-    };
-    match serve_at(rt, alloc, listener, port, limits, stop) {
+    match run_server(rt, alloc, listener, limits, stop) {
         Ok(()) => Ok(()),
         Err(error) => Err(fault_of(error)),
     }

@@ -22,7 +22,7 @@ pub struct Pool {
 
 /// The seats of a node: 32 for the thread that accepts, 16 for each worker.
 #[derive(Drop)]
-pub struct SharedOut {
+pub struct Shares {
     pub accepting: Pool,
     pub first: Pool,
     pub second: Pool,
@@ -42,7 +42,7 @@ fn pool_of(seats: Vec<Seat>) -> Pool
 }
 
 /// Shares out the seats of a node.
-pub fn shared_out(seats: Vec<Seat>) -> Result<SharedOut, AllocError>
+pub fn share_out(seats: Vec<Seat>) -> Result<Shares, AllocError>
     // A locked node is made with that many seats.
     requires { vec_len seats ≡ 64 }
     ensures { IfOk result (λ shares. (vec_len shares.accepting.free ≡ 31) × (vec_len shares.first.free ≡ 15) × (vec_len shares.second.free ≡ 15)) }
@@ -50,7 +50,7 @@ pub fn shared_out(seats: Vec<Seat>) -> Result<SharedOut, AllocError>
     let mut accepting = seats;
     let mut first = accepting.split_off(OF_ACCEPTING)?;
     let second = first.split_off(OF_FIRST_WORKER)?;
-    Ok(SharedOut {
+    Ok(Shares {
         accepting: pool_of(accepting),
         first: pool_of(first),
         second: pool_of(second),

@@ -15,6 +15,13 @@ pub struct Connection {
     pub dialler_port: u16,
 }
 
+/// A listener at a port of this host, and its port.
+#[derive(Drop)]
+pub struct LocalListener {
+    pub socket: TcpListener,
+    pub port: u16,
+}
+
 /// Lets the other side see that nothing more will be sent. The socket stays open, so its port is not used again.
 pub fn say_goodbye(stream: &SocketStream) {
     let _ = stream.shut();
@@ -37,15 +44,15 @@ pub fn connect_to_port<R: Net<Listener = TcpListener, Stream = TcpStream>>(
     })
 }
 
-/// A listener at a port of this host, and its port.
+/// Listens at a port of this host. For port 0 the system chooses one.
 pub fn listen<R: Net<Listener = TcpListener, Stream = TcpStream>>(
     rt: &R,
     port: u16,
-) -> io::Result<(TcpListener, u16)> {
-    let listener = TcpListener::bind(rt, (Ipv4Addr::LOCALHOST, port))?;
-    listener.set_nonblocking(true)?;
-    let port = port_of(listener.local_addr()?);
-    Ok((listener, port))
+) -> io::Result<LocalListener> {
+    let socket = TcpListener::bind(rt, (Ipv4Addr::LOCALHOST, port))?;
+    socket.set_nonblocking(true)?;
+    let port = port_of(socket.local_addr()?);
+    Ok(LocalListener { socket, port })
 }
 
 fn take_connection(listener: &TcpListener) -> io::Result<Connection> {

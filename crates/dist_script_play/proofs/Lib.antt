@@ -4,3 +4,4 @@ pub mod Stages
 pub mod Worlds
 pub mod Steps
 pub mod Pages
+pub mod Faults

@@ -19,7 +19,7 @@ use Rattle.dist_script_play.specs.Scenes.{PutsWorld, Plays}
 use Rattle.dist_script_play.proofs.Pages.{there, put_and_turned}
 
 -- what is not too long has the fault that its lines have
-not_long : (script : List ℕ) → length script ≤ 1048576 → fault_in script ≡ fault_said (script_in script)
+pub not_long : (script : List ℕ) → length script ≤ 1048576 → fault_in script ≡ fault_said (script_in script)
 not_long script few = ap (λ b. cond b (Some TooLong) (fault_said (script_in script))) (le-ltb 1048576 (length script) few)
 
 -- the lines so far, and those of what is left, are those of all

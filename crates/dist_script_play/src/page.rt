@@ -4,23 +4,11 @@ ghost use Rattle.std.specs.Prelude.{◌≡◌, ◌⊎◌, [], IsOk, OnOk, IfErr,
 ghost use Rattle.std.specs.Io.KnownBytes.{Appends, Keeps, append_known};
 ghost use Rattle.dist_script_words.specs.declared.fault.ScriptFault.TheVariants.{NoMemory, WriteFailed};
 
-use dist_script_words::ScriptFault;
-use std::io;
+use dist_script_words::{ScriptFault, written};
 use std::io::Write;
 
 /// From this many bytes on a page is written out.
 const LONG: usize = 8192;
-
-/// A write that failed, as a fault.
-pub fn written(outcome: io::Result<()>) -> Result<(), ScriptFault>
-    ensures ok { OnOk result (IsOk outcome) }
-    ensures fault { IfErr result (λ fault. fault ≡ WriteFailed) }
-{
-    match outcome {
-        Ok(()) => Ok(()),
-        Err(_) => Err(ScriptFault::WriteFailed),
-    }
-}
 
 /// What was put on a page: that fails only where memory runs out.
 pub fn on_page(put: Result<(), ScriptFault>) -> Result<(), ScriptFault>

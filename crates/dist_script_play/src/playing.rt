@@ -2,10 +2,12 @@
 
 ghost use Rattle.std.specs.Prelude.{◌≡◌, ◌≤◌, false, OnOk, IfErr};
 ghost use Rattle.std.specs.Io.KnownBytes.{Appends, Keeps, append_known};
-ghost use Rattle.dist_script_words.specs.Fault.{status_of};
+ghost use Rattle.dist_script_words.specs.Fault.{status_of, fault_line};
+ghost use Rattle.dist_script_words.specs.Texts.{PutsFront};
+ghost use Rattle.dist_script_words.specs.declared.fault.ScriptFault.{ScriptFault as Fault};
 ghost use Rattle.dist_world.specs.Setups.{names_repeat};
 ghost use Rattle.dist_script_play.specs.Played.{at_first, lines_text};
-ghost use Rattle.dist_script_play.specs.Scenes.{PutsWorld, Plays};
+ghost use Rattle.dist_script_play.specs.Scenes.{PutsWorld, Plays, IsBad, Stops, StopsWorld};
 
 use crate::page::{finish, on_page, turn};
 use crate::scene::Scene;
@@ -38,7 +40,7 @@ fn tell_all<W: Write>(
 }
 
 // Plays a script of one node. What was printed until a fault is written out.
-#[tactic(auto, using(crate::proofs::Pages::there, crate::proofs::Pages::whole))]
+#[tactic(auto, using(crate::proofs::Pages::there, crate::proofs::Pages::whole, crate::proofs::Faults::of_played))]
 fn play_node<W: Write>(
     alloc: Global,
     node: Setup,
@@ -46,6 +48,7 @@ fn play_node<W: Write>(
     out: &mut W,
 ) -> Result<(), ScriptFault>
     ensures text { OnOk result (Appends (W.contents out.old) (W.contents out.new) (lines_text (at_first node) lines.now)) }
+    ensures fault { IfErr result (λ fault. status_of fault ≡ 1) }
 {
     let mut page = Vec::new(alloc);
     let told = tell_all(alloc, &mut Scene::new(alloc, node), lines, &mut page, out);
@@ -54,6 +57,7 @@ fn play_node<W: Write>(
 }
 
 // Plays a script of several nodes. What was printed until a fault is written out.
+#[tactic(auto, using(crate::proofs::Faults::no_world, crate::proofs::Faults::of_world))]
 fn play_nodes<W: Write>(
     alloc: Global,
     nodes: Vec<Setup>,
@@ -62,6 +66,7 @@ fn play_nodes<W: Write>(
 ) -> Result<(), ScriptFault>
     ensures text { OnOk result (PutsWorld nodes.items happenings.now (W.contents out.old) (W.contents out.new)) }
     ensures names { OnOk result (names_repeat nodes.items ≡ false) }
+    ensures fault { IfErr result (λ fault. StopsWorld nodes.items (W.contents out.old) (W.contents out.new) fault) }
 {
     let mut world = stage::world_of(alloc, nodes)?;
     let mut page = Vec::new(alloc);
@@ -71,8 +76,10 @@ fn play_nodes<W: Write>(
 }
 
 // Reads a script and plays it.
+#[tactic(auto, using(crate::proofs::Faults::unread, crate::proofs::Faults::bad_script, crate::proofs::Faults::of_system, crate::proofs::Faults::bad_world))]
 fn perform<R: Read, W: Write>(alloc: Global, input: &mut R, out: &mut W) -> Result<(), ScriptFault>
-    ensures { OnOk result (Plays (R.remaining input.old) (R.remaining input.new) (W.contents out.old) (W.contents out.new)) }
+    ensures played { OnOk result (Plays (R.remaining input.old) (R.remaining input.new) (W.contents out.old) (W.contents out.new)) }
+    ensures fault { IfErr result (λ fault. Stops (R.remaining input.old) (R.remaining input.new) (W.contents out.old) (W.contents out.new) fault) }
 {
     let text = read_text(alloc, input)?;
     match script_of(alloc, &text)? {
@@ -94,7 +101,7 @@ fn perform<R: Read, W: Write>(alloc: Global, input: &mut R, out: &mut W) -> Resu
 /// The first fault is reported: a read that failed, a script above 1,048,576 bytes, its first bad line, no node, two nodes of
 /// one name. Until then nothing is written. A write that fails, or memory that runs out, stops the run, and what was written
 /// until then is the beginning of the whole output. What is printed is written out once 8,192 bytes of it are there.
-#[tactic(auto, using(crate::proofs::Lines::never_zero, crate::proofs::Pages::kept))]
+#[tactic(auto, using(crate::proofs::Lines::never_zero, crate::proofs::Pages::kept, crate::proofs::Faults::is_bad, crate::proofs::Faults::is_cut))]
 pub fn enact<R: Read, W: Write, E: Write>(
     alloc: Global,
     input: &mut R,
@@ -107,6 +114,11 @@ pub fn enact<R: Read, W: Write, E: Write>(
     // that script prints.
     ensures played { result ≡ 0 → Plays (R.remaining input.old) (R.remaining input.new) (W.contents out.old) (W.contents out.new) }
     ensures silent { result ≡ 0 → Keeps (E.contents err.old) (E.contents err.new) }
+
+    // With status 2 what was read has a fault, whose line is reported, and nothing was printed. With status 1 the line of a fault
+    // of that status is. Where `err` fails, a beginning of the line stands there.
+    ensures bad { result ≡ 2 → (fault : Fault) × IsBad (R.remaining input.old) (R.remaining input.new) (W.contents out.old) (W.contents out.new) fault × PutsFront (fault_line fault) (E.contents err.old) (E.contents err.new) }
+    ensures cut { result ≡ 1 → (fault : Fault) × (status_of fault ≡ 1) × PutsFront (fault_line fault) (E.contents err.old) (E.contents err.new) }
 {
     match perform(alloc, input, out) {
         Ok(()) => 0,

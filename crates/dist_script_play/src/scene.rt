@@ -8,7 +8,6 @@ ghost use Rattle.dist_script_lines.specs.Lines.{refused_line, reply_line, table_
 ghost use Rattle.dist_script_play.specs.Played.{at_first, step_text, reply_in, after_step, open_readers, is_end, then_after, then_on, reader_on, heard, hearing, hearing_text, after_hearing, packets_text, line_text, after_line};
 ghost use Rattle.dist_script_play.specs.Scenes.{Hears, HearsBytes};
 
-use crate::page::written;
 use crate::readers::Readers;
 use dist_core::{Event, Node, Reply, Setup, StepError, Still, Why};
 use dist_frames::Frames;
@@ -16,7 +15,7 @@ use dist_names::ByteString;
 use dist_peers::EndId;
 use dist_script::Line;
 use dist_script_lines::print;
-use dist_script_words::ScriptFault;
+use dist_script_words::{ScriptFault, written};
 use std::alloc::Global;
 use std::io::Write;
 use std::marker::Model;

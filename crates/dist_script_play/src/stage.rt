@@ -9,10 +9,10 @@ ghost use Rattle.dist_script_words.specs.Fault.{status_of};
 ghost use Rattle.dist_script_play.specs.Played.{closed_now, happenings_text};
 ghost use Rattle.dist_script_play.specs.Scenes.{closed_after, PutsEnd, PutsFrom};
 
-use crate::page::{on_page, turn, written};
+use crate::page::{on_page, turn};
 use dist_core::Setup;
 use dist_script_lines::{print, print_agreements, print_nodes};
-use dist_script_words::ScriptFault;
+use dist_script_words::{ScriptFault, written};
 use dist_world::{Happening, World, WorldError};
 use std::alloc::Global;
 use std::io::Write;

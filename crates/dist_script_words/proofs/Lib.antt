@@ -1,2 +1,4 @@
 pub mod Split
 pub mod Printing
+pub mod Fronts
+pub mod Inputs

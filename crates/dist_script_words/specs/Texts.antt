@@ -1,6 +1,8 @@
 -- The text of printed pieces.
-use Rattle.std.specs.Prelude.{ℕ, List, [], ◌∷◌, ◌++◌, decimal}
+use Rattle.std.specs.Prelude.{ℕ, Option, List, [], ◌∷◌, ◌++◌, decimal}
 use Rattle.std.specs.Int.{w64, to_be_bytes}
+use Rattle.std.specs.Io.{StartsWith}
+use Rattle.std.specs.Io.KnownBytes.{Appends}
 use Rattle.hex.specs.Hex.{encode_lower}
 use Rattle.dist_names.specs.declared.flags.Flags.{Flags}
 use Rattle.dist_script_words.specs.declared.pieces.Piece.{Piece}
@@ -21,3 +23,9 @@ text_of (piece.Digits bytes) = encode_lower bytes.now
 abbrev pub texts_of : List Piece → List ℕ
 texts_of [] = []
 texts_of (p ∷ ps) = text_of p ++ texts_of ps
+
+-- A BEGINNING OF A TEXT was put there: nothing of it, a part, or all
+pub record PutsFront (text : List ℕ) (old new : Option (List ℕ)) : Type 0 where
+  pub front : List ℕ
+  pub begins : StartsWith text front
+  pub put : Appends old new front

@@ -15,5 +15,5 @@ pub use digits::{bytes_of, write_digits};
 pub use fault::{ScriptFault, written};
 pub use input::read_text;
 pub use lines::{first_line, is_skipped};
-pub use pieces::{Piece, put};
+pub use pieces::{Piece, put, put_bytes};
 pub use words::{LineFault, Words};

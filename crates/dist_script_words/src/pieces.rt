@@ -1,15 +1,14 @@
 //! Pieces of printed lines: words, numbers and digits.
 
-ghost use Rattle.std.specs.Prelude.{◌≤◌, ◌≡◌, length, decimal, OnOk};
-ghost use Rattle.std.specs.Io.KnownBytes.{Appends};
+ghost use Rattle.std.specs.Prelude.{◌≤◌, ◌≡◌, length, take, decimal, OnOk, OnErr, IfOk};
+ghost use Rattle.std.specs.Io.KnownBytes.{Appends, Keeps};
 ghost use Rattle.hex.specs.Hex.{encode_lower};
-ghost use Rattle.dist_script_words.specs.Texts.{text_of, texts_of};
+ghost use Rattle.dist_script_words.specs.Texts.{text_of, texts_of, PutsFront};
 
 use crate::digits::write_digits;
 use dist_names::Flags;
 use itoa::Buffer;
-use std::io;
-use std::io::Write;
+use std::io::{self, ErrorKind, Write};
 
 /// The most bytes whose digits are written at once.
 const MOST_BYTES: usize = 32;
@@ -27,10 +26,11 @@ pub enum Piece<'a> {
     Digits(&'a [u8]),
 }
 
-/// Writes these pieces, one behind the other.
-#[tactic(auto, using(crate::proofs::Printing::nothing, crate::proofs::Printing::put_more))]
+/// Writes these pieces, one behind the other. Where a write fails, what was written is a beginning of them.
+#[tactic(auto, using(crate::proofs::Printing::nothing, crate::proofs::Printing::put_more, crate::proofs::Printing::put_part))]
 pub fn put<W: Write>(out: &mut W, pieces: &[Piece<'_>]) -> io::Result<()>
-    ensures { OnOk result (Appends (W.contents out.old) (W.contents out.new) (texts_of pieces.now)) }
+    ensures text { OnOk result (Appends (W.contents out.old) (W.contents out.new) (texts_of pieces.now)) }
+    ensures cut { OnErr result (PutsFront (texts_of pieces.now) (W.contents out.old) (W.contents out.new)) }
 {
     for piece in pieces {
         put_piece(out, *piece)?;
@@ -39,10 +39,11 @@ pub fn put<W: Write>(out: &mut W, pieces: &[Piece<'_>]) -> io::Result<()>
 }
 
 fn put_piece<W: Write>(out: &mut W, piece: Piece<'_>) -> io::Result<()>
-    ensures { OnOk result (Appends (W.contents out.old) (W.contents out.new) (text_of piece.entry)) }
+    ensures text { OnOk result (Appends (W.contents out.old) (W.contents out.new) (text_of piece.entry)) }
+    ensures cut { OnErr result (PutsFront (text_of piece.entry) (W.contents out.old) (W.contents out.new)) }
 {
     match piece {
-        Piece::Text(text) => out.write_all(text),
+        Piece::Text(text) => put_bytes(out, text),
         Piece::Number(value) => number(out, value),
         Piece::Flags(flags) => short_hex(out, &flags.0.to_be_bytes()),
         Piece::Digits(bytes) => lower_hex(out, bytes),
@@ -51,15 +52,17 @@ fn put_piece<W: Write>(out: &mut W, piece: Piece<'_>) -> io::Result<()>
 
 // A number in decimal digits.
 fn number<W: Write>(out: &mut W, number: u64) -> io::Result<()>
-    ensures { OnOk result (Appends (W.contents out.old) (W.contents out.new) (decimal number)) }
+    ensures text { OnOk result (Appends (W.contents out.old) (W.contents out.new) (decimal number)) }
+    ensures cut { OnErr result (PutsFront (decimal number) (W.contents out.old) (W.contents out.new)) }
 {
     let mut room = Buffer::new();
-    out.write_all(room.format(number).as_bytes())
+    put_bytes(out, room.format(number).as_bytes())
 }
 
 // The bytes as lower-case hexadecimal digits.
 fn lower_hex<W: Write>(out: &mut W, bytes: &[u8]) -> io::Result<()>
-    ensures { OnOk result (Appends (W.contents out.old) (W.contents out.new) (encode_lower bytes.now)) }
+    ensures text { OnOk result (Appends (W.contents out.old) (W.contents out.new) (encode_lower bytes.now)) }
+    ensures cut { OnErr result (PutsFront (encode_lower bytes.now) (W.contents out.old) (W.contents out.new)) }
 {
     let mut rest = bytes;
     while !rest.is_empty() {
@@ -72,10 +75,43 @@ fn lower_hex<W: Write>(out: &mut W, bytes: &[u8]) -> io::Result<()>
 
 fn short_hex<W: Write>(out: &mut W, bytes: &[u8]) -> io::Result<()>
     requires { length bytes.now ≤ 32 }
-    ensures { OnOk result (Appends (W.contents out.old) (W.contents out.new) (encode_lower bytes.now)) }
+    ensures text { OnOk result (Appends (W.contents out.old) (W.contents out.new) (encode_lower bytes.now)) }
+    ensures cut { OnErr result (PutsFront (encode_lower bytes.now) (W.contents out.old) (W.contents out.new)) }
 {
     let mut room = [0u8; 2 * MOST_BYTES];
     let digits = &mut room[..2 * bytes.len()];
     write_digits(bytes, digits);
-    out.write_all(digits)
+    put_bytes(out, digits)
+}
+
+/// Writes these bytes. Where a write fails, what was written is a beginning of them, which `write_all` doesn't say.
+#[tactic(auto, using(crate::proofs::Fronts::none_put))]
+pub fn put_bytes<W: Write>(out: &mut W, bytes: &[u8]) -> io::Result<()>
+    ensures text { OnOk result (Appends (W.contents out.old) (W.contents out.new) bytes.now) }
+    ensures cut { OnErr result (PutsFront bytes.now (W.contents out.old) (W.contents out.new)) }
+{
+    let mut rest = bytes;
+    'writes: for _ in 0..u64::MAX {
+        if rest.is_empty() {
+            return Ok(());
+        }
+        let (_, behind) = rest.split_at(put_some(out, rest)?);
+        rest = behind;
+    }
+    Err(io::Error::from(ErrorKind::Interrupted))
+}
+
+// One write of these bytes, of which there are some. Returns how many of them were written: none where it was interrupted.
+#[tactic(auto, using(crate::proofs::Fronts::interrupted))]
+fn put_some<W: Write>(out: &mut W, bytes: &[u8]) -> io::Result<usize>
+    ensures few { IfOk result (λ count. count ≤ length bytes.now) }
+    ensures text { IfOk result (λ count. Appends (W.contents out.old) (W.contents out.new) (take count bytes.now)) }
+    ensures kept { OnErr result (Keeps (W.contents out.old) (W.contents out.new)) }
+{
+    match out.write(bytes) {
+        Ok(0) => Err(io::Error::from(ErrorKind::WriteZero)),
+        Ok(count) => Ok(count),
+        Err(error) if error.kind() == ErrorKind::Interrupted => Ok(0),
+        Err(error) => Err(error),
+    }
 }

@@ -1,5 +1,13 @@
--- How a fault ends the program.
-use Rattle.std.specs.Prelude.{ℕ}
+-- How a fault ends the program, and what is said of it on standard error.
+use Rattle.std.specs.Prelude.{ℕ, List, [], ◌∷◌, codes}
+use Rattle.std.specs.List.{concat}
+use Rattle.dist_secret.specs.Answer as cookies
+use Rattle.dist_epmd_calls.specs.Refusals as lookups
+use Rattle.dist_program.specs.declared.port_error.PortError.{PortError}
+use Rattle.dist_program.specs.PortTexts.{port_error_text}
+use Rattle.dist_run_hosts.specs.Words.{run_error_name}
+use Rattle.dist_script_words.specs.declared.fault.ScriptFault.{ScriptFault}
+use Rattle.dist_script_words.specs.declared.fault.ScriptFault.TheVariants as script
 use Rattle.distnode.specs.declared.fault.Fault.{Fault}
 use Rattle.distnode.specs.declared.fault.Fault.TheVariants.{BadCommandLine, BadNodesFile, RunEnded, ReadFailed, WriteFailed}
 use Rattle.distnode.specs.declared.fault.Fault.TheVariants.{OpenFailed, NoCookie, ConnectFailed, NoAnswer, NoMemory}
@@ -16,3 +24,38 @@ status_of (NoCookie error) = 1
 status_of ConnectFailed = 1
 status_of (NoAnswer error) = 1
 status_of NoMemory = 1
+
+-- the words for it: its name, or that of the error which it carries
+abbrev pub fault_text : Fault → List ℕ
+fault_text BadCommandLine = codes "bad command line"
+fault_text BadNodesFile = codes "bad nodes file"
+fault_text (RunEnded error) = run_error_name error
+fault_text ReadFailed = codes "ReadFailed"
+fault_text WriteFailed = codes "WriteFailed"
+fault_text OpenFailed = codes "OpenFailed"
+fault_text (NoCookie error) = cookies.error_name error
+fault_text ConnectFailed = codes "ConnectFailed"
+fault_text (NoAnswer error) = lookups.error_name error
+fault_text NoMemory = codes "NoMemory"
+
+-- THE LINE ON STANDARD ERROR: these words behind the program's name
+abbrev pub line_of : List ℕ → List ℕ
+line_of text = concat (codes "distnode: " ∷ text ∷ codes "\n" ∷ [])
+
+-- distnode: FAULT
+abbrev pub fault_line : Fault → List ℕ
+fault_line fault = line_of (fault_text fault)
+
+-- the same of a bad ERL_EPMD_PORT
+abbrev pub port_line : PortError → List ℕ
+port_line error = line_of (port_error_text error)
+
+-- how reading fails that scripts share with nodes files: a text that is at fault is a nodes file
+abbrev pub fault_of : ScriptFault → Fault
+fault_of script.TooLong = BadNodesFile
+fault_of (script.BadLine number) = BadNodesFile
+fault_of script.NoNode = BadNodesFile
+fault_of script.SameName = BadNodesFile
+fault_of script.ReadFailed = ReadFailed
+fault_of script.WriteFailed = WriteFailed
+fault_of script.NoMemory = NoMemory

@@ -1,2 +1,4 @@
 pub mod Fault
 pub mod Printed
+pub mod Stopped
+pub mod Followed

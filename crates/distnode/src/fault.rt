@@ -1,21 +1,19 @@
 //! What stops a command before its work is done, and how that is reported.
 
 ghost use Rattle.std.specs.Prelude.{◌≡◌};
-ghost use Rattle.distnode.specs.Fault.{status_of};
+ghost use Rattle.dist_program.specs.PortTexts.{port_error_status};
+ghost use Rattle.dist_script_words.specs.Texts.{PutsFront};
+ghost use Rattle.distnode.specs.Fault.{status_of, fault_text, line_of, fault_line, port_line, fault_of};
 
 use dist_commands::OrderError;
 use dist_epmd_calls::LookupError;
-use dist_program::{TextError, report};
+use dist_program::{PortError, TextError};
 use dist_run_hosts::RunError;
-use dist_script_words::ScriptFault;
+use dist_script_words::{Piece, ScriptFault, put};
 use dist_secret::CookieError;
-use std::fmt;
 use std::io::Write;
 
-/// The name that stands before what is told on standard error.
-pub const PROGRAM: &str = "distnode";
-
-/// What ends a command. Its `Display` is what stands after `distnode: ` on standard error.
+/// What ends a command.
 #[derive(Clone, Copy, Debug, PartialEq, Eq)]
 pub enum Fault {
     /// The words of the command line are no command of this program, help and version among them.
@@ -40,23 +38,6 @@ pub enum Fault {
     NoMemory,
 }
 
-impl fmt::Display for Fault {
-    fn fmt<W: fmt::Write>(&self, f: &mut fmt::Formatter<W>) -> fmt::Result {
-        match self {
-            Fault::BadCommandLine => write!(f, "bad command line"),
-            Fault::BadNodesFile => write!(f, "bad nodes file"),
-            Fault::RunEnded(error) => f.write_str(error.name()),
-            Fault::ReadFailed => write!(f, "ReadFailed"),
-            Fault::WriteFailed => write!(f, "WriteFailed"),
-            Fault::OpenFailed => write!(f, "OpenFailed"),
-            Fault::NoCookie(error) => f.write_str(error.name()),
-            Fault::ConnectFailed => write!(f, "ConnectFailed"),
-            Fault::NoAnswer(error) => f.write_str(error.name()),
-            Fault::NoMemory => write!(f, "NoMemory"),
-        }
-    }
-}
-
 impl From<TextError> for Fault {
     fn from(error: TextError) -> Fault {
         match error {
@@ -77,6 +58,8 @@ impl From<OrderError> for Fault {
 
 // How reading and printing fail that scripts share with nodes files: a text that is at fault is a nodes file.
 impl From<ScriptFault> for Fault {
+    ghost from_gives = { λ fault made. made ≡ fault_of fault };
+
     fn from(fault: ScriptFault) -> Fault {
         match fault {
             ScriptFault::ReadFailed => Fault::ReadFailed,
@@ -101,11 +84,55 @@ impl Fault {
         }
     }
 
-    /// Reports the fault on standard error and returns the exit status. Where it cannot be reported, nothing is lost but the
-    /// text.
-    pub fn tell<E: Write>(self, err: &mut E) -> u8
-        ensures { result ≡ status_of self }
+    /// The words for it on standard error: its name, or that of the error which it carries.
+    pub fn text(self) -> &'static str
+        ensures { result.now ≡ fault_text self }
     {
-        report(err, PROGRAM, &self, self.status())
+        match self {
+            Fault::BadCommandLine => "bad command line",
+            Fault::BadNodesFile => "bad nodes file",
+            Fault::RunEnded(error) => error.name(),
+            Fault::ReadFailed => "ReadFailed",
+            Fault::WriteFailed => "WriteFailed",
+            Fault::OpenFailed => "OpenFailed",
+            Fault::NoCookie(error) => error.name(),
+            Fault::ConnectFailed => "ConnectFailed",
+            Fault::NoAnswer(error) => error.name(),
+            Fault::NoMemory => "NoMemory",
+        }
     }
+
+    /// Reports the fault on standard error and returns the exit status. Where its line cannot be written, a beginning of it may
+    /// stand there, and nothing else is lost.
+    pub fn tell<E: Write>(self, err: &mut E) -> u8
+        ensures status { result ≡ status_of self }
+        ensures line { PutsFront (fault_line self) (E.contents err.old) (E.contents err.new) }
+    {
+        put_line(self.text(), err);
+        self.status()
+    }
+}
+
+// Writes a line of these words behind the program's name, as far as it can be written.
+#[tactic(auto, using(dist_script_words::proofs::Fronts::front_either))]
+fn put_line<E: Write>(text: &str, err: &mut E)
+    ensures { PutsFront (line_of text.now) (E.contents err.old) (E.contents err.new) }
+{
+    let _ = put(
+        err,
+        &[
+            Piece::Text(b"distnode: "),
+            Piece::Text(text.as_bytes()),
+            Piece::Text(b"\n"),
+        ],
+    );
+}
+
+/// Reports on standard error why ERL_EPMD_PORT names no port, and returns the exit status. The line is written as that of a fault.
+pub fn tell_port<E: Write>(error: &PortError, err: &mut E) -> u8
+    ensures status { result ≡ port_error_status error.now }
+    ensures line { PutsFront (port_line error.now) (E.contents err.old) (E.contents err.new) }
+{
+    put_line(error.text(), err);
+    error.status()
 }

@@ -1,21 +1,20 @@
 //! What the commands print, written as a whole.
 
-ghost use Rattle.std.specs.Prelude.{◌≡◌, IfErr, OnOk};
+ghost use Rattle.std.specs.Prelude.{OnErr, OnOk};
 ghost use Rattle.std.specs.Io.KnownBytes.{Appends};
-ghost use Rattle.distnode.specs.Fault.{status_of};
+ghost use Rattle.dist_script_words.specs.Texts.{PutsFront};
 
-use crate::fault::Fault;
+use dist_script_words::put_bytes;
+use std::io;
 use std::io::Write;
 
-/// Writes a text, to the last byte, and flushes it.
-pub fn write_text<W: Write>(out: &mut W, text: &[u8]) -> Result<(), Fault>
-    ensures status { IfErr result (λ fault. status_of fault ≡ 1) }
-    ensures err { IfErr result (λ fault. fault ≡ Fault.WriteFailed) }
+/// Writes a text, to the last byte, and flushes it. Where a write fails, or the flush, what was written is a beginning of the text.
+#[tactic(auto, using(crate::proofs::Stopped::unflushed))]
+pub fn write_text<W: Write>(out: &mut W, text: &[u8]) -> io::Result<()>
     ensures text { OnOk result (Appends (W.contents out.old) (W.contents out.new) text.now) }
+    ensures cut { OnErr result (PutsFront text.now (W.contents out.old) (W.contents out.new)) }
 {
-    if out.write_all(text).is_ok() && out.flush().is_ok() {
-        Ok(())
-    } else {
-        Err(Fault::WriteFailed)
-    }
+    put_bytes(out, text)?;
+    out.flush()?;
+    Ok(())
 }

@@ -1,9 +1,11 @@
 //! The command `run`: the nodes of a nodes file at work, on this host.
 
-ghost use Rattle.std.specs.Prelude.{◌≡◌, ◌≤◌, ◌⊎◌, Some, IfOk, IfErr, OnOk};
+ghost use Rattle.std.specs.Prelude.{◌≡◌, ◌≤◌, ◌⊎◌, ℕ, List, Option, Some, None, IfOk, IfErr, OnOk, codes};
 ghost use Rattle.std.specs.Io.KnownBytes.{Appends};
+ghost use Rattle.dist_script_words.specs.Texts.{PutsFront};
 ghost use Rattle.distnode.specs.Printed.{order_line, orders_text, closed_text, refused_line, refusal_text};
 ghost use Rattle.distnode.specs.Printed.{Puts, IsHeld, IsAudited, IsOfRun, IsUnprinted, PrintsRun, PrintsRunOf, PrintsNothing};
+ghost use Rattle.distnode.specs.Stopped.{EndsByFault, IsNoNodesFile, StopsPrinting, StopsRun, StopsRunOf};
 ghost use Rattle.dist_run_plan.specs.Plans as plans;
 
 use crate::fault::Fault;
@@ -24,8 +26,10 @@ use std::thread::Threads;
 use std::time::Clock;
 use std::{io, str};
 
+// The plan of a text, or why there is none: it is no nodes file, or memory ran out.
 fn plan_in(alloc: Global, text: &str) -> Result<Plan, Fault>
-    ensures { IfOk result (λ plan. plans.plan_of text.now ≡ Some plan) }
+    ensures ok { IfOk result (λ plan. plans.plan_of text.now ≡ Some plan) }
+    ensures stopped { (out : Option (List ℕ)) → IfErr result (StopsRun text.now out out) }
 {
     match plan_of(alloc, text) {
         Ok(plan) => Ok(plan),
@@ -139,18 +143,21 @@ fn print_ran<W: Write>(alloc: Global, out: &mut W, ran: &Ran) -> Result<u8, Scri
 }
 
 // Prints what a run left. Answers the exit status.
-#[tactic(auto, using(crate::proofs::Printing::unprinted, crate::proofs::Printing::cut))]
+#[tactic(auto, using(crate::proofs::Stopped::cut_run))]
 fn put_ran<W: Write>(alloc: Global, ran: &Ran, out: &mut W) -> Result<u8, Fault>
     ensures status { IfOk result (λ status. status ≤ 1) }
     ensures printed { IfOk result (λ status. Puts (IsOfRun status ran.now.faults.items ran.now.closed.items) (W.contents out.old) (W.contents out.new)) }
     ensures err { IfErr result (λ fault. IsUnprinted fault (W.contents out.old) (W.contents out.new)) }
+    ensures stopped { IfErr result (StopsPrinting ran.now.faults.items ran.now.closed.items (W.contents out.old) (W.contents out.new)) }
 {
     let mut text = Vec::new(alloc);
     let Ok(status) = print_ran(alloc, &mut text, ran) else {
         return Err(Fault::NoMemory);
     };
-    write_text(out, text.as_slice())?;
-    Ok(status)
+    match write_text(out, text.as_slice()) {
+        Ok(()) => Ok(status),
+        Err(_) => Err(Fault::WriteFailed),
+    }
 }
 
 // Runs the nodes of a text, audits what they leave, and prints it. Answers the exit status.
@@ -173,9 +180,13 @@ where
     ensures status { IfOk result (λ status. status ≤ 1) }
     ensures printed { IfOk result (λ status. PrintsRun text.now status (W.contents out.old) (W.contents out.new)) }
     ensures err { IfErr result (λ fault. IsUnprinted fault (W.contents out.old) (W.contents out.new)) }
+    ensures stopped { IfErr result (StopsRun text.now (W.contents out.old) (W.contents out.new)) }
 {
     let plan = plan_in(alloc, text)?;
-    let ran = run_plan(rt, alloc, &plan, gate).map_err(Fault::RunEnded)?;
+    let ran = match run_plan(rt, alloc, &plan, gate) {
+        Ok(ran) => ran,
+        Err(error) => return Err(Fault::RunEnded(error)),
+    };
     put_ran(alloc, &ran, out)
 }
 
@@ -211,6 +222,16 @@ where
     // run, and nothing was printed, unless the write failed.
     ensures refused { result ≡ 1 → PrintsRun text.now 1 (W.contents out.old) (W.contents out.new)
         ⊎ PrintsNothing (W.contents out.old) (W.contents out.new) }
+
+    // On `err` stands the line of the fault; nothing does where the audit ended the run, whether it holds or refused.
+    ensures silent { result ≡ 0 → E.contents err.new ≡ E.contents err.old }
+    ensures ended { result ≡ 1 → (PrintsRun text.now 1 (W.contents out.old) (W.contents out.new) × (E.contents err.new ≡ E.contents err.old))
+        ⊎ EndsByFault (StopsRun text.now (W.contents out.old) (W.contents out.new)) 1 (E.contents err.old) (E.contents err.new) }
+
+    // Status 2 comes only where the text is no nodes file. Then nothing is printed, and `err` says so.
+    ensures bad { result ≡ 2 → plans.plan_of text.now ≡ None }
+    ensures bad_out { result ≡ 2 → W.contents out.new ≡ W.contents out.old }
+    ensures bad_line { result ≡ 2 → PutsFront (codes "distnode: bad nodes file\n") (E.contents err.old) (E.contents err.new) }
 {
     match perform(rt, alloc, text, gate, out) {
         Ok(status) => status,
@@ -238,6 +259,13 @@ where
     ensures printed { result ≡ 0 → PrintsRunOf (F.remaining file.old) (F.remaining file.new) 0 (W.contents out.old) (W.contents out.new) }
     ensures refused { result ≡ 1 → PrintsRunOf (F.remaining file.old) (F.remaining file.new) 1 (W.contents out.old) (W.contents out.new)
         ⊎ PrintsNothing (W.contents out.old) (W.contents out.new) }
+    ensures silent { result ≡ 0 → E.contents err.new ≡ E.contents err.old }
+    ensures ended { result ≡ 1 → (PrintsRunOf (F.remaining file.old) (F.remaining file.new) 1 (W.contents out.old) (W.contents out.new)
+        × (E.contents err.new ≡ E.contents err.old))
+        ⊎ EndsByFault (StopsRunOf (F.remaining file.old) (F.remaining file.new) (W.contents out.old) (W.contents out.new)) 1 (E.contents err.old) (E.contents err.new) }
+    ensures bad { result ≡ 2 → IsNoNodesFile (F.remaining file.old) (F.remaining file.new) }
+    ensures bad_out { result ≡ 2 → W.contents out.new ≡ W.contents out.old }
+    ensures bad_line { result ≡ 2 → PutsFront (codes "distnode: bad nodes file\n") (E.contents err.old) (E.contents err.new) }
 {
     let bytes = match read_text(alloc, file) {
         Ok(bytes) => bytes,

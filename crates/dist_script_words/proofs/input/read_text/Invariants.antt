@@ -1,6 +1,10 @@
-use Rattle.std.proofs.Common.{◌≤◌, length}
+use Rattle.std.proofs.Common.{◌-◌, length}
 use Rattle.std.specs.Io.KnownBytes.{Consumes}
 use Rattle.dist_script_words.proofs.input.read_text.Given as goal
 
+-- what was read is the text
 abbrev pub invariant-pieces : goal.invariant-pieces
-invariant-pieces g l = (length l.text.items ≤ 1048576) × Consumes (g.R.Read.remaining l.fn.input) (g.R.Read.remaining l.input) l.text.items
+invariant-pieces g l = Consumes (g.R.Read.remaining l.fn.input) (g.R.Read.remaining l.input) l.text.items
+
+abbrev pub decreases-pieces : goal.decreases-pieces
+decreases-pieces g l = 1048577 - length l.text.items

@@ -15,4 +15,4 @@ returns g c =
     let made = c.digest-made.result in
     let same : text c.len.result c.from.result made ≡ cookie_line cookie c.args.challenge =
     ap (λ n. text n c.from.result made) c.len.ensures ∙ ap (λ n. text (length cookie) n made) c.from.ensures ∙ ap (text (length cookie) c.args.challenge) c.digest-made.ensures in
-    subst (λ t. OnOk c.put.result (Appends (g.W.Write.contents c.args.out.now) (g.W.Write.contents c.put.new.out) t)) same c.put.ensures
+    subst (λ t. OnOk c.put.result (Appends (g.W.Write.contents c.args.out.now) (g.W.Write.contents c.put.new.out) t)) same c.put.ensures.text

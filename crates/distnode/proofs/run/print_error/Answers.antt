@@ -15,4 +15,4 @@ returns g c =
     let name = c.as_bytes.result.now in
     let same : text c.from.result name ≡ refused_line error =
     ap (λ n. text n name) c.from.ensures ∙ ap (λ n. text n name) c.number.ensures ∙ ap (text (refusal_number error)) c.as_bytes.ensures.value ∙ ap (text (refusal_number error)) c.name.ensures in
-    subst (λ t. OnOk c.put.result (Appends (g.W.Write.contents c.args.out.now) (g.W.Write.contents c.put.new.out) t)) same c.put.ensures
+    subst (λ t. OnOk c.put.result (Appends (g.W.Write.contents c.args.out.now) (g.W.Write.contents c.put.new.out) t)) same c.put.ensures.text

@@ -1,0 +1,53 @@
+//! The process as a command sees it: its files, its connections, and its terminal.
+
+ghost use Rattle.std.specs.Prelude.{None};
+ghost use Rattle.dist_stream.specs.Stream.{unused};
+
+use crate::system::System;
+use dist_program::talk_here;
+use dist_stream::DeadlineStream;
+use std::fs::File;
+use std::io::{self, IsTerminal};
+
+/// The system of the process. What a file or a connection gives is not known.
+#[derive(Clone, Copy)]
+pub struct HostSystem<'a> {
+    rt: &'a HostRuntime,
+    // Whether standard output was a terminal when the program began.
+    is_terminal: bool,
+}
+
+impl<'a> HostSystem<'a> {
+    /// That of this runtime.
+    pub fn new(rt: &'a HostRuntime) -> HostSystem<'a> {
+        HostSystem {
+            rt,
+            is_terminal: rt.stdout().is_terminal(),
+        }
+    }
+}
+
+impl<'a> System for HostSystem<'a> {
+    type File = File;
+
+    type Talk = DeadlineStream<&'a HostRuntime>;
+
+    ghost bytes_at = { λ _ _. None };
+
+    ghost talk_at = { λ _ _. unused None None };
+
+    ghost has_terminal = { λ s. s.is_terminal };
+
+    fn open(&self, path: &str) -> io::Result<File> {
+        File::open(self.rt, path)
+    }
+
+    // Made within 8 seconds, and quiet 5 seconds later.
+    fn connect(&self, port: u16) -> io::Result<DeadlineStream<&'a HostRuntime>> {
+        talk_here(self.rt, port)
+    }
+
+    fn is_terminal(&self) -> bool {
+        self.is_terminal
+    }
+}
