@@ -91,6 +91,7 @@ exchange_in_part {frame = frame} e p = record {
   heard = [];
   stop = Some e;
   talks = said_in_part p.count p.says;
+  whole = λ none. let no : Some e ≡ None = none in absurd cc;
   tells = cut_write e p.says.fault_is _;
 }
 
@@ -126,6 +127,7 @@ exchange_unheard {frame = frame} {before = before} {after = after} e p q = recor
   heard = q.heard;
   stop = q.stop;
   talks = said_and_heard (all_said p) q.hears;
+  whole = λ none. inr refl;
   tells = tells_as (Unit {0}) (List ℕ) q.stop e (IsAll (Err e) after (before ++ q.heard)) (IsHeard (Err e) q.heard frame frame) (not_all e after (before ++ q.heard)) q.tells;
 }
 
@@ -142,6 +144,7 @@ exchange_whole {frame = frame} x before after answer none same p q = record {
   heard = q.heard;
   stop = q.stop;
   talks = said_and_heard (all_said p) q.hears;
+  whole = λ none. inr refl;
   tells = whole_tells q.stop x before after answer q.heard frame none same q.tells;
 }
 
@@ -151,7 +154,7 @@ exchange_written {old = old} {new = new} {limit = limit} {result = result} f sam
 
 -- memory runs out before a byte is written
 pub unsent : (s : StreamState) (limit : ℕ) (written : Result (List ℕ) EpmdError) → IsOk written → ExchangesWritten written s s limit (Err error.NoMemory)
-unsent s limit (Ok body) h = record { said = []; heard = []; stop = None; talks = nothing_said s limit _; tells = refl }
+unsent s limit (Ok body) h = record { said = []; heard = []; stop = None; talks = nothing_said s limit _; whole = λ none. inl (refl, refl); tells = refl }
 unsent s limit (Err why) h = absurd cc
 
 -- there is no frame
@@ -172,7 +175,7 @@ no_bytes e heard said frame h = let no : bad e ≡ good heard = h.0 in absurd cc
 
 -- the bytes were not had
 pub refusal_of : {X : Type 0} (asked : Asked) (w : Result (List ℕ) EpmdError) (old new : StreamState) (limit : ℕ) (means : List ℕ → Result X LookupError) (e : LookupError) → ExchangesWritten w old new limit (Err e) → AsksWritten w old new limit asked means (Err e)
-refusal_of {X = X} asked (Ok body) old new limit means e a = record { said = a.said; heard = a.heard; stop = a.stop; talks = a.talks; tells = tells_as (List ℕ) X a.stop e (IsHeard (Err e) a.heard a.said (framed w16 body)) ((a.said ≡ framed w16 body) × Settles (Err e) (means a.heard) (read_answer asked a.heard)) (no_bytes e a.heard a.said (framed w16 body)) a.tells }
+refusal_of {X = X} asked (Ok body) old new limit means e a = record { said = a.said; heard = a.heard; stop = a.stop; talks = a.talks; whole = a.whole; tells = tells_as (List ℕ) X a.stop e (IsHeard (Err e) a.heard a.said (framed w16 body)) ((a.said ≡ framed w16 body) × Settles (Err e) (means a.heard) (read_answer asked a.heard)) (no_bytes e a.heard a.said (framed w16 body)) a.tells }
 refusal_of asked (Err why) old new limit means e a = (err_as e error.Malformed a.0, a.1)
 
 good_same : (a b : List ℕ) → good a ≡ good b → a ≡ b
@@ -187,7 +190,7 @@ meant None asked means bytes heard said frame r s t = absurd cc
 
 -- the bytes were had
 pub answer_of : {X : Type 0} (asked : Asked) (w : Result (List ℕ) EpmdError) (old new : StreamState) (limit : ℕ) (means : List ℕ → Result X LookupError) (bytes : List ℕ) (r : Result X LookupError) → Settles r (means bytes) (read_answer asked bytes) → ExchangesWritten w old new limit (Ok bytes) → AsksWritten w old new limit asked means r
-answer_of asked (Ok body) old new limit means bytes r s a = record { said = a.said; heard = a.heard; stop = a.stop; talks = a.talks; tells = meant a.stop asked means bytes a.heard a.said (framed w16 body) r s a.tells }
+answer_of asked (Ok body) old new limit means bytes r s a = record { said = a.said; heard = a.heard; stop = a.stop; talks = a.talks; whole = a.whole; tells = meant a.stop asked means bytes a.heard a.said (framed w16 body) r s a.tells }
 answer_of asked (Err why) old new limit means bytes r s a = absurd cc
 
 -- memory runs out before there is a request

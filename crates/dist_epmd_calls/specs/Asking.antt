@@ -92,12 +92,18 @@ TellsBy (Some fault.Ended) result AtEnd = AtEnd
 TellsBy (Some other) result AtEnd = result ≡ Err (lookup_error other)
 TellsBy None result AtEnd = result ≡ Err error.NoMemory
 
--- One question whose answer is all that comes to the end of the stream, once the whole frame was written.
+-- Nothing was written and nothing read, or the whole frame was written.
+abbrev pub IsUnsentOrSent : List ℕ → List ℕ → List ℕ → Type 0
+IsUnsentOrSent frame said heard = ((said ≡ []) × (heard ≡ [])) ⊎ (said ≡ frame)
+
+-- One question whose answer is all that comes to the end of the stream, once the whole frame was written. Memory does not run out
+-- between two pieces of the frame.
 pub record Asks {X : Type 0} (old new : StreamState) (limit : ℕ) (frame : List ℕ) (asked : Asked) (means : List ℕ → Result X LookupError) (result : Result X LookupError) : Type 0 where
   pub said : List ℕ
   pub heard : List ℕ
   pub stop : Option TurnError
   pub talks : Talks old new limit stop frame said heard
+  pub whole : (stop ≡ None) → IsUnsentOrSent frame said heard
   pub tells : TellsBy stop result ((said ≡ frame) × Settles result (means heard) (read_answer asked heard))
 
 -- A request that fits no frame is refused, and the stream is as it was.

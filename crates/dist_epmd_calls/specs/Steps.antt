@@ -14,7 +14,7 @@ use Rattle.dist_epmd_calls.specs.declared.lookup_error.LookupError.{LookupError}
 use Rattle.dist_epmd_calls.specs.declared.lookup_error.LookupError.TheVariants as error
 use Rattle.dist_epmd_calls.specs.declared.serve.Served.{Served}
 use Rattle.dist_epmd_calls.specs.Refusals.{lookup_error}
-use Rattle.dist_epmd_calls.specs.Asking.{Talks, TellsBy, answer_len}
+use Rattle.dist_epmd_calls.specs.Asking.{Talks, TellsBy, IsUnsentOrSent, answer_len}
 use Rattle.dist_epmd_calls.specs.Serving.{IsInside, IsLength, Came, IsSaid, Replies}
 
 -- ---- of a client
@@ -39,6 +39,7 @@ pub record Exchanges (old new : StreamState) (limit : ℕ) (result : Result (Lis
   pub heard : List ℕ
   pub stop : Option TurnError
   pub talks : Talks old new limit stop frame said heard
+  pub whole : (stop ≡ None) → IsUnsentOrSent frame said heard
   pub tells : TellsBy stop result ((result ≡ Ok heard) × (said ≡ frame))
 
 -- A request that fits no frame is refused, and the stream is as it was.

@@ -1,13 +1,13 @@
-//! A desk in memory and the desk of a seat answer alike.
+//! A desk in memory and the desk of a seat answer alike; and what is done with an end that its driver left open.
 
 use crate::drives::desk_of;
 use crate::seats::{Closing, closing_with, seated, told};
-use crate::setting::{CHALLENGE, event, number, still_word, word};
+use crate::setting::{CHALLENGE, Same, event, number, still_word, word};
 use dist_core::StepError;
-use dist_drive::Desk;
-use dist_locked::{LockedNode, Seat, SeatDesk};
+use dist_drive::{Desk, FaultStream};
+use dist_locked::{Driven, LockedNode, Seat, SeatDesk, drive_end, settled};
 use dist_peers::EndId;
-use std::alloc::Global;
+use std::alloc::{AllocError, Global};
 use std::sync::Wait;
 use std::test::*;
 
@@ -87,4 +87,59 @@ fn desks_answer_alike(rt: HostRuntime) {
         wrong_at_a_seat(&rt, rt.alloc()),
     );
     assert_eq!(rt; wrong, (Some(None), Some((None, Ok([4, 0, 0, 0])))));
+}
+
+// Drives end 0, for which no turn is left.
+fn driven<R: Wait>(
+    rt: &R,
+    alloc: Global,
+    node: &LockedNode,
+    seat: Seat,
+) -> Result<Driven, (AllocError, Seat)> {
+    let mut stream = FaultStream::new(alloc, Vec::new(alloc));
+    let mut draws = Same(CHALLENGE);
+    drive_end(
+        rt,
+        alloc,
+        node,
+        seat,
+        &mut stream,
+        &mut draws,
+        EndId(0),
+        &[],
+        0,
+    )
+}
+
+// What becomes of end 0, once this many steps were made and its turns ran out, or it was not driven at all: how it stands, whether
+// it is over, and how many receipts the seat has got.
+fn left_open<R: Wait>(
+    rt: &R,
+    alloc: Global,
+    steps: usize,
+    is_driven: bool,
+) -> Option<(&'static str, bool, usize)> {
+    let (node, mut seats) = seated(alloc)?;
+    let _ = told(rt, alloc, &node, &mut seats, steps);
+    let seat = seats.pop()?;
+    let before = seat.receipts().len();
+    let driven = if is_driven {
+        driven(rt, alloc, &node, seat)
+    } else {
+        Err((AllocError, seat))
+    };
+    let (seat, is_over) = settled(rt, &node, EndId(0), driven);
+    let more = seat.receipts().len().saturating_sub(before);
+    Some((still_word(node.still(rt, EndId(0))), is_over, more))
+}
+
+// One that is not up is lost, and one that is up goes on.
+#[test]
+fn ends_that_are_left_open(rt: HostRuntime) {
+    let pending = left_open(&rt, rt.alloc(), 1, true);
+    let up = left_open(&rt, rt.alloc(), 3, true);
+    let undriven = left_open(&rt, rt.alloc(), 1, false);
+    assert_eq!(rt; pending, Some(("GaveUp", true, 1)));
+    assert_eq!(rt; up, Some(("Up", false, 0)));
+    assert_eq!(rt; undriven, Some(("NoMemory", true, 1)));
 }

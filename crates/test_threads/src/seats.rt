@@ -153,6 +153,32 @@ fn orders_in_turn<R: Wait>(rt: &R, alloc: Global) -> Option<([u32; 8], u64)> {
     Some((answers, orders.settle(rt, put, one, two)))
 }
 
+// What `close` says after two steps where the second seat is missing.
+fn closing_with_one<R: Wait>(rt: &R, alloc: Global) -> Option<Closing> {
+    let (node, mut seats) = seated(alloc)?;
+    let _ = told(rt, alloc, &node, &mut seats, 2);
+    let _ = seats.pop();
+    Some(closing(node, seats))
+}
+
+// The second seat of another node, which has made three steps there.
+fn seat_of_another<R: Wait>(rt: &R, alloc: Global) -> Option<Seat> {
+    let (node, mut seats) = seated(alloc)?;
+    let mut seat = seats.pop()?;
+    for _ in 0..3 {
+        let _ = is_made(rt, alloc, &node, &mut seat, "incoming")?;
+    }
+    Some(seat)
+}
+
+// What `close` says after two steps where the second seat of another node stands in the place of the own one.
+fn closing_with_another<R: Wait>(rt: &R, alloc: Global) -> Option<Closing> {
+    let (node, mut seats) = seated(alloc)?;
+    let _ = told(rt, alloc, &node, &mut seats, 2);
+    let _ = seats.pop();
+    closing_with(node, seats, seat_of_another(rt, alloc)?)
+}
+
 #[test]
 fn two_seats_and_orders(rt: HostRuntime) {
     let is_kept = is_kept(&rt, rt.alloc());
@@ -160,4 +186,13 @@ fn two_seats_and_orders(rt: HostRuntime) {
     let orders = orders_in_turn(&rt, rt.alloc());
     let wanted = (Some(true), Some(true), Some(([0, 0, 6, 4, 5, 0, 0, 7], 0)));
     assert_eq!(rt; (is_kept, is_closed, orders), wanted);
+    let refused = (
+        closing_with_one(&rt, rt.alloc()),
+        closing_with_another(&rt, rt.alloc()),
+    );
+    let wanted = (
+        Some(Err(CloseError::MissingSeat)),
+        Some(Err(CloseError::ReceiptAbsent)),
+    );
+    assert_eq!(rt; refused, wanted);
 }

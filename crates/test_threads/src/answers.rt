@@ -1,0 +1,143 @@
+//! What a node returns beforehand, and then for the step itself; a node whose steps are spent; and the opening that the version
+//! of a peer asks for.
+
+use crate::setting::{CHALLENGE, event, setup_of};
+use dist_core::{Event, Node, Opening, Reply, StepError};
+use dist_drive::opening_for;
+use dist_epmd::PortInfo;
+use dist_names::ByteString;
+use dist_script::{Line, Script, script_of};
+use std::alloc::Global;
+use std::test::*;
+
+// accepted_handshake; wrong_digest, at an end that comes up and at one that challenges it; dialled_handshake. Each line of bytes
+// is one frame.
+const SCRIPTS: &str = "\
+node b@127.0.0.1 ABCDEFGHIJKLMNOPQRSTUVWXYZabcdefghijklmnopqrstuvwxyz0 101000104 6
+incoming 1
+bytes 0 001a4e000000040100000400000005000b61403132372e302e302e31 123456789
+bytes 0 001572075bcd15d174ab98d277d9f5a5611c2c9f419d9f 0
+---
+node b@127.0.0.1 ABCDEFGHIJKLMNOPQRSTUVWXYZabcdefghijklmnopqrstuvwxyz0 101000104 6
+incoming 1
+bytes 0 001a4e000000040100000400000005000b61403132372e302e302e31 123456789
+bytes 0 001572075bcd15d174ab98d277d9f5a5611c2c9f419d9e 0
+bytes 0 001572075bcd15d174ab98d277d9f5a5611c2c9f419d9f 0
+---
+node b@127.0.0.1 ABCDEFGHIJKLMNOPQRSTUVWXYZabcdefghijklmnopqrstuvwxyz0 101000104 6
+incoming 1
+bytes 0 001a4e000000040100000400000005000b61403132372e302e302e31 123456789
+bytes 0 001572075bcd15d174ab98d277d9f5a5611c2c9f419d9f 0
+incoming 2
+bytes 1 001a4e000000040100000400000005000b61403132372e302e302e31 123456789
+bytes 1 00057374727565 123456789
+bytes 1 001572075bcd15d174ab98d277d9f5a5611c2c9f419d9e 0
+---
+node a@127.0.0.1 ABCDEFGHIJKLMNOPQRSTUVWXYZabcdefghijklmnopqrstuvwxyz0 401000004 5
+dial b@127.0.0.1 new
+opened 0 1
+bytes 0 0003736f6b 0
+bytes 0 001e4e0000000101000104075bcd1500000006000b62403132372e302e302e31 123456789
+bytes 0 001161d174ab98d277d9f5a5611c2c9f419d9f 0
+tick 0
+dial b@127.0.0.1 new
+";
+
+// The event of a line, and its challenge.
+fn told(alloc: Global, line: &Line) -> Option<(Event, u32)> {
+    match line {
+        Line::Event(event) => Some((event.try_clone(alloc).ok()?, 0)),
+        Line::Bytes { end_, bytes, fresh } => {
+            let body = ByteString::from_slice(alloc, bytes.as_slice().get(2..)?).ok()?;
+            Some((Event::Frame { end_: *end_, body }, *fresh))
+        }
+    }
+}
+
+fn is_same(one: &Result<Reply, StepError>, other: &Result<Reply, StepError>) -> bool {
+    match (one, other) {
+        (Ok(one), Ok(other)) => one.is_same(other),
+        (Err(one), Err(other)) => one == other,
+        _ => false,
+    }
+}
+
+// Whether the node returns beforehand what it then does, and a node of the same setup does so for a copy of the event.
+fn is_foretold(alloc: Global, node: &mut Node, twin: &mut Node, line: &Line) -> Option<bool> {
+    let (event, fresh) = told(alloc, line)?;
+    let copy = event.try_clone(alloc).ok()?;
+    let answer = node.answer(alloc, &event, fresh);
+    let reply = node.step(alloc, &event, fresh);
+    let other = twin.step(alloc, &copy, fresh);
+    Some(copy == event && is_same(&answer, &reply) && is_same(&other, &reply))
+}
+
+// The first line of a script for which it is otherwise. The second node is made of a copy of the setup.
+fn first_wrong(alloc: Global, script: &str) -> Option<Option<usize>> {
+    let Script::Events { node, lines } = script_of(alloc, script.as_bytes()).ok()? else {
+        return None;
+    };
+    let mut twin = Node::new(alloc, node.try_clone(alloc).ok()?);
+    let mut node = Node::new(alloc, node);
+    for (place, line) in lines.iter().enumerate() {
+        if !is_foretold(alloc, &mut node, &mut twin, line)? {
+            return Some(Some(place));
+        }
+    }
+    Some(None)
+}
+
+#[test]
+fn answer_before_step(rt: HostRuntime) {
+    for script in SCRIPTS.split("---\n") {
+        assert_eq!(rt; first_wrong(rt.alloc(), script), Some(None), "{script}");
+    }
+}
+
+// Gives a node an event: the refusal's name, or that it was taken.
+fn answer_word(alloc: Global, node: &mut Node, word: &str) -> Option<&'static str> {
+    match node.step(alloc, &event(alloc, word)?, CHALLENGE) {
+        Ok(_) => Some("taken"),
+        Err(error) => Some(error.name()),
+    }
+}
+
+// How many of so many ticks a node takes.
+fn ticks(alloc: Global, node: &mut Node, count: u32) -> Option<u32> {
+    let tick = event(alloc, "tick")?;
+    let mut taken = 0u32;
+    for _ in 0..count {
+        taken = taken.saturating_add(node.step(alloc, &tick, 0).is_ok() as u32);
+    }
+    Some(taken)
+}
+
+// Node b takes three steps and then ticks; what it says of one tick more, of the loss of its end, and of a connection that comes.
+fn spent(alloc: Global) -> Option<(u32, [&'static str; 3])> {
+    let mut node = Node::new(alloc, setup_of(alloc, false)?);
+    for word in ["incoming", "name", "reply"] {
+        let _ = answer_word(alloc, &mut node, word)?;
+    }
+    let taken = ticks(alloc, &mut node, 1_048_573)?;
+    let tick = answer_word(alloc, &mut node, "tick")?;
+    let ended = answer_word(alloc, &mut node, "ended")?;
+    let incoming = answer_word(alloc, &mut node, "incoming")?;
+    Some((taken, [tick, ended, incoming]))
+}
+
+#[test]
+fn steps_spent(rt: HostRuntime) {
+    let wanted = (1_048_573, ["Spent", "taken", "Spent"]);
+    assert_eq!(rt; spent(rt.alloc()), Some(wanted));
+}
+
+#[test]
+fn opening_by_version(rt: HostRuntime) {
+    let Ok(mut peer) = PortInfo::of_node(rt.alloc(), b"a", 9001, false) else {
+        panic!(rt; "no memory");
+    };
+    for (highest, wanted) in [(5u16, Opening::Old), (6, Opening::New), (7, Opening::New)] {
+        peer.highest = highest;
+        assert_eq!(rt; opening_for(&peer), wanted, "{highest}");
+    }
+}

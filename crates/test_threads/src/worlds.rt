@@ -1,0 +1,178 @@
+//! Worlds: what two nodes agree on is the same from either side, and a node changes its cookies and whom it allows.
+
+use crate::setting::{number, word};
+use dist_core::{Change, NameList};
+use dist_names::NodeName;
+use dist_script::{Script, script_of};
+use dist_secret::Cookie;
+use dist_world::{Agreement, Happening, World};
+use std::alloc::Global;
+use std::test::*;
+
+const NODES: &str = "\
+node a@127.0.0.1 ABCDEFGHIJKLMNOPQRSTUVWXYZabcdefghijklmnopqrstuvwxyz0 401000004 5
+node b@127.0.0.1 ABCDEFGHIJKLMNOPQRSTUVWXYZabcdefghijklmnopqrstuvwxyz0 101000104 6
+node c@127.0.0.1 ABCDEFGHIJKLMNOPQRSTUVWXYZabcdefghijklmnopqrstuvwxyz0 101000104 8
+";
+
+// After how many of their fronts two nodes agree, and what happens: crossing_dials, dialled_name_reached_other_node,
+// restart_of_a_peer, stale_name_of_given_up_attempt, stale_crossing_name.
+const WORLDS: &str = "\
+1 begin 0 5, begin 1 6, dial 0 b@127.0.0.1 new, dial 1 a@127.0.0.1 new, reach 0 0 1, reach 1 0 0, opened 0 0, opened 1 0, accept 0, accept 1, deliver 1 1 999, take 1 1 1, deliver 0 1 999, take 0 1 7, deliver 0 0 999, take 0 0 0, deliver 1 0 999, take 1 0 0, take 1 0 8, deliver 0 1 999, take 0 1 0, deliver 1 0 999, take 1 0 0
+0 begin 0 5, begin 1 6, begin 2 8, dial 0 b@127.0.0.1 new, reach 0 0 2, opened 0 0, accept 0, deliver 2 0 999, take 2 0 9, deliver 0 0 999, take 0 0 0, take 0 0 0, deliver 0 0 999
+2 begin 0 5, begin 1 4, dial 1 a@127.0.0.1 new, reach 1 0 0, opened 1 0, accept 0, deliver 0 0 999, take 0 0 11, deliver 1 0 999, take 1 0 0, take 1 0 12, deliver 0 0 999, take 0 0 0, deliver 1 0 999, take 1 0 0, halt 1, begin 1 6, dial 1 a@127.0.0.1 new, reach 1 0 0, opened 1 0, accept 1, deliver 0 1 999, take 0 1 0, deliver 1 0 999, take 1 0 0, deliver 0 1 999, take 0 1 13, deliver 1 0 999, take 1 0 14, deliver 0 1 999, take 0 1 0, deliver 1 0 999, take 1 0 0
+5 begin 0 5, begin 1 6, dial 0 b@127.0.0.1 new, reach 0 0 1, opened 0 0, lose 0 0 GaveUp, dial 0 b@127.0.0.1 new, reach 0 1 1, opened 0 1, accept 1, deliver 1 0 999, take 1 0 11, deliver 0 1 999, take 0 1 0, take 0 1 12, deliver 1 0 999, take 1 0 0, deliver 0 1 999, take 0 1 0, accept 0, deliver 1 1 999, take 1 1 0, lose 1 1 Ended
+0 begin 0 5, begin 1 6, dial 1 a@127.0.0.1 new, reach 1 0 0, opened 1 0, lose 1 0 GaveUp, dial 0 b@127.0.0.1 new, reach 0 0 1, opened 0 0, accept 1, deliver 1 1 999, take 1 1 11, deliver 0 0 999, take 0 0 0, take 0 0 12, accept 0, deliver 0 1 999, take 0 1 13, deliver 1 1 999, take 1 1 0";
+
+// A world of three nodes in which nothing happened, and what is to happen in it.
+fn world_of(alloc: Global, text: &str) -> Option<(World, Vec<Happening>)> {
+    let lines = text.replace(alloc, ", ", "\n").ok()?;
+    let script = format!(in alloc; "{NODES}{lines}\n").ok()?;
+    match script_of(alloc, script.as_bytes()).ok()? {
+        Script::Happenings { nodes, lines } => Some((World::new(alloc, nodes).ok()?, lines)),
+        Script::Events { .. } => None,
+    }
+}
+
+// What the second of two nodes has to report of what the first reports.
+fn turned(told: Agreement) -> Agreement {
+    Agreement {
+        conn: told.conn,
+        common: told.common,
+        creation_a: told.creation_b,
+        creation_b: told.creation_a,
+    }
+}
+
+// Whether two nodes agree. `None`: one side reports otherwise than the other.
+fn agree(world: &World, a: usize, b: usize) -> Option<bool> {
+    match (world.both_up(a, b), world.both_up(b, a)) {
+        (None, None) => Some(false),
+        (Some(one), Some(other)) if other == turned(one) => Some(true),
+        _ => None,
+    }
+}
+
+// How many pairs agree.
+fn pairs(world: &World) -> Option<u32> {
+    let mut count = 0u32;
+    for (a, b) in [(0, 1), (0, 2), (1, 2)] {
+        count = count.saturating_add(agree(world, a, b)? as u32);
+    }
+    Some(count)
+}
+
+// How often a pair agrees while this happens.
+fn fronts(alloc: Global, text: &str) -> Option<u32> {
+    let (mut world, happenings) = world_of(alloc, text)?;
+    let mut count = pairs(&world)?;
+    for one in happenings.chunks(1) {
+        let _ = world.run(alloc, one).ok()?;
+        count = count.saturating_add(pairs(&world)?);
+    }
+    Some(count)
+}
+
+#[test]
+fn agreement_is_symmetric(rt: HostRuntime) {
+    for row in WORLDS.lines() {
+        let (count, text) = row.split_once(' ').unwrap_or((row, ""));
+        assert_eq!(rt;
+            fronts(rt.alloc(), text),
+            count.parse::<u32>().ok(),
+            "{row}"
+        );
+    }
+}
+
+// How many of these happenings apply, whether nodes a and b agree then, and which end was closed last, for which cause. Beside
+// the lines of scripts there are `reset NODE cookie PEER COOKIE`, `reset NODE usual COOKIE` and `reset NODE allow PEER`.
+//
+// A cookie that was in use at a dial stays, also that of a peer which has none of its own, as long as the peer has an entry; a
+// list of the peers that may connect concerns later names alone. No node that is halted changes anything.
+const CHANGES: &str = "\
+4 false - begin 0 5, begin 1 6, reset 0 cookie b@127.0.0.1 secret, reset 1 usual secret
+4 false - dial 0 b@127.0.0.1 new, reach 0 0 1, opened 0 0, accept 0
+0 false - reset 0 cookie b@127.0.0.1 other
+2 false - reset 0 usual other, reset 1 cookie c@127.0.0.1 other
+2 false - deliver 1 0 999, take 1 0 11
+0 false - reset 1 usual other, reset 1 cookie a@127.0.0.1 other
+7 true - deliver 0 0 999, take 0 0 0, take 0 0 12, deliver 1 0 999, take 1 0 0, deliver 0 0 999, take 0 0 0
+1 true - reset 1 allow c@127.0.0.1
+0 true - reset 1 usual other
+2 false Ended lose 0 0 Ended, lose 1 0 Ended
+1 false - reset 1 usual other
+6 false Refused dial 0 b@127.0.0.1 new, reach 0 1 1, opened 0 1, accept 1, deliver 1 1 999, take 1 1 13
+2 false StatusRefused deliver 0 1 999, take 0 1 0
+1 false - reset 1 allow a@127.0.0.1
+6 false - dial 0 b@127.0.0.1 new, reach 0 2 1, opened 0 2, accept 2, deliver 1 2 999, take 1 2 14
+5 false WrongDigest deliver 0 2 999, take 0 2 0, take 0 2 15, deliver 1 2 999, take 1 2 0
+0 false WrongDigest reset 2 usual other";
+
+fn cookie_of(alloc: Global, text: &str) -> Option<Cookie> {
+    Cookie::from_bytes(alloc, text.as_bytes()).ok()
+}
+
+// What is changed by `reset`.
+fn change_of(alloc: Global, text: &str) -> Option<Change> {
+    let (what, value) = (word(text, 2), word(text, 3));
+    if what == "usual" {
+        let cookie = cookie_of(alloc, value)?;
+        return Some(Change::UsualCookie { cookie });
+    }
+    let peer = NodeName::new(alloc, value.as_bytes()).ok()?;
+    if what == "cookie" {
+        let cookie = cookie_of(alloc, word(text, 4))?;
+        return Some(Change::Cookie { peer, cookie });
+    }
+    let mut names = Vec::new(alloc);
+    names.push(peer).ok()?;
+    let allow = Some(NameList::from_vec(names));
+    Some(Change::Allow { allow })
+}
+
+fn happening_of(alloc: Global, text: &str) -> Option<Happening> {
+    if text.starts_with("reset") {
+        let node = number(word(text, 1), 9) as usize;
+        let change = change_of(alloc, text)?;
+        return Some(Happening::Reset { node, change });
+    }
+    world_of(alloc, text)?.1.pop()
+}
+
+// How many of these happenings apply.
+fn applied(alloc: Global, world: &mut World, text: &str) -> Option<u64> {
+    let mut count = 0u64;
+    for one in text.split(", ") {
+        let happening = happening_of(alloc, one)?;
+        count = count.saturating_add(world.run(alloc, &[happening]).ok()? as u64);
+    }
+    Some(count)
+}
+
+// What is seen once the happenings of a row are tried, as the row has it.
+fn seen(alloc: Global, world: &mut World, row: &str) -> Option<bool> {
+    let count = applied(alloc, world, row.splitn(4, ' ').nth(3)?)?;
+    let closed = match world.last_closed() {
+        Some((_, _, why)) => why.name(),
+        None => "-",
+    };
+    let agrees = if agree(world, 0, 1)? { "true" } else { "false" };
+    Some(count == number(word(row, 0), 99) && agrees == word(row, 1) && closed == word(row, 2))
+}
+
+// The first row that goes otherwise.
+fn first_wrong(alloc: Global) -> Option<Option<&'static str>> {
+    let (mut world, _) = world_of(alloc, "")?;
+    for row in CHANGES.lines() {
+        if seen(alloc, &mut world, row) != Some(true) {
+            return Some(Some(row));
+        }
+    }
+    Some(None)
+}
+
+#[test]
+fn cookies_and_allow_list_change(rt: HostRuntime) {
+    assert_eq!(rt; first_wrong(rt.alloc()), Some(None));
+}
