@@ -37,6 +37,7 @@ cases(Mapper) ->
     [{"links_walk", fun links_walk:run/0},
      {"ping_and_calls", fun ping_and_calls/0},
      {"many_messages", fun many_messages/0},
+     {"over_ipv6", fun over_ipv6/0},
      {"crossing_dials", fun() -> crossing(ours, ours, 60) end},
      {"crossing_dials_ordinary_lesser", fun() -> crossing(otp, ours, 40) end},
      {"crossing_dials_ordinary_greater", fun() -> crossing(ours, otp, 40) end},
@@ -57,7 +58,7 @@ cases(Mapper) ->
      {"numbers_run_out", fun numbers_run_out/0},
      {"embedded_release", fun embedded_release/0},
      {"killed_core", fun killed_core/0},
-     {"missing_library", fun missing_library/0}].
+     {"unfit_library", fun unfit_library/0}].
 
 %% ---- what the cases stand on
 
@@ -112,6 +113,20 @@ many_messages() ->
          fun([A, B, O]) ->
                  [true = c(X, test_agent, sink, []) || X <- [A, B, O]],
                  [50000 = c(X, test_agent, flood, [n(Y), 50000]) || {X, Y} <- [{A, B}, {B, A}, {A, O}, {O, A}]],
+                 agreed([A, B])
+         end).
+
+over_ipv6() ->
+    with([{"a", ours6, ?QUIET}, {"b", ours6, ?QUIET}, {"o", otp6, ?QUIET}],
+         fun([A, B, O] = All) ->
+                 [begin true = connect(X, Y), both_up(X, Y) end || {X, Y} <- [{A, B}, {O, A}, {B, O}]],
+                 [begin
+                      Name = n(Y),
+                      Name = c(X, erpc, call, [Name, erlang, node, []])
+                  end || X <- All, Y <- All, X =/= Y],
+                 agreed([A, B]),
+                 apart(B, A),
+                 true = connect(B, A),
                  agreed([A, B])
          end).
 
@@ -370,21 +385,25 @@ ticks() ->
                  agreed([A, B])
          end).
 
-%% Connections without a byte, and others that say names and know no cookie, all of them held.
+%% Connections without a byte, and others that say names and know no cookie, all of them held. A first connection of each kind has
+%% the code loaded, which makes atoms of its own.
 strangers(Mapper) ->
     with([{"a", ours, ?QUIET}, {"b", ours, ?QUIET}, {"o", otp, ?QUIET}],
          fun([A, B, O]) ->
                  Port = other_side:port_of("a", Mapper),
+                 [begin true = connect(X, Y), both_up(X, Y), apart(X, Y) end || {X, Y} <- [{O, A}, {A, B}]],
+                 gen_tcp:close(stranger(Port, <<"first">>)),
+                 true = test_nodes:wait(fun() -> maps:get(open, c(A, distnode_core, table, [])) =:= 0 end, 5000),
+                 Atoms = c(A, erlang, system_info, [atom_count]),
                  Silent = [other_side:connect(Port) || _ <- lists:seq(1, 200)],
                  Named = [stranger(Port, integer_to_binary(I)) || I <- lists:seq(1, 200)],
                  [<<"ok">> = other_side:status(Socket) || Socket <- Named],
                  #{open := 400} = c(A, distnode_core, table, []),
-                 Atoms = c(A, erlang, system_info, [atom_count]),
                  true = connect(O, A),
                  true = connect(A, B),
                  [gen_tcp:close(Socket) || Socket <- Silent ++ Named],
                  agreed([A, B]),
-                 true = c(A, erlang, system_info, [atom_count]) - Atoms < 200
+                 true = c(A, erlang, system_info, [atom_count]) - Atoms < 20
          end).
 
 stranger(Port, Name) ->
@@ -462,7 +481,7 @@ killed_core() ->
                       A = test_nodes:start("a", Kind, ?QUIET),
                       true = connect(A, B),
                       Pid = c(A, erlang, whereis, [Victim]),
-                      _ = (catch c(A, erlang, exit, [Pid, kill])),
+                      try c(A, erlang, exit, [Pid, kill]) catch error:_ -> gone end,
                       Status = test_nodes:ended(A, 20000),
                       true = is_integer(Status),
                       true = test_nodes:wait(fun() -> c(B, erlang, nodes, []) =:= [] end, 5000)
@@ -470,11 +489,21 @@ killed_core() ->
                  agreed([B])
          end).
 
-missing_library() ->
-    Alone = filename:join([os:getenv("LOGS"), "alone", "ebin"]),
-    ok = copy(os:getenv("EBIN"), Alone),
-    Node = test_nodes:start_bare("a", Alone, []),
-    Status = test_nodes:ended(Node, 30000),
-    true = is_integer(Status) andalso Status =/= 0,
-    true = test_nodes:has_logged(Node, "distnode: the library distnode_nif can't be loaded"),
+%% The library is missing, is one for another machine (the number of the machine is byte 18 of an ELF file), or is cut short.
+unfit_library() ->
+    {ok, Library} = file:read_file(filename:join([os:getenv("EBIN"), "..", "priv", "distnode_nif.so"])),
+    <<Head:18/binary, Machine, Rest/binary>> = Library,
+    [begin
+         Alone = filename:join([os:getenv("LOGS"), "alone", Short, "ebin"]),
+         ok = copy(os:getenv("EBIN"), Alone),
+         [begin
+              File = filename:join([Alone, "..", "priv", "distnode_nif.so"]),
+              ok = filelib:ensure_dir(File),
+              ok = file:write_file(File, Bytes)
+          end || Bytes =/= none],
+         Node = test_nodes:start_bare(Short, Alone, []),
+         Status = test_nodes:ended(Node, 30000),
+         true = is_integer(Status) andalso Status =/= 0,
+         true = test_nodes:has_logged(Node, "distnode: the library distnode_nif can't be loaded")
+     end || {Short, Bytes} <- [{"a", none}, {"b", <<Head/binary, (Machine bxor 16#ff), Rest/binary>>}, {"c", Head}]],
     ok.

@@ -3,6 +3,7 @@
 %% test's port, and ends the node with that connection.
 -module(test_agent).
 -export([main/1, row/1, connect_at/2, is_agreed/0, sink/0, flood/2, watch/1, is_down/1, stay_up/2, traffic/2]).
+-export([observe/1, traffic_observed/2, reconnect/2, memory/0]).
 
 main([Port]) ->
     spawn(fun() ->
@@ -73,9 +74,58 @@ traffic(Nodes, Until, N) ->
             receive after rand:uniform(8) - 1 -> traffic(Nodes, Until, N + 1) end
     end.
 
+%% Both at once: {Times, Looks, Apart}.
+traffic_observed(Nodes, Until) ->
+    Self = self(),
+    Pid = spawn_link(fun() -> Self ! {self(), observe(Until)} end),
+    Times = traffic(Nodes, Until),
+    receive {Pid, {Looks, Apart}} -> {Times, Looks, Apart} end.
+
+%% Compares the tables while they change, until a moment of the system's clock: {Looks, Apart}. A peer that net_kernel counts as
+%% up, by one owner in two looks, has an end that is up in the node between the two. Apart are those of which this was not so for
+%% a second.
+observe(Until) -> observe(Until, #{}, 0, []).
+
+observe(Until, Since, Looks, Apart) ->
+    case erlang:system_time(millisecond) >= Until of
+        true -> {Looks, Apart};
+        false ->
+            Now = erlang:monotonic_time(millisecond),
+            Again = maps:from_list([{Row, maps:get(Row, Since, Now)} || Row <- missing_in_node()]),
+            Late = [Row || {Row, First} <- maps:to_list(Again), Now - First > 1000],
+            receive after 5 -> observe(Until, Again, Looks + 1, lists:usort(Late ++ Apart)) end
+    end.
+
+missing_in_node() ->
+    Before = rows_up(),
+    #{up := Up} = distnode_core:table(),
+    Peers = [binary_to_atom(element(1, Entry)) || Entry <- Up],
+    [Row || {Peer, _} = Row <- rows_up(), lists:member(Row, Before), not lists:member(Peer, Peers)].
+
+rows_up() ->
+    [{element(2, Row), element(5, Row)} || Row <- ets:tab2list(sys_dist), element(4, Row) =:= up, element(11, Row) =:= static].
+
+%% Connects to a node and disconnects so many times: the microseconds of each connect, the least first, and then `refused` for each
+%% that was answered false.
+reconnect(Node, N) -> lists:sort([reconnect(Node) || _ <- lists:seq(1, N)]).
+
+reconnect(Node) ->
+    case timer:tc(net_kernel, connect_node, [Node]) of
+        {Took, true} ->
+            true = monitor_node(Node, true),
+            true = erlang:disconnect_node(Node),
+            receive {nodedown, Node} -> Took after 20000 -> error({still_up, Node}) end;
+        {_, false} -> refused
+    end.
+
+memory() ->
+    {ok, Text} = file:read_file("/proc/self/status"),
+    {match, [Kilobytes]} = re:run(Text, "VmRSS:\\s+([0-9]+)", [{capture, all_but_first, list}]),
+    list_to_integer(Kilobytes).
+
 sink() ->
     Pid = spawn(fun() -> count(0) end),
-    _ = (catch unregister(sink)),
+    _ = [unregister(sink) || whereis(sink) =/= undefined],
     register(sink, Pid).
 
 count(N) ->

@@ -2,7 +2,7 @@
 %% Starts emulators as processes of the system, for a test that has no distribution of its own, and asks their agents. It ends
 %% what it has started and nothing else.
 -module(test_nodes).
--export([port_mapper/0, start/1, start/3, start_bare/3, call/4, name/1, stop/1, kill/1, signal/2, is_alive/1, log/1, has_logged/2, ended/2, wait/2]).
+-export([port_mapper/0, start/1, start/3, start_bare/3, call/4, call/5, name/1, stop/1, kill/1, signal/2, is_alive/1, log/1, has_logged/2, ended/2, wait/2]).
 
 -record(node, {name, port, os_pid, socket = none, log}).
 
@@ -13,14 +13,14 @@ port_mapper() ->
     ok = gen_tcp:close(Free),
     Text = integer_to_list(Port),
     Mapper = open_port({spawn_executable, os:find_executable("sh")},
-                       [{args, ["-c", "exec epmd -port " ++ Text ++ " -address 127.0.0.1 2>/dev/null"]}, exit_status]),
+                       [{args, ["-c", "exec epmd -port " ++ Text ++ " -address 127.0.0.1,::1 2>/dev/null"]}, exit_status]),
     os:putenv("ERL_EPMD_PORT", Text),
     os:putenv("ERL_EPMD_ADDRESS", "127.0.0.1"),
     true = wait(fun() -> element(1, gen_tcp:connect({127, 0, 0, 1}, Port, [])) =:= ok end, 10000),
     {os_pid, OsPid} = erlang:port_info(Mapper, os_pid),
     {Port, OsPid}.
 
-%% Several at once: [{Short, ours | otp, Arguments}]
+%% Several at once: [{Short, ours | otp | ours6 | otp6, Arguments}]; those with a 6 over IPv6
 start(Specs) ->
     Begun = [begin_one(Spec) || Spec <- Specs],
     try [join(One) || One <- Begun]
@@ -59,30 +59,37 @@ join(Listen, Node, Left) ->
 
 %% One without an agent, which may not start.
 start_bare(Short, Kind, Arguments) ->
-    Name = Short ++ "@127.0.0.1",
+    {Host, Interface} = host(Kind),
+    Name = Short ++ "@" ++ Host,
     Log = filename:join(os:getenv("LOGS"), Short ++ "." ++ integer_to_list(erlang:unique_integer([positive])) ++ ".log"),
     Command = [os:find_executable("erl"), "-noinput", "-pa", os:getenv("TESTS"), "-start_epmd", "false",
-               "-kernel", "inet_dist_use_interface", "{127,0,0,1}"] ++ carrier(Kind) ++ ["-name", Name] ++
+               "-kernel", "inet_dist_use_interface", Interface] ++ carrier(Kind) ++ ["-name", Name] ++
         cookie(Arguments) ++ Arguments,
     Port = open_port({spawn_executable, os:find_executable("sh")},
                      [{args, ["-c", "exec \"$@\" >" ++ Log ++ " 2>&1", "sh" | Command]}, exit_status]),
     {os_pid, OsPid} = erlang:port_info(Port, os_pid),
     #node{name = list_to_atom(Name), port = Port, os_pid = OsPid, log = Log}.
 
+host(Kind) when Kind =:= ours6; Kind =:= otp6 -> {"::1", "{0,0,0,0,0,0,0,1}"};
+host(_) -> {"127.0.0.1", "{127,0,0,1}"}.
+
 carrier(ours) -> carrier(os:getenv("EBIN"));
+carrier(ours6) -> ["-proto_dist", "distnode6", "-pa", os:getenv("EBIN")];
 carrier(otp) -> [];
+carrier(otp6) -> ["-proto_dist", "inet6_tcp"];
 carrier(release) -> ["-proto_dist", "distnode"];
 carrier(Ebin) -> ["-proto_dist", "distnode", "-pa", Ebin].
-
 
 cookie(Arguments) -> case lists:member("-setcookie", Arguments) of true -> []; false -> ["-setcookie", "test"] end.
 
 name(#node{name = Name}) -> Name.
 
-call(#node{socket = Socket, name = Name}, M, F, A) ->
+call(Node, M, F, A) -> call(Node, M, F, A, 60000).
+
+call(#node{socket = Socket, name = Name}, M, F, A, Wait) ->
     Ref = erlang:unique_integer(),
     ok = gen_tcp:send(Socket, term_to_binary({Ref, {M, F, A}})),
-    case gen_tcp:recv(Socket, 0, 60000) of
+    case gen_tcp:recv(Socket, 0, Wait) of
         {ok, Bin} ->
             case binary_to_term(Bin) of
                 {Ref, {ok, Value}} -> Value;

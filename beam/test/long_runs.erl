@@ -1,0 +1,167 @@
+%% SPDX-License-Identifier: Apache-2.0
+%% What takes longer than a test may: random connects and kills for minutes with the tables compared while they change, knocks
+%% and strangers by the thousand, ten hours' worth of reconnects, and connect times and messages beside OTP's own carrier.
+-module(long_runs).
+-export([main/1]).
+
+-define(FLAGS, 16#d07df7fbd).
+-define(QUIET, ["-connect_all", "false", "-kernel", "prevent_overlapping_partitions", "false"]).
+
+main([Seconds | Words]) ->
+    {Mapper, OsPid} = test_nodes:port_mapper(),
+    Runs = [{"random", fun() -> random(list_to_integer(Seconds)) end},
+            {"knocks", fun() -> knocks(Mapper, 20000) end},
+            {"strangers", fun() -> strangers(Mapper, 1100) end},
+            {"impostor", fun() -> impostor(Mapper) end},
+            {"reconnects", fun() -> reconnects(72000) end},
+            {"connect_times", fun() -> connect_times(10, 100) end},
+            {"messages", fun() -> messages(5, 200000) end}],
+    Failed = [Name || {Name, Run} <- Runs, Words =:= [] orelse lists:member(Name, Words), not passes(Name, Run)],
+    os:cmd("kill " ++ integer_to_list(OsPid)),
+    halt(case Failed of [] -> 0; _ -> 1 end).
+
+passes(Name, Run) ->
+    Begin = erlang:monotonic_time(millisecond),
+    {Outcome, Text} = try {"passed", Run()} catch Class:Reason:Stack -> {"FAILED", io_lib:format("~p", [{Class, Reason, Stack}])} end,
+    io:format("~s ~s (~b s): ~ts~n", [Outcome, Name, (erlang:monotonic_time(millisecond) - Begin) div 1000, Text]),
+    Outcome =:= "passed".
+
+n(Node) -> test_nodes:name(Node).
+c(Node, M, F, A) -> test_nodes:call(Node, M, F, A).
+
+with(Specs, Body) ->
+    Nodes = test_nodes:start(Specs),
+    try Body(Nodes)
+    after [test_nodes:stop(Node) || Node <- Nodes]
+    end.
+
+both_up(A, B) -> true = test_nodes:wait(fun() -> c(A, test_agent, row, [n(B)]) =/= none andalso c(B, test_agent, row, [n(A)]) =/= none end, 20000).
+agreed(Node) -> true = test_nodes:wait(fun() -> c(Node, test_agent, is_agreed, []) end, 20000).
+
+%% Three nodes connect and disconnect at random, and a fourth is killed and comes back.
+random(Seconds) ->
+    with([{Short, ours, ?QUIET} || Short <- ["a", "b", "c"]],
+         fun(Three) ->
+                 Names = [n(X) || X <- Three] ++ ['d@127.0.0.1'],
+                 Until = erlang:system_time(millisecond) + 1000 * Seconds,
+                 Self = self(),
+                 [spawn_link(fun() -> Self ! {X, test_nodes:call(X, test_agent, traffic_observed, [Names -- [n(X)], Until], 1000 * Seconds + 60000)} end) || X <- Three],
+                 {D, Kills} = killed([n(X) || X <- Three], Until, 0),
+                 try
+                     Seen = [receive {X, Counts} -> Counts after 60000 -> error({busy, n(X)}) end || X <- Three],
+                     [] = lists:append([Apart || {_, _, Apart} <- Seen]),
+                     Four = Three ++ [D],
+                     [agreed(X) || X <- Four],
+                     [begin
+                          true = test_nodes:wait(fun() -> c(X, net_kernel, connect_node, [n(Y)]) end, 20000),
+                          both_up(X, Y)
+                      end || X <- Four, Y <- Four, n(X) < n(Y)],
+                     [agreed(X) || X <- Four],
+                     io_lib:format("~b actions, ~b kills, ~b looks at both tables, none apart",
+                                   [lists:sum([N || {N, _, _} <- Seen]), Kills, lists:sum([N || {_, N, _} <- Seen])])
+                 after test_nodes:stop(D)
+                 end
+         end).
+
+killed(Names, Until, Kills) ->
+    D = test_nodes:start("d", ours, ?QUIET),
+    _ = c(D, test_agent, traffic, [Names, min(Until, erlang:system_time(millisecond) + 2000)]),
+    case erlang:system_time(millisecond) >= Until of
+        true -> {D, Kills};
+        false -> test_nodes:kill(D), killed(Names, Until, Kills + 1)
+    end.
+
+%% Connections that come, say nothing and go.
+knocks(Mapper, N) ->
+    with([{"a", ours, ?QUIET}, {"b", ours, ?QUIET}],
+         fun([A, B]) ->
+                 Port = other_side:port_of("a", Mapper),
+                 [gen_tcp:close(other_side:connect(Port)) || _ <- lists:seq(1, 1000)],
+                 agreed(A),
+                 Before = c(A, test_agent, memory, []),
+                 [gen_tcp:close(other_side:connect(Port)) || _ <- lists:seq(1, N)],
+                 {Took, true} = timer:tc(fun() -> c(B, net_kernel, connect_node, [n(A)]) end),
+                 agreed(A),
+                 io_lib:format("~b knocks, then a peer connects in ~b ms; ~b KiB before, ~b after", [N, Took div 1000, Before, c(A, test_agent, memory, [])])
+         end).
+
+%% Names without a cookie, all held at once.
+strangers(Mapper, N) ->
+    with([{"a", ours, ?QUIET}, {"b", ours, ?QUIET}, {"o", otp, ?QUIET}],
+         fun([A, B, O]) ->
+                 Port = other_side:port_of("a", Mapper),
+                 Held = [stranger(Port, integer_to_binary(I)) || I <- lists:seq(1, N)],
+                 Took = [element(1, {_, true} = timer:tc(fun() -> c(X, net_kernel, connect_node, [n(A)]) end)) div 1000 || X <- [B, O]],
+                 [gen_tcp:close(Socket) || Socket <- Held],
+                 agreed(A),
+                 io_lib:format("~b strangers held, peers connect beside them in ~w ms", [N, Took])
+         end).
+
+stranger(Port, Name) ->
+    Socket = other_side:connect(Port),
+    ok = other_side:say_name(Socket, ?FLAGS, <<"stranger", Name/binary, "@127.0.0.1">>),
+    <<"ok">> = other_side:status(Socket),
+    Socket.
+
+%% Somebody without the cookie holds a handshake in a peer's name, at a node of ours and at one of OTP's; then the peer connects.
+impostor(Mapper) ->
+    with([{"a", ours, ?QUIET}, {"o", otp, ?QUIET}, {"b", otp, ?QUIET}],
+         fun([A, O, B]) ->
+                 [Ours, Otp] = [begin
+                                    Socket = other_side:connect(other_side:port_of(Short, Mapper)),
+                                    ok = other_side:say_name(Socket, ?FLAGS, atom_to_binary(n(B))),
+                                    <<"ok">> = other_side:status(Socket),
+                                    {Took, Answer} = timer:tc(fun() -> c(B, net_kernel, connect_node, [n(X)]) end),
+                                    gen_tcp:close(Socket),
+                                    [Answer, Took div 1000]
+                                end || {X, Short} <- [{A, "a"}, {O, "o"}]],
+                 true = hd(Ours),
+                 io_lib:format("the peer's connect answers ~w after ~w ms, and ~w after ~w ms at a node of OTP's", Ours ++ Otp)
+         end).
+
+%% As many as a peer makes in ten hours that comes and goes twice a second.
+reconnects(N) ->
+    with([{"a", ours, ?QUIET}, {"b", ours, ?QUIET}],
+         fun([A, B]) ->
+                 Rounds = N div 1000,
+                 _ = reconnect(A, B, 1000),
+                 Before = c(B, test_agent, memory, []),
+                 Medians = [reconnect(A, B, 1000) || _ <- lists:seq(2, Rounds)],
+                 [agreed(X) || X <- [A, B]],
+                 io_lib:format("~b connects; median ~b us in the first thousand, ~b in the last; ~b KiB before, ~b after",
+                               [N, hd(Medians), lists:last(Medians), Before, c(B, test_agent, memory, [])])
+         end).
+
+reconnect(A, B, N) ->
+    Times = c(A, test_agent, reconnect, [n(B), N]),
+    true = is_integer(lists:last(Times)),
+    median(Times).
+
+%% net_kernel:connect_node, in turns with OTP's own carrier.
+connect_times(Rounds, N) ->
+    with([{"a", ours, ?QUIET}, {"b", ours, ?QUIET}, {"o", otp, ?QUIET}, {"p", otp, ?QUIET}],
+         fun([A, B, O, P]) ->
+                 _ = [c(X, test_agent, reconnect, [n(Y), N]) || {X, Y} <- [{A, B}, {O, P}]],
+                 Both = [{c(A, test_agent, reconnect, [n(B), N]), c(O, test_agent, reconnect, [n(P), N])} || _ <- lists:seq(1, Rounds)],
+                 {Ours, Otp} = {lists:append([X || {X, _} <- Both]), lists:append([X || {_, X} <- Both])},
+                 io_lib:format("median of ~b: ~b us and ~b refused, OTP's own carrier ~b us and ~b refused, ~.2f of it",
+                               [Rounds * N, median(Ours), refused(Ours), median(Otp), refused(Otp), median(Ours) / median(Otp)])
+         end).
+
+refused(Times) -> length([refused || refused <- Times]).
+
+median(List) -> lists:nth(length(List) div 2, lists:sort(List)).
+
+messages(Rounds, N) ->
+    with([{"a", ours, ?QUIET}, {"b", ours, ?QUIET}, {"o", otp, ?QUIET}, {"p", otp, ?QUIET}],
+         fun([A, B, O, P]) ->
+                 [true = c(X, test_agent, sink, []) || X <- [B, P]],
+                 Both = [{flood(A, B, N), flood(O, P, N)} || _ <- lists:seq(1, Rounds)],
+                 Ours = median([X || {X, _} <- Both]),
+                 Otp = median([X || {_, X} <- Both]),
+                 io_lib:format("median of ~b times ~b messages: ~b us, OTP's own carrier ~b us, ~.2f of it", [Rounds, N, Ours, Otp, Ours / Otp])
+         end).
+
+flood(A, B, N) ->
+    {Took, N} = timer:tc(fun() -> c(A, test_agent, flood, [n(B), N]) end),
+    Took.
