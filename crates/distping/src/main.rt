@@ -65,7 +65,8 @@ Status: 0 up, 1 a fault here, 2 a bad command line, 3 the host's name, 4 the por
 ";
 
 /// The version of the program, and of what it speaks.
-const VERSION: &str = "distping 0.2.0, distribution handshake of version 6\n";
+const VERSION: &str = "distping 0.2.0, distribution handshake of version 6\n\
+Hosts are found by the C library; in a static program by /etc/hosts and the name servers of /etc/resolv.conf alone.\n";
 
 fn main(rt: HostRuntime) -> ExitCode {
     match perform(&rt) {
