@@ -1,4 +1,10 @@
-complete -c distping -f
+function __distping_nodes
+    begin
+        timeout 1 distnode names 2>/dev/null; or timeout 1 epmd -"names" 2>/dev/null
+    end | string replace -r -f '^name ([A-Za-z0-9_-]+) at port [0-9]+$' '$1@'(hostname -s)
+end
+
+complete -c distping -f -a '(__distping_nodes)'
 complete -c distping -l name -x -d 'the name that the probe gives itself'
 complete -c distping -l cookie -r -F -d 'the file of the cookie'
 complete -c distping -l no-cookie -d 'stop at the challenge of the node'
