@@ -137,7 +137,8 @@ static ERL_NIF_TERM nif_new(ErlNifEnv *env, int argc, const ERL_NIF_TERM argv[])
         return enif_make_badarg(env);
     kept *k = kept_new();
     if (!k) return fault(env, DN_NO_MEMORY);
-    dn_setup setup = {.flags = flags, .required = required, .creation = creation, .version = 6, .most_ends = most_ends};
+    dn_setup setup = {.flags = flags, .required = required, .creation = creation, .version = 6, .most_ends = most_ends,
+                      .mandatory_25 = DN_MANDATORY_25};
     uint32_t code = dn_node_new(&k->node, name.data, name.size, cookie.data, cookie.size, &setup);
     ERL_NIF_TERM node = enif_make_resource(env, k);
     enif_release_resource(k);
@@ -285,6 +286,25 @@ static ERL_NIF_TERM nif_body(ErlNifEnv *env, int argc, const ERL_NIF_TERM argv[]
     return term;
 }
 
+/* early_body(Node, Id, Body, Challenge): as body/4, but `ready`, and nothing done, where that would bring an end up */
+static ERL_NIF_TERM nif_early_body(ErlNifEnv *env, int argc, const ERL_NIF_TERM argv[]) {
+    frame f;
+    dn_reply reply = {0};
+    ERL_NIF_TERM term;
+    (void)argc;
+    if (!frame_of(env, argv, &f)) return enif_make_badarg(env);
+    enif_mutex_lock(f.k->lock);
+    if (!dn_node_ready_body(&f.k->node, f.id, f.body.data, f.body.size, f.challenge, &reply) && reply.up) {
+        term = enif_make_atom(env, "ready");
+    } else {
+        memset(&reply, 0, sizeof reply);
+        uint32_t code = dn_node_body(&f.k->node, f.id, f.body.data, f.body.size, f.challenge, &reply);
+        term = step_term(env, f.k, code, &reply);
+    }
+    enif_mutex_unlock(f.k->lock);
+    return term;
+}
+
 /* lost(Node, Id, Why) with Why a number of dn_why */
 static ERL_NIF_TERM nif_lost(ErlNifEnv *env, int argc, const ERL_NIF_TERM argv[]) {
     kept *k;
@@ -359,6 +379,7 @@ static ErlNifFunc functions[] = {
     {"allow", 2, nif_allow, 0},       {"disallow", 2, nif_disallow, 0}, {"forget", 2, nif_forget, 0},
     {"dial", 2, nif_dial, 0},         {"incoming", 1, nif_incoming, 0}, {"opened", 2, nif_opened, 0},
     {"ready", 4, nif_ready, 0},       {"body", 4, nif_body, 0},         {"lost", 3, nif_lost, 0},
+    {"early_body", 4, nif_early_body, 0},
     {"up_end", 2, nif_up_end, 0},     {"peers", 1, nif_peers, 0},       {"challenge", 0, nif_challenge, 0},
 };
 

@@ -22,18 +22,14 @@ accept(Driver, Kernel, Acceptor, Socket, MyNode, Allowed, SetupTime) ->
     end.
 
 shake(Driver, Kernel, Socket, MyNode, Allowed, SetupTime) ->
-    case distnode_core:incoming() of
-        {ok, Id} ->
-            case distnode_shake:accepted(Driver, Socket, Id, Allowed, SetupTime) of
-                {ready, Info, {give, Setup}} -> distnode_shake:give(Socket, Info, Setup);
-                {ready, Info, keep} ->
-                    Timer = dist_util:start_timer(SetupTime),
-                    bring_up(Driver, Kernel, Socket, Info, {MyNode, Allowed}, Timer);
-                {nameless, Body} -> nameless(Driver, Kernel, Socket, Body, MyNode, Allowed, SetupTime);
-                {refused, Peer, Code} -> refused(Peer, Code);
-                {closed, Why, _, Peer} -> closed(Why, Peer)
-            end;
-        {error, Code} -> refused(none, Code)
+    case distnode_shake:accepted(Driver, Socket, Allowed, SetupTime) of
+        {ready, Info, {give, Setup}} -> distnode_shake:give(Socket, Info, Setup);
+        {ready, Info, keep} ->
+            Timer = dist_util:start_timer(SetupTime),
+            bring_up(Driver, Kernel, Socket, Info, {MyNode, Allowed}, Timer);
+        {nameless, Body} -> nameless(Driver, Kernel, Socket, Body, MyNode, Allowed, SetupTime);
+        {refused, Peer, Code} -> refused(Peer, Code);
+        {closed, Why, Peer} -> closed(Why, Peer)
     end.
 
 %% Until net_kernel takes the peer, a setup of its own does, or the timer ends this process.

@@ -6,12 +6,12 @@
 -export_type([access/0, cookie/0]).
 
 -type cookie() :: {ok, binary()} | {error, atom()}.
--type access() :: #{peer := binary(), cookie := cookie(), usual := cookie(), allowed := all | boolean()}.
+-type access() :: #{peer := binary(), cookie := cookie(), allowed := all | boolean()}.
 
 %% Allowed is the list that net_kernel hands to a carrier with each accepted connection; empty, it lets everybody in.
 -spec of_peer(binary(), [term()]) -> access().
 of_peer(Peer, Allowed) ->
-    #{peer => Peer, cookie => cookie_for(Peer), usual => usual(), allowed => is_allowed(Peer, Allowed)}.
+    #{peer => Peer, cookie => cookie_for(Peer), allowed => is_allowed(Peer, Allowed)}.
 
 -spec usual() -> cookie().
 usual() -> text(erlang:get_cookie()).

@@ -4,7 +4,7 @@
 %% to it. Where this process ends the distribution does, as it does where net_kernel ends.
 -module(distnode_core).
 -behaviour(gen_server).
--export([start_link/0, want/1, incoming/0, opened/2, received/3, admit/1, refused/1, handed/1, done/1, lost/1]).
+-export([start_link/0, want/1, arrived/2, stepped/3, received/2, finish/3, admit/1, refused/1, handed/1, done/1, lost/1]).
 -export([table/0, counts/0]).
 -export([init/1, handle_call/3, handle_cast/2, handle_info/2]).
 
@@ -12,6 +12,8 @@
 -type access() :: distnode_access:access().
 -type info() :: #{id := id(), peer := binary(), common := non_neg_integer(), creation := non_neg_integer() | unknown,
                   flags := non_neg_integer()}.
+-type received() :: {more, [binary()]} | {closed, [binary()], Why :: atom(), Heard :: atom()} |
+                    {ready, info(), keep | {give, pid()}} | {error, atom()}.
 -export_type([info/0]).
 
 %% ready: the frame that brings an end up, and what it will bring, until net_kernel has agreed.
@@ -25,26 +27,33 @@
 
 start_link() -> gen_server:start_link({local, ?MODULE}, ?MODULE, [], []).
 
-%% net_kernel has started the caller to set up a connection to this peer. It hears {distnode, {dial, Id}}, {distnode, {closed,
-%% Id, Why}} of that dial, {distnode, {failed, Code}}, {distnode, again} or, from the process that has made an end ready,
-%% {distnode, {ready, ..}}.
+%% net_kernel has started the caller to set up a connection to this peer. It hears {distnode, {dial, #{id, node, flags}}},
+%% {distnode, {closed, Id, Why}} of that dial, {distnode, {failed, Code}}, {distnode, again} or, from the process that has made
+%% an end ready, {distnode, {ready, ..}}.
 -spec want(access()) -> ok.
 want(Access) -> gen_server:call(?MODULE, {want, Access}, infinity).
 
-%% The caller has accepted a connection.
--spec incoming() -> {ok, id()} | {error, atom()}.
-incoming() -> gen_server:call(?MODULE, incoming, infinity).
+%% The caller has accepted a connection, and this is its first frame, with what this emulator says of the name in it. The end
+%% that it gets, and what received/2 answers.
+-spec arrived(binary(), access() | none) -> {ok, id(), received()} | {error, atom()}.
+arrived(Body, Access) -> gen_server:call(?MODULE, {arrived, Body, Access}, infinity).
 
-%% The caller has made the connection of the end of this setup, and has the end now.
--spec opened(id(), pid()) -> {more, [binary()]} | {error, atom()}.
-opened(Id, Setup) -> gen_server:call(?MODULE, {opened, Id, Setup}, infinity).
+%% The caller has made this step of its own end at this node, and it was not only words that the step said.
+-spec stepped(id(), reference(), distnode_nif:step() | ready) ->
+    {closed, [binary()], Why :: atom(), Heard :: atom()} | {error, atom()}.
+stepped(Id, Node, Step) -> gen_server:call(?MODULE, {stepped, Id, Node, Step}, infinity).
 
-%% A frame came on the caller's end, and the first one of an accepted end with what this emulator says of the name in it.
+%% A frame came on the caller's end.
 %% `ready`: the peer has shown the cookie and nothing was answered yet; whoever keeps or gets the end asks net_kernel.
--spec received(id(), binary(), access() | none) ->
-    {more, [binary()]} | {closed, [binary()], Why :: atom(), Heard :: atom()} |
-    {ready, info(), keep | {give, pid()}} | {error, atom()}.
-received(Id, Body, Access) -> gen_server:call(?MODULE, {received, Id, Body, Access}, infinity).
+-spec received(id(), binary()) -> received().
+received(Id, Body) -> gen_server:call(?MODULE, {received, Id, Body}, infinity).
+
+%% A frame came on the end that the caller has dialled, while net_kernel has its row for that peer: the end comes up at once, with
+%% these flags and this creation.
+-spec finish(id(), binary(), {non_neg_integer(), non_neg_integer()}) ->
+    {ok, [binary()]} | gone | {give, info(), pid()} | {more, [binary()]} |
+    {closed, [binary()], Why :: atom(), Heard :: atom()} | {error, atom()}.
+finish(Id, Body, Told) -> gen_server:call(?MODULE, {finish, Id, Body, Told}, infinity).
 
 %% net_kernel has agreed, and an old connection of that peer is gone: the end comes up, and what it says is the acknowledgement.
 -spec admit(id()) -> {ok, [binary()]} | gone.
@@ -87,19 +96,27 @@ handle_call({want, #{peer := Peer} = Access}, {Pid, _}, St0) ->
             Pid ! {distnode, {failed, Code}},
             {reply, ok, St0}
     end;
-handle_call(incoming, {Pid, _}, St0) ->
+handle_call({arrived, Body, Access}, {Pid, _}, St0) ->
     case with_node(St0) of
-        {ok, St} -> came(Pid, St);
+        {ok, St} -> arrived(Body, Access, Pid, St);
         {error, Code} -> {reply, {error, Code}, St0}
     end;
-handle_call({opened, Id, Setup}, {Pid, _}, St0) ->
-    case told({opened, Id, Setup, Pid}, watch(Pid, St0)) of
-        {ok, St} -> stepped(Pid, distnode_nif:opened(St#st.node, Id), St);
-        {gone, St} -> {reply, {error, 'Gone'}, St}
+handle_call({stepped, Id, Node, Step}, {Pid, _}, #st{node = Node} = St0) ->
+    %% It may have lost the end before that step, and not have heard it.
+    Owner = distnode_links:owner(Id, St0#st.links),
+    case stepped(Id, Pid, Step, St0) of
+        {reply, {error, _}, St} when Owner =/= Pid -> {reply, {error, 'Gone'}, St};
+        Reply -> Reply
     end;
-handle_call({received, Id, Body, Access}, {Pid, _}, St) ->
+handle_call({stepped, _, _, _}, _, St) -> {reply, {error, 'Gone'}, St};
+handle_call({received, Id, Body}, {Pid, _}, St) ->
     case distnode_links:owner(Id, St#st.links) of
-        Pid -> frame(Id, Body, Access, Pid, St);
+        Pid -> frame(Id, Body, Pid, St);
+        _ -> {reply, {error, 'Gone'}, St}
+    end;
+handle_call({finish, Id, Body, Told}, {Pid, _}, St) ->
+    case distnode_links:owner(Id, St#st.links) of
+        Pid -> finish(Id, Body, Told, Pid, St);
         _ -> {reply, {error, 'Gone'}, St}
     end;
 handle_call({admit, Id}, {Pid, _}, St0) ->
@@ -136,30 +153,55 @@ handle_info(_, St) -> {noreply, St}.
 
 %% ---- steps
 
+arrived(Body, Access, Pid, St0) ->
+    case prepare(Access, St0) of
+        {ok, St1} ->
+            case came(Pid, St1) of
+                {ok, Id, St2} ->
+                    {reply, Answer, St} = frame(Id, Body, Pid, St2),
+                    {reply, {ok, Id, Answer}, close_list(Access, St)};
+                Refused -> Refused
+            end;
+        {error, Code} -> {reply, {error, Code}, note({prepare, Code}, St0)}
+    end.
+
 came(Pid, St0) ->
     case distnode_nif:incoming(St0#st.node) of
         {step, Id, [], none, Closed, none, none} ->
             {_, St} = told({accepted, Id, Pid}, watch(Pid, note(incoming, closed(Closed, none, St0)))),
-            {reply, {ok, Id}, forget(Id, St)};
+            {ok, Id, forget(Id, St)};
         {error, 'Spent', _} -> {reply, {error, 'Spent'}, begin_anew(St0)};
         {error, Code, Closed} -> {reply, {error, Code}, closed(Closed, none, note({incoming, Code}, St0))}
     end.
 
-frame(Id, Body, Access, Pid, St0) ->
-    case prepare(Access, St0) of
-        {ok, St} ->
-            Challenge = distnode_nif:challenge(),
-            case distnode_nif:ready(St#st.node, Id, Body, Challenge) of
-                none -> stepped(Pid, distnode_nif:body(St#st.node, Id, Body, Challenge), close_list(Access, St));
-                Up -> ready(Id, Body, Challenge, Up, St)
-            end;
-        {error, Code} -> {reply, {error, Code}, note({prepare, Code}, St0)}
+frame(Id, Body, Pid, St) ->
+    Challenge = distnode_nif:challenge(),
+    case distnode_nif:ready(St#st.node, Id, Body, Challenge) of
+        none -> stepped(Id, Pid, distnode_nif:body(St#st.node, Id, Body, Challenge), St);
+        Up -> ready(Id, Body, Challenge, Up, St)
     end.
 
 ready(Id, Body, Challenge, {Peer, Common, Creation} = Up, #st{ready = Ready} = St0) ->
     {Answer, St} = told({ready, Id, Peer}, St0#st{ready = Ready#{Id => {Body, Challenge, Up}}}),
     Info = #{id => Id, peer => Peer, common => Common, creation => Creation, flags => St#st.flags},
     {reply, {ready, Info, Answer}, note(case Answer of keep -> kept; _ -> given end, St)}.
+
+%% net_kernel has its row for this peer, and the process that owns it is the caller: nobody else is to be asked.
+finish(Id, Body, Told, Pid, St) ->
+    Challenge = distnode_nif:challenge(),
+    case distnode_nif:ready(St#st.node, Id, Body, Challenge) of
+        none -> stepped(Id, Pid, distnode_nif:body(St#st.node, Id, Body, Challenge), St);
+        {_, Common, Creation} = Up ->
+            case {Common, distnode_script:number(Creation)} of
+                Told -> finish_ready(Id, Pid, ready(Id, Body, Challenge, Up, St));
+                _ -> {reply, {error, 'OtherFlags'}, St}
+            end
+    end.
+
+finish_ready(Id, Pid, {reply, {ready, _, keep}, St0}) ->
+    {ok, St} = told({admit, Id, Pid}, St0),
+    admit(Id, Pid, St);
+finish_ready(_, _, {reply, {ready, Info, {give, Setup}}, St}) -> {reply, {give, Info, Setup}, St}.
 
 %% An end comes up with the very peer, flags and creation for which net_kernel has agreed, or not at all.
 admit(Id, Pid, #st{ready = Ready} = St0) ->
@@ -170,25 +212,28 @@ admit(Id, Pid, #st{ready = Ready} = St0) ->
             {_, St2} = told({admitted, Id}, closed(Closed, Pid, St1)),
             {reply, {ok, Bodies}, note(admitted, St2)};
         Other ->
-            {reply, _, St2} = stepped(Pid, Other, St1),
+            {reply, _, St2} = stepped(Id, Pid, Other, St1),
             {_, St3} = told({given_up, Id, Pid}, St2),
             {reply, gone, St3}
     end.
 
 %% What a step of this process did, for the process. No end comes up but by admit/3: ready/4 had said so.
-stepped(Pid, {step, Id, _, _, Closed, _, {_, _, _}}, St0) ->
-    {_, St} = told({given_up, Id, Pid}, closed(Closed, Pid, note(unasked, St0))),
-    {reply, {error, 'Gone'}, St};
-stepped(Pid, {step, Id, Bodies, _, {Id, Why} = Closed, Heard, none}, St) ->
+stepped(Id, Pid, {step, Id, _, _, Closed, _, {_, _, _}}, St) -> unasked(Id, Pid, closed(Closed, Pid, St));
+stepped(Id, Pid, {step, Id, Bodies, _, {Id, Why} = Closed, Heard, none}, St) ->
     {reply, {closed, Bodies, Why, Heard}, closed(Closed, Pid, St)};
-stepped(Pid, {step, Id, Bodies, Peer, Closed, _, none}, St0) ->
+stepped(Id, Pid, {step, Id, Bodies, Peer, Closed, _, none}, St0) ->
     {_, St} = case Peer of
                   none -> {ok, St0};
                   _ -> told({named, Id, Peer}, St0)
               end,
     {reply, {more, Bodies}, closed(Closed, Pid, St)};
-stepped(Pid, {error, Code, Closed}, St) ->
-    {reply, {error, Code}, closed(Closed, Pid, note({refused, Code}, St))}.
+stepped(_, Pid, {error, Code, Closed}, St) ->
+    {reply, {error, Code}, closed(Closed, Pid, note({refused, Code}, St))};
+stepped(Id, Pid, ready, St) -> unasked(Id, Pid, St).
+
+unasked(Id, Pid, St0) ->
+    {_, St} = told({given_up, Id, Pid}, note(unasked, St0)),
+    {reply, {error, 'Gone'}, St}.
 
 closed(none, _, St) -> St;
 closed({Id, Why}, Pid, St0) ->
@@ -201,6 +246,9 @@ told(Event, #st{links = Links} = St) ->
     {Answer, Actions, Next} = distnode_links:event(Event, Links),
     {Answer, lists:foldl(fun act/2, St#st{links = Next}, Actions)}.
 
+act({tell, Pid, {dial, Id}}, St) ->
+    Pid ! {distnode, {dial, #{id => Id, node => St#st.node, flags => St#st.flags}}},
+    St;
 act({tell, Pid, What}, St) ->
     Pid ! {distnode, What},
     St;
@@ -211,7 +259,8 @@ act(_, #st{node = undefined} = St) ->
     %% The node has begun anew since: nothing is open, and nobody waits.
     St;
 act({lose, Id, Why}, St) ->
-    {step, Id, [], none, {Id, _}, _, none} = distnode_nif:lost(St#st.node, Id, why(Why)),
+    %% A step of the process that dials may have closed it, which this process has not been told yet.
+    _ = distnode_nif:lost(St#st.node, Id, why(Why)),
     note({lost, Why}, St#st{ready = maps:remove(Id, St#st.ready)});
 act({dial, Peer}, St) -> dial(Peer, St).
 
@@ -287,14 +336,20 @@ prepare(Access, St) ->
 
 %% Gives the node the cookie that the emulator has for this peer. Where the peer has an end, the one that it has stays: the
 %% handshake that is under way ends under it.
-suit(#{peer := Peer, cookie := {ok, Cookie}, usual := Usual}, Most, St0) ->
-    St = suit_usual(Usual, St0),
-    case {maps:get(Peer, St#st.own, St#st.usual), map_size(St#st.own)} of
-        {Cookie, _} -> {ok, St};
-        {_, Size} when Size >= Most, not is_map_key(Peer, St#st.own) -> {error, 'Full'};
-        _ -> suit_peer(Peer, Cookie, St)
+suit(#{peer := Peer, cookie := {ok, Cookie}}, Most, St) ->
+    case St of
+        #st{own = #{Peer := Cookie}} -> {ok, St};
+        #st{own = Own, usual = Cookie} when not is_map_key(Peer, Own) -> {ok, St};
+        _ -> suit_other(Peer, Cookie, Most, suit_usual(distnode_access:usual(), St))
     end;
 suit(#{cookie := {error, Code}}, _, _) -> {error, Code}.
+
+suit_other(Peer, Cookie, Most, #st{own = Own, usual = Usual} = St) ->
+    case {maps:get(Peer, Own, Usual), map_size(Own)} of
+        {Cookie, _} -> {ok, St};
+        {_, Size} when Size >= Most, not is_map_key(Peer, Own) -> {error, 'Full'};
+        _ -> suit_peer(Peer, Cookie, St)
+    end.
 
 suit_peer(Peer, Cookie, #st{node = Node, own = Own} = St) ->
     case distnode_nif:cookie(Node, Peer, Cookie) of

@@ -35,7 +35,6 @@
     {busy, peer(), Up :: id() | none} |       % no end, since the peer has one, and which one is up,
     {refused, peer(), Code :: atom()} |       % or no end, for another reason
     {accepted, id(), pid()} |                 % a connection came, and got this end
-    {opened, id(), Setup :: pid(), pid()} |   % a dialler has made the connection of its setup's end
     {named, id(), peer()} |                   % the end holds this peer now
     {ready, id(), peer()} |                   % the next step brings this end up with this peer
     {vetoed, id(), pid()} |                   % net_kernel wouldn't take this end from its owner: it has a setup of its own
@@ -63,7 +62,6 @@ event({dialled, Peer, Id}, L) -> dialled(Peer, Id, L);
 event({busy, Peer, Up}, L) -> busy(Peer, Up, L);
 event({refused, Peer, Code}, L) -> refused(Peer, Code, L);
 event({accepted, Id, Pid}, L) -> {ok, [], put_link(Id, #link{owner = Pid}, L)};
-event({opened, Id, Setup, Dialler}, L) -> opened(Id, Setup, Dialler, L);
 event({named, Id, Peer}, L) -> named(Id, Peer, L);
 event({ready, Id, Peer}, L) -> ready(Id, Peer, L);
 event({vetoed, Id, Pid}, L) -> vetoed(Id, Pid, L);
@@ -128,22 +126,18 @@ refused(Peer, Code, L) ->
 
 %% ---- a handshake goes on
 
-opened(Id, Setup, Dialler, L) ->
-    case link_of(Id, L) of
-        #link{owner = Setup, stage = shaking} = Link -> {ok, [], put_link(Id, Link#link{owner = Dialler}, L)};
-        _ -> {gone, [], L}
-    end.
-
 named(Id, Peer, L) ->
     case link_of(Id, L) of
         #link{} = Link -> {ok, [], put_link(Id, Link#link{peer = Peer}, L)};
         none -> {ok, [], L}
     end.
 
+%% A setup's own dial is its own already.
 ready(Id, Peer, L) ->
-    #link{stage = shaking} = Link = link_of(Id, L),
+    #link{owner = Owner, stage = shaking} = Link = link_of(Id, L),
     L1 = put_link(Id, Link#link{peer = Peer, stage = ready}, L),
     case want_of(Peer, L1) of
+        #want{setup = Owner} -> {keep, [], drop_want(Peer, L1)};
         #want{} = Want -> give(Id, Want, L1);
         none -> {keep, [], L1}
     end.
@@ -173,10 +167,7 @@ give(Id, #want{setup = Setup, how = How}, L) ->
 
 lose_dial(Dial, Setup, L) ->
     {Actions, L1} = lose(Dial, gave_up, L),
-    case owner(Dial, L) of
-        Dialler when Dialler =/= none, Dialler =/= Setup -> {Actions ++ [{tell, Dialler, {closed, Dial, 'Crossed'}}], L1};
-        _ -> {Actions, L1}
-    end.
+    {Actions ++ [{tell, Setup, {closed, Dial, 'Crossed'}}], L1}.
 
 handed(Id, Giver, L) ->
     case link_of(Id, L) of

@@ -2,7 +2,7 @@
 %% A node of the C library as functions of Erlang: c_src/distnode_nif.c.
 -module(distnode_nif).
 -export([load/0, new/6, cookie/3, usual_cookie/2, allow/2, disallow/2, forget/2]).
--export([dial/2, incoming/1, opened/2, ready/4, body/4, lost/3]).
+-export([dial/2, incoming/1, opened/2, ready/4, body/4, early_body/4, lost/3]).
 -export([up_end/2, peers/1, challenge/0]).
 -export_type([id/0, peer/0, closed/0, step/0]).
 
@@ -72,6 +72,10 @@ ready(_Node, _Id, _Body, _Challenge) -> ?STUB.
 
 -spec body(reference(), id(), binary(), Challenge :: non_neg_integer()) -> step().
 body(_Node, _Id, _Body, _Challenge) -> ?STUB.
+
+%% As body/4, but where that would bring an end up nothing is done: no other step comes between.
+-spec early_body(reference(), id(), binary(), Challenge :: non_neg_integer()) -> step() | ready.
+early_body(_Node, _Id, _Body, _Challenge) -> ?STUB.
 
 %% Why is a number of dn_why.
 -spec lost(reference(), id(), Why :: 1..15) -> step().

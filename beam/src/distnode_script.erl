@@ -7,15 +7,20 @@
 %% The step that brings the end up in the node is made where dist_util says the acknowledgement, or waits for it: an old
 %% connection of that peer is gone from the emulator by then, and the peer hears nothing of the new one before.
 -module(distnode_script).
--export([other_started/6, we_started/6]).
+-export([other_started/6, we_started/6, number/1]).
 
 -include_lib("kernel/include/dist_util.hrl").
+-include_lib("kernel/include/dist.hrl").
 
 -define(KEY, distnode_script).
 
+%% Of an own dial dist_util gets as far as it does without the acknowledgement while the peer looks at the reply: `heard` is the
+%% peer's challenge, and the frame that follows is read here.
+%%
 %% Both end with the connection, or throw {distnode, nok}: net_kernel has a setup for that peer; {distnode, already}: it is
 %% about to let another connection of that peer in, for which dist_util ends before it has said a word; {distnode, gone}: the
-%% node has closed the end meanwhile.
+%% node has closed the end meanwhile. An own dial throws {distnode, {told, What}} where this process was told something before
+%% the acknowledgement came, {distnode, {give, Info, Setup}}, {distnode, {closed, Why, Status}} or {distnode, {failed, Why}}.
 -spec other_started(module(), pid(), port(), map(), {node(), [term()]}, pid()) -> no_return().
 other_started(Driver, Kernel, Socket, Info, {MyNode, Allowed}, Timer) ->
     Data = data(Driver, Kernel, Socket, MyNode, Timer, Info),
@@ -32,7 +37,7 @@ other_started(Driver, Kernel, Socket, Info, {MyNode, Allowed}, Timer) ->
 -spec we_started(module(), pid(), port(), map(), {node(), node(), term()}, pid()) -> no_return().
 we_started(Driver, Kernel, Socket, Info, {MyNode, Node, Type}, Timer) ->
     Data = data(Driver, Kernel, Socket, MyNode, Timer, Info),
-    start(dialled, Driver, Info),
+    start(dialled, Driver, foreseen(Info)),
     dist_util:handshake_we_started(Data#hs_data{other_node = Node, other_version = 6, request_type = Type}).
 
 data(Driver, Kernel, Socket, MyNode, Timer, #{id := Id} = Info) ->
@@ -82,11 +87,49 @@ recv(dialled, [<<$N, _/binary>>], _, Script) ->
     put(?KEY, Script#{said := [status]}),
     {ok, "sok"};
 recv(dialled, [status], _, Script) -> {ok, challenge(Script)};
+recv(dialled, [<<$r, _/binary>> | _], Socket, #{heard := _} = Script) ->
+    Digest = digest(Script),
+    acknowledged(Socket, Script),
+    {ok, [$a | Digest]};
 recv(dialled, [<<$r, _/binary>> | _], Socket, Script) ->
     case admitted(Socket, Script) of
         ok -> {ok, [$a | digest(Script)]};
         Error -> Error
     end.
+
+acknowledged(Socket, #{wait := Wait} = Script) ->
+    receive
+        {tcp, Socket, Body} -> acknowledged(Body, Socket, Script);
+        {tcp_closed, Socket} -> throw({distnode, {failed, ended}});
+        {tcp_error, Socket, _} -> throw({distnode, {failed, read_failed}});
+        {distnode, Told} -> throw({distnode, {told, Told}})
+    after Wait -> throw({distnode, {failed, gave_up}})
+    end.
+
+acknowledged(Body, Socket, #{id := Id, driver := Driver, common := Common, creation := Creation} = Script) ->
+    case distnode_core:finish(Id, Body, {Common, number(Creation)}) of
+        {ok, Bodies} -> distnode_shake:say(Driver, Socket, Bodies);
+        {more, Bodies} ->
+            _ = distnode_shake:say(Driver, Socket, Bodies),
+            _ = inet:setopts(Socket, [{active, once}]),
+            acknowledged(Socket, Script);
+        {closed, Bodies, Why, Status} ->
+            _ = distnode_shake:say(Driver, Socket, Bodies),
+            throw({distnode, {closed, Why, Status}});
+        {give, Info, Setup} -> throw({distnode, {give, Info, Setup}});
+        {error, 'Gone'} -> throw({distnode, gone});
+        gone -> throw({distnode, gone});
+        {error, Code} -> throw({distnode, {failed, Code}})
+    end.
+
+%% What the end will be up with, if the peer acknowledges: the node says so itself before it comes up (distnode_core:finish/3).
+foreseen(#{heard := <<$N, Flags:64, _Challenge:32, Creation:32, _/binary>>} = Info) -> foreseen(Flags, Creation, Info);
+foreseen(#{heard := <<$n, _Version:16, Flags:32, _/binary>>} = Info) -> foreseen(Flags, unknown, Info);
+foreseen(Info) -> Info.
+
+foreseen(Flags, Creation, #{flags := Own} = Info) when Flags band ?DFLAG_MANDATORY_25_DIGEST =/= 0 ->
+    Info#{common => Own band (Flags bor ?MANDATORY_DFLAGS_25), creation => Creation};
+foreseen(Flags, Creation, #{flags := Own} = Info) -> Info#{common => Own band Flags, creation => Creation}.
 
 %% dist_util announces what the node has announced. It would do otherwise of a hidden dial or of another global group.
 challenged(Flags, Challenge, #{flags := Flags}) -> heard(Challenge);
@@ -112,8 +155,10 @@ challenge(#{peer := Peer, common := Common} = Script) ->
     binary_to_list(<<$N, Common:64, 0:32, (creation(Script)):32, (byte_size(Peer)):16, Peer/binary>>).
 
 %% A peer of version 5 tells no creation, and OTP puts 0 in its place.
-creation(#{creation := unknown}) -> 0;
-creation(#{creation := Creation}) -> Creation.
+creation(#{creation := Creation}) -> number(Creation).
+
+number(unknown) -> 0;
+number(Creation) -> Creation.
 
 %% The digest that dist_util expects. That the peer has shown the right one is the node's decision, made already.
 digest(#{peer := Peer}) ->

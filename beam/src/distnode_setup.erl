@@ -1,9 +1,9 @@
 %% SPDX-License-Identifier: Apache-2.0
-%% The process that net_kernel starts to set up a connection to a peer. It has the node dial, through a process beside it, and
-%% gets whichever end becomes ready with that peer, its own dial or a connection that the peer made meanwhile; that one it
-%% holds to its end.
+%% The process that net_kernel starts to set up a connection to a peer. It has the node dial, and gets whichever end becomes
+%% ready with that peer, its own dial or a connection that the peer made meanwhile; that one it holds to its end. A process
+%% beside it finds the peer and connects, so that it can be told of another end at any time.
 -module(distnode_setup).
--export([start/6, setup/7, dial/3]).
+-export([start/6, setup/7, dial/2]).
 
 -include_lib("kernel/include/dist_util.hrl").
 
@@ -13,7 +13,9 @@
 %% A peer that takes an attempt's place again and again is given up after so many.
 -define(MOST_ATTEMPTS, 100).
 
--record(setup, {driver, kernel, node, peer, type, my_node, name, host, wait, dial = none, id = none, left = ?MOST_ATTEMPTS}).
+%% The own dial: `dialler` finds the peer until it has handed `socket` over; `end_of` is #{id, node, flags} of its end.
+-record(setup, {driver, kernel, node, peer, type, my_node, name, host, wait, dialler = none, end_of = none, socket = none,
+                left = ?MOST_ATTEMPTS}).
 
 start(Driver, Node, Type, MyNode, LongOrShort, SetupTime) ->
     spawn_opt(?MODULE, setup, [Driver, self(), Node, Type, MyNode, LongOrShort, SetupTime],
@@ -35,30 +37,45 @@ not_hidden(hidden, Node) ->
     end;
 not_hidden(_, _) -> ok.
 
+%% The peer is looked for while the node is asked, and is connected to only once the node dials.
 want(#setup{left = 0} = S) -> failed(S, gave_up);
-want(#setup{peer = Peer, left = Left} = S) ->
+want(#setup{peer = Peer, left = Left} = S0) ->
+    S = start_dialler(S0#setup{left = Left - 1}),
     ok = distnode_core:want(distnode_access:of_peer(Peer, [])),
-    await(S#setup{left = Left - 1}, S#setup.wait).
+    receive
+        {distnode, {dial, End}} -> dial_now(End, S)
+    after 0 -> await(end_dial(S), S#setup.wait)
+    end.
+
+dial_now(End, #setup{dialler = none} = S) -> dial_now(End, start_dialler(S));
+dial_now(End, #setup{dialler = Dialler, wait = Wait} = S) ->
+    Dialler ! {self(), dial},
+    await(S#setup{end_of = End}, 6 * Wait).
 
 %% A dial has its times for the port mapper, the connection and each frame; without one this process waits for an end that
 %% somebody else has with that peer.
-await(#setup{dial = Dial, id = Own} = S, Wait) ->
+await(#setup{dialler = Dialler, socket = Socket} = S, Wait) ->
     receive
-        {distnode, {dial, Id}} -> await(start_dial(Id, S), 6 * S#setup.wait);
-        {distnode, {ready, Socket, Info, Giver}} -> bring_up(Socket, Info, end_dial(Giver, S));
-        {distnode, {failed, Code}} ->
-            distnode_access:report(S#setup.peer, Code),
-            failed(S, Code);
-        {distnode, again} -> want(S);
-        {distnode, {closed, Own, _}} when Own =/= none -> want(end_dial(none, S));
-        %% An end that another process was to hand over, and without a dial that was all there was to wait for.
-        {distnode, {closed, _, _}} when Dial =:= none -> want(S);
-        {distnode, {closed, _, _}} -> await(S, Wait);
-        {Dial, {closed, 'StatusRefused', nok, _}} -> await_other(no_dial(S));
-        {Dial, {closed, Why, _, _}} when Why =:= 'Crossed'; Why =:= 'Replaced'; Why =:= 'GaveUp' -> want(no_dial(S));
-        {Dial, {closed, Why, _, _}} -> failed(S, Why)
+        {distnode, Told} -> told(Told, S, Wait);
+        {Dialler, {connected, Connected, Address}} -> opened(Address, S#setup{dialler = none, socket = Connected});
+        {Dialler, {failed, Why}} -> failed(S, Why);
+        {tcp, Socket, Body} -> frame(Body, S);
+        {tcp_closed, Socket} -> failed(S, ended);
+        {tcp_error, Socket, _} -> failed(S, read_failed)
     after Wait -> failed(S, gave_up)
     end.
+
+told({dial, End}, #setup{socket = none} = S, _) -> dial_now(End, S);
+told({dial, End}, S, _) -> dial_now(End, end_dial(S));
+told({ready, Socket, Info, _}, S, _) -> bring_up(Socket, Info, end_dial(S));
+told({failed, Code}, S, _) ->
+    distnode_access:report(S#setup.peer, Code),
+    failed(S, Code);
+told(again, S, _) -> want(end_dial(S));
+told({closed, Id, _}, #setup{end_of = #{id := Id}} = S, _) -> want(end_dial(S));
+%% An end that another process was to hand over, and without a dial that was all there was to wait for.
+told({closed, _, _}, #setup{end_of = none} = S, _) -> want(S);
+told({closed, _, _}, S, Wait) -> await(S, Wait).
 
 await_other(S) ->
     receive
@@ -66,6 +83,7 @@ await_other(S) ->
     after ?WAIT_FOR_OTHER -> want(S)
     end.
 
+%% An end that another process has made ready.
 bring_up(Socket, Info, #setup{driver = Driver, kernel = Kernel, wait = Wait} = S) ->
     Timer = dist_util:start_timer(Wait),
     try distnode_script:we_started(Driver, Kernel, Socket, Info, {S#setup.my_node, S#setup.node, S#setup.type}, Timer)
@@ -76,49 +94,89 @@ bring_up(Socket, Info, #setup{driver = Driver, kernel = Kernel, wait = Wait} = S
             want(S)
     end.
 
-%% ---- the own dial
+%% ---- the own dial: its frames up to the challenge are steps of this process, and the one that brings it up is the core's
 
-start_dial(Id, #setup{driver = Driver, name = Name, host = Host, wait = Wait} = S) ->
-    S#setup{dial = spawn_link(?MODULE, dial, [self(), Id, {Driver, Name, Host, Wait}]), id = Id}.
+opened(Address, #setup{end_of = #{id := Id, node := Node} = End} = S) ->
+    go_on(distnode_nif:opened(Node, Id), name, S#setup{end_of = End#{address => Address}}).
 
-%% A dial that another end has overtaken is ended. It may be the giver of that very end, and ends by itself then.
-end_dial(_, #setup{dial = none} = S) -> S;
-end_dial(Dial, #setup{dial = Dial} = S) -> no_dial(S);
-end_dial(_, #setup{dial = Dial} = S) ->
-    unlink(Dial),
-    Ref = monitor(process, Dial),
-    exit(Dial, kill),
-    receive {'DOWN', Ref, process, Dial, _} -> ok end,
-    receive {Dial, _} -> ok after 0 -> ok end,
-    no_dial(S).
+frame(Body, #setup{end_of = #{id := Id, node := Node}} = S) ->
+    go_on(distnode_nif:early_body(Node, Id, Body, distnode_nif:challenge()), Body, S).
 
-no_dial(S) -> S#setup{dial = none, id = none}.
-
-dial(Setup, Id, {Driver, Name, Host, Wait}) ->
-    case distnode_tcp:connect(Driver, Name, Host, Wait) of
-        {ok, Socket, Address} -> opened(Setup, Id, Driver, Socket, Address, Wait);
-        {error, Why} -> over(Setup, {closed, Why, none, none})
-    end.
-
-opened(Setup, Id, Driver, Socket, Address, Wait) ->
-    case distnode_core:opened(Id, Setup) of
-        {more, Bodies} ->
+%% What a step did that closed no end. Whatever else it did, the core is told.
+go_on({step, _, Bodies, _, none, _, none}, Heard, #setup{driver = Driver, socket = Socket, wait = Wait} = S) ->
+    case {distnode_shake:say(Driver, Socket, Bodies), [reply || <<$r, _/binary>> <- Bodies]} of
+        {ok, []} ->
+            _ = inet:setopts(Socket, [{active, once}]),
+            await(S, Wait);
+        {ok, _} -> acknowledged(Heard, S);
+        _ -> failed(S, write_failed)
+    end;
+go_on(Step, _, #setup{driver = Driver, socket = Socket, end_of = #{id := Id, node := Node}} = S) ->
+    case distnode_core:stepped(Id, Node, Step) of
+        {closed, Bodies, Why, Status} ->
             _ = distnode_shake:say(Driver, Socket, Bodies),
-            case distnode_shake:dialled(Driver, Socket, Id, Wait) of
-                {ready, Info, {give, To}} -> distnode_shake:give(Socket, Info#{address => Address}, To);
-                {ready, _, keep} -> exit(shutdown);
-                {refused, _, Code} -> over(Setup, {closed, Code, none, none});
-                {closed, _, _, _} = Closed -> over(Setup, Closed)
-            end;
-        {closed, _, Why, Heard} -> over(Setup, {closed, Why, Heard, none});
-        {error, 'Gone'} -> over(Setup, {closed, 'Crossed', none, none});
-        {error, Code} -> over(Setup, {closed, Code, none, none})
+            over(Why, Status, end_dial(S));
+        {error, 'Gone'} -> want(end_dial(S));
+        {error, Code} -> failed(S, Code)
     end.
 
--spec over(pid(), term()) -> no_return().
-over(Setup, Outcome) ->
-    Setup ! {self(), Outcome},
-    exit(normal).
+over('StatusRefused', nok, S) -> await_other(S);
+over(Why, _, S) when Why =:= 'Crossed'; Why =:= 'Replaced'; Why =:= 'GaveUp' -> want(S);
+over(Why, _, S) -> failed(S, Why).
+
+%% While the peer looks at the reply, dist_util gets as far as where it waits for the acknowledgement.
+acknowledged(Challenge, #setup{driver = Driver, kernel = Kernel, socket = Socket, end_of = End, wait = Wait} = S) ->
+    Timer = dist_util:start_timer(Wait),
+    _ = inet:setopts(Socket, [{active, once}]),
+    Info = End#{peer => S#setup.peer, heard => Challenge, wait => Wait},
+    try distnode_script:we_started(Driver, Kernel, Socket, Info, {S#setup.my_node, S#setup.node, S#setup.type}, Timer)
+    catch
+        throw:{distnode, Why} ->
+            dist_util:cancel_timer(Timer),
+            unacknowledged(Why, S)
+    end.
+
+unacknowledged({told, Told}, S) -> told(Told, S, S#setup.wait);
+unacknowledged({give, Info, Setup}, #setup{socket = Socket}) -> distnode_shake:give(Socket, Info, Setup);
+unacknowledged({closed, Why, Status}, S) -> over(Why, Status, end_dial(S));
+unacknowledged(gone, S) -> want(end_dial(S));
+unacknowledged({failed, Why}, S) -> failed(S, Why).
+
+start_dialler(#setup{dialler = none, driver = Driver, name = Name, host = Host, wait = Wait} = S) ->
+    S#setup{dialler = spawn_opt(?MODULE, dial, [self(), {Driver, Name, Host, Wait}], dist_util:net_ticker_spawn_options())}.
+
+%% A dial that another end has overtaken, or that the node has closed.
+end_dial(#setup{dialler = none, socket = none} = S) -> S#setup{end_of = none};
+end_dial(#setup{dialler = none, socket = Socket, driver = Driver} = S) ->
+    _ = Driver:close(Socket),
+    receive {tcp, Socket, _} -> ok after 0 -> ok end,
+    end_dial(S#setup{socket = none});
+end_dial(#setup{dialler = Dialler} = S) ->
+    unlink(Dialler),
+    Ref = monitor(process, Dialler),
+    exit(Dialler, kill),
+    receive {'DOWN', Ref, process, Dialler, _} -> ok end,
+    receive
+        {Dialler, {connected, Socket, _}} -> end_dial(S#setup{dialler = none, socket = Socket});
+        {Dialler, _} -> end_dial(S#setup{dialler = none})
+    after 0 -> end_dial(S#setup{dialler = none})
+    end.
+
+dial(Setup, {Driver, Name, Host, Wait}) ->
+    Found = distnode_tcp:find(Driver, Name, Host),
+    receive {Setup, dial} -> ok end,
+    Setup ! {self(), connect(Setup, Driver, Found, Host, Wait)}.
+
+connect(Setup, Driver, {ok, Ip, Port}, Host, Wait) ->
+    case distnode_tcp:connect(Driver, Ip, Port, Host, Wait) of
+        {ok, Socket, Address} ->
+            case Driver:controlling_process(Socket, Setup) of
+                ok -> {connected, Socket, Address};
+                {error, Why} -> {failed, Why}
+            end;
+        {error, Why} -> {failed, Why}
+    end;
+connect(_, _, {error, Why}, _, _) -> {failed, Why}.
 
 -spec failed(#setup{}, term()) -> no_return().
 failed(#setup{node = Node}, 'WrongDigest') ->

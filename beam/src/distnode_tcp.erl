@@ -1,19 +1,19 @@
 %% SPDX-License-Identifier: Apache-2.0
 %% What a carrier over TCP does beside the handshake, as inet_tcp_dist does it: addresses, options, ticks and statistics.
 -module(distnode_tcp).
--export([connect/4, is_own_lan/2, remote/3, nodelay/0, tick/2, getstat/1, setopts/2, getopts/2, parts/3]).
+-export([find/3, connect/5, is_own_lan/2, remote/3, nodelay/0, tick/2, getstat/1, setopts/2, getopts/2, parts/3]).
 
 -include_lib("kernel/include/net_address.hrl").
 -include_lib("kernel/include/dist_util.hrl").
 
-%% Asks for a node's address and connects: {ok, Socket, Address} | {error, Why}
-connect(Driver, Name, Host, Wait) ->
+%% Where a node accepts connections: {ok, Ip, Port} | {error, Why}
+find(Driver, Name, Host) ->
     Epmd = net_kernel:epmd_module(),
     case call_epmd(Epmd, address_please, [Name, Host, Driver:family()]) of
-        {ok, Ip, Port, _Version} -> connect_to(Driver, Ip, Port, Host, Wait);
+        {ok, Ip, Port, _Version} -> {ok, Ip, Port};
         {ok, Ip} ->
             case Epmd:port_please(Name, Ip) of
-                {port, Port, _Version} -> connect_to(Driver, Ip, Port, Host, Wait);
+                {port, Port, _Version} -> {ok, Ip, Port};
                 _ -> {error, no_port}
             end;
         _ -> {error, no_address}
@@ -25,8 +25,8 @@ call_epmd(Epmd, Function, Arguments) ->
         false -> apply(erl_epmd, Function, Arguments)
     end.
 
-connect_to(Driver, Ip, Port, Host, Wait) ->
-    case Driver:connect(Ip, Port, connect_options() ++ [{active, false}, {packet, 2}], Wait) of
+connect(Driver, Ip, Port, Host, Wait) ->
+    case Driver:connect(Ip, Port, connect_options() ++ [binary, {active, false}, {packet, 2}, nodelay()], Wait) of
         {ok, Socket} -> {ok, Socket, address(Driver, {Ip, Port}, Host)};
         Error -> Error
     end.
@@ -100,9 +100,9 @@ parts(Driver, Node, LongOrShort) ->
                 {longnames, false} ->
                     case Driver:parse_address(Host) of
                         {ok, _} -> {Name, Host};
-                        _ -> bad_host("to use fully qualified", Host, Node)
+                        _ -> bad_host("running", Host, Node)
                     end;
-                {shortnames, true} -> bad_host("NOT to use fully qualified", Host, Node);
+                {shortnames, true} -> bad_host("NOT running", Host, Node);
                 _ -> {Name, Host}
             end;
         _ ->
@@ -112,5 +112,5 @@ parts(Driver, Node, LongOrShort) ->
 
 -spec bad_host(string(), string(), node()) -> no_return().
 bad_host(How, Host, Node) ->
-    error_logger:error_msg("** System running ~s hostnames **~n** Hostname ~ts is illegal **~n", [How, Host]),
+    error_logger:error_msg("** System ~s to use fully qualified hostnames **~n** Hostname ~ts is illegal **~n", [How, Host]),
     ?shutdown(Node).

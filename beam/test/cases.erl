@@ -2,7 +2,7 @@
 %% The carrier on the installed OTP: nodes of its own and ordinary ones, over 127.0.0.1. Nothing sleeps to wait: each condition
 %% has a deadline.
 -module(cases).
--export([main/0, main/1]).
+-export([main/0, main/1, main/2, between/2]).
 
 -define(FLAGS, 16#d07df7fbd).   % those that OTP 25 announces, DFLAG_PUBLISHED among them
 
@@ -10,10 +10,11 @@
 -define(QUIET, ["-connect_all", "false", "-kernel", "prevent_overlapping_partitions", "false"]).
 
 main() -> main([]).
+main(Words) -> main(fun cases/1, Words).
 
-main(Words) ->
+main(AllCases, Words) ->
     {Mapper, OsPid} = test_nodes:port_mapper(),
-    Cases = [Case || {Name, _} = Case <- cases(Mapper), Words =:= [] orelse lists:member(Name, Words)],
+    Cases = [Case || {Name, _} = Case <- AllCases(Mapper), Words =:= [] orelse lists:member(Name, Words)],
     Failed = length([Name || {Name, Body} <- Cases, not passes(Name, Body)]),
     os:cmd("kill " ++ integer_to_list(OsPid)),
     io:format("~b passed, ~b failed~n", [length(Cases) - Failed, Failed]),
@@ -51,6 +52,8 @@ cases(Mapper) ->
      {"veto_before_acknowledgement", fun() -> veto(Mapper) end},
      {"hidden", fun hidden/0},
      {"nodes_without_a_name", fun nameless/0},
+     {"long_and_short_names", fun() -> [named_hosts(Length) || Length <- [long, short]] end},
+     {"own_networks", fun own_networks/0},
      {"global", fun global_names/0},
      {"ticks", fun ticks/0},
      {"strangers", fun() -> strangers(Mapper) end},
@@ -82,7 +85,10 @@ pair(A, B) ->
 
 settled(A, B) ->
     true = test_nodes:wait(fun() -> case pair(A, B) of {apart, _} = Apart -> Apart; _ -> true end end, 10000),
-    pair(A, B).
+    case pair(A, B) of
+        none -> {none};
+        Pair -> Pair
+    end.
 
 both_up(A, B) -> {up, _, _} = settled(A, B).
 
@@ -134,11 +140,14 @@ over_ipv6() ->
 crossing(KindA, KindB, Rounds) ->
     with([{"a", KindA, ?QUIET}, {"b", KindB, ?QUIET}],
          fun([A, B]) ->
-                 Ours = [Node || {Node, ours} <- [{A, KindA}, {B, KindB}]],
+                 Ours = [Node || {Node, Kind} <- [{A, KindA}, {B, KindB}], is_ours(Kind)],
                  [cross(A, B, Ours) || _ <- lists:seq(1, Rounds)],
                  Counts = [c(Node, distnode_core, counts, []) || Node <- Ours],
                  {said, "~b of ~b rounds with both up, nok heard or said at ~p ends", [Rounds, Rounds, noks(Counts)]}
          end).
+
+is_ours({_, Kind}) -> is_ours(Kind);
+is_ours(Kind) -> Kind =:= ours.
 
 cross(A, B, Ours) ->
     Moment = erlang:system_time(nanosecond) + 10000000,
@@ -193,6 +202,41 @@ kill_and_restart() ->
                  First = restarted(A, test_nodes:start("b", ours, ?QUIET)),
                  Second = restarted(A, test_nodes:start("b", ours, ?QUIET)),
                  true = First =/= Second
+         end).
+
+%% Two nodes that need not be of one release: pings and calls both ways, messages, one that is killed and comes back on either
+%% side, and simultaneous dials.
+between(KindA, KindB) ->
+    with([{"a", KindA, ?QUIET}, {"b", KindB, ?QUIET}],
+         fun([A, B]) ->
+                 [begin
+                      pong = c(X, net_adm, ping, [n(Y)]),
+                      Name = n(Y),
+                      Name = c(X, erpc, call, [Name, erlang, node, []]),
+                      true = c(Y, test_agent, sink, []),
+                      20000 = c(X, test_agent, flood, [Name, 20000])
+                  end || {X, Y} <- [{A, B}, {B, A}]],
+                 both_up(A, B),
+                 agreed([X || {X, Kind} <- [{A, KindA}, {B, KindB}], is_ours(Kind)]),
+                 comes_back(A, KindA, B, KindB)
+         end),
+    {said, Format, Arguments} = crossing(KindA, KindB, 20),
+    {said, Format, Arguments}.
+
+comes_back(A, KindA, B, KindB) ->
+    ok = c(A, test_agent, watch, [n(B)]),
+    test_nodes:kill(B),
+    true = c(A, test_agent, is_down, [n(B)]),
+    with([{"b", KindB, ?QUIET}],
+         fun([Again]) ->
+                 true = connect(Again, A),
+                 both_up(A, Again),
+                 apart(A, Again),
+                 true = connect(A, Again),
+                 ok = c(Again, test_agent, watch, [n(A)]),
+                 test_nodes:kill(A),
+                 true = c(Again, test_agent, is_down, [n(A)]),
+                 with([{"a", KindA, ?QUIET}], fun([Third]) -> true = connect(Third, Again), both_up(Third, Again) end)
          end).
 
 %% The creation of a node that is killed; the other notices, and a process of it is void.
@@ -352,6 +396,45 @@ nameless() ->
                  agreed([A])
          end).
 
+%% Hosts that have names: of several parts, or of one. A node of either kind refuses a peer of the other, and says so as OTP does.
+named_hosts(Length) ->
+    with([{"a", {Length, ours}, ?QUIET}, {"b", {Length, ours}, ?QUIET}, {"o", {Length, otp}, ?QUIET}],
+         fun([A, B, O]) ->
+                 [true = connect(X, Y) || {X, Y} <- [{A, B}, {O, A}, {B, O}]],
+                 [both_up(X, Y) || {X, Y} <- [{A, B}, {A, O}, {B, O}]],
+                 {Other, Text} = case Length of
+                                     long -> {'c@one', "System running to use fully qualified hostnames"};
+                                     short -> {'c@one.example.test', "System NOT running to use fully qualified hostnames"}
+                                 end,
+                 [begin
+                      false = connect_to(X, Other),
+                      true = test_nodes:has_logged(X, Text)
+                  end || X <- [A, O]],
+                 agreed([A, B])
+         end).
+
+connect_to(A, Name) -> c(A, net_kernel, connect_node, [Name]).
+
+%% With check_ip only peers of this host's own networks are let in. An address of no such network is there only where somebody has
+%% given one to the loopback, as `ip address add 192.0.2.1/32 dev lo` does in a network of its own.
+own_networks() ->
+    Check = ["-kernel", "check_ip", "true" | ?QUIET],
+    with([{"a", ours, Check}, {"b", ours, Check}, {"o", otp, ?QUIET}],
+         fun([A, B, O]) ->
+                 [begin true = connect(X, Y), both_up(X, Y) end || {X, Y} <- [{A, B}, {O, A}, {B, O}]],
+                 agreed([A, B]),
+                 apart(O, A),
+                 ok = c(O, application, set_env, [kernel, inet_dist_connect_options, [{ip, {192, 0, 2, 1}}]]),
+                 false = connect(O, A),
+                 case c(O, gen_tcp, listen, [0, [{ip, {192, 0, 2, 1}}]]) of
+                     {ok, _} ->
+                         true = test_nodes:has_logged(A, "Connection attempt from disallowed IP {192,0,2,1}"),
+                         agreed([A, B]),
+                         {said, "a peer of another network is refused", []};
+                     {error, eaddrnotavail} -> {said, "no address of another network is here, so none was refused", []}
+                 end
+         end).
+
 global_names() ->
     with([{"a", ours, []}, {"b", ours, []}, {"o", otp, []}],
          fun([A, B, O] = All) ->
@@ -380,13 +463,13 @@ ticks() ->
                  try true = test_nodes:wait(fun() -> c(A, erlang, nodes, []) =:= [n(O)] end, 10000)
                  after test_nodes:signal(B, "CONT")
                  end,
-                 true = test_nodes:wait(fun() -> connect(B, A) end, 10000),
-                 both_up(A, B),
+                 %% b may still count its old connection as up when it goes on
+                 true = test_nodes:wait(fun() -> connect(B, A) andalso element(1, settled(A, B)) =:= up end, 10000),
                  agreed([A, B])
          end).
 
-%% Connections without a byte, and others that say names and know no cookie, all of them held. A first connection of each kind has
-%% the code loaded, which makes atoms of its own.
+%% Connections without a byte, which have no end of the node, and others that say names and know no cookie, all of them held. A
+%% first connection of each kind has the code loaded, which makes atoms of its own.
 strangers(Mapper) ->
     with([{"a", ours, ?QUIET}, {"b", ours, ?QUIET}, {"o", otp, ?QUIET}],
          fun([A, B, O]) ->
@@ -398,7 +481,7 @@ strangers(Mapper) ->
                  Silent = [other_side:connect(Port) || _ <- lists:seq(1, 200)],
                  Named = [stranger(Port, integer_to_binary(I)) || I <- lists:seq(1, 200)],
                  [<<"ok">> = other_side:status(Socket) || Socket <- Named],
-                 #{open := 400} = c(A, distnode_core, table, []),
+                 #{open := 200} = c(A, distnode_core, table, []),
                  true = connect(O, A),
                  true = connect(A, B),
                  [gen_tcp:close(Socket) || Socket <- Silent ++ Named],

@@ -1,22 +1,23 @@
 %% SPDX-License-Identifier: Apache-2.0
 %% Random walks of distnode_links among processes, sockets, a node and a net_kernel that are all models: processes die at any
-%% moment, and what they cast or their ends arrive late. After each step it holds that
+%% moment, and what they cast or their ends arrive late. A setup makes the steps of its own dial at the node itself, and the
+%% machine is told later where they close it. After each step it holds that
 %%
-%%   - the machine's ends are the node's open ends;                                            (one core's table)
+%%   - the machine's ends are the node's open ends, and those whose closing is still to be told;  (one core's table)
 %%   - an end's frames come from the one process that holds its socket, which is its owner;    (premises 1, 3)
 %%   - an end is admitted once, by its owner, after it was ready;                              (premise 2)
 %%   - a process that has brought the emulator up has an end that is up in the node;           (premise 5)
 %%   - whoever holds the socket of a closed end has been told so, or hears it where it asks.   (premise 6)
 %%
-%% And at the end of each walk, when no new process comes, every setup has got its peer or has ended. Premise 4, the flags, and 7,
+%% And at the end of each walk, when no new process comes, every setup has got its peer or has ended, and each open end is up. Premise 4, the flags, and 7,
 %% one core for each incarnation, are no matter of this machine.
 -module(links_walk).
 -export([run/0, run/2]).
 
 %% rows: which process net_kernel counts as a peer's. casts: what each process has sent to the core, or its end, and what has
-%% not arrived. node: each open end, as {Phase, Peer}.
+%% not arrived. node: each open end, as {Phase, Peer}. untold: each end that its own process has closed at the node.
 -record(w, {links = distnode_links:new(), node = #{}, procs = #{}, inbox = #{}, socks = #{}, rows = #{}, casts = #{},
-            next = 1, admitted = #{}}).
+            next = 1, admitted = #{}, untold = #{}}).
 
 -define(PEERS, [<<"lesser">>, <<"greater">>]).
 
@@ -48,6 +49,7 @@ rested(Left, W) ->
     case {[Pid || {Pid, P} <- maps:to_list(W#w.procs), not is_up(P)], maps:size(W#w.casts)} of
         {[], 0} ->
             [] = distnode_links:wanted(W#w.links),
+            [] = [Id || {Id, {Phase, _}} <- maps:to_list(W#w.node), Phase =/= up],
             maps:size(W#w.admitted);
         {[], _} -> rested(Left - 1, checked(deliver_any(W)));
         {Busy, _} -> rested(Left - 1, checked(deliver_any(act(one_of(Busy), W))))
@@ -59,9 +61,11 @@ is_up(_) -> false.
 
 %% ---- what holds
 
-checked(#w{links = Links, node = Node, socks = Socks, procs = Procs} = W) ->
+checked(#w{links = Links, node = Node, socks = Socks, procs = Procs, untold = Untold} = W) ->
     true = distnode_links:invariant(Links),
-    true = lists:sort(distnode_links:ends(Links)) =:= lists:sort(maps:keys(Node)),
+    Ends = distnode_links:ends(Links),
+    [] = maps:keys(Node) -- Ends,
+    [true = is_map_key(Id, Untold) || Id <- Ends -- maps:keys(Node)],
     [is_held(Id, Holder, W) || {Id, Holder} <- maps:to_list(Socks)],
     [{up, _} = maps:get(Id, Node) || P <- maps:values(Procs), {true, Id} <- [emulator_up(P)]],
     W.
@@ -76,6 +80,8 @@ hears(Id, Pid, #w{procs = Procs, inbox = Inbox}) ->
     lists:keymember(Id, 2, Messages) orelse
         case maps:get(Pid, Procs) of
             {setup, _, {bring, Id}} -> true;
+            {setup, _, {await, {shaking, Id}}} -> true;
+            {setup, _, {untold, Id}} -> true;
             {accept, Id, {Stage, _}} when Stage =:= ready; Stage =:= asked -> true;
             _ -> false
         end.
@@ -99,22 +105,28 @@ start_accept(W0) ->
 act(Pid, #w{procs = Procs} = W) when not is_map_key(Pid, Procs) -> W;
 act(Pid, #w{procs = Procs} = W) -> act(maps:get(Pid, Procs), Pid, W).
 
+act({setup, Peer, {await, {shaking, Id} = Dial}}, Pid, W) ->
+    case pop(Pid, W) of
+        {none, Later} -> own_frame(maps:get(Id, W#w.node, none), Peer, Id, Pid, Later);
+        Popped -> await(Popped, Peer, Dial, Pid)
+    end;
 act({setup, Peer, {await, Dial}}, Pid, W) -> await(pop(Pid, W), Peer, Dial, Pid);
+act({setup, Peer, {untold, Id}}, Pid, W) ->
+    Told = told_({closed, Id, 'Why', Pid}, flush(Pid, unsocket(Id, W))),
+    case rand:uniform(4) of
+        1 -> die(Pid, Told);
+        _ -> want(Pid, Peer, put_proc(Pid, {setup, Peer, {await, none}}, Told))
+    end;
 act({setup, Peer, {bring, Id}}, Pid, W) ->
     case admit(Id, Pid, W) of
         {ok, Later} -> put_proc(Pid, {setup, Peer, {admitted, Id}}, Later);
         {gone, Later} -> want(Pid, Peer, put_proc(Pid, {setup, Peer, {await, none}}, unsocket(Id, Later)))
     end;
 act({setup, Peer, {admitted, Id}}, Pid, W) -> cast(Pid, {done, Id, Pid}, put_proc(Pid, {setup, Peer, {up, Id}}, W));
-act({dialler, Setup, Id, connecting}, Pid, W) ->
+act({dialler, Setup}, Pid, W) ->
     case rand:uniform(6) of
-        1 -> over(Setup, failed, Pid, W);
-        _ -> opened(Setup, Id, Pid, W)
-    end;
-act({dialler, Setup, Id, shaking}, Pid, W) ->
-    case pop(Pid, W) of
-        {{closed, Id, Why}, Later} -> over(Setup, Why, Pid, unsocket(Id, Later));
-        {none, Later} -> frame(Id, Pid, Later)
+        1 -> die(Pid, send(Setup, {over, Pid, failed}, W));
+        _ -> die(Pid, send(Setup, {over, Pid, connected}, W))
     end;
 act({accept, Id, shaking}, Pid, W) ->
     case pop(Pid, W) of
@@ -135,44 +147,60 @@ misuse(Id, #w{links = Links} = W) ->
     Other = {pid, 0},
     Owner = distnode_links:owner(Id, Links),
     [{gone, [], Links} = distnode_links:event(Event, Links)
-     || Event <- [{admit, Id, Other}, {vetoed, Id, Other}, {given_up, Id, Other}, {done, Id, Other}, {opened, Id, Other, Other}]],
+     || Event <- [{admit, Id, Other}, {vetoed, Id, Other}, {given_up, Id, Other}, {done, Id, Other}]],
     [{gone, [], Links} = distnode_links:event(Event, Links)
      || distnode_links:stage(Id, Links) =:= shaking, Event <- [{admit, Id, Owner}, {vetoed, Id, Owner}, {done, Id, Owner}]],
     W.
 
 %% As in distnode_setup.
 await({none, W}, _, _, _) -> W;
-await({{dial, Id}, W0}, Peer, _, Pid) ->
-    {Dialler, W} = spawned({dialler, Pid, Id, connecting}, W0),
-    put_proc(Pid, {setup, Peer, {await, {Dialler, Id}}}, W);
-await({{ready, Id, Giver}, W}, Peer, Dial, Pid) ->
-    put_proc(Pid, {setup, Peer, {bring, Id}}, end_dial(Dial, Giver, Pid, W));
-await({again, W}, Peer, Dial, Pid) -> want(Pid, Peer, end_dial(Dial, none, Pid, W));
-await({{closed, Id, _}, W}, Peer, {_, Id} = Dial, Pid) ->
-    want(Pid, Peer, put_proc(Pid, {setup, Peer, {await, none}}, end_dial(Dial, none, Pid, W)));
+await({{dial, Id}, W0}, Peer, Dial, Pid) ->
+    {Dialler, W} = spawned({dialler, Pid}, end_dial(Dial, Pid, W0)),
+    put_proc(Pid, {setup, Peer, {await, {connecting, Id, Dialler}}}, W);
+await({{ready, Id, _}, W}, Peer, Dial, Pid) -> put_proc(Pid, {setup, Peer, {bring, Id}}, end_dial(Dial, Pid, W));
+await({again, W}, Peer, Dial, Pid) -> want(Pid, Peer, put_proc(Pid, {setup, Peer, {await, none}}, end_dial(Dial, Pid, W)));
+await({{closed, Id, _}, W}, Peer, Dial, Pid) when element(2, Dial) =:= Id ->
+    want(Pid, Peer, put_proc(Pid, {setup, Peer, {await, none}}, end_dial(Dial, Pid, W)));
 await({{closed, _, _}, W}, Peer, none, Pid) -> want(Pid, Peer, W);
 await({{closed, _, _}, W}, _, _, _) -> W;
-await({{over, Dialler, Why}, W}, Peer, {Dialler, _}, Pid) ->
-    case Why of
-        failed -> die(Pid, W);
-        _ -> want(Pid, Peer, put_proc(Pid, {setup, Peer, {await, none}}, W))
-    end;
+await({{over, Dialler, failed}, W}, _, {connecting, _, Dialler}, Pid) -> die(Pid, W);
+await({{over, Dialler, connected}, W}, Peer, {connecting, Id, Dialler}, Pid) -> opened(maps:get(Id, W#w.node, none), Peer, Id, Pid, W);
 await({{over, _, _}, W}, _, _, _) -> W.
 
-end_dial(none, _, _, W) -> W;
-end_dial({Giver, _}, Giver, _, W) -> W;
-end_dial({Dialler, _}, _, Pid, W0) ->
+end_dial(none, _, W) -> W;
+end_dial({shaking, Id}, _, W) -> unsocket(Id, W);
+end_dial({connecting, _, Dialler}, Pid, W0) ->
     #w{inbox = Inbox} = W = die(Dialler, W0),
     W#w{inbox = Inbox#{Pid => [M || M <- maps:get(Pid, Inbox, []), element(1, M) =/= over orelse element(2, M) =/= Dialler]}}.
 
-opened(Setup, Id, Pid, W0) ->
-    case told({opened, Id, Setup, Pid}, W0) of
-        {ok, #w{node = #{Id := {doomed, _}}} = W} -> over(Setup, crossed, Pid, close(Id, Pid, W));
-        {ok, W} -> put_proc(Pid, {dialler, Setup, Id, shaking}, W#w{socks = (W#w.socks)#{Id => Pid}});
-        {gone, W} -> over(Setup, crossed, Pid, W)
+%% ---- a setup's own dial
+
+opened({out, _}, Peer, Id, Pid, W) ->
+    put_proc(Pid, {setup, Peer, {await, {shaking, Id}}}, W#w{socks = (W#w.socks)#{Id => Pid}});
+opened(Other, Peer, Id, Pid, W) -> own_frame(Other, Peer, Id, Pid, W#w{socks = (W#w.socks)#{Id => Pid}}).
+
+own_frame(none, Peer, Id, Pid, W) -> want(Pid, Peer, put_proc(Pid, {setup, Peer, {await, none}}, unsocket(Id, W)));
+own_frame({doomed, _}, Peer, Id, Pid, W) -> untold(Peer, Id, Pid, W);
+own_frame({out, Peer}, Peer, Id, Pid, W) ->
+    case rand:uniform(10) of
+        1 -> untold(Peer, Id, Pid, W);
+        N when N < 5 -> W;
+        _ -> finish(Peer, Id, Pid, flush(Pid, W))
     end.
 
-over(Setup, Why, Pid, W) -> die(Pid, send(Setup, {over, Pid, Why}, W)).
+%% The node has closed it in a step that its process has made.
+untold(Peer, Id, Pid, #w{node = Node, untold = Untold} = W) ->
+    put_proc(Pid, {setup, Peer, {untold, Id}}, W#w{node = maps:remove(Id, Node), untold = Untold#{Id => true}}).
+
+%% It becomes ready and comes up in one call.
+finish(Peer, Id, Pid, #w{links = Links} = W0) ->
+    Pid = distnode_links:owner(Id, Links),
+    case told({ready, Id, Peer}, W0) of
+        {keep, W} ->
+            {ok, Later} = admit(Id, Pid, W),
+            put_proc(Pid, {setup, Peer, {admitted, Id}}, Later);
+        {{give, Setup}, W} -> give(Id, Pid, Setup, W)
+    end.
 
 want(Pid, Peer, W) -> told_({want, Peer, Pid}, flush(Pid, W)).
 
@@ -181,12 +209,12 @@ die(Pid, #w{procs = Procs} = W) when not is_map_key(Pid, Procs) -> W;
 die(Pid, #w{procs = Procs, socks = Socks, rows = Rows, inbox = Inbox} = W0) ->
     W = cast(Pid, {down, Pid}, W0#w{procs = maps:remove(Pid, Procs), inbox = maps:remove(Pid, Inbox),
                                     socks = without(Pid, Socks), rows = without(Pid, Rows)}),
-    lists:foldl(fun die/2, W, [D || {D, {dialler, Setup, _, _}} <- maps:to_list(Procs), Setup =:= Pid]).
+    lists:foldl(fun die/2, W, [D || {D, {dialler, Setup}} <- maps:to_list(Procs), Setup =:= Pid]).
 
 %% A dialler is linked to its setup.
 crash(Pid, #w{procs = Procs} = W) ->
     case Procs of
-        #{Pid := {dialler, Setup, _, _}} -> die(Setup, die(Pid, W));
+        #{Pid := {dialler, Setup}} -> die(Setup, die(Pid, W));
         #{} -> die(Pid, W)
     end.
 
@@ -269,15 +297,9 @@ named(Id, Peer, W) -> told_({named, Id, Peer}, set(Id, {in, Peer}, W)).
 
 shaken({{give, Setup}, _}, Id, Pid, W) -> give(Id, Pid, Setup, W);
 shaken({keep, Peer}, Id, Pid, W) ->
-    case maps:get(Pid, W#w.procs) of
-        {accept, Id, shaking} -> put_proc(Pid, {accept, Id, {ready, Peer}}, W);
-        {dialler, _, _, _} -> crash(Pid, W)
-    end;
-shaken(closed, Id, Pid, W) ->
-    case maps:get(Pid, W#w.procs) of
-        {dialler, Setup, _, _} -> over(Setup, crossed, Pid, unsocket(Id, W));
-        {accept, _, _} -> die(Pid, W)
-    end.
+    {accept, Id, shaking} = maps:get(Pid, W#w.procs),
+    put_proc(Pid, {accept, Id, {ready, Peer}}, W);
+shaken(closed, _, Pid, W) -> die(Pid, W).
 
 admit(Id, Pid, W0) ->
     case told({admit, Id, Pid}, flush(Pid, W0)) of
@@ -322,8 +344,8 @@ told(Event, #w{links = Links} = W) ->
 
 do({tell, Pid, Message}, W) -> send(Pid, Message, W);
 do({kill, Pid}, W) -> die(Pid, W);
-do({lose, Id, _}, #w{node = Node} = W) ->
-    true = is_map_key(Id, Node),
+do({lose, Id, _}, #w{node = Node, untold = Untold} = W) ->
+    true = is_map_key(Id, Node) orelse is_map_key(Id, Untold),
     W#w{node = maps:remove(Id, Node)};
 do({dial, Peer}, W) -> dial(Peer, W).
 

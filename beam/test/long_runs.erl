@@ -12,6 +12,8 @@ main([Seconds | Words]) ->
     Runs = [{"random", fun() -> random(list_to_integer(Seconds)) end},
             {"knocks", fun() -> knocks(Mapper, 20000) end},
             {"strangers", fun() -> strangers(Mapper, 1100) end},
+            {"all_ends", fun() -> all_ends(66000) end},
+            {"no_descriptors", fun() -> no_descriptors(Mapper) end},
             {"impostor", fun() -> impostor(Mapper) end},
             {"reconnects", fun() -> reconnects(72000) end},
             {"connect_times", fun() -> connect_times(10, 100) end},
@@ -95,6 +97,42 @@ strangers(Mapper, N) ->
                  [gen_tcp:close(Socket) || Socket <- Held],
                  agreed(A),
                  io_lib:format("~b strangers held, peers connect beside them in ~w ms", [N, Took])
+         end).
+
+%% All 65,536 ends of a node are open, and more strangers came: the ones that have been pending for the longest made room, in their
+%% order, and so they do for peers. The strangers have no sockets, since few systems let a process have so many.
+all_ends(N) ->
+    with([{"a", ours, ?QUIET}, {"b", ours, ?QUIET}, {"o", otp, ?QUIET}],
+         fun([A, B, O]) ->
+                 Before = c(A, test_agent, memory, []),
+                 {Came, 65536} = timer:tc(fun() -> test_nodes:call(A, test_agent, crowd, [N, ?FLAGS], 300000) end),
+                 After = c(A, test_agent, memory, []),
+                 Took = [element(1, {_, true} = timer:tc(fun() -> c(X, net_kernel, connect_node, [n(A)]) end)) div 1000 || X <- [B, O]],
+                 [both_up(A, X) || X <- [B, O]],
+                 65536 = maps:get(open, c(A, distnode_core, table, [])),
+                 Closed = c(A, test_agent, crowd_closed, []),
+                 Closed = lists:seq(1, N + 2 - 65536),
+                 agreed(A),
+                 io_lib:format("~b strangers came in ~b ms, 65,536 ends open; peers connect beside them in ~w ms; the first ~b were closed; "
+                               "~b KiB before, ~b after", [N, Came div 1000, Took, length(Closed), Before, After])
+         end).
+
+%% A node that may have 200 descriptors, and strangers who hold more connections than that and say nothing: it goes on, and a peer
+%% connects once they are given up. And the same of a node with OTP's own carrier.
+no_descriptors(Mapper) ->
+    with([{"a", {limited, ours}, ?QUIET}, {"o", {limited, otp}, ?QUIET}, {"b", otp, ?QUIET}],
+         fun([A, O, B]) ->
+                 [Ours, Otp] = [begin
+                                    Port = other_side:port_of(Short, Mapper),
+                                    Held = [other_side:connect(Port) || _ <- lists:seq(1, 260)],
+                                    receive after 2000 -> ok end,
+                                    Took = timer:tc(fun() -> test_nodes:wait(fun() -> c(B, net_kernel, connect_node, [n(X)]) end, 20000) end),
+                                    [gen_tcp:close(Socket) || Socket <- Held],
+                                    {Took, test_nodes:is_alive(X)}
+                                end || {X, Short} <- [{A, "a"}, {O, "o"}]],
+                 {{_, true}, true} = Ours,
+                 agreed(A),
+                 io_lib:format("a peer's connect, in microseconds, and whether the node lives: ~p, and ~p of a node of OTP's", [Ours, Otp])
          end).
 
 stranger(Port, Name) ->

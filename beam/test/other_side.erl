@@ -2,7 +2,7 @@
 %% The other side of a handshake by hand, frame by frame, as the ERTS User's Guide has it; and a relay between a node and its
 %% peer that can stop without a word.
 -module(other_side).
--export([port_of/2, connect/1, say_name/3, status/1, challenge/1, reply/3, ack/2, is_silent/2]).
+-export([port_of/2, connect/1, connect_from/2, say_name/3, status/1, challenge/1, reply/3, ack/2, is_silent/2]).
 -export([relay/1, freeze/1]).
 
 %% The port of a node at the port mapper.
@@ -14,8 +14,10 @@ port_of(Short, Mapper) ->
     gen_tcp:close(Socket),
     Port.
 
-connect(Port) ->
-    {ok, Socket} = gen_tcp:connect({127, 0, 0, 1}, Port, [binary, {packet, 2}, {active, false}]),
+connect(Port) -> connect_from({127, 0, 0, 1}, Port).
+
+connect_from(Own, Port) ->
+    {ok, Socket} = gen_tcp:connect({127, 0, 0, 1}, Port, [binary, {packet, 2}, {active, false}, {ip, Own}]),
     Socket.
 
 say_name(Socket, Flags, Name) -> gen_tcp:send(Socket, <<$N, Flags:64, 7:32, (byte_size(Name)):16, Name/binary>>).

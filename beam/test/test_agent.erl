@@ -3,7 +3,7 @@
 %% test's port, and ends the node with that connection.
 -module(test_agent).
 -export([main/1, row/1, connect_at/2, is_agreed/0, sink/0, flood/2, watch/1, is_down/1, stay_up/2, traffic/2]).
--export([observe/1, traffic_observed/2, reconnect/2, memory/0]).
+-export([observe/1, traffic_observed/2, reconnect/2, memory/0, crowd/2, crowd_closed/0]).
 
 main([Port]) ->
     spawn(fun() ->
@@ -117,6 +117,45 @@ reconnect(Node) ->
             receive {nodedown, Node} -> Took after 20000 -> error({still_up, Node}) end;
         {_, false} -> refused
     end.
+
+%% So many strangers without sockets, one after the other: each has said its name at the core, and has its end open. It answers how
+%% many ends are open then; crowd_closed/0, which of them were told that theirs is closed.
+crowd(N, Flags) ->
+    Self = self(),
+    Crowd = spawn(fun() ->
+                          Pids = [member(I, Flags) || I <- lists:seq(1, N)],
+                          Self ! {self(), all_came},
+                          receive {closed, From} -> From ! {self(), [I || {I, Pid} <- Pids, is_closed(Pid)]} end,
+                          [exit(Pid, kill) || {_, Pid} <- Pids]
+                  end),
+    true = register(crowd, Crowd),
+    receive {Crowd, all_came} -> maps:get(open, distnode_core:table()) end.
+
+member(I, Flags) ->
+    Self = self(),
+    Name = iolist_to_binary(io_lib:format("stranger~b@127.0.0.1", [I])),
+    Frame = <<$N, Flags:64, 7:32, (byte_size(Name)):16, Name/binary>>,
+    Pid = spawn(fun() ->
+                        {ok, Id, {more, [<<"sok">>, <<$N, _/binary>>]}} = distnode_core:arrived(Frame, distnode_access:of_peer(Name, [])),
+                        Self ! {self(), came},
+                        receive {distnode, {closed, Id, 'GaveUp'}} -> stay(true) after infinity -> ok end
+                end),
+    receive {Pid, came} -> {I, Pid} end.
+
+stay(Answer) -> receive {is_closed, From} -> From ! {self(), Answer}, stay(Answer) end.
+
+%% One that was told answers; one that was not has the question behind it.
+is_closed(Pid) ->
+    Pid ! {is_closed, self()},
+    case process_info(Pid, message_queue_len) of
+        {message_queue_len, 0} -> receive {Pid, true} -> true after 1000 -> false end;
+        _ -> receive {Pid, true} -> true after 0 -> false end
+    end.
+
+crowd_closed() ->
+    Crowd = whereis(crowd),
+    Crowd ! {closed, self()},
+    receive {Crowd, Closed} -> Closed after 60000 -> timeout end.
 
 memory() ->
     {ok, Text} = file:read_file("/proc/self/status"),

@@ -20,7 +20,9 @@ port_mapper() ->
     {os_pid, OsPid} = erlang:port_info(Mapper, os_pid),
     {Port, OsPid}.
 
-%% Several at once: [{Short, ours | otp | ours6 | otp6, Arguments}]; those with a 6 over IPv6
+%% Several at once: [{Short, Kind, Arguments}] with ours | otp | ours6 | otp6, those with a 6 over IPv6; {short | long, ours | otp} with
+%% a host that has a name of one part or of several; {limited, Kind}, with 200 descriptors; or {Root, Kind}: of the
+%% Erlang that is installed below that folder, which has this test's files under the same names.
 start(Specs) ->
     Begun = [begin_one(Spec) || Spec <- Specs],
     try [join(One) || One <- Begun]
@@ -58,20 +60,38 @@ join(Listen, Node, Left) ->
     end.
 
 %% One without an agent, which may not start.
-start_bare(Short, Kind, Arguments) ->
-    {Host, Interface} = host(Kind),
+start_bare(Short, {Length, Kind}, Arguments) when Length =:= short; Length =:= long ->
+    start_bare([os:find_executable("erl")], Short, Kind, Arguments ++ ["-kernel", "inetrc", [$", hosts(), $"]], Length);
+start_bare(Short, {limited, Kind}, Arguments) ->
+    start_bare([os:find_executable("sh"), "-c", "ulimit -n 200; exec \"$@\"", "sh", os:find_executable("erl")], Short, Kind, Arguments);
+start_bare(Short, {Root, Kind}, Arguments) ->
+    start_bare([os:find_executable("chroot"), Root, "/usr/bin/erl"], Short, Kind, Arguments);
+start_bare(Short, Kind, Arguments) -> start_bare([os:find_executable("erl")], Short, Kind, Arguments).
+
+start_bare(Erl, Short, Kind, Arguments) -> start_bare(Erl, Short, Kind, Arguments, Kind).
+
+start_bare(Erl, Short, Kind, Arguments, HostKind) ->
+    {Flag, Host, Interface} = host(HostKind),
     Name = Short ++ "@" ++ Host,
     Log = filename:join(os:getenv("LOGS"), Short ++ "." ++ integer_to_list(erlang:unique_integer([positive])) ++ ".log"),
-    Command = [os:find_executable("erl"), "-noinput", "-pa", os:getenv("TESTS"), "-start_epmd", "false",
-               "-kernel", "inet_dist_use_interface", Interface] ++ carrier(Kind) ++ ["-name", Name] ++
+    Command = Erl ++ ["-noinput", "-pa", os:getenv("TESTS"), "-start_epmd", "false",
+               "-kernel", "inet_dist_use_interface", Interface] ++ carrier(Kind) ++ [Flag, Name] ++
         cookie(Arguments) ++ Arguments,
     Port = open_port({spawn_executable, os:find_executable("sh")},
                      [{args, ["-c", "exec \"$@\" >" ++ Log ++ " 2>&1", "sh" | Command]}, exit_status]),
     {os_pid, OsPid} = erlang:port_info(Port, os_pid),
     #node{name = list_to_atom(Name), port = Port, os_pid = OsPid, log = Log}.
 
-host(Kind) when Kind =:= ours6; Kind =:= otp6 -> {"::1", "{0,0,0,0,0,0,0,1}"};
-host(_) -> {"127.0.0.1", "{127,0,0,1}"}.
+host(Kind) when Kind =:= ours6; Kind =:= otp6 -> {"-name", "::1", "{0,0,0,0,0,0,0,1}"};
+host(short) -> {"-sname", "one", "{127,0,0,1}"};
+host(long) -> {"-name", "one.example.test", "{127,0,0,1}"};
+host(_) -> {"-name", "127.0.0.1", "{127,0,0,1}"}.
+
+%% The names of this host that no name server knows.
+hosts() ->
+    File = filename:join(os:getenv("LOGS"), "inetrc"),
+    ok = file:write_file(File, "{lookup, [file]}.\n{host, {127,0,0,1}, [\"one\", \"one.example.test\"]}.\n"),
+    File.
 
 carrier(ours) -> carrier(os:getenv("EBIN"));
 carrier(ours6) -> ["-proto_dist", "distnode6", "-pa", os:getenv("EBIN")];

@@ -12,9 +12,9 @@ use std::rc::Rc;
 
 const HANDSHAKE_23: u64 = 1 << 24;
 const NAME_ME: u64 = 1 << 33;
-const MOST_STEPS: u32 = 1_048_576;
-const MOST_OPEN: usize = 4_096;
-const MOST_ENTRIES: usize = 1_024;
+const MOST_STEPS: u32 = 1_000_000_000;
+const MOST_OPEN: usize = 100_000;
+const MOST_ENTRIES: usize = 100_000;
 
 // ---- MD5 (RFC 1321)
 

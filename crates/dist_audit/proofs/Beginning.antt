@@ -7,7 +7,7 @@ use Rattle.dist_world_model.specs.declared.happening.Happening.{Happening}
 use Rattle.dist_world_model.specs.declared.happening.Happening.TheVariants as happening
 use Rattle.dist_world_model.specs.Lists.{first_where}
 use Rattle.dist_world_model.specs.World.{World, Life, empty, runs, runs_for, running}
-use Rattle.dist_world_model.specs.Happenings.{begin, new_life, unclosed, applied_at, happens, ticked_on}
+use Rattle.dist_world_model.specs.Happenings.{begin, new_life, without_closing, applied_at, happens, ticked_on}
 use Rattle.dist_world_model.proofs.Conditions.{there, holds}
 use Rattle.dist_world_model.specs.Run.{one_where}
 use Rattle.dist_audit.proofs.Numbers.{eqb-not}
@@ -45,11 +45,11 @@ module _ (w : World) (pre ss : List Setup) (s : Setup) (h : HaveBegun w pre (s �
   e = happening.Begin (length pre) s.creation
 
   abbrev next : World
-  next = record (unclosed w) { lives = w.lives ++ new_life (length pre) w.clock s s.creation ∷ [] }
+  next = record (without_closing w) { lives = w.lives ++ new_life (length pre) w.clock s s.creation ∷ [] }
 
   begin-applies : applied_at w (happening.Begin (length pre) s.creation) ≡ Some next
   begin-applies =
-      ap (λ b. cond b (begin (unclosed w) (length pre) s.creation) None) (lt-ltb w.clock 4611686018427387904 (omega (arith, few, h.clock)))
+      ap (λ b. cond b (begin (without_closing w) (length pre) s.creation) None) (lt-ltb w.clock 4611686018427387904 (omega (arith, few, h.clock)))
       ∙ (there (slice_get w.setups (length pre)) s _ (ap (λ (xs : List Setup). slice_get xs (length pre)) h.setups ∙ at-end pre ss s)
       ∙ (holds (is_none (running w (length pre))) _ (ap (λ (o : Option ℕ). is_none o) (none-runs (length pre) w.lives h.below))
       ∙ holds (ltb (length w.lives) 1048576) _ (lt-ltb (length w.lives) 1048576 (omega (arith, few, h.count)))))

@@ -20,17 +20,17 @@ use Rattle.dist_world_model.specs.declared.happening.Happening.TheVariants as ha
 use Rattle.dist_world_model.specs.Lists.{at_place, first_where}
 use Rattle.dist_world_model.specs.Rows.{EndRow}
 use Rattle.dist_world_model.specs.World.{World, Life, Conn, Text, empty, runs, runs_for, running, row_at, end_at}
-use Rattle.dist_world_model.specs.Delivery.{says, spoken, spoken_on, text_to, change_to, delivered, body_taken}
-use Rattle.dist_world_model.specs.Happenings.{lived, begin, tell, tell_node, new_conn, reach as happening_reach, reached_life, conn_of as wire_number, tell_opened, accept, accepted_by, next_end, is_open_end, is_nonempty, deliver, take_frame, applied, unclosed, ticked_on, applied_at, happens}
+use Rattle.dist_world_model.specs.Delivery.{says, conns_after_saying, spoken_on, text_to, change_to, after_delivery, body_taken}
+use Rattle.dist_world_model.specs.Happenings.{life_after, begin, tell, tell_node, new_conn, reach as happening_reach, reached_life, conn_of as wire_number, tell_opened, accept, accepted_by, next_end, is_open_end, is_nonempty, deliver, take_frame, world_after, without_closing, ticked_on, applied_at, happens}
 use Rattle.dist_world_model.proofs.Conditions.{if_there, if_ok, if_holds}
 use Rattle.dist_world_model.specs.Run.{run, one_where}
 use Rattle.dist_audit.proofs.Numbers.{eqb-self}
 use Rattle.dist_audit.specs.Audit as audit
 use Rattle.dist_audit.specs.Audit.{AllApply, AreFollowed, AreOfOneWorld, after, ComesHere, ComeHome, EachLinkComesHome}
 use Rattle.dist_audit.specs.Lines.{Told}
-use Rattle.dist_audit.specs.Links.{link_in, opens, opens_in, comes, comes_in, dialled, dialled_in, or_else, is_among, dialler_of, acceptor_of, target_of, conn_of, mention}
-use Rattle.dist_audit.specs.Happenings.{setups_of, begins, mentioned, reach, reach_first, before, own}
-use Rattle.dist_audit.specs.Faults.{repeats, links_repeat, unopened, comes_unopened, links_unpaired}
+use Rattle.dist_audit.specs.Links.{link_in, opens, opens_in, comes, comes_in, dialled_end, dialled_in, or_else, is_among, dialler_of, acceptor_of, target_of, conn_of, mention}
+use Rattle.dist_audit.specs.Happenings.{setups_of, begins, with_mentions, reach, reach_first, before, own}
+use Rattle.dist_audit.specs.Faults.{repeats, links_repeat, is_unopened, comes_unopened, links_unpaired}
 
 -- ---- the incarnations that connections lead to
 
@@ -64,7 +64,7 @@ targets-on : (cs : List Conn) (o : Option ℕ) (side : Side) (s : List ℕ) → 
 targets-on cs None side s = refl
 targets-on cs (Some c) side s = targets-at c (says side s) (says-target side s) cs
 
-targets-spoken : (cs : List Conn) (o : Option EndRow) (s : List ℕ) → targets (spoken cs o s) ≡ targets cs
+targets-spoken : (cs : List Conn) (o : Option EndRow) (s : List ℕ) → targets (conns_after_saying cs o s) ≡ targets cs
 targets-spoken cs None s = refl
 targets-spoken cs (Some row) s = targets-on cs row.conn row.side s
 
@@ -95,7 +95,7 @@ module _ (w : World) where
       if_holds (SameFrame w) (runs l) _ (λ live.
       if_ok (SameFrame w) (step l.node v fresh) _ (λ x is.
       record {
-        run_same = λ j. first-at (runs_for j) i (λ old. lived w.clock v x.0 x.1 l) w.lives l at refl;
+        run_same = λ j. first-at (runs_for j) i (λ old. life_after w.clock v x.0 x.1 l) w.lives l at refl;
         lead_same = targets-spoken w.conns _ (let r = x.0 in r.say);
       })))
 
@@ -130,7 +130,7 @@ module _ (w : World) where
       if_there (SameFrame w) row.conn _ (λ c on.
       if_there (SameFrame w) (slice_get w.conns c) _ (λ x there.
       if_holds (SameFrame w) (ltb 0 n && is_nonempty (let t = text_to row.side x in t.said)) _ (λ some.
-      record { run_same = λ j. refl; lead_same = targets-at c (change_to row.side (delivered n)) (change-target row.side (delivered n)) w.conns }))))))
+      record { run_same = λ j. refl; lead_same = targets-at c (change_to row.side (after_delivery n)) (change-target row.side (after_delivery n)) w.conns }))))))
 
   frame-take : (node : ℕ) (id : EndId) (fresh : ℕ) → IfSome (take_frame w node id fresh) (SameFrame w)
   frame-take node id fresh =
@@ -148,15 +148,15 @@ frame-settled : (w : World) (o : Option World) → IfSome o (SameFrame w) → Sa
 frame-settled w None q = same-refl w
 frame-settled w (Some x) q = record { run_same = q.run_same; lead_same = q.lead_same }
 
-frame-happens : (w : World) (e : Happening) → IfSome (applied (unclosed w) e) (SameFrame (unclosed w)) → SameFrame w (happens w e)
+frame-happens : (w : World) (e : Happening) → IfSome (world_after (without_closing w) e) (SameFrame (without_closing w)) → SameFrame w (happens w e)
 frame-happens w e q = frame-settled w (applied_at w e) (by (ltb w.clock 4611686018427387904))
   where
-    off : (o : Option World) → IfSome o (SameFrame (unclosed w)) → IfSome o (SameFrame w)
+    off : (o : Option World) → IfSome o (SameFrame (without_closing w)) → IfSome o (SameFrame w)
     off None k = tt
     off (Some x) k = record { run_same = k.run_same; lead_same = k.lead_same }
 
-    by : (b : Bool) → IfSome (cond b (applied (unclosed w) e) None) (SameFrame w)
-    by true = off (applied (unclosed w) e) q
+    by : (b : Bool) → IfSome (cond b (world_after (without_closing w) e) None) (SameFrame w)
+    by true = off (world_after (without_closing w) e) q
     by false = tt
 
 -- a dialled end reaches a running node
@@ -185,12 +185,12 @@ leads-settled w j (Some x) q e = record { place = q.place; runs_there = q.runs_t
 leads-happens : (w : World) (i : ℕ) (id : EndId) (j : ℕ) → AllApply (happening.Reach i id j ∷ []) w → Leads w (happens w (happening.Reach i id j)) j
 leads-happens w i id j a = leads-settled w j (applied_at w (happening.Reach i id j)) (by (ltb w.clock 4611686018427387904)) a
   where
-    off : (o : Option World) → IfSome o (λ x. Leads (unclosed w) x j) → IfSome o (λ x. Leads w x j)
+    off : (o : Option World) → IfSome o (λ x. Leads (without_closing w) x j) → IfSome o (λ x. Leads w x j)
     off None k = tt
     off (Some x) k = record { place = k.place; runs_there = k.runs_there; run_same = k.run_same; lead_more = k.lead_more }
 
-    by : (b : Bool) → IfSome (cond b (applied (unclosed w) (happening.Reach i id j)) None) (λ x. Leads w x j)
-    by true = off (applied (unclosed w) (happening.Reach i id j)) (leads-reached (unclosed w) i id j)
+    by : (b : Bool) → IfSome (cond b (world_after (without_closing w) (happening.Reach i id j)) None) (λ x. Leads w x j)
+    by true = off (world_after (without_closing w) (happening.Reach i id j)) (leads-reached (without_closing w) i id j)
     by false = tt
 
 -- ---- links and connections
@@ -249,7 +249,7 @@ none-at test pre ts t e = elim (test t) as (λ b. test t ≡ b → b ≡ false) 
 abbrev HasDialler : List Told → ℕ → Type 0
 HasDialler all k = (x : ℕ × EndId) × (dialler_of k all ≡ Some x)
 
-opens-dialled : (k : ℕ) (e : Event) → opens k e ≡ true → dialled k e ≡ None → ⊥
+opens-dialled : (k : ℕ) (e : Event) → opens k e ≡ true → dialled_end k e ≡ None → ⊥
 opens-dialled k (event.Opened id j) o n = by (eqb j k) o n
   where
     by : (b : Bool) → b ≡ true → cond b (Some id) None ≡ None → ⊥
@@ -326,8 +326,8 @@ fine all pre ts t is paired (event.Opened id k) e =
 fine all pre ts t is paired (event.Incoming k) e =
     let once : links_repeat (pre ++ t ∷ ts) ≡ false = ap links_repeat (sym is) ∙ or-left (links_repeat all) (comes_unopened all) paired in
     let opened-all : comes_unopened all ≡ false = or-right (links_repeat all) (comes_unopened all) paired in
-    let test : Told → Bool = λ x. unopened all (let l = x.line in l.event) in
-    let mine : unopened all (event.Incoming k) ≡ false = ap (unopened all) (sym e) ∙ none-at test pre ts t (ap (list_any test) (sym is) ∙ opened-all) in
+    let test : Told → Bool = λ x. is_unopened all (let l = x.line in l.event) in
+    let mine : is_unopened all (event.Incoming k) ≡ false = ap (is_unopened all) (sym e) ∙ none-at test pre ts t (ap (list_any test) (sym is) ∙ opened-all) in
     let some : list_any (opens_in k) all ≡ true = elim (list_any (opens_in k) all) as (λ b. not b ≡ false → b ≡ true) [ true ↦ λ q. refl | false ↦ λ q. absurd cc ] mine in
     let here : comes_in k t ≡ true = ap (comes k) e ∙ eqb-self k in
     (has-dialler k all some, ap (acceptor_of k) is ∙ acceptor-mine k pre ts t once here)
@@ -354,11 +354,11 @@ goes-first all count w ks k d g = subst (λ o. AllApply (option_to_list (cond (i
 
 line-goes : (all : List Told) (count : ℕ) (w : World) (ks : List ℕ) (i : ℕ) (e : Event) (fresh : ℕ) → Fine all i e → Goes all count w ks → AllApply (option_to_list (before all count ks i e)) w
     → ComesHere (run (option_to_list (before all count ks i e)) w) (mention ks (link_in e)) i e × Goes all count (run (own (mention ks (link_in e)) i e fresh ∷ []) (run (option_to_list (before all count ks i e)) w)) (mention ks (link_in e))
-line-goes all count w ks i (event.Dial p o) fresh f g a = (tt, goes-frame all count w _ ks (frame-happens w (happening.Dial i p o) (frame-node (unclosed w) i (event.Dial p o))) g)
+line-goes all count w ks i (event.Dial p o) fresh f g a = (tt, goes-frame all count w _ ks (frame-happens w (happening.Dial i p o) (frame-node (without_closing w) i (event.Dial p o))) g)
 line-goes all count w ks i (event.Opened id k) fresh f g a =
     let x = run (option_to_list (reach_first all count ks k)) w in
     let q : Goes all count x (mention ks (Some k)) = goes-first all count w ks k f g a in
-    (tt, goes-frame all count x _ (mention ks (Some k)) (frame-happens x (happening.Opened i id) (frame-opened (unclosed x) i id)) q)
+    (tt, goes-frame all count x _ (mention ks (Some k)) (frame-happens x (happening.Opened i id) (frame-opened (without_closing x) i id)) q)
 line-goes all count w ks i (event.Incoming k) fresh f g a =
     let x = run (option_to_list (reach_first all count ks k)) w in
     let js = mention ks (Some k) in
@@ -366,14 +366,14 @@ line-goes all count w ks i (event.Incoming k) fresh f g a =
     let d = f.0 in
     let mine : home all count k ≡ i = ap (home_of all count k) d.1 ∙ ap (target_of count (let y = d.0 in y.0)) f.1 in (
       targets-get x.conns (conn_of k js) ∙ (matches-at (running x) (home all count) k js (targets x.conns) (among-mention k ks) q ∙ ap (running x) mine),
-      goes-frame all count x _ js (frame-happens x (happening.Accept (conn_of k js)) (frame-accepted (unclosed x) (conn_of k js))) q,
+      goes-frame all count x _ js (frame-happens x (happening.Accept (conn_of k js)) (frame-accepted (without_closing x) (conn_of k js))) q,
     )
 line-goes all count w ks i (event.Frame id body) fresh f g a =
     let x = happens w (happening.Deliver i id (2 + length body)) in
-    let s : SameFrame w x = frame-happens w (happening.Deliver i id (2 + length body)) (frame-deliver (unclosed w) i id (2 + length body)) in
-    (tt, goes-frame all count x _ ks (frame-happens x (happening.Take i id fresh) (frame-take (unclosed x) i id fresh)) (goes-frame all count w x ks s g))
-line-goes all count w ks i (event.Lost id y) fresh f g a = (tt, goes-frame all count w _ ks (frame-happens w (happening.Lose i id y) (frame-node (unclosed w) i (event.Lost id y))) g)
-line-goes all count w ks i (event.Tick id) fresh f g a = (tt, goes-frame all count w _ ks (frame-happens w (happening.Tick i id) (frame-node (unclosed w) i (event.Tick id))) g)
+    let s : SameFrame w x = frame-happens w (happening.Deliver i id (2 + length body)) (frame-deliver (without_closing w) i id (2 + length body)) in
+    (tt, goes-frame all count x _ ks (frame-happens x (happening.Take i id fresh) (frame-take (without_closing x) i id fresh)) (goes-frame all count w x ks s g))
+line-goes all count w ks i (event.Lost id y) fresh f g a = (tt, goes-frame all count w _ ks (frame-happens w (happening.Lose i id y) (frame-node (without_closing w) i (event.Lost id y))) g)
+line-goes all count w ks i (event.Tick id) fresh f g a = (tt, goes-frame all count w _ ks (frame-happens w (happening.Tick i id) (frame-node (without_closing w) i (event.Tick id))) g)
 
 -- ---- ALL LINES
 
@@ -383,7 +383,7 @@ come-home all count ks w pre (t ∷ ts) is paired g f =
     let h = f.0 in
     let l = t.line in
     let x = line-goes all count w ks t.node l.event l.fresh (fine all pre ts t is paired l.event refl) g h.before in
-    (x.0, come-home all count (mentioned ks t) (after all count ks w t) (pre ++ t ∷ []) ts (is ∙ sym (append_assoc pre (t ∷ []) ts)) paired x.1 f.1)
+    (x.0, come-home all count (with_mentions ks t) (after all count ks w t) (pre ++ t ∷ []) ts (is ∙ sym (append_assoc pre (t ∷ []) ts)) paired x.1 f.1)
 
 same-conns : (w : World) (i : ℕ) (c : Creation) → IfSome (begin w i c) (λ x. x.conns ≡ w.conns)
 same-conns w i c = let P : World → Type 0 = λ x. x.conns ≡ w.conns in
@@ -403,12 +403,12 @@ conns-begins w i (s ∷ ss) =
     let one : (let y = happens w e in y.conns) ≡ w.conns = conns-settled w (applied_at w e) (by (ltb w.clock 4611686018427387904)) in
     conns-begins (happens w (happening.Begin i s.creation)) (suc i) ss ∙ one
   where
-    by : (b : Bool) → IfSome (cond b (applied (unclosed w) (happening.Begin i s.creation)) None) (λ x. x.conns ≡ w.conns)
-    by true = same-conns (unclosed w) i s.creation
+    by : (b : Bool) → IfSome (cond b (world_after (without_closing w) (happening.Begin i s.creation)) None) (λ x. x.conns ≡ w.conns)
+    by true = same-conns (without_closing w) i s.creation
     by false = tt
 
 -- in histories of one world each link comes to the node of its line
 pub all-come-home : (cs : List Closed) (all : List Told) → links_unpaired all ≡ false → AreOfOneWorld cs all → EachLinkComesHome cs all
 all-come-home cs all paired f =
-    let none : targets (let x = audit.begun cs in x.conns) ≡ [] = ap targets (conns-begins (empty (setups_of cs)) 0 (setups_of cs)) in
-    come-home all (length cs) [] (audit.begun cs) [] all refl paired (subst (λ ps. Matches (running (audit.begun cs)) (home all (length cs)) [] ps) (sym none) tt) f.followed
+    let none : targets (let x = audit.world_before_lines cs in x.conns) ≡ [] = ap targets (conns-begins (empty (setups_of cs)) 0 (setups_of cs)) in
+    come-home all (length cs) [] (audit.world_before_lines cs) [] all refl paired (subst (λ ps. Matches (running (audit.world_before_lines cs)) (home all (length cs)) [] ps) (sym none) tt) f.followed

@@ -7,13 +7,13 @@ use Rattle.dist_peers.specs.declared.entry.EndId.{EndId}
 use Rattle.dist_core.specs.declared.event.Event.{Event}
 use Rattle.dist_core.specs.declared.event.Event.TheVariants as event
 use Rattle.dist_audit.specs.Lines.{Told}
-use Rattle.dist_audit.specs.Links.{opens, opens_in, comes_in, dialled, dialled_in, or_else, dialler_of, acceptor_of}
-use Rattle.dist_audit.specs.Faults.{repeats, links_repeat, unopened, comes_unopened}
+use Rattle.dist_audit.specs.Links.{opens, opens_in, comes_in, dialled_end, dialled_in, or_else, dialler_of, acceptor_of}
+use Rattle.dist_audit.specs.Faults.{repeats, links_repeat, is_unopened, comes_unopened}
 use Rattle.dist_audit.specs.Kept.{Knows, is_again, is_unknown}
 use Rattle.dist_audit.proofs.Either.{or-true, or-false, any-same}
 
 -- a line that opens names a dialler
-opened-is : (k : ℕ) (e : Event) → is_some (dialled k e) ≡ opens k e
+opened-is : (k : ℕ) (e : Event) → is_some (dialled_end k e) ≡ opens k e
 opened-is k (event.Dial p o) = refl
 opened-is k (event.Opened id j) = elim (eqb j k) as (λ b. is_some (cond b (Some id) None) ≡ b) [ true ↦ refl | false ↦ refl ]
 opened-is k (event.Incoming j) = refl
@@ -46,7 +46,7 @@ module _ (d : BTreeMap ℕ (ℕ × EndId)) (a : BTreeMap ℕ ℕ) (ts : List Tol
   again-is (event.Lost id y) = refl
   again-is (event.Tick id) = refl
 
-  pub unknown-is : (e : Event) → is_unknown d e ≡ unopened ts e
+  pub unknown-is : (e : Event) → is_unknown d e ≡ is_unopened ts e
   unknown-is (event.Dial p o) = refl
   unknown-is (event.Opened id j) = refl
   unknown-is (event.Incoming j) = ap (λ (o : Option (ℕ × EndId)). not (is_some o)) (h.dialled j) ∙ ap not (has-dialler j ts)
@@ -56,7 +56,7 @@ module _ (d : BTreeMap ℕ (ℕ × EndId)) (a : BTreeMap ℕ ℕ) (ts : List Tol
 
 -- what no dialler is known of is what was not opened
 pub all_unknown : (d : BTreeMap ℕ (ℕ × EndId)) (a : BTreeMap ℕ ℕ) (ts : List Told) → Knows d a ts → list_any (λ (t : Told). is_unknown d (let l = t.line in l.event)) ts ≡ comes_unopened ts
-all_unknown d a ts h = any-same (λ (t : Told). is_unknown d (let l = t.line in l.event)) (λ (t : Told). unopened ts (let l = t.line in l.event)) (λ t. unknown-is d a ts h (let l = t.line in l.event)) ts
+all_unknown d a ts h = any-same (λ (t : Told). is_unknown d (let l = t.line in l.event)) (λ (t : Told). is_unopened ts (let l = t.line in l.event)) (λ t. unknown-is d a ts h (let l = t.line in l.event)) ts
 
 -- what is true of a part of the lines is true of all
 repeat-drop : (i : ℕ) (ts : List Told) → links_repeat (drop i ts) ≡ true → links_repeat ts ≡ true
@@ -73,9 +73,9 @@ module _ (all : List Told) (j : ℕ) (t : Told) (d : BTreeMap ℕ (ℕ × EndId)
       drop-cons all (j - 1) t few_too ∙ (λ i. sym is i ∷ drop (next i) all)
 
   pub knows_more : (e : BTreeMap ℕ (ℕ × EndId)) (b : BTreeMap ℕ ℕ) → ((k : ℕ) → get nat_cmp e k ≡ or_else t.node (dialled_in k t) (get nat_cmp d k)) → ((k : ℕ) → get nat_cmp b k ≡ cond (comes_in k t) (Some t.node) (get nat_cmp a k)) → Knows e b (drop (j - 1) all)
-  knows_more e b dialled came =
+  knows_more e b dialled_end came =
       let at : Knows e b (t ∷ drop j all) = record {
-        dialled = λ k. dialled k ∙ ap (λ (o : Option (ℕ × EndId)). or_else t.node (dialled_in k t) o) (h.dialled k);
+        dialled = λ k. dialled_end k ∙ ap (λ (o : Option (ℕ × EndId)). or_else t.node (dialled_in k t) o) (h.dialled k);
         came = λ k. came k ∙ ap (λ (o : Option ℕ). cond (comes_in k t) (Some t.node) o) (h.came k);
       } in
       subst (λ (ts : List Told). Knows e b ts) (sym split) at

@@ -8,7 +8,7 @@ use Rattle.dist_core.specs.declared.event.Event.{Event}
 use Rattle.dist_core.specs.declared.event.Event.TheVariants as event
 use Rattle.dist_audit.specs.Lines.{Told}
 use Rattle.dist_audit.specs.Links.{opens, comes, opens_in}
-use Rattle.dist_audit.specs.Faults.{repeats, links_repeat, unopened, comes_unopened, links_unpaired}
+use Rattle.dist_audit.specs.Faults.{repeats, links_repeat, is_unopened, comes_unopened, links_unpaired}
 use Rattle.dist_audit.proofs.Either.{any-same, left-false, right-false, distinct-none}
 use Rattle.dist_audit.proofs.Sorting.{flips}
 
@@ -110,7 +110,7 @@ both-or-none false false f g = refl
 
 -- ---- in whatever order
 
-unopened-alike : (xs ys : List Told) → IsPermutation xs ys → (e : Event) → unopened xs e ≡ unopened ys e
+unopened-alike : (xs ys : List Told) → IsPermutation xs ys → (e : Event) → is_unopened xs e ≡ is_unopened ys e
 unopened-alike xs ys p (event.Dial q o) = refl
 unopened-alike xs ys p (event.Opened id k) = refl
 unopened-alike xs ys p (event.Incoming k) = ap not (list_any-IsPermutation (opens_in k) xs ys p)
@@ -120,8 +120,8 @@ unopened-alike xs ys p (event.Tick id) = refl
 
 comes-alike : (xs ys : List Told) → IsPermutation xs ys → comes_unopened xs ≡ comes_unopened ys
 comes-alike xs ys p =
-    list_any-IsPermutation (λ t. unopened xs (event_of t)) xs ys p
-    ∙ any-same (λ t. unopened xs (event_of t)) (λ t. unopened ys (event_of t)) (λ t. unopened-alike xs ys p (event_of t)) ys
+    list_any-IsPermutation (λ t. is_unopened xs (event_of t)) xs ys p
+    ∙ any-same (λ t. is_unopened xs (event_of t)) (λ t. is_unopened ys (event_of t)) (λ t. unopened-alike xs ys p (event_of t)) ys
 
 -- lines in another order have links in pairs or not all the same
 pub unpaired-alike : (xs ys : List Told) → IsPermutation xs ys → links_unpaired xs ≡ links_unpaired ys

@@ -7,7 +7,7 @@ use Rattle.dist_audit.specs.Lines.{Told, lines_by_node, AreLinesOf}
 use Rattle.dist_audit.specs.Happenings.{setups_of, begins, of_lines}
 use Rattle.dist_audit.specs.declared.audit_error.AuditError.{AuditError}
 use Rattle.dist_audit.specs.declared.audit_error.AuditError.TheVariants as error
-use Rattle.dist_audit.specs.Audit.{AllApply, AreFollowed, HasTables, AreOfOneWorld, IsRefused, Refutes, StopsAt, Tells, TellsFirst, UnlessShort, begun, world_of, IsWorldOf}
+use Rattle.dist_audit.specs.Audit.{AllApply, AreFollowed, HasTables, AreOfOneWorld, AreRefused, Refutes, StopsAt, Tells, TellsFirst, UnlessShort, world_before_lines, world_of, IsWorldOf}
 use Rattle.dist_audit.specs.Faults.{fault_of, links_unpaired, IsFault}
 use Rattle.dist_audit.proofs.Walking.{run-append, unless-more, all-apply}
 use Rattle.dist_audit.proofs.Beginning.{all-begin}
@@ -22,17 +22,17 @@ has-begun cs first opening none = subst (λ (w : World). AllApply (begins 0 w.se
 
 module _ (cs : List Closed) (first second last : World) (lines : List Told) (opening : first ≡ empty (setups_of cs)) (began : second ≡ run (begins 0 first.setups) first) where
   -- the world once all nodes began
-  has_begun : second ≡ begun cs
+  has_begun : second ≡ world_before_lines cs
   has_begun = began ∙ ap (λ (w : World). run (begins 0 w.setups) w) opening
 
-  pub followed-all : AreFollowed lines (length cs) [] second lines → AreFollowed lines (length cs) [] (begun cs) lines
+  pub followed-all : AreFollowed lines (length cs) [] second lines → AreFollowed lines (length cs) [] (world_before_lines cs) lines
   followed-all f = subst (λ (w : World). AreFollowed lines (length cs) [] w lines) has_begun f
 
-  pub followed-none : AreFollowed lines (length cs) [] (begun cs) lines → AreFollowed lines (length cs) [] second lines
+  pub followed-none : AreFollowed lines (length cs) [] (world_before_lines cs) lines → AreFollowed lines (length cs) [] second lines
   followed-none f = subst (λ (w : World). AreFollowed lines (length cs) [] w lines) (sym has_begun) f
 
-  pub stops-all : (e : AuditError) → UnlessShort e (StopsAt e lines (length cs) [] second lines) → UnlessShort e (IsRefused e cs lines)
-  stops-all e r = unless-more e _ (IsRefused e cs lines) (λ f. inl (subst (λ (w : World). StopsAt e lines (length cs) [] w lines) has_begun f)) r
+  pub stops-all : (e : AuditError) → UnlessShort e (StopsAt e lines (length cs) [] second lines) → UnlessShort e (AreRefused e cs lines)
+  stops-all e r = unless-more e _ (AreRefused e cs lines) (λ f. inl (subst (λ (w : World). StopsAt e lines (length cs) [] w lines) has_begun f)) r
 
   pub is_played : last ≡ run (of_lines lines (length cs) [] lines) second → last ≡ world_of cs lines
   is_played played =
@@ -49,7 +49,7 @@ module _ (cs : List Closed) (first second last : World) (lines : List Told) (ope
   is_other played unlike one = let e : IsTrue false = unlike (subst (λ (w : World). HasTables w cs) (sym (is_played played)) one.tables) in cc
 
   -- all lines are followed, and the tables differ
-  pub other-tables : last ≡ run (of_lines lines (length cs) [] lines) second → AreFollowed lines (length cs) [] second lines → (HasTables last cs → IsTrue false) → IsRefused error.OtherReply cs lines
+  pub other-tables : last ≡ run (of_lines lines (length cs) [] lines) second → AreFollowed lines (length cs) [] second lines → (HasTables last cs → IsTrue false) → AreRefused error.OtherReply cs lines
   other-tables played f unlike = inr (followed-all f, λ tables. let e : IsTrue false = unlike (subst (λ (w : World). HasTables w cs) (sym (is_played played)) tables) in cc)
 
 -- the first fault of the histories by themselves
@@ -62,7 +62,7 @@ fault-first error.TicketTwice cs h = tt
 fault-first error.Unpaired cs h = tt
 
 -- what was refused of the lines in the order of their tickets
-pub play-first : (e : AuditError) (cs : List Closed) (ts : List Told) → AreLinesOf cs ts → UnlessShort e (IsRefused e cs ts) → TellsFirst e cs
+pub play-first : (e : AuditError) (cs : List Closed) (ts : List Told) → AreLinesOf cs ts → UnlessShort e (AreRefused e cs ts) → TellsFirst e cs
 play-first error.NoMemory cs ts all h = tt
 play-first error.NotSent cs ts all h = (ts, all, h)
 play-first error.OtherReply cs ts all h = (ts, all, h)

@@ -3,7 +3,7 @@ use Rattle.std.proofs.Common.{◌≡◌, ℕ, zero, suc, ◌+◌, ◌^◌, ◌<�
 use Rattle.std.proofs.lemmas.List.{take_at}
 use Rattle.std.specs.Int.{w16, to_be_bytes}
 use Rattle.std.specs.Option.{option_map, option_and_then}
-use Rattle.dist_frames.specs.Stream.{framed, first_body, after_first}
+use Rattle.dist_frames.specs.Stream.{body_frame, first_body, after_first}
 use Rattle.dist_messages.specs.declared.message.Side.{Side}
 use Rattle.dist_messages.specs.declared.message.Side.TheVariants.{Dialler, Acceptor}
 use Rattle.dist_peers.specs.declared.entry.EndId.{EndId}
@@ -19,16 +19,16 @@ use Rattle.dist_world_model.specs.declared.happening.Happening.TheVariants as ha
 use Rattle.dist_world_model.specs.Lists.{at_place}
 use Rattle.dist_world_model.specs.Rows.{EndRow}
 use Rattle.dist_world_model.specs.World.{World, Conn, Text, empty, runs, running, row_at, end_at}
-use Rattle.dist_world_model.specs.Delivery.{says, spoken, spoken_on, text_to, change_to, delivered, body_taken}
+use Rattle.dist_world_model.specs.Delivery.{says, conns_after_saying, spoken_on, text_to, change_to, after_delivery, body_taken}
 use Rattle.dist_world_lives.specs.Stepping.{wire_of}
-use Rattle.dist_world.specs.Asking.{said_to, undelivered}
-use Rattle.dist_world_model.specs.Happenings.{◌>>◌, tell, tell_node, new_conn, reach as happening_reach, conn_of, tell_opened, accept, accepted_by, next_end, begin, is_open_end, is_nonempty, applied, unclosed, ticked_on, applied_at, happens}
+use Rattle.dist_world.specs.Asking.{said_to, undelivered_text}
+use Rattle.dist_world_model.specs.Happenings.{◌>>◌, tell, tell_node, new_conn, reach as happening_reach, conn_of, tell_opened, accept, accepted_by, next_end, begin, is_open_end, is_nonempty, world_after, without_closing, ticked_on, applied_at, happens}
 use Rattle.dist_world_model.proofs.Conditions.{if_there, if_ok, if_holds, there}
 use Rattle.dist_world_model.specs.Run.{run, one_where}
 use Rattle.dist_audit.specs.Audit as audit
 use Rattle.dist_audit.specs.Audit.{AllApply, BeginsWith, Says, IsNext, come_of, IsFront, TakeTheirs, AreFollowed, AreOfOneWorld, after}
 use Rattle.dist_audit.specs.Lines.{Told}
-use Rattle.dist_audit.specs.Happenings.{setups_of, begins, mentioned, reach, reach_first, before, own}
+use Rattle.dist_audit.specs.Happenings.{setups_of, begins, with_mentions, reach, reach_first, before, own}
 use Rattle.dist_audit.specs.Links.{is_among, dialler_of, acceptor_of, target_of, conn_of as number_of}
 
 -- nothing that came is left, on either side
@@ -78,7 +78,7 @@ quiet-on : (ks : List Conn) (o : Option ℕ) (side : Side) (s : List ℕ) → Ar
 quiet-on ks None side s h = h
 quiet-on ks (Some c) side s h = quiet-at c (says side s) (quiet-says side s) ks h
 
-quiet-spoken : (ks : List Conn) (o : Option EndRow) (s : List ℕ) → AreQuiet ks → AreQuiet (spoken ks o s)
+quiet-spoken : (ks : List Conn) (o : Option EndRow) (s : List ℕ) → AreQuiet ks → AreQuiet (conns_after_saying ks o s)
 quiet-spoken ks None s h = h
 quiet-spoken ks (Some row) s h = quiet-on ks row.conn row.side s h
 
@@ -115,10 +115,10 @@ quiet-accepted w h c =
 
 -- ---- happenings that apply
 
-at-clock : (w : World) (e : Happening) (Q : World → Type 0) → IfSome (applied (unclosed w) e) Q → IfSome (applied_at w e) Q
+at-clock : (w : World) (e : Happening) (Q : World → Type 0) → IfSome (world_after (without_closing w) e) Q → IfSome (applied_at w e) Q
 at-clock w e Q q = by (ltb w.clock 4611686018427387904)
   where
-    by : (b : Bool) → IfSome (cond b (applied (unclosed w) e) None) Q
+    by : (b : Bool) → IfSome (cond b (world_after (without_closing w) e) None) Q
     by true = q
     by false = tt
 
@@ -126,21 +126,21 @@ settled : (w : World) (o : Option World) → IfSome o QuietIn → one_where o + 
 settled w None q e = absurd (omega (arith, e))
 settled w (Some x) q e = q
 
-pub quiet-happens : (w : World) (e : Happening) → IfSome (applied (unclosed w) e) QuietIn → AllApply (e ∷ []) w → QuietIn (happens w e)
+pub quiet-happens : (w : World) (e : Happening) → IfSome (world_after (without_closing w) e) QuietIn → AllApply (e ∷ []) w → QuietIn (happens w e)
 quiet-happens w e q a = settled w (applied_at w e) (at-clock w e QuietIn q) a
 
 -- ---- a frame
 
 -- a frame alone has its body at the front, and nothing behind it
 pub record FramesAlone : Type 0 where
-  pub front : (body : List ℕ) → length body < 2 ^ 16 → first_body w16 (framed w16 body) ≡ Some body
-  pub behind : (body : List ℕ) → length body < 2 ^ 16 → after_first w16 (framed w16 body) ≡ []
+  pub front : (body : List ℕ) → length body < 2 ^ 16 → first_body w16 (body_frame w16 body) ≡ Some body
+  pub behind : (body : List ℕ) → length body < 2 ^ 16 → after_first w16 (body_frame w16 body) ≡ []
 
 -- the frame comes whole where nothing had come before
-comes-whole : (t : Text) (body rest : List ℕ) → t.come ≡ [] → framed w16 body ++ rest ≡ t.said → (let d = delivered (2 + length body) t in d.come) ≡ framed w16 body
+comes-whole : (t : Text) (body rest : List ℕ) → t.come ≡ [] → body_frame w16 body ++ rest ≡ t.said → (let d = after_delivery (2 + length body) t in d.come) ≡ body_frame w16 body
 comes-whole t body rest none said =
     (λ j. none j ++ take (2 + length body) t.said)
-    ∙ (ap (take (2 + length body)) (sym said) ∙ take_at (framed w16 body) rest (2 + length body) (length-append (to_be_bytes w16 (length body)) body))
+    ∙ (ap (take (2 + length body)) (sym said) ∙ take_at (body_frame w16 body) rest (2 + length body) (length-append (to_be_bytes w16 (length body)) body))
 
 text-at : (side : Side) (f : Text → Text) (k : Conn) → text_to side (change_to side f k) ≡ f (text_to side k)
 text-at Dialler f k = refl
@@ -150,7 +150,7 @@ quiet-text : (side : Side) (k : Conn) → IsQuiet k → (let t = text_to side k 
 quiet-text Dialler k h = h.1
 quiet-text Acceptor k h = h.0
 
-quiet-taken : (side : Side) (n : ℕ) (k : Conn) → IsQuiet k → (let t = body_taken (delivered n (text_to side k)) in t.come) ≡ [] → IsQuiet (change_to side body_taken (change_to side (delivered n) k))
+quiet-taken : (side : Side) (n : ℕ) (k : Conn) → IsQuiet k → (let t = body_taken (after_delivery n (text_to side k)) in t.come) ≡ [] → IsQuiet (change_to side body_taken (change_to side (after_delivery n) k))
 quiet-taken Dialler n k h e = (h.0, e)
 quiet-taken Acceptor n k h e = (e, h.1)
 
@@ -165,20 +165,20 @@ record Stands (w : World) (i : ℕ) (id : EndId) (body : List ℕ) : Type 0 wher
   beside : row_at w place id.0 ≡ Some row
   on : row.conn ≡ Some conn
   at : slice_get w.conns conn ≡ Some there
-  said : framed w16 body ++ rest ≡ (let t = text_to row.side there in t.said)
+  said : body_frame w16 body ++ rest ≡ (let t = text_to row.side there in t.said)
 
 stands : (w : World) (i : ℕ) (id : EndId) (body : List ℕ) → BeginsWith (said_to w i id) body → Stands w i id body
 stands w i id body b = by (running w i) refl b
   where
-    by : (o : Option ℕ) → running w i ≡ o → BeginsWith (option_and_then (λ place. undelivered w (wire_of (row_at w place id.0))) o) body → Stands w i id body
+    by : (o : Option ℕ) → running w i ≡ o → BeginsWith (option_and_then (λ place. undelivered_text w (wire_of (row_at w place id.0))) o) body → Stands w i id body
     by None e1 b = absurd b
     by (Some place) e1 b = by-row (row_at w place id.0) refl b
       where
-        by-row : (o : Option EndRow) → row_at w place id.0 ≡ o → BeginsWith (undelivered w (wire_of o)) body → Stands w i id body
+        by-row : (o : Option EndRow) → row_at w place id.0 ≡ o → BeginsWith (undelivered_text w (wire_of o)) body → Stands w i id body
         by-row None e2 b = absurd b
         by-row (Some r) e2 b = by-conn r.conn refl b
           where
-            by-conn : (o : Option ℕ) → r.conn ≡ o → BeginsWith (undelivered w (option_map (λ c. (r.side, c)) o)) body → Stands w i id body
+            by-conn : (o : Option ℕ) → r.conn ≡ o → BeginsWith (undelivered_text w (option_map (λ c. (r.side, c)) o)) body → Stands w i id body
             by-conn None e3 b = absurd b
             by-conn (Some c) e3 b = by-there (slice_get w.conns c) refl b
               where
@@ -199,12 +199,12 @@ module _ (alone : FramesAlone) (w : World) (i : ℕ) (id : EndId) (body : List �
 
   -- the world once the frame came
   abbrev y : World
-  y = record (unclosed w) { conns = at_place s.conn (change_to (let r = s.row in r.side) (delivered (2 + length body))) w.conns }
+  y = record (without_closing w) { conns = at_place s.conn (change_to (let r = s.row in r.side) (after_delivery (2 + length body))) w.conns }
 
   abbrev z : World
   z = record y { clock = w.clock + 1 }
 
-  delivers : applied (unclosed w) (happening.Deliver i id (2 + length body)) ≡ cond (is_open_end (end_at w s.place id.0)) (cond (ltb 0 (2 + length body) && is_nonempty (let r = s.row in let t = text_to r.side s.there in t.said)) (Some y) None) None
+  delivers : world_after (without_closing w) (happening.Deliver i id (2 + length body)) ≡ cond (is_open_end (end_at w s.place id.0)) (cond (ltb 0 (2 + length body) && is_nonempty (let r = s.row in let t = text_to r.side s.there in t.said)) (Some y) None) None
   delivers =
       there (running w i) s.place _ s.runs_at
       ∙ ap (λ o. is_open_end (end_at w s.place id.0) >> o)
@@ -217,14 +217,14 @@ module _ (alone : FramesAlone) (w : World) (i : ℕ) (id : EndId) (body : List �
       (ap (λ o. cond (ltb w.clock 4611686018427387904) o None) delivers) a)
 
   abbrev came-there : Conn
-  came-there = change_to (let r = s.row in r.side) (delivered (2 + length body)) s.there
+  came-there = change_to (let r = s.row in r.side) (after_delivery (2 + length body)) s.there
 
   stands-there : slice_get z.conns s.conn ≡ Some came-there
-  stands-there = get-at w.conns s.conn (change_to (let r = s.row in r.side) (delivered (2 + length body))) s.there s.at
+  stands-there = get-at w.conns s.conn (change_to (let r = s.row in r.side) (after_delivery (2 + length body))) s.there s.at
 
-  come-there : (let t = text_to (let r = s.row in r.side) came-there in t.come) ≡ framed w16 body
+  come-there : (let t = text_to (let r = s.row in r.side) came-there in t.come) ≡ body_frame w16 body
   come-there =
-      ap (λ (t : Text). t.come) (text-at (let r = s.row in r.side) (delivered (2 + length body)) s.there)
+      ap (λ (t : Text). t.come) (text-at (let r = s.row in r.side) (after_delivery (2 + length body)) s.there)
       ∙ comes-whole (text_to (let r = s.row in r.side) s.there) body s.rest (quiet-text (let r = s.row in r.side) s.there (quiet-get w.conns s.conn s.there s.at h)) s.said
 
   front-there : first_body w16 (let t = text_to (let r = s.row in r.side) came-there in t.come) ≡ Some body
@@ -240,9 +240,9 @@ module _ (alone : FramesAlone) (w : World) (i : ℕ) (id : EndId) (body : List �
 
   -- the world before the frame is given
   abbrev v : World
-  v = record (unclosed z) { conns = at_place s.conn (change_to (let r = s.row in r.side) body_taken) z.conns }
+  v = record (without_closing z) { conns = at_place s.conn (change_to (let r = s.row in r.side) body_taken) z.conns }
 
-  takes : (fresh : ℕ) → applied (unclosed z) (happening.Take i id fresh) ≡ tell v s.place (event.Frame id body) fresh
+  takes : (fresh : ℕ) → world_after (without_closing z) (happening.Take i id fresh) ≡ tell v s.place (event.Frame id body) fresh
   takes fresh =
       there (running w i) s.place _ s.runs_at
       ∙ (there (row_at w s.place id.0) s.row _ s.beside
@@ -251,7 +251,7 @@ module _ (alone : FramesAlone) (w : World) (i : ℕ) (id : EndId) (body : List �
       ∙ there (first_body w16 (let t = text_to (let r = s.row in r.side) came-there in t.come)) body _ front-there)))
 
   quiet-v : QuietIn v
-  quiet-v = quiet-twice w.conns s.conn (change_to (let r = s.row in r.side) body_taken) (change_to (let r = s.row in r.side) (delivered (2 + length body))) s.there s.at
+  quiet-v = quiet-twice w.conns s.conn (change_to (let r = s.row in r.side) body_taken) (change_to (let r = s.row in r.side) (after_delivery (2 + length body))) s.there s.at
       (quiet-taken (let r = s.row in r.side) (2 + length body) s.there (quiet-get w.conns s.conn s.there s.at h)
       (ap (after_first w16) (comes-whole (text_to (let r = s.row in r.side) s.there) body s.rest (quiet-text (let r = s.row in r.side) s.there (quiet-get w.conns s.conn s.there s.at h)) s.said) ∙ alone.behind body few)) h
 
@@ -267,7 +267,7 @@ quiet-reach : (w : World) → QuietIn w → (all : List Told) (count k : ℕ) (o
 quiet-reach w h all count k None a = h
 quiet-reach w h all count k (Some x) a =
     let t = target_of count x.0 (acceptor_of k all) in
-    quiet-happens w (happening.Reach x.0 x.1 t) (quiet-reached (unclosed w) h x.0 x.1 t) a
+    quiet-happens w (happening.Reach x.0 x.1 t) (quiet-reached (without_closing w) h x.0 x.1 t) a
 
 quiet-first : (w : World) → QuietIn w → (all : List Told) (count k : ℕ) (b : Bool) → AllApply (option_to_list (cond b None (reach all count k (dialler_of k all)))) w → QuietIn (run (option_to_list (cond b None (reach all count k (dialler_of k all)))) w)
 quiet-first w h all count k true a = h
@@ -276,21 +276,21 @@ quiet-first w h all count k false a = quiet-reach w h all count k (dialler_of k 
 pub line-leaves : FramesAlone → (w : World) → QuietIn w → (all : List Told) (count : ℕ) (ks js : List ℕ) (i : ℕ) (e : Event) (fresh : ℕ)
     → IsNext w i e → AllApply (option_to_list (before all count ks i e)) w → AllApply (own js i e fresh ∷ []) (run (option_to_list (before all count ks i e)) w)
     → Leaves (run (option_to_list (before all count ks i e)) w) i e (run (own js i e fresh ∷ []) (run (option_to_list (before all count ks i e)) w))
-line-leaves alone w h all count ks js i (event.Dial p o) fresh n a b = (tt, quiet-happens w (happening.Dial i p o) (quiet-node (unclosed w) h i (event.Dial p o)) b)
+line-leaves alone w h all count ks js i (event.Dial p o) fresh n a b = (tt, quiet-happens w (happening.Dial i p o) (quiet-node (without_closing w) h i (event.Dial p o)) b)
 line-leaves alone w h all count ks js i (event.Opened id k) fresh n a b =
     let x = run (option_to_list (reach_first all count ks k)) w in
     let q : QuietIn x = quiet-first w h all count k (is_among k ks) a in
-    (tt, quiet-happens x (happening.Opened i id) (quiet-opened (unclosed x) q i id) b)
+    (tt, quiet-happens x (happening.Opened i id) (quiet-opened (without_closing x) q i id) b)
 line-leaves alone w h all count ks js i (event.Incoming k) fresh n a b =
     let x = run (option_to_list (reach_first all count ks k)) w in
     let q : QuietIn x = quiet-first w h all count k (is_among k ks) a in
-    (tt, quiet-happens x (happening.Accept (number_of k js)) (quiet-accepted (unclosed x) q (number_of k js)) b)
+    (tt, quiet-happens x (happening.Accept (number_of k js)) (quiet-accepted (without_closing x) q (number_of k js)) b)
 line-leaves alone w h all count ks js i (event.Frame id body) fresh n a b =
     let s = stands w i id body n.1 in
     let e = has-come alone w i id body n.0 s h a in
     subst (λ (x : World). AllApply (happening.Take i id fresh ∷ []) x → Leaves x i (event.Frame id body) (happens x (happening.Take i id fresh))) (sym e) (λ c. (is-front alone w i id body n.0 s h, quiet-takes alone w i id body n.0 s h fresh c)) b
-line-leaves alone w h all count ks js i (event.Lost id y) fresh n a b = (tt, quiet-happens w (happening.Lose i id y) (quiet-node (unclosed w) h i (event.Lost id y)) b)
-line-leaves alone w h all count ks js i (event.Tick id) fresh n a b = (tt, quiet-happens w (happening.Tick i id) (quiet-node (unclosed w) h i (event.Tick id)) b)
+line-leaves alone w h all count ks js i (event.Lost id y) fresh n a b = (tt, quiet-happens w (happening.Lose i id y) (quiet-node (without_closing w) h i (event.Lost id y)) b)
+line-leaves alone w h all count ks js i (event.Tick id) fresh n a b = (tt, quiet-happens w (happening.Tick i id) (quiet-node (without_closing w) h i (event.Tick id)) b)
 
 -- ---- ALL LINES
 
@@ -309,7 +309,7 @@ quiet-begins : (w : World) (i : ℕ) (ss : List Setup) → QuietIn w → QuietIn
 quiet-begins w i [] h = h
 quiet-begins w i (s ∷ ss) h =
     let e = happening.Begin i s.creation in
-    let q = at-clock w e QuietIn (quiet-begun (unclosed w) i s.creation h) in
+    let q = at-clock w e QuietIn (quiet-begun (without_closing w) i s.creation h) in
     quiet-begins (happens w e) (suc i) ss (stays-quiet w h (applied_at w e) q)
 
 take-theirs : FramesAlone → (all : List Told) (count : ℕ) (ks : List ℕ) (w : World) (ts : List Told) → QuietIn w → AreFollowed all count ks w ts → TakeTheirs all count ks w ts
@@ -317,9 +317,9 @@ take-theirs alone all count ks w [] h f = tt
 take-theirs alone all count ks w (t ∷ ts) h f =
     let g = f.0 in
     let l = t.line in
-    let x = line-leaves alone w h all count ks (mentioned ks t) t.node l.event l.fresh g.next g.before g.applies in
-    (x.0, take-theirs alone all count (mentioned ks t) (after all count ks w t) ts x.1 f.1)
+    let x = line-leaves alone w h all count ks (with_mentions ks t) t.node l.event l.fresh g.next g.before g.applies in
+    (x.0, take-theirs alone all count (with_mentions ks t) (after all count ks w t) ts x.1 f.1)
 
 -- in histories of one world each line takes its very body
-pub all-take-theirs : FramesAlone → (cs : List Closed) (ts : List Told) → AreOfOneWorld cs ts → TakeTheirs ts (length cs) [] (audit.begun cs) ts
-all-take-theirs alone cs ts f = take-theirs alone ts (length cs) [] (audit.begun cs) ts (quiet-begins (empty (setups_of cs)) 0 (setups_of cs) tt) f.followed
+pub all-take-theirs : FramesAlone → (cs : List Closed) (ts : List Told) → AreOfOneWorld cs ts → TakeTheirs ts (length cs) [] (audit.world_before_lines cs) ts
+all-take-theirs alone cs ts f = take-theirs alone ts (length cs) [] (audit.world_before_lines cs) ts (quiet-begins (empty (setups_of cs)) 0 (setups_of cs) tt) f.followed

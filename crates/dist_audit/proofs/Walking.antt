@@ -8,8 +8,8 @@ use Rattle.dist_world_model.specs.Happenings.{happens, applied_at}
 use Rattle.dist_audit.specs.declared.audit_error.AuditError.{AuditError}
 use Rattle.dist_audit.specs.declared.audit_error.AuditError.TheVariants as error
 use Rattle.dist_audit.specs.Lines.{Told}
-use Rattle.dist_audit.specs.Happenings.{setups_of, begins, happenings, of_lines, ahead, itself, mentioned}
-use Rattle.dist_audit.specs.Audit.{AllApply, IsFollowed, AreFollowed, AreOfOneWorld, after, begun, Refutes, RefusesLine, StopsAt, UnlessShort}
+use Rattle.dist_audit.specs.Happenings.{setups_of, begins, happenings, of_lines, ahead, itself, with_mentions}
+use Rattle.dist_audit.specs.Audit.{AllApply, IsFollowed, AreFollowed, AreOfOneWorld, after, world_before_lines, Refutes, RefusesLine, StopsAt, UnlessShort}
 
 pub run-append : (xs ys : List Happening) (w : World) → run (xs ++ ys) w ≡ run ys (run xs w)
 run-append [] ys w = refl
@@ -34,32 +34,32 @@ unless-more error.TicketTwice P Q f p = f p
 unless-more error.Unpaired P Q f p = f p
 
 -- what is left of the lines decides
-pub record Decides (all : List Told) (count : ℕ) (ks : List ℕ) (w : World) (rest : List Told) (begun : World) : Type 0 where
-  pub whole : AreFollowed all count ks w rest → AreFollowed all count [] begun all
-  pub part : AreFollowed all count [] begun all → AreFollowed all count ks w rest
-  pub runs : run (of_lines all count ks rest) w ≡ run (of_lines all count [] all) begun
-  pub stops : (e : AuditError) → StopsAt e all count ks w rest → StopsAt e all count [] begun all
+pub record Decides (all : List Told) (count : ℕ) (ks : List ℕ) (w : World) (rest : List Told) (world_before_lines : World) : Type 0 where
+  pub whole : AreFollowed all count ks w rest → AreFollowed all count [] world_before_lines all
+  pub part : AreFollowed all count [] world_before_lines all → AreFollowed all count ks w rest
+  pub runs : run (of_lines all count ks rest) w ≡ run (of_lines all count [] all) world_before_lines
+  pub stops : (e : AuditError) → StopsAt e all count ks w rest → StopsAt e all count [] world_before_lines all
 
-module _ (all : List Told) (count : ℕ) (ks : List ℕ) (w begun : World) (i : ℕ) (t : Told) (few : i < length all) (is : t ≡ get_or all i t) where
+module _ (all : List Told) (count : ℕ) (ks : List ℕ) (w world_before_lines : World) (i : ℕ) (t : Told) (few : i < length all) (is : t ≡ get_or all i t) where
   split : drop i all ≡ t ∷ drop (i + 1) all
   split = drop-cons all i t few ∙ (ap (λ (x : Told). x ∷ drop (suc i) all) (sym is) ∙ ap (λ n. t ∷ drop n all) (sym (add-one i)))
 
   -- the first of those that are left is followed
-  pub first_of_rest : Decides all count ks w (drop i all) begun → AreFollowed all count [] begun all → IsFollowed all count ks w t
+  pub first_of_rest : Decides all count ks w (drop i all) world_before_lines → AreFollowed all count [] world_before_lines all → IsFollowed all count ks w t
   first_of_rest d f = (subst (AreFollowed all count ks w) split (d.part f)).0
 
   -- it is refused, and so are all lines
-  pub stops-here : (e : AuditError) → Decides all count ks w (drop i all) begun → UnlessShort e (RefusesLine e all count ks w t) → UnlessShort e (StopsAt e all count [] begun all)
-  stops-here e d r = unless-more e (RefusesLine e all count ks w t) (StopsAt e all count [] begun all) (λ p. d.stops e (subst (StopsAt e all count ks w) (sym split) (inl p))) r
+  pub stops-here : (e : AuditError) → Decides all count ks w (drop i all) world_before_lines → UnlessShort e (RefusesLine e all count ks w t) → UnlessShort e (StopsAt e all count [] world_before_lines all)
+  stops-here e d r = unless-more e (RefusesLine e all count ks w t) (StopsAt e all count [] world_before_lines all) (λ p. d.stops e (subst (StopsAt e all count ks w) (sym split) (inl p))) r
 
-  pub goes_on : (new : World) (js : List ℕ) → Decides all count ks w (drop i all) begun → IsFollowed all count ks w t → new ≡ after all count ks w t → js ≡ mentioned ks t → Decides all count js new (drop (i + 1) all) begun
+  pub goes_on : (new : World) (js : List ℕ) → Decides all count ks w (drop i all) world_before_lines → IsFollowed all count ks w t → new ≡ after all count ks w t → js ≡ with_mentions ks t → Decides all count js new (drop (i + 1) all) world_before_lines
   goes_on new js d f did named =
-      let Q : List ℕ → World → Type 0 = λ ls v. Decides all count ls v (drop (i + 1) all) begun in
-      let at : Q (mentioned ks t) (after all count ks w t) = record {
+      let Q : List ℕ → World → Type 0 = λ ls v. Decides all count ls v (drop (i + 1) all) world_before_lines in
+      let at : Q (with_mentions ks t) (after all count ks w t) = record {
         whole = λ g. d.whole (subst (AreFollowed all count ks w) (sym split) (f, g));
         part = λ g. (subst (AreFollowed all count ks w) split (d.part g)).1;
         stops = λ e r. d.stops e (subst (StopsAt e all count ks w) (sym split) (inr (f, r)));
-        runs = sym (run-append (option_to_list (ahead all count ks t)) (itself ks t ∷ of_lines all count (mentioned ks t) (drop (i + 1) all)) w) ∙ (sym (ap (λ (rest : List Told). run (of_lines all count ks rest) w) split) ∙ d.runs);
+        runs = sym (run-append (option_to_list (ahead all count ks t)) (itself ks t ∷ of_lines all count (with_mentions ks t) (drop (i + 1) all)) w) ∙ (sym (ap (λ (rest : List Told). run (of_lines all count ks rest) w) split) ∙ d.runs);
       } in
       subst (λ v. Q js v) (sym did) (subst (λ ls. Q ls (after all count ks w t)) (sym named) at)
 
@@ -77,9 +77,9 @@ all-followed : (all : List Told) (count : ℕ) (ks : List ℕ) (w : World) (ts :
 all-followed all count ks w [] f = refl
 all-followed all count ks w (t ∷ ts) f =
     let x = ahead all count ks t in
-    let later = all-followed all count (mentioned ks t) (after all count ks w t) ts f.1 in
-    all-append (option_to_list x) (itself ks t ∷ of_lines all count (mentioned ks t) ts) w (let g = f.0 in g.before) (all-append (itself ks t ∷ []) (of_lines all count (mentioned ks t) ts) (run (option_to_list x) w) (let g = f.0 in g.applies) later)
+    let later = all-followed all count (with_mentions ks t) (after all count ks w t) ts f.1 in
+    all-append (option_to_list x) (itself ks t ∷ of_lines all count (with_mentions ks t) ts) w (let g = f.0 in g.before) (all-append (itself ks t ∷ []) (of_lines all count (with_mentions ks t) ts) (run (option_to_list x) w) (let g = f.0 in g.applies) later)
 
 -- all the happenings of histories of one world apply
 pub all-apply : (cs : List Closed) (ts : List Told) → AllApply (begins 0 (setups_of cs)) (empty (setups_of cs)) → AreOfOneWorld cs ts → AllApply (happenings cs ts) (empty (setups_of cs))
-all-apply cs ts b f = all-append (begins 0 (setups_of cs)) (of_lines ts (length cs) [] ts) (empty (setups_of cs)) b (all-followed ts (length cs) [] (begun cs) ts f.followed)
+all-apply cs ts b f = all-append (begins 0 (setups_of cs)) (of_lines ts (length cs) [] ts) (empty (setups_of cs)) b (all-followed ts (length cs) [] (world_before_lines cs) ts f.followed)

@@ -6,7 +6,7 @@ use Rattle.std.specs.Int.{w16}
 use Rattle.std.specs.FinMap as map
 use Rattle.dist_names.specs.Order.{Name}
 use Rattle.dist_messages.specs.declared.message.Side.{Side}
-use Rattle.dist_frames.specs.Stream.{framed, first_body}
+use Rattle.dist_frames.specs.Stream.{body_frame, first_body}
 use Rattle.dist_peers.specs.declared.entry.EndId.{EndId}
 use Rattle.dist_peers.specs.declared.entry.Entry.{Entry}
 use Rattle.dist_core_ends.specs.declared.known.UpRecord.{UpRecord}
@@ -29,12 +29,12 @@ use Rattle.dist_audit.specs.declared.audit_error.AuditError.TheVariants as error
 use Rattle.dist_audit.specs.Lines.{Told, AreLinesOf}
 use Rattle.dist_audit.specs.Links.{conn_of}
 use Rattle.dist_audit.specs.Faults.{fault_of}
-use Rattle.dist_audit.specs.Happenings.{setups_of, begins, ahead, itself, mentioned, happenings}
+use Rattle.dist_audit.specs.Happenings.{setups_of, begins, ahead, itself, with_mentions, happenings}
 
 -- the text begins with the frame of this body
 abbrev pub BeginsWith : Option (List ℕ) → List ℕ → Type 0
 BeginsWith None body = ⊥
-BeginsWith (Some text) body = (rest : List ℕ) × (framed w16 body ++ rest ≡ text)
+BeginsWith (Some text) body = (rest : List ℕ) × (body_frame w16 body ++ rest ≡ text)
 
 -- the body is the next that was sent to this end of node i and is undelivered
 abbrev pub Says : World → ℕ → EndId → List ℕ → Type 0
@@ -73,7 +73,7 @@ after all count ks w t = run (itself ks t ∷ []) (run (option_to_list (ahead al
 -- these lines are followed in turn
 abbrev pub AreFollowed : List Told → ℕ → List ℕ → World → List Told → Type 0
 AreFollowed all count ks w [] = Unit {0}
-AreFollowed all count ks w (t ∷ ts) = IsFollowed all count ks w t × AreFollowed all count (mentioned ks t) (after all count ks w t) ts
+AreFollowed all count ks w (t ∷ ts) = IsFollowed all count ks w t × AreFollowed all count (with_mentions ks t) (after all count ks w t) ts
 
 -- ---- tables
 
@@ -99,8 +99,8 @@ HasTables w cs = (k : ℕ) (c : Closed) → slice_get cs k ≡ Some c → IsAlik
 -- ---- THE AUDIT
 
 -- the world of these histories, before their lines
-abbrev pub begun : List Closed → World
-begun cs = run (begins 0 (setups_of cs)) (empty (setups_of cs))
+abbrev pub world_before_lines : List Closed → World
+world_before_lines cs = run (begins 0 (setups_of cs)) (empty (setups_of cs))
 
 -- what the happenings of these lines leave
 abbrev pub world_of : List Closed → List Told → World
@@ -109,7 +109,7 @@ world_of cs ts = run (happenings cs ts) (empty (setups_of cs))
 -- THE HISTORIES ARE THOSE OF ONE WORLD, by their lines in this order: each line is followed, and each closed node has the entries
 -- and the records of its node in that world
 pub record AreOfOneWorld (cs : List Closed) (ts : List Told) : Type 0 where
-  pub followed : AreFollowed ts (length cs) [] (begun cs) ts
+  pub followed : AreFollowed ts (length cs) [] (world_before_lines cs) ts
   pub tables : HasTables (world_of cs ts) cs
 
 -- ---- refusals
@@ -152,21 +152,21 @@ abbrev pub StopsAt : AuditError → List Told → ℕ → List ℕ → World →
 StopsAt e all count ks w [] = ⊥
 StopsAt e all count ks w (t ∷ ts) =
     RefusesLine e all count ks w t
-    ⊎ (IsFollowed all count ks w t × StopsAt e all count (mentioned ks t) (after all count ks w t) ts)
+    ⊎ (IsFollowed all count ks w t × StopsAt e all count (with_mentions ks t) (after all count ks w t) ts)
 
 -- each line is followed, and a closed node has other entries or records than its node in the world
 abbrev pub HasOtherTables : AuditError → List Closed → List Told → Type 0
-HasOtherTables error.OtherReply cs ts = AreFollowed ts (length cs) [] (begun cs) ts × (HasTables (world_of cs ts) cs → ⊥)
+HasOtherTables error.OtherReply cs ts = AreFollowed ts (length cs) [] (world_before_lines cs) ts × (HasTables (world_of cs ts) cs → ⊥)
 HasOtherTables e cs ts = ⊥
 
 -- the first of these lines that is not followed is refused so, or all are followed and the tables are
-abbrev pub IsRefused : AuditError → List Closed → List Told → Type 0
-IsRefused e cs ts = StopsAt e ts (length cs) [] (begun cs) ts ⊎ HasOtherTables e cs ts
+abbrev pub AreRefused : AuditError → List Closed → List Told → Type 0
+AreRefused e cs ts = StopsAt e ts (length cs) [] (world_before_lines cs) ts ⊎ HasOtherTables e cs ts
 
 -- WHICH OF THE TWO IT IS where the histories have no fault by themselves, by their lines in the order of their tickets
 abbrev pub TellsFirst : AuditError → List Closed → Type 0
-TellsFirst error.NotSent cs = (ts : List Told) × AreLinesOf cs ts × IsRefused error.NotSent cs ts
-TellsFirst error.OtherReply cs = (ts : List Told) × AreLinesOf cs ts × IsRefused error.OtherReply cs ts
+TellsFirst error.NotSent cs = (ts : List Told) × AreLinesOf cs ts × AreRefused error.NotSent cs ts
+TellsFirst error.OtherReply cs = (ts : List Told) × AreLinesOf cs ts × AreRefused error.OtherReply cs ts
 TellsFirst e cs = Unit {0}
 
 -- ---- what each line takes
@@ -190,11 +190,11 @@ abbrev pub TakeTheirs : List Told → ℕ → List ℕ → World → List Told �
 TakeTheirs all count ks w [] = Unit {0}
 TakeTheirs all count ks w (t ∷ ts) =
     IsFront (run (option_to_list (ahead all count ks t)) w) t.node (let l = t.line in l.event)
-    × TakeTheirs all count (mentioned ks t) (after all count ks w t) ts
+    × TakeTheirs all count (with_mentions ks t) (after all count ks w t) ts
 
 -- each of these lines of histories takes its very body
 abbrev pub EachTakesItsBody : List Closed → List Told → Type 0
-EachTakesItsBody cs ts = TakeTheirs ts (length cs) [] (begun cs) ts
+EachTakesItsBody cs ts = TakeTheirs ts (length cs) [] (world_before_lines cs) ts
 
 -- ---- where each link leads
 
@@ -207,12 +207,12 @@ ComesHere w ks i _ = Unit {0}
 abbrev pub ComeHome : List Told → ℕ → List ℕ → World → List Told → Type 0
 ComeHome all count ks w [] = Unit {0}
 ComeHome all count ks w (t ∷ ts) =
-    ComesHere (run (option_to_list (ahead all count ks t)) w) (mentioned ks t) t.node (let l = t.line in l.event)
-    × ComeHome all count (mentioned ks t) (after all count ks w t) ts
+    ComesHere (run (option_to_list (ahead all count ks t)) w) (with_mentions ks t) t.node (let l = t.line in l.event)
+    × ComeHome all count (with_mentions ks t) (after all count ks w t) ts
 
 -- each link that comes to a node in these lines of histories leads to that node
 abbrev pub EachLinkComesHome : List Closed → List Told → Type 0
-EachLinkComesHome cs ts = ComeHome ts (length cs) [] (begun cs) ts
+EachLinkComesHome cs ts = ComeHome ts (length cs) [] (world_before_lines cs) ts
 
 -- ---- the whole
 

@@ -56,13 +56,13 @@ links_repeat [] = false
 links_repeat (t ∷ ts) = repeats (let l = t.line in l.event) ts || links_repeat ts
 
 -- it is of a link that came, and that no node learned of when it had dialled
-abbrev pub unopened : List Told → Event → Bool
-unopened all (event.Incoming k) = not (list_any (opens_in k) all)
-unopened all _ = false
+abbrev pub is_unopened : List Told → Event → Bool
+is_unopened all (event.Incoming k) = not (list_any (opens_in k) all)
+is_unopened all _ = false
 
 -- a link came that no node learned of when it had dialled
 abbrev pub comes_unopened : List Told → Bool
-comes_unopened all = list_any (λ t. unopened all (let l = t.line in l.event)) all
+comes_unopened all = list_any (λ t. is_unopened all (let l = t.line in l.event)) all
 
 -- there are too many nodes, or two of one name
 abbrev pub nodes_unpaired : List Closed → Bool

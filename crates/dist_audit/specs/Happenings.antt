@@ -49,8 +49,8 @@ own ks i (event.Lost id w) fresh = happening.Lose i id w
 own ks i (event.Tick id) fresh = happening.Tick i id
 
 -- the links mentioned, those of this line among them
-abbrev pub mentioned : List ℕ → Told → List ℕ
-mentioned ks t = let l = t.line in mention ks (link_in l.event)
+abbrev pub with_mentions : List ℕ → Told → List ℕ
+with_mentions ks t = let l = t.line in mention ks (link_in l.event)
 
 -- what happens before this line
 abbrev pub ahead : List Told → ℕ → List ℕ → Told → Option Happening
@@ -67,7 +67,7 @@ itself ks t = own_of ks t.node t.line
 -- what happens for these lines, in turn
 abbrev pub of_lines : List Told → ℕ → List ℕ → List Told → List Happening
 of_lines all count ks [] = []
-of_lines all count ks (t ∷ ts) = option_to_list (ahead all count ks t) ++ (itself ks t ∷ of_lines all count (mentioned ks t) ts)
+of_lines all count ks (t ∷ ts) = option_to_list (ahead all count ks t) ++ (itself ks t ∷ of_lines all count (with_mentions ks t) ts)
 
 -- THE HAPPENINGS OF HISTORIES that have these lines, in this order: each node begins, and then each line happens
 abbrev pub happenings : List Closed → List Told → List Happening

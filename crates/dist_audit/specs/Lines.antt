@@ -10,8 +10,8 @@ pub record Told : Type 0 where
   pub line : Line
 
 -- this line of node i
-abbrev pub told : ℕ → Line → Told
-told i l = record { node = i; line = l }
+abbrev pub line_of_node : ℕ → Line → Told
+line_of_node i l = record { node = i; line = l }
 
 -- its ticket
 abbrev pub ticket_of : Told → ℕ
@@ -20,7 +20,7 @@ ticket_of t = let l = t.line in l.ticket
 -- the lines of node i
 abbrev pub told_by : ℕ → List Line → List Told
 told_by i [] = []
-told_by i (l ∷ ls) = told i l ∷ told_by i ls
+told_by i (l ∷ ls) = line_of_node i l ∷ told_by i ls
 
 -- the lines of these nodes, of which the first is node i
 abbrev pub told_from : ℕ → List Closed → List Told

@@ -31,13 +31,13 @@ abbrev pub comes_in : ℕ → Told → Bool
 comes_in k t = let l = t.line in comes k l.event
 
 -- the dialled end that learns of this link
-abbrev pub dialled : ℕ → Event → Option EndId
-dialled k (event.Opened id j) = if j == k then Some id else None
-dialled k _ = None
+abbrev pub dialled_end : ℕ → Event → Option EndId
+dialled_end k (event.Opened id j) = if j == k then Some id else None
+dialled_end k _ = None
 
 -- the dialled end that learns of this link in the line
 abbrev pub dialled_in : ℕ → Told → Option EndId
-dialled_in k t = let l = t.line in dialled k l.event
+dialled_in k t = let l = t.line in dialled_end k l.event
 
 -- node i and this end, or else what there is
 abbrev pub or_else : ℕ → Option EndId → Option (ℕ × EndId) → Option (ℕ × EndId)

@@ -5,7 +5,7 @@ ghost use Rattle.dist_world_model.specs.Run.{run};
 ghost use Rattle.dist_audit.specs.Lines.{Told, AreLinesOf};
 ghost use Rattle.dist_audit.specs.Happenings.{setups_of, begins};
 ghost use Rattle.dist_audit.specs.Faults.{falls, twice, fault_of, nodes_unpaired, Unpairs, IsFault};
-ghost use Rattle.dist_audit.specs.Audit.{AllApply, AreOfOneWorld, IsRefused, IsWorldOf, Refutes, Tells, TellsFirst, UnlessShort, world_of};
+ghost use Rattle.dist_audit.specs.Audit.{AllApply, AreOfOneWorld, AreRefused, IsWorldOf, Refutes, Tells, TellsFirst, UnlessShort, world_of};
 
 use crate::audit_error::AuditError;
 use crate::checks::{falls, twice};
@@ -74,7 +74,7 @@ fn play(
     ensures world { OnOk result (world.new ≡ world_of closed.now lines.now) }
     ensures one_world { OnOk result (AreOfOneWorld closed.now lines.now) }
     ensures err { IfErr result (λ e. Refutes e (AreOfOneWorld closed.now lines.now)) }
-    ensures first { IfErr result (λ e. UnlessShort e (IsRefused e closed.now lines.now)) }
+    ensures first { IfErr result (λ e. UnlessShort e (AreRefused e closed.now lines.now)) }
 {
     if !begin(alloc, world)? {
         return Err(AuditError::OtherReply);

@@ -32,7 +32,7 @@ impl<'a> Model for Lines<'a> {
 }
 
 impl<'a> Lines<'a> {
-    pub fn told(&self) -> &[Told<'a>]
+    pub fn ordered_lines(&self) -> &[Told<'a>]
         ensures { result.now ≡ self.now }
     {
         &self.told

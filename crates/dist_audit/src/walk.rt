@@ -2,7 +2,7 @@
 ghost use Rattle.std.specs.Prelude.{◌≡◌, ◌↔◌, ◌∷◌, [], length, IsTrue, IfOk, IfErr, OnOk, OnErr, option_to_list};
 ghost use Rattle.dist_world_model.specs.Run.{run};
 ghost use Rattle.dist_world.specs.Asking.{node_of};
-ghost use Rattle.dist_audit.specs.Happenings.{mentioned, own_of, of_lines};
+ghost use Rattle.dist_audit.specs.Happenings.{with_mentions, own_of, of_lines};
 ghost use Rattle.dist_audit.specs.Links.{mention, link_in};
 ghost use Rattle.dist_audit.specs.Audit.{AllApply, Says, IsNext, Replies, IsFollowed, AreFollowed, after, Refutes, RefusesLine, StopsAt, UnlessShort};
 
@@ -118,7 +118,7 @@ fn follow(
 ) -> Result<(), AuditError>
     ensures followed { OnOk result (IsFollowed lines.now count links.old world.old told.now) }
     ensures after { OnOk result (world.new ≡ after lines.now count links.old world.old told.now) }
-    ensures links { OnOk result (links.new ≡ mentioned links.old told.now) }
+    ensures links { OnOk result (links.new ≡ with_mentions links.old told.now) }
     ensures err { IfErr result (λ e. Refutes e (IsFollowed lines.now count links.old world.old told.now)) }
     ensures which { IfErr result (λ e. UnlessShort e (RefusesLine e lines.now count links.old world.old told.now)) }
 {
@@ -153,7 +153,7 @@ pub fn follow_all(
     ensures first { IfErr result (λ e. UnlessShort e (StopsAt e lines.now count [] world.old lines.now)) }
 {
     let mut links = Mentioned::new(alloc);
-    let told = lines.told();
+    let told = lines.ordered_lines();
     for i in 0..told.len() {
         follow(alloc, world, lines, count, &mut links, &told[i])?;
     }

@@ -13,18 +13,18 @@ use Rattle.dist_core.specs.declared.reply.Reply.{Reply}
 use Rattle.dist_names.specs.Order.{Name}
 use Rattle.dist_core.specs.Changing.{change, IsChange}
 use Rattle.dist_core.specs.Node.{NodeState}
-use Rattle.dist_core.specs.Runs.{settled}
+use Rattle.dist_core.specs.Runs.{node_after}
 use Rattle.dist_core.specs.Step.{step}
 use Rattle.dist_c_guest.specs.declared.guest.Guest.{Guest}
 use Rattle.dist_c_guest.specs.Calls.{IsCall, node_letting, answer_after}
-use Rattle.dist_c_guest.specs.Histories.{AnyCall, Step_call, Change_call, Widened_call, Form_call, Forget_call, IsAnyHistory, IsMade, act_of, acts_of, change_lacked, guest_after, has_lacked, lacked}
+use Rattle.dist_c_guest.specs.Histories.{AnyCall, Step_call, Change_call, Widened_call, Form_call, Forget_call, IsAnyHistory, IsMade, act_of, acts_of, change_lacked, guest_after, has_lacked, is_short_of_memory}
 
 abbrev node_of : Guest → NodeState
 node_of g = g.node
 
 -- the acts of one call and of those after it
 abbrev begun : Result (Unit {0}) StepError → Act → List Act → List Act
-begun a x xs = if lacked a then xs else x ∷ xs
+begun a x xs = if is_short_of_memory a then xs else x ∷ xs
 
 abbrev begun_by : Result (Unit {0}) ChangeError → Act → List Act → List Act
 begun_by a x xs = if change_lacked a then xs else x ∷ xs
@@ -40,10 +40,10 @@ module _ (xs : List Act) (first after last : Guest) (ih : last.node ≡ run_acts
 
   module _ (v : Event) (fresh : ℕ) where
     refused : (e : StepError) → step first.node v fresh ≡ Err e → after ≡ first → last.node ≡ run_acts (acts.Steps v fresh ∷ xs) first.node
-    refused e is same = goes (acts.Steps v fresh) (ap (settled first.node) is ∙ ap node_of (sym same))
+    refused e is same = goes (acts.Steps v fresh) (ap (node_after first.node) is ∙ ap node_of (sym same))
 
     by_step : (a : Result (Unit {0}) StepError) → IsCall v a (step first.node v fresh) first after → last.node ≡ run_acts (begun a (acts.Steps v fresh) xs) first.node
-    by_step (Ok u) (r, is, kept, heard, same) = goes (acts.Steps v fresh) (ap (settled first.node) is)
+    by_step (Ok u) (r, is, kept, heard, same) = goes (acts.Steps v fresh) (ap (node_after first.node) is)
     by_step (Err error.NoMemory) (h, same) = lacks same
     by_step (Err error.NoSuchEnd) (h, same) = refused error.NoSuchEnd h same
     by_step (Err (error.Gone w)) (h, same) = refused (error.Gone w) h same
@@ -60,18 +60,18 @@ module _ (xs : List Act) (first after last : Guest) (ih : last.node ≡ run_acts
     abbrev three : Option (List Name) → List Act → List Act
     three back ys = acts.Changes (Allow names) ∷ acts.Steps v fresh ∷ acts.Changes (Allow back) ∷ ys
 
-    back_where : (s : Result (Reply × NodeState) StepError) → node_letting (settled (node_letting first.node names) s) first.node.setup.allow ≡ settled first.node (answer_after first.node s)
+    back_where : (s : Result (Reply × NodeState) StepError) → node_letting (node_after (node_letting first.node names) s) first.node.setup.allow ≡ node_after first.node (answer_after first.node s)
     back_where (Ok x) = refl
     back_where (Err e) = refl
 
-    wide : settled first.node (answer_after first.node made_wide) ≡ after.node → last.node ≡ run_acts (three first.node.setup.allow xs) first.node
+    wide : node_after first.node (answer_after first.node made_wide) ≡ after.node → last.node ≡ run_acts (three first.node.setup.allow xs) first.node
     wide e = ih ∙ ap (run_acts xs) (sym (back_where made_wide ∙ e))
 
     refused_wide : (e : StepError) → answer_after first.node made_wide ≡ Err e → after ≡ first → last.node ≡ run_acts (three first.node.setup.allow xs) first.node
-    refused_wide e is same = wide (ap (settled first.node) is ∙ ap node_of (sym same))
+    refused_wide e is same = wide (ap (node_after first.node) is ∙ ap node_of (sym same))
 
-    by_wide : (a : Result (Unit {0}) StepError) → IsCall v a (answer_after first.node made_wide) first after → last.node ≡ run_acts (if lacked a then xs else three first.node.setup.allow xs) first.node
-    by_wide (Ok u) (r, is, kept, heard, same) = wide (ap (settled first.node) is)
+    by_wide : (a : Result (Unit {0}) StepError) → IsCall v a (answer_after first.node made_wide) first after → last.node ≡ run_acts (if is_short_of_memory a then xs else three first.node.setup.allow xs) first.node
+    by_wide (Ok u) (r, is, kept, heard, same) = wide (ap (node_after first.node) is)
     by_wide (Err error.NoMemory) (h, same) = lacks same
     by_wide (Err error.NoSuchEnd) (h, same) = refused_wide error.NoSuchEnd h same
     by_wide (Err (error.Gone w)) (h, same) = refused_wide (error.Gone w) h same
@@ -80,8 +80,8 @@ module _ (xs : List Act) (first after last : Guest) (ih : last.node ≡ run_acts
     by_wide (Err error.Spent) (h, same) = refused_wide error.Spent h same
     by_wide (Err error.Full) (h, same) = refused_wide error.Full h same
 
-    by_wide_back : (back : Option (List Name)) (a : Result (Unit {0}) StepError) → back ≡ first.node.setup.allow → IsCall v a (answer_after first.node made_wide) first after → last.node ≡ run_acts (if lacked a then xs else three back xs) first.node
-    by_wide_back back a is h = subst (λ (l : Option (List Name)). last.node ≡ run_acts (if lacked a then xs else three l xs) first.node) (sym is) (by_wide a h)
+    by_wide_back : (back : Option (List Name)) (a : Result (Unit {0}) StepError) → back ≡ first.node.setup.allow → IsCall v a (answer_after first.node made_wide) first after → last.node ≡ run_acts (if is_short_of_memory a then xs else three back xs) first.node
+    by_wide_back back a is h = subst (λ (l : Option (List Name)). last.node ≡ run_acts (if is_short_of_memory a then xs else three l xs) first.node) (sym is) (by_wide a h)
 
   module _ (v : Change) where
     unchanged : (e : ChangeError) → change first.node v ≡ Err e → after.node ≡ first.node → last.node ≡ run_acts (acts.Changes v ∷ xs) first.node

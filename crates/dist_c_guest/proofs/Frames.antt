@@ -16,10 +16,10 @@ use Rattle.dist_core.specs.Node.{NodeState, is_spent}
 use Rattle.dist_core.specs.Answers.{Refuses, reply_of}
 use Rattle.dist_names.specs.Order.{Name}
 use Rattle.dist_c_guest.specs.Calls.{answer_to, node_letting, answer_after}
-use Rattle.dist_c_guest.specs.Forms.{widened}
+use Rattle.dist_c_guest.specs.Forms.{allowed_names}
 use Rattle.dist_c_guest.specs.Reading.{expansion}
 use Rattle.dist_c_guest.specs.declared.guest.Guest.{Guest}
-use Rattle.dist_core.specs.Step.{step, stepped, effect_of, at_end, framed_from, sender_to}
+use Rattle.dist_core.specs.Step.{step, step_result, effect_of, at_end, framed_from, sender_to}
 
 abbrev Answer : Type 0
 Answer = Result (Reply × NodeState) StepError
@@ -30,7 +30,7 @@ Alike (Ok x) t = IsOk t
 Alike (Err e) t = t ≡ Err e
 
 module _ (n m : NodeState) (v w : Event) where
-  by_count : (b : Bool) (f g : Effect) → Alike (stepped n v (cond b (Err error.Spent) (Ok f))) (stepped m w (cond b (Err error.Spent) (Ok g)))
+  by_count : (b : Bool) (f g : Effect) → Alike (step_result n v (cond b (Err error.Spent) (Ok f))) (step_result m w (cond b (Err error.Spent) (Ok g)))
   by_count true f g = refl
   by_count false f g = refl
 
@@ -45,11 +45,11 @@ module _ (n : NodeState) (names : Option (List Name)) (id : EndId) (empty body :
   abbrev w : Event
   w = event.Frame id body
 
-  by_side : (e : End) (s : Option Side) → Alike (stepped n v (framed_from n id 0 empty e s)) (stepped m w (framed_from m id fresh body e s))
+  by_side : (e : End) (s : Option Side) → Alike (step_result n v (framed_from n id 0 empty e s)) (step_result m w (framed_from m id fresh body e s))
   by_side e None = refl
   by_side e (Some side) = by_count n m v w (is_spent n) _ _
 
-  by_end : (o : Option End) → Alike (stepped n v (at_end o (λ e. framed_from n id 0 empty e (sender_to e)))) (stepped m w (at_end o (λ e. framed_from m id fresh body e (sender_to e))))
+  by_end : (o : Option End) → Alike (step_result n v (at_end o (λ e. framed_from n id 0 empty e (sender_to e)))) (step_result m w (at_end o (λ e. framed_from m id fresh body e (sender_to e))))
   by_end None = refl
   by_end (Some (ends.Closed c)) = refl
   by_end (Some ends.Unnamed) = by_side ends.Unnamed (sender_to ends.Unnamed)
@@ -102,7 +102,7 @@ module _ (g : Guest) (id : EndId) (empty body : List ℕ) (fresh : ℕ) where
   came = expansion g.reading.mandatory.0 body
 
   abbrev names : Option (List Name)
-  names = widened g.reading.forms came g.node.setup.allow
+  names = allowed_names g.reading.forms came g.node.setup.allow
 
   like : Alike (step g.node (event.Frame id empty) 0) (step (node_letting g.node names) (event.Frame id came) fresh)
   like = alike g.node names id empty came fresh

@@ -9,10 +9,10 @@ use Rattle.dist_core.specs.declared.reply.Reply.{Reply}
 use Rattle.dist_core.specs.declared.step_error.StepError.{StepError}
 use Rattle.dist_core.specs.Node.{NodeState}
 use Rattle.dist_core.specs.Answers.{GivesReply, reply_of}
-use Rattle.dist_core.specs.Step.{effect_of, step, stepped}
+use Rattle.dist_core.specs.Step.{effect_of, step, step_result}
 use Rattle.dist_c_guest.specs.declared.guest.Guest.{Guest}
 use Rattle.dist_c_guest.specs.Calls.{IsCall, answer_to, node_letting, frame_to, answer_after}
-use Rattle.dist_c_guest.specs.Forms.{instead, widened}
+use Rattle.dist_c_guest.specs.Forms.{instead, allowed_names}
 use Rattle.dist_c_guest.specs.Reading.{expansion, plain}
 use Rattle.dist_c_guest.specs.declared.reading.Reading.{Reading}
 use Rattle.dist_c_guest.proofs.Frames.{refuses-back}
@@ -25,7 +25,7 @@ node_of g = g.node
 
 -- ---- no other names: nothing has to be given back
 
-stays : (n : NodeState) (v : Event) (r : Result Effect StepError) → answer_after n (stepped n v r) ≡ stepped n v r
+stays : (n : NodeState) (v : Event) (r : Result Effect StepError) → answer_after n (step_result n v r) ≡ step_result n v r
 stays n v (Ok f) = refl
 stays n v (Err e) = refl
 
@@ -59,13 +59,13 @@ module _ (g : Guest) (id : EndId) (body : List ℕ) (fresh : ℕ) (came : List �
   abbrev answered : List ℕ → Option (List Name) → Answer
   answered x l = answer_after g.node (step (node_letting g.node l) (event.Frame id x) fresh)
 
-  same-answer : came ≡ expansion g.reading.mandatory.0 body → instead names g.node.setup.allow ≡ widened g.reading.forms came g.node.setup.allow → answered came (instead names g.node.setup.allow) ≡ answer_to g id body fresh
-  same-answer is l = ap (answered came) l ∙ ap (λ (x : List ℕ). answered x (widened g.reading.forms x g.node.setup.allow)) is
+  same-answer : came ≡ expansion g.reading.mandatory.0 body → instead names g.node.setup.allow ≡ allowed_names g.reading.forms came g.node.setup.allow → answered came (instead names g.node.setup.allow) ≡ answer_to g id body fresh
+  same-answer is l = ap (answered came) l ∙ ap (λ (x : List ℕ). answered x (allowed_names g.reading.forms x g.node.setup.allow)) is
 
-  pub took : (answer : Result (Unit {0}) StepError) (after : Guest) → came ≡ expansion g.reading.mandatory.0 body → instead names g.node.setup.allow ≡ widened g.reading.forms came g.node.setup.allow → IsCall (event.Frame id came) answer (answered came (instead names g.node.setup.allow)) g after → IsCall (frame_to g id body) answer (answer_to g id body fresh) g after
+  pub took : (answer : Result (Unit {0}) StepError) (after : Guest) → came ≡ expansion g.reading.mandatory.0 body → instead names g.node.setup.allow ≡ allowed_names g.reading.forms came g.node.setup.allow → IsCall (event.Frame id came) answer (answered came (instead names g.node.setup.allow)) g after → IsCall (frame_to g id body) answer (answer_to g id body fresh) g after
   took answer after is l h = subst (λ (x : List ℕ). IsCall (event.Frame id x) answer (answer_to g id body fresh) g after) is (subst (λ (s : Answer). IsCall (event.Frame id came) answer s g after) (same-answer is l) h)
 
-  pub foresaw : (result : Result Reply StepError) → came ≡ expansion g.reading.mandatory.0 body → instead names g.node.setup.allow ≡ widened g.reading.forms came g.node.setup.allow → GivesReply result (answered came (instead names g.node.setup.allow)) → GivesReply result (answer_to g id body fresh)
+  pub foresaw : (result : Result Reply StepError) → came ≡ expansion g.reading.mandatory.0 body → instead names g.node.setup.allow ≡ allowed_names g.reading.forms came g.node.setup.allow → GivesReply result (answered came (instead names g.node.setup.allow)) → GivesReply result (answer_to g id body fresh)
   foresaw result is l h = subst (GivesReply result) (same-answer is l) h
 
 -- no other names
@@ -77,5 +77,5 @@ none-gives n names v fresh result is h = subst (GivesReply result) (asked-same n
 pub plain-reads : (g : Guest) → g.reading ≡ plain → (id : EndId) (body : List ℕ) (fresh : ℕ) → (frame_to g id body ≡ event.Frame id body) × (answer_to g id body fresh ≡ step g.node (event.Frame id body) fresh)
 plain-reads g is id body fresh = (
   ap (λ (r : Reading). event.Frame id (expansion r.mandatory.0 body)) is,
-  ap (λ (r : Reading). let came = expansion r.mandatory.0 body in answer_after g.node (step (node_letting g.node (widened r.forms came g.node.setup.allow)) (event.Frame id came) fresh)) is ∙ given-back-same g.node (event.Frame id body) fresh,
+  ap (λ (r : Reading). let came = expansion r.mandatory.0 body in answer_after g.node (step (node_letting g.node (allowed_names r.forms came g.node.setup.allow)) (event.Frame id came) fresh)) is ∙ given-back-same g.node (event.Frame id body) fresh,
 )

@@ -14,7 +14,7 @@ use Rattle.dist_core.specs.declared.step_error.StepError.TheVariants as error
 use Rattle.dist_core.specs.Node.{NodeState}
 use Rattle.dist_core.specs.Answers.{Refuses}
 use Rattle.dist_core.specs.Effects.{closes}
-use Rattle.dist_core.specs.Step.{step, stepped, at_end, effect_of}
+use Rattle.dist_core.specs.Step.{step, step_result, at_end, effect_of}
 use Rattle.dist_c_guest.specs.declared.guest.Guest.{Guest}
 use Rattle.dist_c_guest.specs.Calls.{IsCall}
 use Rattle.dist_c_guest.specs.Room.{MakesRoom, gives_way, room_for}
@@ -64,7 +64,7 @@ oldest-is-pending es x is = numbered es (first_of is_pending es) x is (first-pen
 
 -- ---- its loss
 
-loses-end : (n : NodeState) (x : EndId) (w : Why) (e : End) → is_pending e ≡ true → IsOk (stepped n (event.Lost x w) (at_end (Some e) (λ _. Ok (closes x w))))
+loses-end : (n : NodeState) (x : EndId) (w : Why) (e : End) → is_pending e ≡ true → IsOk (step_result n (event.Lost x w) (at_end (Some e) (λ _. Ok (closes x w))))
 loses-end n x w ends.Unnamed h = refl
 loses-end n x w (ends.Attempt a) h = refl
 loses-end n x w (ends.Up r) h = absurd cc
@@ -72,7 +72,7 @@ loses-end n x w (ends.Closed v) h = absurd cc
 
 loses : (n : NodeState) (x : EndId) (w : Why) → IsPendingAt n.ends x.0 → IsOk (step n (event.Lost x w) 0)
 unfolding effect_of
-loses n x w h = subst (λ (o : Option End). IsOk (stepped n (event.Lost x w) (at_end o (λ _. Ok (closes x w))))) (sym h.there) (loses-end n x w h.end_ h.pending)
+loses n x w h = subst (λ (o : Option End). IsOk (step_result n (event.Lost x w) (at_end o (λ _. Ok (closes x w))))) (sym h.there) (loses-end n x w h.end_ h.pending)
 
 denied : (e : StepError) (s : Answer) → IsOk s → e ≢ error.NoMemory → Refuses e s → ⊥
 denied e (Err x) o other h = absurd cc

@@ -13,7 +13,7 @@ use Rattle.dist_core.specs.Node.{NodeState}
 use Rattle.dist_core.specs.Step.{step}
 use Rattle.dist_core.specs.Runs.{opening}
 use Rattle.dist_core.specs.Answers.{Refuses, reply_of}
-use Rattle.dist_c_guest.specs.Forms.{widened}
+use Rattle.dist_c_guest.specs.Forms.{allowed_names}
 use Rattle.dist_c_guest.specs.Reading.{expansion, plain}
 use Rattle.dist_c_guest.specs.Statuses.{status_received}
 use Rattle.dist_c_guest.specs.declared.guest.Guest.{Guest}
@@ -45,7 +45,7 @@ frame_to g id body = event.Frame id (expansion g.reading.mandatory.0 body)
 abbrev pub answer_to : Guest → EndId → List ℕ → ℕ → Result (Reply × NodeState) StepError
 answer_to g id body fresh =
     let came = expansion g.reading.mandatory.0 body in
-    answer_after g.node (step (node_letting g.node (widened g.reading.forms came g.node.setup.allow)) (event.Frame id came) fresh)
+    answer_after g.node (step (node_letting g.node (allowed_names g.reading.forms came g.node.setup.allow)) (event.Frame id came) fresh)
 
 -- The call of this event made this step of the definition, and its reply is kept, with the status that it received; or it
 -- refused as the definition does, or ran out of memory where that refuses nothing. A refusal changed nothing.

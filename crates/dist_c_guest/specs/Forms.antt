@@ -7,7 +7,7 @@ use Rattle.std.specs.List.{list_all}
 use Rattle.dist_names.specs.declared.name_error.NameError.{NameError}
 use Rattle.dist_names.specs.declared.name_error.NameError.TheVariants.{TooShort, TooLong, BadByte}
 use Rattle.dist_names.specs.Bytes.{is_visible}
-use Rattle.dist_names.specs.NodeName.{host_of, named, short_of}
+use Rattle.dist_names.specs.NodeName.{host_of, name_of_bytes, short_of}
 use Rattle.dist_names.specs.Order.{Name, is_listed}
 use Rattle.dist_messages.specs.declared.message.Side.TheVariants.{Dialler}
 use Rattle.dist_messages.specs.declared.message.Message.{Message}
@@ -23,8 +23,8 @@ abbrev pub has_form : List ℕ → Bool
 has_form text = nat_le (length text) (length (short_of text) + 1)
 
 -- a text of this kind, or the first reason why no name can have such a host or such a short name
-abbrev pub formed : List ℕ → Result (List ℕ) NameError
-formed text =
+abbrev pub form_of_text : List ℕ → Result (List ℕ) NameError
+form_of_text text =
     if length (short_of text) == 0 then Err TooShort else (
     if nat_lt 253 (length (short_of text)) then Err TooLong else (
     if not (list_all is_visible text) then Err BadByte else Ok text))
@@ -42,14 +42,14 @@ stand_for forms p = is_listed forms (host_of p) || is_listed forms (short_form p
 -- ---- the name in a body
 
 -- the bytes that a message sends as a name to the side that accepts
-abbrev pub said : Message → Option (List ℕ)
-said (message.NewName f c p) = Some p
-said (message.OldName f p) = Some p
-said _ = None
+abbrev pub sent_name : Message → Option (List ℕ)
+sent_name (message.NewName f c p) = Some p
+sent_name (message.OldName f p) = Some p
+sent_name _ = None
 
-abbrev pub status_sent : Result Message MessageError → Option (List ℕ)
-status_sent (Ok m) = said m
-status_sent (Err e) = None
+abbrev pub name_from_message : Result Message MessageError → Option (List ℕ)
+name_from_message (Ok m) = sent_name m
+name_from_message (Err e) = None
 
 abbrev pub good : Result Name NameError → Option Name
 good (Ok p) = Some p
@@ -57,7 +57,7 @@ good (Err e) = None
 
 -- the name that a body brings, where it brings one
 abbrev pub name_in : List ℕ → Option Name
-name_in body = option_and_then (λ p. good (named p)) (status_sent (read Dialler body))
+name_in body = option_and_then (λ p. good (name_of_bytes p)) (name_from_message (read Dialler body))
 
 -- ---- the list with which the node is asked
 
@@ -74,10 +74,10 @@ letting forms (Some names) (Some p) = if stand_for forms p then Some (with_name 
 
 -- THE NAMES THAT MAY CONNECT, as the node is asked of a body: those that may, and the one that the body brings where a form
 -- stands for it. Without forms those that may
-abbrev pub widened : List (List ℕ) → List ℕ → Option (List Name) → Option (List Name)
-widened forms body allow = if length forms == 0 then allow else letting forms allow (name_in body)
+abbrev pub allowed_names : List (List ℕ) → List ℕ → Option (List Name) → Option (List Name)
+allowed_names forms body allow = if length forms == 0 then allow else letting forms allow (name_in body)
 
 -- some names may connect and no other, where it was not so
-abbrev pub limited : Option (List Name) → Option (List Name)
-limited None = Some []
-limited (Some names) = Some names
+abbrev pub or_nobody : Option (List Name) → Option (List Name)
+or_nobody None = Some []
+or_nobody (Some names) = Some names

@@ -28,14 +28,14 @@ IsHistory [] first last = last ≡ first
 IsHistory (c ∷ cs) first last = IsCall c.event c.answer (step first.node c.event c.fresh) first c.after × IsHistory cs c.after last
 
 -- whether memory ran out
-abbrev pub lacked : Result (Unit {0}) StepError → Bool
-lacked (Err error.NoMemory) = true
-lacked _ = false
+abbrev pub is_short_of_memory : Result (Unit {0}) StepError → Bool
+is_short_of_memory (Err error.NoMemory) = true
+is_short_of_memory _ = false
 
 -- the events of the calls for which memory did not run out
 abbrev pub events_of : List Call → List (Event × ℕ)
 events_of [] = []
-events_of (c ∷ cs) = if lacked c.answer then events_of cs else (c.event, c.fresh) ∷ events_of cs
+events_of (c ∷ cs) = if is_short_of_memory c.answer then events_of cs else (c.event, c.fresh) ∷ events_of cs
 
 -- ---- histories of all that is done to a guest
 
@@ -85,9 +85,9 @@ change_lacked _ = false
 
 -- whether memory ran out for a call
 abbrev pub has_lacked : AnyCall → Bool
-has_lacked (Step_call c) = lacked c.answer
+has_lacked (Step_call c) = is_short_of_memory c.answer
 has_lacked (Change_call v answer after) = change_lacked answer
-has_lacked (Widened_call names back c) = lacked c.answer
+has_lacked (Widened_call names back c) = is_short_of_memory c.answer
 has_lacked (Form_call names after) = false
 has_lacked (Forget_call below after) = false
 

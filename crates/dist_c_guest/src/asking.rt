@@ -3,7 +3,7 @@ ghost use Rattle.std.specs.Prelude.{◌≡◌, IfOk, Some};
 ghost use Rattle.dist_core.specs.Answers.{GivesReply};
 ghost use Rattle.dist_core.specs.Step.{step};
 ghost use Rattle.dist_c_guest.specs.Calls.{IsCall, node_letting, answer_after};
-ghost use Rattle.dist_c_guest.specs.Forms.{instead, name_in, said, widened};
+ghost use Rattle.dist_c_guest.specs.Forms.{instead, name_in, sent_name, allowed_names};
 
 use crate::forms::Forms;
 use crate::guest::Guest;
@@ -14,7 +14,7 @@ use std::alloc::{AllocError, Global};
 
 // The bytes that a message sends as a name to the side that accepts.
 fn name_bytes(message: Message) -> Option<ByteString>
-    ensures { result ≡ said message }
+    ensures { result ≡ sent_name message }
 {
     match message {
         Message::NewName {
@@ -53,7 +53,7 @@ pub fn wider(
     allow: &Option<NameList>,
     body: &[u8],
 ) -> Result<Option<NameList>, AllocError>
-    ensures { IfOk result (λ names. instead names allow.now ≡ widened forms.now body.now allow.now) }
+    ensures { IfOk result (λ names. instead names allow.now ≡ allowed_names forms.now body.now allow.now) }
 {
     let Some(names) = allow else {
         return Ok(None);

@@ -1,9 +1,9 @@
 //! Forms of names: a host alone, and a name without its host.
 ghost use Rattle.std.specs.Prelude.{◌≡◌, ◌==◌, [], length, OnOk, OnErr};
-ghost use Rattle.dist_names.specs.Answer.{Answers};
+ghost use Rattle.dist_names.specs.Answer.{AnswersName};
 ghost use Rattle.dist_names.specs.Order.{is_listed, same_name};
 ghost use Rattle.dist_core_setup.specs.Changing.{with_name, without_name};
-ghost use Rattle.dist_c_guest.specs.Forms.{formed, has_form, stand_for};
+ghost use Rattle.dist_c_guest.specs.Forms.{form_of_text, has_form, stand_for};
 
 use crate::reading::parts_at;
 use dist_names::{ByteString, NameError, NodeName, are_visible, is_same_text, short_part};
@@ -24,7 +24,7 @@ pub fn has_form(text: &[u8]) -> bool
 ///
 /// Refused as `TooShort`, `TooLong`, `BadByte`, then `NoMemory`.
 pub fn form_of(alloc: Global, text: &[u8]) -> Result<ByteString, NameError>
-    ensures { Answers result (formed text.now) }
+    ensures { AnswersName result (form_of_text text.now) }
 {
     let part = short_part(text);
     if part.is_empty() {

@@ -4,7 +4,7 @@ ghost use Rattle.dist_core.specs.Answers.{GivesReply, IsLoss, Refuses};
 ghost use Rattle.std.specs.Int.{w16};
 ghost use Rattle.dist_core.specs.Step.{step};
 ghost use Rattle.dist_frames.specs.Stream.{first_body};
-ghost use Rattle.dist_c_guest.specs.Forms.{instead, widened};
+ghost use Rattle.dist_c_guest.specs.Forms.{instead, allowed_names};
 ghost use Rattle.dist_c_guest.specs.Reading.{expansion};
 ghost use Rattle.dist_c_guest.specs.Calls.{IsCall, IsForeseen, IsReceived, answer_to, first_guest, frame_to};
 
@@ -73,7 +73,7 @@ impl Guest {
     // The body as it is read, and the names that may connect where they aren't the node's own.
     fn read(&self, alloc: Global, body: &[u8]) -> Result<(ByteString, Option<NameList>), AllocError>
         ensures { IfOk result (λ x. (x.0 ≡ expansion self.now.reading.mandatory.0 body.now)
-            × (instead x.1 self.now.node.setup.allow ≡ widened self.now.reading.forms x.0 self.now.node.setup.allow)) }
+            × (instead x.1 self.now.node.setup.allow ≡ allowed_names self.now.reading.forms x.0 self.now.node.setup.allow)) }
     {
         let body = expand(alloc, self.reading.mandatory, body)?;
         let names = wider(

@@ -2,7 +2,7 @@
 ghost use Rattle.std.specs.Prelude.{◌≡◌, OnOk, OnErr, IfErr, Ok};
 ghost use Rattle.dist_core_setup.specs.Changing.{allowing};
 ghost use Rattle.dist_core.specs.declared.changing.Change.TheVariants as changes;
-ghost use Rattle.dist_c_guest.specs.Forms.{limited};
+ghost use Rattle.dist_c_guest.specs.Forms.{or_nobody};
 ghost use Rattle.dist_c_guest.specs.Planning.{Changes, lets_in, shuts_out, with_form, without_form};
 
 use crate::guest::Guest;
@@ -29,7 +29,7 @@ fn let_in(alloc: Global, allow: &mut Option<NameList>, peer: NodeName) -> Result
 
 // The names that may connect, of which there are none where all might.
 fn limit_names(alloc: Global, allow: Option<NameList>) -> Option<NameList>
-    ensures { result ≡ limited allow }
+    ensures { result ≡ or_nobody allow }
 {
     match allow {
         Some(names) => Some(names),

@@ -77,7 +77,7 @@ fn with_command<'a>(
 }
 
 // The program with the command that takes no arguments.
-fn begun<'a>(alloc: Global) -> Result<Command<'a>, AllocError>
+fn enact_program<'a>(alloc: Global) -> Result<Command<'a>, AllocError>
     ensures { IfOk result (λ c. app_of c ≡ with_subcommand bare_app (new_app (codes "enact")).top) }
 {
     bare(alloc).subcommand(Command::new(alloc, "enact"))
@@ -87,7 +87,7 @@ fn begun<'a>(alloc: Global) -> Result<Command<'a>, AllocError>
 pub fn program<'a>(alloc: Global) -> Result<Command<'a>, AllocError>
     ensures { IfOk result (λ c. app_of c ≡ program_app) }
 {
-    let cookie = with_command(begun(alloc)?, cookie_command(alloc))?;
+    let cookie = with_command(enact_program(alloc)?, cookie_command(alloc))?;
     let names = with_command(cookie, names_command(alloc))?;
     with_command(names, run_command(alloc))
 }

@@ -13,7 +13,7 @@ use Rattle.dist_core.specs.declared.step_error.StepError.TheVariants as error
 use Rattle.dist_core_ends.specs.Ends.{AreLegal, is_open}
 use Rattle.dist_core.specs.Node.{NodeState}
 use Rattle.dist_core.specs.Effects.{closes}
-use Rattle.dist_core.specs.Step.{effect_of, at_end, opened, framed_from, sender_to, ticked, step, stepped}
+use Rattle.dist_core.specs.Step.{effect_of, at_end, opening_effect, framed_from, sender_to, tick_effect, step, step_result}
 use Rattle.dist_core.specs.Answers.{IsStep, GivesReply, Refuses, reply_of, IsLoss}
 use Rattle.dist_core.specs.Clauses.{end_of, loss_reply, ClosesOnReply}
 use Rattle.dist_core.proofs.Closings.{closes_on_reply}
@@ -60,7 +60,7 @@ module _ (n : NodeState) where
   stopped (event.Incoming link) fresh x o e is at h = absurd cc
   stopped (event.Opened id link) fresh x o e is at h =
       let same : id ≡ x = cc in
-      ap (λ (y : EndId). at_end (slice_get n.ends y.0) (opened n id)) same ∙ ap (λ q. at_end q (opened n id)) at ∙ h (opened n id)
+      ap (λ (y : EndId). at_end (slice_get n.ends y.0) (opening_effect n id)) same ∙ ap (λ q. at_end q (opening_effect n id)) at ∙ h (opening_effect n id)
   stopped (event.Frame id body) fresh x o e is at h =
       let same : id ≡ x = cc in
       let f : End → Result Effect StepError = λ e. framed_from n id fresh body e (sender_to e) in
@@ -71,13 +71,13 @@ module _ (n : NodeState) where
       ap (λ (y : EndId). at_end (slice_get n.ends y.0) f) same ∙ ap (λ q. at_end q f) at ∙ h f
   stopped (event.Tick id) fresh x o e is at h =
       let same : id ≡ x = cc in
-      ap (λ (y : EndId). at_end (slice_get n.ends y.0) (ticked n id)) same ∙ ap (λ q. at_end q (ticked n id)) at ∙ h (ticked n id)
+      ap (λ (y : EndId). at_end (slice_get n.ends y.0) (tick_effect n id)) same ∙ ap (λ q. at_end q (tick_effect n id)) at ∙ h (tick_effect n id)
 
   pub unknown : (v : Event) (fresh : ℕ) (r : Result Reply StepError) → GivesReply r (step n v fresh) → (x : EndId) → end_of v ≡ Some x → slice_get n.ends x.0 ≡ None → r ≡ Err error.NoSuchEnd
-  unknown v fresh r h x is at = refusal r (step n v fresh) error.NoSuchEnd h (ap (stepped n v) (stopped v fresh x None error.NoSuchEnd is at (λ f. refl)))
+  unknown v fresh r h x is at = refusal r (step n v fresh) error.NoSuchEnd h (ap (step_result n v) (stopped v fresh x None error.NoSuchEnd is at (λ f. refl)))
 
   pub gone : (v : Event) (fresh : ℕ) (r : Result Reply StepError) → GivesReply r (step n v fresh) → (x : EndId) (w : Why) → end_of v ≡ Some x → slice_get n.ends x.0 ≡ Some (ends.Closed w) → r ≡ Err (error.Gone w)
-  gone v fresh r h x w is at = refusal r (step n v fresh) (error.Gone w) h (ap (stepped n v) (stopped v fresh x (Some (ends.Closed w)) (error.Gone w) is at (λ f. refl)))
+  gone v fresh r h x w is at = refusal r (step n v fresh) (error.Gone w) h (ap (step_result n v) (stopped v fresh x (Some (ends.Closed w)) (error.Gone w) is at (λ f. refl)))
 
   open-end : (f : End → Result Effect StepError) (e : End) → is_open e ≡ true → at_end (Some e) f ≡ f e
   open-end f ends.Unnamed h = refl
@@ -92,7 +92,7 @@ module _ (n : NodeState) where
   pub lost : (v : Event) (fresh : ℕ) (r : Result Reply StepError) → GivesReply r (step n v fresh) → r ≢ Err error.NoMemory → (x : EndId) (w : Why) (e : End) → v ≡ event.Lost x w → slice_get n.ends x.0 ≡ Some e → is_open e ≡ true → IsOk r
   lost v fresh r h apart x w e is at o =
       let P : Event → Type 0 = λ v. IsOk (step n v fresh) in
-      let Q : Result Effect StepError → Type 0 = λ q. IsOk (stepped n (event.Lost x w) q) in
+      let Q : Result Effect StepError → Type 0 = λ q. IsOk (step_result n (event.Lost x w) q) in
       accepted r (step n v fresh) h (subst P (sym is) (subst Q (sym (loss-effect x w fresh e at o)) refl)) apart
 
   loss-is : (x : EndId) (w : Why) (fresh : ℕ) → IfOk (effect_of n (event.Lost x w) fresh) (λ (f : Effect). f ≡ closes x w)
@@ -106,7 +106,7 @@ module _ (n : NodeState) where
       by (Some (ends.Up r)) = refl
       by (Some (ends.Closed y)) = tt
 
-  from-effect : (v : Event) (q : Result Effect StepError) (P : Effect → Type 0) (r : Reply) → IfOk q P → reply_of (stepped n v q) ≡ Ok r → (f : Effect) × P f × (f.reply ≡ r)
+  from-effect : (v : Event) (q : Result Effect StepError) (P : Effect → Type 0) (r : Reply) → IfOk q P → reply_of (step_result n v q) ≡ Ok r → (f : Effect) × P f × (f.reply ≡ r)
   from-effect v (Ok f) P r h is = (f, h, let same : Ok f.reply ≡ Ok r = is in cc)
   from-effect v (Err e) P r h is = let same : Err e ≡ Ok r = is in absurd cc
 
@@ -121,6 +121,6 @@ module _ (n : NodeState) where
   replaced legal v fresh (Err e) h = tt
   replaced legal v fresh (Ok r) h = by (effect_of n v fresh) refl h
     where
-      by : (q : Result Effect StepError) → effect_of n v fresh ≡ q → reply_of (stepped n v q) ≡ Ok r → ClosesOnReply n v r
+      by : (q : Result Effect StepError) → effect_of n v fresh ≡ q → reply_of (step_result n v q) ≡ Ok r → ClosesOnReply n v r
       by (Ok f) e is = let P : Reply → Type 0 = λ r. ClosesOnReply n v r in let same : f.reply ≡ r = (let it : Ok f.reply ≡ Ok r = is in cc) in subst P same (closes_on_reply n legal v fresh f e)
       by (Err x) e is = let same : Err x ≡ Ok r = is in absurd cc

@@ -9,7 +9,7 @@ use Rattle.dist_core.specs.declared.effect.Effect.{Effect}
 use Rattle.dist_core.specs.declared.event.Event.{Event}
 use Rattle.dist_core_ends.specs.Change.{put_end}
 use Rattle.dist_core.specs.Node.{NodeState, limits_of, is_spent, is_given_out, ends_after}
-use Rattle.dist_core.specs.Rows.{Row, Dials, Comes_in, Begins, Ceases, Loses, Ticks, Fails, Hears}
+use Rattle.dist_core.specs.Rows.{StepRow, Dials, Comes_in, Begins, Ceases, Loses, Ticks, Fails, Hears}
 use Rattle.dist_core.proofs.Counts.{length-other, length-within, length-after}
 use Rattle.dist_core.proofs.Closings.{heard-end}
 
@@ -34,7 +34,7 @@ module _ (n : NodeState) where
       let room : length n.ends < (let l = limits_of n in l.ends) = grind (arith, nat_tests, g) in
       omega (arith, room, length-after n.ends f)
 
-  pub numbered : (v : Event) (fresh : ℕ) (f : Effect) → Row n v fresh f → length n.ends ≤ (let l = limits_of n in l.ends) → Numbered f
+  pub numbered : (v : Event) (fresh : ℕ) (f : Effect) → StepRow n v fresh f → length n.ends ≤ (let l = limits_of n in l.ends) → Numbered f
   numbered v fresh f (Dials p o is idle sp full cr k) h = more f sp
   numbered v fresh f (Comes_in link is sp cr k) h = more f sp
   numbered v fresh f (Begins id link b is at ph sp k) h = stays f id (ends.Attempt b) (ap (λ (f : Effect). f.reply.end_) k) at h

@@ -5,7 +5,7 @@ use Rattle.dist_core_ends.specs.declared.known.UpRecord.{UpRecord}
 use Rattle.dist_core_ends.specs.declared.known.End.{End}
 use Rattle.dist_core_ends.specs.declared.known.End.TheVariants as ends
 use Rattle.dist_core_ends.specs.Ends.{AreLegal, claim_of, table_of}
-use Rattle.dist_core_ends.specs.Change.{put_end, put_other, changed}
+use Rattle.dist_core_ends.specs.Change.{put_end, put_other, with_change}
 use Rattle.dist_core_ends.proofs.Legal.{table-legal}
 use Rattle.dist_core_setup.specs.Saying.{tick_text}
 use Rattle.dist_core.specs.declared.event.Event.{Event}
@@ -18,11 +18,11 @@ use Rattle.dist_core.specs.declared.step_error.StepError.{StepError}
 use Rattle.dist_core.specs.declared.step_error.StepError.TheVariants as error
 use Rattle.dist_core.specs.Node.{NodeState, is_spent, ends_after, limits_of}
 use Rattle.dist_core.specs.Effects.{goes_on}
-use Rattle.dist_core.specs.Fitting.{Fits}
-use Rattle.dist_core.specs.Step.{effect_of, at_end, ticked, step, stepped, cost_of}
+use Rattle.dist_core.specs.Fitting.{FitsNodeTable}
+use Rattle.dist_core.specs.Step.{effect_of, at_end, tick_effect, step, step_result, cost_of}
 use Rattle.dist_core.specs.Answers.{GivesReply, Refuses, reply_of, IsLoss, IsStep}
-use Rattle.dist_core.specs.Rows.{Row}
-use Rattle.dist_core.specs.Preparing.{PreparedStep, Prepares, IsPrepared, FitsNode, GivesPrepared, MakesChange, ends_by, made}
+use Rattle.dist_core.specs.Rows.{StepRow}
+use Rattle.dist_core.specs.Preparing.{PreparedStep, Prepares, IsPrepared, FitsNode, GivesPrepared, MakesChange, ends_by, after_commit}
 use Rattle.dist_core.proofs.Counts.{counts, loses, of_ok}
 use Rattle.dist_core.proofs.Numbers.{numbered}
 use Rattle.dist_core.proofs.Rows.{row_of}
@@ -32,10 +32,10 @@ use Rattle.dist_core.proofs.Ticks.{put-same}
 -- ---- what is prepared
 
 -- a tick of an end that is up
-pub ticks_prepared : (n : NodeState) (id : EndId) (r : UpRecord) → slice_get n.ends id.0 ≡ Some (ends.Up r) → is_spent n ≡ false → Prepares n.ends 1 (at_end (slice_get n.ends id.0) (ticked n id)) (record { reply = record { end_ = id; say = tick_text; closed = None; up = None; note = note.Nothing }; change = change.Stay; cost = 1 })
+pub ticks_prepared : (n : NodeState) (id : EndId) (r : UpRecord) → slice_get n.ends id.0 ≡ Some (ends.Up r) → is_spent n ≡ false → Prepares n.ends 1 (at_end (slice_get n.ends id.0) (tick_effect n id)) (record { reply = record { end_ = id; say = tick_text; closed = None; up = None; note = note.Nothing }; change = change.Stay; cost = 1 })
 ticks_prepared n id r at sp = record {
   effect = goes_on id tick_text (ends.Up r) note.Nothing;
-  given_ = ap (λ o. at_end o (ticked n id)) at ∙ ap (λ b. cond b (Err error.Spent) (Ok (goes_on id tick_text (ends.Up r) note.Nothing))) sp;
+  given_ = ap (λ o. at_end o (tick_effect n id)) at ∙ ap (λ b. cond b (Err error.Spent) (Ok (goes_on id tick_text (ends.Up r) note.Nothing))) sp;
   reply = refl;
   change = (at, refl);
   cost_ = refl;
@@ -52,16 +52,16 @@ replies (Ok p) = Ok p.reply
 replies (Err e) = Err e
 
 abbrev reply_in : NodeState → Event → Result Effect StepError → Result Reply StepError
-reply_in n v s = reply_of (stepped n v s)
+reply_in n v s = reply_of (step_result n v s)
 
 -- what is refused, before the node after it is thought of
-refuses-step : (n : NodeState) (v : Event) (e : StepError) (s : Result Effect StepError) → Refuses e s → Refuses e (stepped n v s)
-refuses-step n v (error.Busy y) s h = ap (stepped n v) h
-refuses-step n v error.Full s h = ap (stepped n v) h
-refuses-step n v error.NoSuchEnd s h = ap (stepped n v) h
-refuses-step n v (error.Gone w) s h = ap (stepped n v) h
-refuses-step n v error.WrongPhase s h = ap (stepped n v) h
-refuses-step n v error.Spent s h = ap (stepped n v) h
+refuses-step : (n : NodeState) (v : Event) (e : StepError) (s : Result Effect StepError) → Refuses e s → Refuses e (step_result n v s)
+refuses-step n v (error.Busy y) s h = ap (step_result n v) h
+refuses-step n v error.Full s h = ap (step_result n v) h
+refuses-step n v error.NoSuchEnd s h = ap (step_result n v) h
+refuses-step n v (error.Gone w) s h = ap (step_result n v) h
+refuses-step n v error.WrongPhase s h = ap (step_result n v) h
+refuses-step n v error.Spent s h = ap (step_result n v) h
 refuses-step n v error.NoMemory (Ok f) h = refl
 refuses-step n v error.NoMemory (Err e) h = absurd cc
 
@@ -114,12 +114,12 @@ for-error P (Err e) h = h
 
 ends-is : (es : List End) (f : Effect) (k : EndChange) → MakesChange es k f → ends_after es f ≡ ends_by es f.reply.end_ k
 ends-is es f change.Stay h = ap (put_other (put_end es f.reply.end_.0 f.this)) h.1 ∙ put-same es f.reply.end_.0 f.this h.0
-ends-is es f (change.Become this other) h = λ i. changed es f.reply.end_ (h.0 i) (h.1 i)
+ends-is es f (change.Become this other) h = λ i. with_change es f.reply.end_ (h.0 i) (h.1 i)
 
-pub step-is : (n : NodeState) (v : Event) (fresh : ℕ) (p : PreparedStep) → IsPrepared n v fresh p → step n v fresh ≡ Ok (p.reply, made n p)
+pub step-is : (n : NodeState) (v : Event) (fresh : ℕ) (p : PreparedStep) → IsPrepared n v fresh p → step n v fresh ≡ Ok (p.reply, after_commit n p)
 step-is n v fresh p h =
     let at : ends_after n.ends h.effect ≡ ends_by n.ends p.reply.end_ p.change = ends-is n.ends h.effect p.change h.change ∙ ap (λ (r : Reply). ends_by n.ends r.end_ p.change) h.reply in
-    ap (stepped n v) h.given_ ∙ (λ i. Ok (h.reply i, record { setup = n.setup; steps = n.steps + h.cost_ i; ends = at i }))
+    ap (step_result n v) h.given_ ∙ (λ i. Ok (h.reply i, record { setup = n.setup; steps = n.steps + h.cost_ i; ends = at i }))
 
 abbrev becoming : Reply → End → Option (EndId × End) → ℕ → PreparedStep
 becoming r this other cost = record { reply = r; change = change.Become this other; cost = cost }
@@ -132,7 +132,7 @@ effect-is n v fresh r this other cost h = h.given_ ∙ (λ i. Ok (record { reply
 
 -- the node can make what was prepared for it
 module _ (n : NodeState) (r : Reply) (this : End) (other : Option (EndId × End)) (cost : ℕ) (h : FitsNode n (becoming r this other cost)) where
-  pub fits-made : AreLegal n.ends → Fits n (table_of n.ends) (effect_with r this other)
+  pub fits-made : AreLegal n.ends → FitsNodeTable n (table_of n.ends) (effect_with r this other)
   fits-made legal = fits n (table_of n.ends) (table-legal n.ends legal) h.0 h.1 (effect_with r this other) (effect-is n h.0 h.1 r this other cost h.2)
 
   counts-made : n.steps ≤ (let l = limits_of n in l.steps) → (n.steps + cost_of h.0 ≤ (let l = limits_of n in l.steps)) × (length (ends_after n.ends (effect_with r this other)) ≤ length n.ends + cost_of h.0)
@@ -142,7 +142,7 @@ module _ (n : NodeState) (r : Reply) (this : End) (other : Option (EndId × End)
   few-made b few = let it = counts-made b in let same : cost_of h.0 ≡ cost = h.2.cost_ in omega (arith, it.1, few, same)
 
   pub numbered-made : length n.ends ≤ (let l = limits_of n in l.ends) → length (ends_after n.ends (effect_with r this other)) ≤ (let l = limits_of n in l.ends)
-  numbered-made b = numbered n h.0 h.1 (effect_with r this other) (of_ok (Row n h.0 h.1) _ _ (effect-is n h.0 h.1 r this other cost h.2) (row_of n h.0 h.1)) b
+  numbered-made b = numbered n h.0 h.1 (effect_with r this other) (of_ok (StepRow n h.0 h.1) _ _ (effect-is n h.0 h.1 r this other cost h.2) (row_of n h.0 h.1)) b
 
 -- the step can be counted
 pub bounded-made : (n : NodeState) (p : PreparedStep) → FitsNode n p → n.steps ≤ (let l = limits_of n in l.steps) → n.steps + p.cost ≤ (let l = limits_of n in l.steps)
@@ -156,7 +156,7 @@ pub loss-made : (n : NodeState) (v : Event) (fresh : ℕ) (r : Reply) (this : En
 loss-made n v fresh r this other cost h lost = of_ok (λ (f : Effect). (claim_of f.this ≡ None) × (f.reply.end_.0 < length n.ends)) _ _ (effect-is n v fresh r this other cost h) (loses n v fresh lost)
 
 -- a call that made it, or lacked memory for it
-pub made-step : (n : NodeState) (v : Event) (fresh : ℕ) (p : PreparedStep) (result : Result Reply StepError) (new : NodeState) → IsPrepared n v fresh p → IfOk result (λ r. (r ≡ p.reply) × (new ≡ made n p)) → IfErr result (λ e. (e ≡ error.NoMemory) × (new ≡ n)) → IsStep result (step n v fresh) n new
+pub made-step : (n : NodeState) (v : Event) (fresh : ℕ) (p : PreparedStep) (result : Result Reply StepError) (new : NodeState) → IsPrepared n v fresh p → IfOk result (λ r. (r ≡ p.reply) × (new ≡ after_commit n p)) → IfErr result (λ e. (e ≡ error.NoMemory) × (new ≡ n)) → IsStep result (step n v fresh) n new
 made-step n v fresh p (Ok r) new h ok err = step-is n v fresh p h ∙ (λ i. Ok (sym ok.0 i, sym ok.1 i))
 made-step n v fresh p (Err e) new h ok err =
     let P : StepError → Type 0 = λ e. Refuses e (step n v fresh) in

@@ -13,7 +13,7 @@ use Rattle.dist_core.specs.declared.reply.Note.TheVariants as note
 use Rattle.dist_core.specs.declared.step_error.StepError.TheVariants as error
 use Rattle.dist_core.specs.Node.{NodeState, is_spent}
 use Rattle.dist_core.specs.Effects.{goes_on}
-use Rattle.dist_core.specs.Step.{at_end, ticked, stepped}
+use Rattle.dist_core.specs.Step.{at_end, tick_effect, step_result}
 
 -- an end that is put where it stands changes nothing
 pub put-same : (es : List End) (i : ℕ) (e : End) → slice_get es i ≡ Some e → put_end es i e ≡ es
@@ -25,8 +25,8 @@ put-same es i e h =
     ∙ set-get_or es i e
 
 -- what a tick of an end that is up gives
-pub ticks : (n : NodeState) (id : EndId) (r : UpRecord) → slice_get n.ends id.0 ≡ Some (ends.Up r) → is_spent n ≡ false → stepped n (event.Tick id) (at_end (slice_get n.ends id.0) (ticked n id)) ≡ Ok (record { end_ = id; say = tick_text; closed = None; up = None; note = note.Nothing }, record { setup = n.setup; steps = n.steps + 1; ends = n.ends })
+pub ticks : (n : NodeState) (id : EndId) (r : UpRecord) → slice_get n.ends id.0 ≡ Some (ends.Up r) → is_spent n ≡ false → step_result n (event.Tick id) (at_end (slice_get n.ends id.0) (tick_effect n id)) ≡ Ok (record { end_ = id; say = tick_text; closed = None; up = None; note = note.Nothing }, record { setup = n.setup; steps = n.steps + 1; ends = n.ends })
 ticks n id r at sp =
-    ap (λ o. stepped n (event.Tick id) (at_end o (ticked n id))) at
-    ∙ ap (λ b. stepped n (event.Tick id) (cond b (Err error.Spent) (Ok (goes_on id tick_text (ends.Up r) note.Nothing)))) sp
+    ap (λ o. step_result n (event.Tick id) (at_end o (tick_effect n id))) at
+    ∙ ap (λ b. step_result n (event.Tick id) (cond b (Err error.Spent) (Ok (goes_on id tick_text (ends.Up r) note.Nothing)))) sp
     ∙ ap (λ es. Ok (record { end_ = id; say = tick_text; closed = None; up = None; note = note.Nothing }, record { setup = n.setup; steps = n.steps + 1; ends = es })) (put-same n.ends id.0 (ends.Up r) at)

@@ -1,12 +1,12 @@
 -- Runs of a node that is given events, whose setup is changed, and that forgets: all that is ever done to a node.
 use Rattle.std.specs.Prelude.{ℕ, List, [], ◌∷◌, Result, Ok, Err}
-use Rattle.dist_core_ends.specs.Forgetting.{forgotten}
+use Rattle.dist_core_ends.specs.Forgetting.{without_causes_below}
 use Rattle.dist_core.specs.declared.changing.ChangeError.{ChangeError}
 use Rattle.dist_core.specs.declared.event.Event.{Event}
 use Rattle.dist_core.specs.declared.changing.Change.{Change}
 use Rattle.dist_core.specs.Changing.{change}
 use Rattle.dist_core.specs.Node.{NodeState}
-use Rattle.dist_core.specs.Runs.{settled}
+use Rattle.dist_core.specs.Runs.{node_after}
 use Rattle.dist_core.specs.Step.{step}
 
 -- what is done to a node
@@ -25,9 +25,9 @@ changed_or n (Err e) = n
 
 -- the node after one act
 abbrev pub act : NodeState → Act → NodeState
-act n (Steps v fresh) = settled n (step n v fresh)
+act n (Steps v fresh) = node_after n (step n v fresh)
 act n (Changes v) = changed_or n (change n v)
-act n (Forgets below) = record n { ends = forgotten below n.ends }
+act n (Forgets below) = record n { ends = without_causes_below below n.ends }
 
 -- THE NODE AFTER THESE ACTS, one after another
 abbrev pub run_acts : List Act → NodeState → NodeState

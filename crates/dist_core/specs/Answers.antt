@@ -22,9 +22,9 @@ IsStep (Ok r) s old new = s ≡ Ok (r, new)
 IsStep (Err e) s old new = Refuses e s × (new ≡ old)
 
 -- what is found at an open end, or the refusal where there is none
-abbrev pub Finds : Result (Bor End) StepError → Option End → Type 0
-Finds (Ok e) o = (o ≡ Some e.now) × ((f : End → Result Effect StepError) → at_end o f ≡ f e.now)
-Finds (Err r) o = (r ≢ error.NoMemory) × ((f : End → Result Effect StepError) → at_end o f ≡ Err r)
+abbrev pub FindsOpen : Result (Bor End) StepError → Option End → Type 0
+FindsOpen (Ok e) o = (o ≡ Some e.now) × ((f : End → Result Effect StepError) → at_end o f ≡ f e.now)
+FindsOpen (Err r) o = (r ≢ error.NoMemory) × ((f : End → Result Effect StepError) → at_end o f ≡ Err r)
 
 -- a call gave the effect that the definition gives, or refused
 abbrev pub Gives : Result Effect StepError → Result Effect StepError → Type 0

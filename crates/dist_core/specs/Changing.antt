@@ -1,12 +1,12 @@
 -- CHANGES OF A NODE'S SETUP, between two steps.
-use Rattle.std.specs.Prelude.{◌≡◌, ℕ, Bool, false, not, if◌then◌else◌, List, Option, Some, None, is_some, Result, Ok, Err, IsOk}
+use Rattle.std.specs.Prelude.{◌≡◌, Bool, false, not, if◌then◌else◌, Option, Some, None, is_some, Result, Ok, Err, IsOk}
 use Rattle.std.specs.List.{list_any}
 use Rattle.std.specs.FinMap as map
 use Rattle.dist_names.specs.Order.{Name}
 use Rattle.dist_peers.specs.declared.entry.Entry.{Entry}
 use Rattle.dist_core_ends.specs.Ends.{entry_in, table_of}
 use Rattle.dist_core_setup.specs.declared.setup.Setup.{Setup}
-use Rattle.dist_core_setup.specs.Changing.{has_own_cookie, lacks_room, keyed, keyed_usually, letting_in}
+use Rattle.dist_core_setup.specs.Changing.{has_own_cookie, lacks_room, with_own_cookie, keyed_usually, letting_in}
 use Rattle.dist_core.specs.declared.changing.Change.{Change}
 use Rattle.dist_core.specs.declared.changing.Change.TheVariants.{Cookie, UsualCookie, Allow}
 use Rattle.dist_core.specs.declared.changing.ChangeError.{ChangeError}
@@ -15,7 +15,7 @@ use Rattle.dist_core.specs.Node.{NodeState}
 
 -- the setup after a change
 abbrev pub setup_after : Setup → Change → Setup
-setup_after s (Cookie p cookie) = keyed s p cookie
+setup_after s (Cookie p cookie) = with_own_cookie s p cookie
 setup_after s (UsualCookie cookie) = keyed_usually s cookie
 setup_after s (Allow names) = letting_in s names
 

@@ -2,7 +2,7 @@
 use Rattle.std.specs.Prelude.{◌≡◌, ℕ, ◌+◌, List, Some, None, Result, Ok, Err, slice_get}
 use Rattle.dist_peers.specs.declared.entry.EndId.{EndId}
 use Rattle.dist_core_ends.specs.declared.known.End.{End}
-use Rattle.dist_core_ends.specs.Change.{changed}
+use Rattle.dist_core_ends.specs.Change.{with_change}
 use Rattle.dist_core.specs.declared.event.Event.{Event}
 use Rattle.dist_core.specs.declared.reply.Reply.{Reply}
 use Rattle.dist_core.specs.declared.effect.Effect.{Effect}
@@ -48,8 +48,8 @@ GivesPrepared (Err e) es cost s = Refuses e s
 -- what becomes of the ends
 abbrev pub ends_by : List End → EndId → EndChange → List End
 ends_by es id change.Stay = es
-ends_by es id (change.Become this other) = changed es id this other
+ends_by es id (change.Become this other) = with_change es id this other
 
 -- the node after what was prepared is made
-abbrev pub made : NodeState → PreparedStep → NodeState
-made n p = record { setup = n.setup; steps = n.steps + p.cost; ends = ends_by n.ends p.reply.end_ p.change }
+abbrev pub after_commit : NodeState → PreparedStep → NodeState
+after_commit n p = record { setup = n.setup; steps = n.steps + p.cost; ends = ends_by n.ends p.reply.end_ p.change }

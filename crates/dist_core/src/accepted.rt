@@ -1,11 +1,14 @@
 //! What each message does to an accepted end.
 ghost use Rattle.std.specs.Prelude.{◌≡◌, IfOk, true, false, Ok, Err, Some, None, slice_get};
-ghost use Rattle.dist_core.specs.Effects.{superseded_in, superseded, supersedes, held_back};
+ghost use Rattle.dist_core_ends.specs.Ends.{entry_in};
+ghost use Rattle.dist_core.specs.Effects.{superseded_in, superseded_end, supersedes, held_back};
 ghost use Rattle.dist_core.specs.Accepted.{in_await_true, in_await_complement, in_await_reply, name_taken, verdict_text};
 
 use crate::effect::{
-    Effect, attempt_in, came_up, closes, goes_on, reply_phase, shuts, shuts_other,
+    Effect, FrameStep, attempt_in, closes, comes_up, goes_on, record_of, reply_phase, shuts,
+    shuts_other,
 };
+use crate::node::Node;
 use crate::reply::Note;
 use dist_core_ends::{Attempt, End, Ends, Phase, Why};
 use dist_core_setup::{
@@ -13,12 +16,12 @@ use dist_core_setup::{
 };
 use dist_messages::{Form, Message, Status};
 use dist_names::{ByteString, Flags, NodeName};
-use dist_peers::{EndId, Entry, Verdict};
+use dist_peers::{EndId, Verdict, replaced_end};
 use std::alloc::{AllocError, Global};
 
 // What stands for an end that a crossing name supersedes.
 fn superseded_end(alloc: Global, end: &End) -> Result<End, AllocError>
-    ensures { IfOk result (λ e. e ≡ superseded (Some end.now)) }
+    ensures { IfOk result (λ e. e ≡ superseded_end (Some end.now)) }
 {
     let End::Attempt(attempt) = end else {
         return Ok(End::Closed(Why::Crossed));
@@ -32,7 +35,7 @@ fn superseded_end(alloc: Global, end: &End) -> Result<End, AllocError>
 
 // The same, of the end of this number.
 fn superseded_end_of(alloc: Global, ends: &Ends, id: EndId) -> Result<End, AllocError>
-    ensures { IfOk result (λ e. e ≡ superseded (slice_get ends.now id.0)) }
+    ensures { IfOk result (λ e. e ≡ superseded_end (slice_get ends.now id.0)) }
 {
     match ends.open_end(id) {
         Ok(end) => superseded_end(alloc, end),
@@ -40,20 +43,22 @@ fn superseded_end_of(alloc: Global, ends: &Ends, id: EndId) -> Result<End, Alloc
     }
 }
 
-// The attempt of a name supersedes another end.
-fn supersedes(
-    id: EndId,
+// What is sent to a name that crossed an own dial, what is kept of it, and the name once more, to be noted.
+#[derive(Drop)]
+struct NameAnswer {
     say: ByteString,
     attempt: Attempt,
     peer: NodeName,
-    x: EndId,
-    crossed: End,
-) -> Effect
-    ensures { peer ≡ attempt.peer → result ≡ supersedes id say attempt x crossed }
+}
+
+// The attempt of a name supersedes another end.
+fn supersedes(id: EndId, answer: NameAnswer, x: EndId, crossed: End) -> Effect
+    ensures { answer.peer ≡ answer.attempt.peer → result ≡ supersedes id answer.say answer.attempt x crossed }
 {
+    let NameAnswer { say, attempt, peer } = answer;
     let this = End::Attempt(attempt);
     match crossed {
-        End::Closed(why) => shuts_other(id, say, this, x, why, note_of_name(peer)),
+        End::Closed(why) => shuts_other(id, say, this, (x, why), note_of_name(peer)),
         doomed => {
             let dooms = Some(x);
             let mut effect = goes_on(id, say, this, Note::NameTaken { peer, dooms });
@@ -68,15 +73,14 @@ fn crosses(
     alloc: Global,
     ends: &Ends,
     id: EndId,
-    say: ByteString,
-    attempt: Attempt,
-    peer: NodeName,
+    answer: NameAnswer,
     x: EndId,
 ) -> Result<Effect, AllocError>
-    ensures { peer ≡ attempt.peer → IfOk result (λ f. f ≡ supersedes id say attempt x (superseded (slice_get ends.now x.0))) }
+    ensures { answer.peer ≡ answer.attempt.peer
+        → IfOk result (λ f. f ≡ supersedes id answer.say answer.attempt x (superseded_end (slice_get ends.now x.0))) }
 {
     let crossed = superseded_end_of(alloc, ends, x)?;
-    Ok(supersedes(id, say, attempt, peer, x, crossed))
+    Ok(supersedes(id, answer, x, crossed))
 }
 
 // The attempt waits for `true` before the challenge is sent.
@@ -125,36 +129,45 @@ fn answer_to_name(
     }
 }
 
-// The effect of a verdict.
-pub fn effect_of_verdict(
-    alloc: Global,
-    setup: &Setup,
-    ends: &Ends,
-    id: EndId,
-    attempt: Attempt,
-    verdict: Verdict,
-) -> Result<Effect, AllocError>
-    ensures { IfOk result (λ f. f ≡ name_taken setup.now ends.now id attempt verdict) }
-{
-    let say = answer_to_name(alloc, setup, &attempt, verdict)?;
-    let peer = attempt.peer.try_clone(alloc)?;
-    match verdict {
-        Verdict::Ok => Ok(goes_on(id, say, End::Attempt(attempt), note_of_name(peer))),
-        Verdict::OkSimultaneous { drops } => { crosses(alloc, ends, id, say, attempt, peer, drops) }
-        Verdict::Nok => Ok(shuts(id, say, Why::Crossed, note_of_name(peer))),
-        Verdict::Alive => Ok(goes_on(
-            id,
-            say,
-            End::Attempt(wait_for_true(attempt)),
-            note_of_name(peer),
-        )),
-        Verdict::Replaces { drops, alive } => {
-            let this = End::Attempt(if alive {
-                wait_for_true(attempt)
-            } else {
-                attempt
-            });
-            Ok(shuts_other(id, say, this, drops, Why::Replaced, note_of_name(peer)))
+impl Node {
+    // The effect of a verdict.
+    pub(crate) fn effect_of_verdict(
+        &self,
+        alloc: Global,
+        id: EndId,
+        attempt: Attempt,
+        verdict: Verdict,
+    ) -> Result<Effect, AllocError>
+        ensures { IfOk result (λ f. f ≡ name_taken self.now.setup self.now.ends id attempt verdict) }
+    {
+        let say = answer_to_name(alloc, &self.setup, &attempt, verdict)?;
+        let peer = attempt.peer.try_clone(alloc)?;
+        match verdict {
+            Verdict::Ok => Ok(goes_on(id, say, End::Attempt(attempt), note_of_name(peer))),
+            Verdict::OkSimultaneous { drops } => {
+                crosses(
+                    alloc,
+                    &self.ends,
+                    id,
+                    NameAnswer { say, attempt, peer },
+                    drops,
+                )
+            }
+            Verdict::Nok => Ok(shuts(id, say, Why::Crossed, note_of_name(peer))),
+            Verdict::Alive => Ok(goes_on(
+                id,
+                say,
+                End::Attempt(wait_for_true(attempt)),
+                note_of_name(peer),
+            )),
+            Verdict::Replaces { drops, alive } => {
+                let this = End::Attempt(if alive {
+                    wait_for_true(attempt)
+                } else {
+                    attempt
+                });
+                Ok(shuts_other(id, say, this, (drops, Why::Replaced), note_of_name(peer)))
+            }
         }
     }
 }
@@ -163,26 +176,25 @@ pub fn effect_of_verdict(
 pub fn in_await_true(
     alloc: Global,
     setup: &Setup,
-    id: EndId,
-    fresh: u32,
+    step: FrameStep,
     attempt: &Attempt,
     message: &Message,
 ) -> Result<Effect, AllocError>
-    ensures { IfOk result (λ f. f ≡ in_await_true setup.now id fresh attempt.now message.now) }
+    ensures { IfOk result (λ f. f ≡ in_await_true setup.now step.id step.fresh attempt.now message.now) }
 {
     match message {
         Message::Status(Status::True) => {
-            let say = challenge_frame(alloc, setup, attempt.form, fresh)?;
+            let say = challenge_frame(alloc, setup, attempt.form, step.fresh)?;
             let copy = attempt.try_clone(alloc)?;
             let attempt = Attempt {
                 phase: reply_phase(attempt.form),
-                challenge: fresh,
+                challenge: step.fresh,
                 ..copy
             };
-            Ok(goes_on(id, say, End::Attempt(attempt), Note::Nothing))
+            Ok(goes_on(step.id, say, End::Attempt(attempt), Note::Nothing))
         }
-        Message::Status(Status::False) => Ok(closes(alloc, id, Why::StatusRefused)),
-        _ => Ok(closes(alloc, id, Why::Unexpected)),
+        Message::Status(Status::False) => Ok(closes(alloc, step.id, Why::StatusRefused)),
+        _ => Ok(closes(alloc, step.id, Why::Unexpected)),
     }
 }
 
@@ -214,28 +226,31 @@ pub fn in_await_complement(
     Ok(goes_on(id, nothing, End::Attempt(attempt), Note::Nothing))
 }
 
-// The end awaits the reply.
-pub fn in_await_reply(
-    alloc: Global,
-    setup: &Setup,
-    entry: Option<Entry>,
-    id: EndId,
-    attempt: &Attempt,
-    message: &Message,
-) -> Result<Effect, AllocError>
-    ensures { IfOk result (λ f. f ≡ in_await_reply setup.now entry id attempt.now message.now) }
-{
-    let Message::Reply {
-        challenge,
-        digest: came,
-    } = message
-    else {
-        return Ok(closes(alloc, id, Why::Unexpected));
-    };
-    let own = own_digest(setup, &attempt.peer, attempt.challenge);
-    if *came != own {
-        return Ok(closes(alloc, id, Why::WrongDigest));
+impl Node {
+    // The end awaits the reply.
+    pub(crate) fn in_await_reply(
+        &self,
+        alloc: Global,
+        id: EndId,
+        attempt: &Attempt,
+        message: &Message,
+    ) -> Result<Effect, AllocError>
+        ensures { IfOk result (λ f. f ≡ in_await_reply self.now.setup (entry_in self.now.ends attempt.now.peer) id attempt.now message.now) }
+    {
+        let Message::Reply {
+            challenge,
+            digest: came,
+        } = message
+        else {
+            return Ok(closes(alloc, id, Why::Unexpected));
+        };
+        let own = own_digest(self.setup(), &attempt.peer, attempt.challenge);
+        if *came != own {
+            return Ok(closes(alloc, id, Why::WrongDigest));
+        }
+        let say = ack_frame(alloc, self.setup(), &attempt.peer, *challenge)?;
+        let kept = record_of(alloc, self.setup(), attempt, came)?;
+        let replaced = replaced_end(self.entry_of(&attempt.peer));
+        comes_up(alloc, id, say, kept, replaced)
     }
-    let say = ack_frame(alloc, setup, &attempt.peer, *challenge)?;
-    came_up(alloc, setup, entry, id, say, attempt, came)
 }

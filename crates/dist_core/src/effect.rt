@@ -1,6 +1,5 @@
 //! What a step does, before it is done.
 ghost use Rattle.std.specs.Prelude.{◌≡◌, IfOk, Ok, Err, Some, None};
-ghost use Rattle.dist_peers.specs.Table.{replaced_by};
 ghost use Rattle.dist_core.specs.Effects.{form_of, reply_phase, goes_on, shuts, shuts_other, comes_up, closes, moves, record_of};
 
 use crate::reply::{Note, Reply};
@@ -8,7 +7,7 @@ use dist_core_ends::{Attempt, End, Phase, UpRecord, Why};
 use dist_core_setup::{Setup, announced_by};
 use dist_messages::{Form, Opening};
 use dist_names::ByteString;
-use dist_peers::{EndId, Entry, replaced};
+use dist_peers::EndId;
 use std::alloc::{AllocError, Global};
 
 /// What a step does. A word of the contracts: no public call takes or gives it.
@@ -20,6 +19,13 @@ pub struct Effect {
     pub this: End,
     /// Another end that changes, and what it is afterwards.
     pub other: Option<(EndId, End)>,
+}
+
+/// The step of a frame: on which end it came, and the number that was drawn for the step.
+#[derive(Clone, Copy)]
+pub struct FrameStep {
+    pub id: EndId,
+    pub fresh: u32,
 }
 
 pub fn goes_on(id: EndId, say: ByteString, this: End, note: Note) -> Effect
@@ -52,12 +58,13 @@ pub fn closes(alloc: Global, id: EndId, why: Why) -> Effect
     shuts(id, ByteString::new(alloc), why, Note::Nothing)
 }
 
-pub fn shuts_other(id: EndId, say: ByteString, this: End, x: EndId, why: Why, note: Note) -> Effect
-    ensures { result ≡ shuts_other id say this x why note }
+// Another end is closed, for this cause.
+pub fn shuts_other(id: EndId, say: ByteString, this: End, other: (EndId, Why), note: Note) -> Effect
+    ensures { result ≡ shuts_other id say this other.0 other.1 note }
 {
     let mut effect = goes_on(id, say, this, note);
-    effect.reply.closed = Some((x, why));
-    effect.other = Some((x, End::Closed(why)));
+    effect.reply.closed = Some(other);
+    effect.other = Some((other.0, End::Closed(other.1)));
     effect
 }
 
@@ -74,7 +81,7 @@ pub fn comes_up(
     let this = End::Up(came);
     let mut effect = match replaced {
         None => goes_on(id, say, this, Note::Nothing),
-        Some(x) => shuts_other(id, say, this, x, Why::Replaced, Note::Nothing),
+        Some(x) => shuts_other(id, say, this, (x, Why::Replaced), Note::Nothing),
     };
     effect.reply.up = Some(copy);
     Ok(effect)
@@ -138,20 +145,4 @@ pub fn record_of(
         challenge: attempt.challenge,
         digest_received: *digest_received,
     })
-}
-
-// The digest of this end's peer was right: the end comes up.
-pub fn came_up(
-    alloc: Global,
-    setup: &Setup,
-    entry: Option<Entry>,
-    id: EndId,
-    say: ByteString,
-    attempt: &Attempt,
-    digest: &[u8; 16],
-) -> Result<Effect, AllocError>
-    ensures { IfOk result (λ f. f ≡ comes_up id say (record_of setup.now attempt.now digest.now) (replaced_by entry)) }
-{
-    let kept = record_of(alloc, setup, attempt, digest)?;
-    comes_up(alloc, id, say, kept, replaced(entry))
 }

@@ -5,19 +5,18 @@ ghost use Rattle.std.specs.Option.{option_map};
 ghost use Rattle.std.specs.FinMap as map;
 ghost use Rattle.dist_core_ends.specs.Ends.{AreLegal, Finds, FindsUp, entry_in, table_of, is_open, is_dialing, claim_of};
 ghost use Rattle.dist_core_ends.specs.Ends.{oldest_pending, record_in, up_from, up_pair, up_ids, still_of, awaited_of};
-ghost use Rattle.dist_core_ends.specs.Forgetting.{forgotten};
+ghost use Rattle.dist_core_ends.specs.Forgetting.{without_causes_below};
 ghost use Rattle.dist_core.specs.Node.{NodeState, ends_after, is_crowded, is_full_for, is_given_out, is_spent, limits_of, new_id};
 ghost use Rattle.dist_core.specs.Clauses.{ClosesOnReply, end_of, loss_reply};
 ghost use Rattle.dist_core.specs.Losses.{IsGone, IsSilent};
-ghost use Rattle.dist_core.specs.Fitting.{Fits};
+ghost use Rattle.dist_core.specs.Fitting.{FitsNodeTable};
 ghost use Rattle.dist_core_setup.specs.Saying.{name_text, tick_text};
 ghost use Rattle.dist_core.specs.Effects.{moves, goes_on, closes};
 ghost use Rattle.dist_core.specs.Accepted.{verdict_in, name_taken};
-ghost use Rattle.dist_core.specs.Step.{effect_of, step, stepped, at_end, opened, ticked, dialled, came_in, cost_of};
+ghost use Rattle.dist_core.specs.Step.{effect_of, step, step_result, at_end, opening_effect, tick_effect, dial_effect, came_in, cost_of};
 ghost use Rattle.dist_core.specs.Answers.{IsStep, Gives, IsLoss, GivesReply};
 
-use crate::accepted::effect_of_verdict;
-use crate::effect::{Effect, closes};
+use crate::effect::{Effect, FrameStep, closes};
 use crate::event::Event;
 use crate::finding::{cost, open_end};
 use crate::reply::{Note, Reply};
@@ -195,7 +194,7 @@ impl Node {
     /// [`StepError::Gone`] carries.
     #[tactic(auto, using(crate::proofs::Forgetting::length_forgotten))]
     pub fn forget(&mut self, below: EndId)
-        ensures { self.new ≡ record self.old { ends = forgotten below.0 self.old.ends } }
+        ensures { self.new ≡ record self.old { ends = without_causes_below below.0 self.old.ends } }
     {
         self.ends.forget(below);
     }
@@ -288,7 +287,7 @@ impl Node {
     // A loss, which closes its end and sends nothing.
     #[inline(always)]
     fn lose(&mut self, alloc: Global, id: EndId, why: Why) -> Result<Reply, StepError>
-        ensures step { IsStep result (stepped self.old (Event.Lost id why) (at_end (slice_get self.old.ends id.0) (λ e. Ok (closes id why))))
+        ensures step { IsStep result (step_result self.old (Event.Lost id why) (at_end (slice_get self.old.ends id.0) (λ e. Ok (closes id why))))
             self.old self.new }
         ensures loss { result ≢ Err StepError.NoMemory }
     {
@@ -303,7 +302,7 @@ impl Node {
     // A connection that came, which gives out the next end.
     #[inline(always)]
     fn come_in(&mut self, alloc: Global, _link: u64) -> Result<Reply, StepError>
-        ensures { IsStep result (stepped self.old (Event.Incoming _link) (came_in self.old)) self.old self.new }
+        ensures { IsStep result (step_result self.old (Event.Incoming _link) (came_in self.old)) self.old self.new }
     {
         self.show_legal();
         if self.gives_no_end() {
@@ -325,7 +324,7 @@ impl Node {
     #[tactic(auto, using(crate::proofs::Ticks::ticks))]
     #[inline(always)]
     fn tick(&mut self, alloc: Global, id: EndId) -> Result<Reply, StepError>
-        ensures { IsStep result (stepped self.old (Event.Tick id) (at_end (slice_get self.old.ends id.0) (ticked self.old id))) self.old self.new }
+        ensures { IsStep result (step_result self.old (Event.Tick id) (at_end (slice_get self.old.ends id.0) (tick_effect self.old id))) self.old self.new }
     {
         let End::Up(_) = open_end(&self.ends, id)? else {
             return Err(StepError::WrongPhase);
@@ -351,7 +350,7 @@ impl Node {
 
     // Makes a step that the definition gives.
     pub(crate) fn apply_effect(&mut self, effect: Effect, cost: u64) -> Result<Reply, StepError>
-        requires fits { AreLegal self.old.ends → Fits self.old (table_of self.old.ends) effect }
+        requires fits { AreLegal self.old.ends → FitsNodeTable self.old (table_of self.old.ends) effect }
         requires few { length (ends_after self.old.ends effect) ≤ self.old.steps + cost }
         requires bounded { self.old.steps + cost ≤ (let l = limits_of self.old in l.steps) }
         requires numbered { length (ends_after self.old.ends effect) ≤ (let l = limits_of self.old in l.ends) }
@@ -415,7 +414,7 @@ impl Node {
             }
             Event::Frame { end_: id, body } => {
                 let end = open_end(&self.ends, *id)?;
-                self.effect_of_frame(alloc, *id, fresh, body, end)
+                self.effect_of_frame(alloc, FrameStep { id: *id, fresh }, body, end)
             }
             Event::Lost { end_: id, why } => {
                 let _end = open_end(&self.ends, *id)?;
@@ -499,7 +498,7 @@ impl Node {
         ensures { IfOk result (λ f. f ≡ name_taken self.now.setup self.now.ends id attempt (verdict_in self.now id attempt.peer)) }
     {
         let verdict = self.verdict(&attempt.peer, id);
-        effect_of_verdict(alloc, &self.setup, &self.ends, id, attempt, verdict)
+        self.effect_of_verdict(alloc, id, attempt, verdict)
     }
 }
 

@@ -3,9 +3,9 @@ ghost use Rattle.std.specs.Prelude.{◌≡◌, ◌≢◌, ℕ, true, slice_get, 
 ghost use Rattle.dist_core_ends.specs.Ends.{AreLegal, is_open};
 ghost use Rattle.dist_core.specs.Clauses.{end_of, loss_reply};
 ghost use Rattle.dist_core.specs.Losses.{IsGone, IsSilent};
-ghost use Rattle.dist_core.specs.Step.{effect_of, step, cost_of, at_end, ticked};
+ghost use Rattle.dist_core.specs.Step.{effect_of, step, cost_of, at_end, tick_effect};
 ghost use Rattle.dist_core.specs.Answers.{IsStep, IsLoss, Refuses, reply_of};
-ghost use Rattle.dist_core.specs.Preparing.{IsPrepared, FitsNode, GivesPrepared, made};
+ghost use Rattle.dist_core.specs.Preparing.{IsPrepared, FitsNode, GivesPrepared, after_commit};
 
 use crate::effect::Effect;
 use crate::end_change::EndChange;
@@ -135,7 +135,7 @@ impl Node {
     // What a tick will do, which leaves all ends as they are.
     #[tactic(auto, using(crate::proofs::Prepares::ticks_prepared))]
     fn work_out_tick(&self, alloc: Global, id: EndId) -> Result<Prepared, StepError>
-        ensures { GivesPrepared result self.now.ends 1 (at_end (slice_get self.now.ends id.0) (ticked self.now id)) }
+        ensures { GivesPrepared result self.now.ends 1 (at_end (slice_get self.now.ends id.0) (tick_effect self.now id)) }
     {
         let End::Up(_) = open_end(&self.ends, id)? else {
             return Err(StepError::WrongPhase);
@@ -170,7 +170,7 @@ impl Node {
     // Makes a step of which it is known what it does.
     fn carry_out(&mut self, reply: Reply, change: EndChange, cost: u64) -> Result<Reply, StepError>
         requires { FitsNode self.old (record { reply = reply; change = change; cost = cost }) }
-        ensures ok { IfOk result (λ r. (r ≡ reply) × (self.new ≡ made self.old (record { reply = reply; change = change; cost = cost }))) }
+        ensures ok { IfOk result (λ r. (r ≡ reply) × (self.new ≡ after_commit self.old (record { reply = reply; change = change; cost = cost }))) }
         ensures err { IfErr result (λ e. (e ≡ StepError.NoMemory) × (self.new ≡ self.old)) }
         ensures loss { (v : Event) (fresh : ℕ) → IsPrepared self.old v fresh (record { reply = reply; change = change; cost = cost }) → IsLoss v → IsOk result }
     {

@@ -9,7 +9,7 @@ use Rattle.dist_peers.specs.declared.entry.Entry.{Entry}
 use Rattle.dist_core_ends.specs.declared.known.End.{End}
 use Rattle.dist_core_ends.specs.declared.phase.Kind.{Kind}
 use Rattle.dist_core_ends.specs.Ends.{Claim, claim_of, is_claim, same_kind, is_held, names}
-use Rattle.dist_core_ends.specs.Change.{put_end, put_other, changed, other_view, view_after, IsThere}
+use Rattle.dist_core_ends.specs.Change.{put_end, put_other, with_change, other_view, view_after, IsThere}
 use Rattle.dist_core_ends.proofs.Tables.{same-name}
 
 get-set : (es : List End) (x : ℕ) (e : End) (i : ℕ) → x < length es → slice_get (set es x e) i ≡ cond (eqb x i) (Some e) (slice_get es i)
@@ -36,7 +36,7 @@ pub length-put : (es : List End) (x : ℕ) (e : End) → length es ≤ length (p
 length-put es x e = elim (ltb x (length es)) as (λ b. length es ≤ length (cond b (set es x e) (es ++ e ∷ []))) [ true ↦ omega (arith, Rattle.std.proofs.Math.ListN.length-set {A = End}) | false ↦ omega (arith, Rattle.std.proofs.Common.length-append {A = End}) ]
 
 -- the ends after a change, by their numbers
-pub get-after : (es : List End) (id : EndId) (this : End) (other : Option (EndId × End)) (i : ℕ) → id.0 ≤ length es → IsThere es other → slice_get (changed es id this other) i ≡ view_after es id this other i
+pub get-after : (es : List End) (id : EndId) (this : End) (other : Option (EndId × End)) (i : ℕ) → id.0 ≤ length es → IsThere es other → slice_get (with_change es id this other) i ≡ view_after es id this other i
 get-after es id this other i h o = by other o
   where
     by : (x : Option (EndId × End)) → IsThere es x → slice_get (put_other (put_end es id.0 this) x) i ≡ other_view x (λ i. cond (eqb id.0 i) (Some this) (slice_get es i)) i

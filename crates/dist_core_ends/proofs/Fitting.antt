@@ -19,7 +19,7 @@ use Rattle.dist_core_ends.specs.declared.phase.Phase.TheVariants as phase
 use Rattle.dist_core_ends.specs.declared.phase.Kind.{Kind}
 use Rattle.dist_core_ends.specs.declared.phase.Kind.TheVariants.{Out, In, Up}
 use Rattle.dist_core_ends.specs.Ends.{Claim, claim_of, is_claim, same_kind, is_held, is_open, is_pending, kind_in, holds_at, names, Agree}
-use Rattle.dist_core_ends.specs.Change.{StaysClosed, OtherStaysClosed, put_end, IsThere, Fits, claim_at, shifted, AsksShift, raised, AsksRaise, view_after}
+use Rattle.dist_core_ends.specs.Change.{StaysClosed, OtherStaysClosed, put_end, IsThere, Fits, claim_at, table_after_shift, AsksShift, table_after_rise, AsksRaise, view_after}
 use Rattle.dist_peers.specs.Verdicts.{ruling, is_greater}
 use Rattle.dist_core_ends.proofs.Tables.{order, same-name}
 use Rattle.std.proofs.lemmas.Bool.{false≢true}
@@ -176,7 +176,7 @@ other-stays es i e x s place this other =
 module _ (me : Name) (es : List End) (t : Table) (a : Agree (map.get t) es) where
   -- what is to be shown of a change
   pub fit : (id : EndId) (this : End) (o : Option (EndId × End)) (c d : Option Claim) → StaysClosed (slice_get es id.0) this → OtherStaysClosed (put_end es id.0 this) o → claim_at (slice_get es id.0) ≡ c → claim_of this ≡ d → id.0 ≤ length es → IsThere es o
-      → AsksShift t me id c d → (v : Name → Option Entry) → ((q : Name) → map.get (shifted t me id c d) q ≡ v q) → Agrees v (view_after es id this o) → Fits me es t id this o
+      → AsksShift t me id c d → (v : Name → Option Entry) → ((q : Name) → map.get (table_after_shift t me id c d) q ≡ v q) → Agrees v (view_after es id this o) → Fits me es t id this o
   fit id this o c d stays other_stays was is place other asks v gets agrees =
       let P : Option Claim → Type 0 = λ x. AsksShift t me id x d in
       let Q : Option Claim → Type 0 = λ x. AsksShift t me id (claim_at (slice_get es id.0)) x in
@@ -187,12 +187,12 @@ module _ (me : Name) (es : List End) (t : Table) (a : Agree (map.get t) es) wher
         other_stays = other_stays;
         asks = subst Q (sym is) (subst P (sym was) asks);
         agree = λ p k i. ap (is_held p k) (get-after es id this o i place other) ∙ agrees p k i
-            ∙ ap (names k i) (sym (ap (λ x. map.get (shifted t me id (claim_at (slice_get es id.0)) x) p) is ∙ ap (λ x. map.get (shifted t me id x d) p) was ∙ gets p));
+            ∙ ap (names k i) (sym (ap (λ x. map.get (table_after_shift t me id (claim_at (slice_get es id.0)) x) p) is ∙ ap (λ x. map.get (table_after_shift t me id x d) p) was ∙ gets p));
       }
 
   -- one end changes, and the entry of p
   pub fit-one : (id : EndId) (e : End) (p : Name) (o : Option Entry) (c d : Option Claim) → StaysClosed (slice_get es id.0) e → claim_at (slice_get es id.0) ≡ c → claim_of e ≡ d → id.0 ≤ length es
-      → AsksShift t me id c d → ((q : Name) → map.get (shifted t me id c d) q ≡ cond (same_name q p) o (map.get t q)) → IsOn p c → IsOn p d
+      → AsksShift t me id c d → ((q : Name) → map.get (table_after_shift t me id c d) q ≡ cond (same_name q p) o (map.get t q)) → IsOn p c → IsOn p d
       → ((k : Kind) (i : ℕ) → cond (eqb id.0 i) (is_claim p k d) (names k i (map.get t p)) ≡ names k i o) → Fits me es t id e None
   fit-one id e p o c d stays was is place asks gets on_c on_d here =
       fit id e None c d stays tt was is place tt asks (λ q. cond (same_name q p) o (map.get t q)) gets
@@ -204,7 +204,7 @@ module _ (me : Name) (es : List End) (t : Table) (a : Agree (map.get t) es) wher
   -- two ends change, and the entry of p
   pub fit-two : (id : EndId) (e : End) (x : EndId) (s : End) (p : Name) (l : Kind) (o : Option Entry) (c d : Option Claim) → StaysClosed (Some e) s → StaysClosed (slice_get es x.0) s → StaysClosed (slice_get es id.0) e → claim_at (slice_get es id.0) ≡ c → claim_of e ≡ d → id.0 ≤ length es
       → claim_of s ≡ None → x.0 < length es → names l x.0 (map.get t p) ≡ true
-      → AsksShift t me id c d → ((q : Name) → map.get (shifted t me id c d) q ≡ cond (same_name q p) o (map.get t q)) → IsOn p c → IsOn p d
+      → AsksShift t me id c d → ((q : Name) → map.get (table_after_shift t me id c d) q ≡ cond (same_name q p) o (map.get t q)) → IsOn p c → IsOn p d
       → ((k : Kind) (i : ℕ) → cond (eqb x.0 i) false (cond (eqb id.0 i) (is_claim p k d) (names k i (map.get t p))) ≡ names k i o) → Fits me es t id e (Some (x, s))
   fit-two id e x s p l o c d this other stays was is place gone there named asks gets on_c on_d here =
       fit id e (Some (x, s)) c d stays (other-stays es id.0 e x.0 s place this other) was is place there asks (λ q. cond (same_name q p) o (map.get t q)) gets
@@ -215,11 +215,11 @@ module _ (me : Name) (es : List End) (t : Table) (a : Agree (map.get t) es) wher
       (λ q k b. at-claim q k (slice_get es id.0) ∙ ap (is_claim q k) was ∙ only p c on_c q k b)
       (λ k i. ap (λ b. cond (eqb x.0 i) false (cond (eqb id.0 i) b (names k i (map.get t p)))) (ap (is_claim p k) is) ∙ here k i))
 
-same-shift : (t : Table) (me : Name) (id : EndId) (c : Option Claim) → shifted t me id c c ≡ t
+same-shift : (t : Table) (me : Name) (id : EndId) (c : Option Claim) → table_after_shift t me id c c ≡ t
 same-shift t me id None = refl
 same-shift t me id (Some c) = by c.kind
   where
-    by : (k : Kind) → raised t id c.peer k k ≡ t
+    by : (k : Kind) → table_after_rise t id c.peer k k ≡ t
     by Out = refl
     by In = refl
     by Up = refl
@@ -366,14 +366,14 @@ module _ (me : Name) (es : List End) (t : Table) (a : Agree (map.get t) es) wher
 
   -- an end comes up
   pub fit-rises : (id : EndId) (e : End) (p : Name) (l : Kind) (o : Option Entry) → claim_at (slice_get es id.0) ≡ claims p l → claim_of e ≡ claims p Up → id.0 ≤ length es → map.get t p ≡ o
-      → AsksRaise t id p l Up → raised t id p l Up ≡ map.insert t p (entry.Up id)
+      → AsksRaise t id p l Up → table_after_rise t id p l Up ≡ map.insert t p (entry.Up id)
       → ((k : Kind) (i : ℕ) → cond (eqb id.0 i) (same_kind k Up) (names k i o) ≡ names k i (Some (entry.Up id))) → Fits me es t id e None
   fit-rises id e p l o was is place before asks raise here =
       fit-one me es t a id e p (Some (entry.Up id)) (claims p l) (claims p Up) (stays-claimed (slice_get es id.0) _ e was (up-settled e (ap is_up is))) was is place asks (λ q. ap (λ m. map.get m q) raise ∙ get-insert order t p (entry.Up id) q) refl refl
       (λ k i. (λ j. cond (eqb id.0 i) (own-claim p k Up j) (names k i (before j))) ∙ here k i)
 
   pub fit-rises2 : (id : EndId) (e : End) (x : EndId) (s : End) (p : Name) (l : Kind) (o : Option Entry) → claim_at (slice_get es id.0) ≡ claims p l → claim_of e ≡ claims p Up → id.0 ≤ length es → map.get t p ≡ o
-      → AsksRaise t id p l Up → raised t id p l Up ≡ map.insert t p (entry.Up id) → is_open s ≡ false → names Up x.0 o ≡ true
+      → AsksRaise t id p l Up → table_after_rise t id p l Up ≡ map.insert t p (entry.Up id) → is_open s ≡ false → names Up x.0 o ≡ true
       → ((k : Kind) (i : ℕ) → cond (eqb x.0 i) false (cond (eqb id.0 i) (same_kind k Up) (names k i o)) ≡ names k i (Some (entry.Up id))) → Fits me es t id e (Some (x, s))
   fit-rises2 id e x s p l o was is place before asks raise shut named here =
       fit-two me es t a id e x s p Up (Some (entry.Up id)) (claims p l) (claims p Up) (stays-claimed (Some e) _ s is (shut-settled s shut)) (stays-shut p Up (slice_get es x.0) s (a p Up x.0 ∙ ap (names Up x.0) before ∙ named) shut) (stays-claimed (slice_get es id.0) _ e was (up-settled e (ap is_up is))) was is place (shut-claim s shut) (there es p Up x.0 (a p Up x.0 ∙ ap (names Up x.0) before ∙ named)) (ap (names Up x.0) before ∙ named) asks (λ q. ap (λ m. map.get m q) raise ∙ get-insert order t p (entry.Up id) q) refl refl

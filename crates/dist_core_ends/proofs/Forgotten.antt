@@ -13,8 +13,8 @@ use Rattle.dist_core_ends.specs.declared.slots.Row.{Row}
 use Rattle.dist_core_ends.specs.declared.slots.Row.TheVariants as row
 use Rattle.dist_core_ends.specs.Ends.{is_open, is_held, holds, Agree}
 use Rattle.dist_core_ends.specs.Change.{one_if}
-use Rattle.dist_core_ends.specs.Forgetting.{without_cause, forgotten}
-use Rattle.dist_core_ends.specs.Keeping.{Slots, end_of_row, found_end, shown, AreKept, without_row_cause, rows_forgotten}
+use Rattle.dist_core_ends.specs.Forgetting.{without_cause, without_causes_below}
+use Rattle.dist_core_ends.specs.Keeping.{Slots, end_of_row, found_end, ends_of_rows, AreKept, without_row_cause, rows_forgotten}
 use Rattle.dist_core_ends.proofs.Opens.{count-cons}
 
 -- ---- what a forgotten end still is
@@ -40,31 +40,31 @@ same-end (ends.Closed w) h = absurd cc
 
 -- ---- the list of ends
 
-pub forgotten-none : (b : ℕ) → forgotten b [] ≡ []
+pub forgotten-none : (b : ℕ) → without_causes_below b [] ≡ []
 forgotten-none zero = refl
 forgotten-none (suc b) = refl
 
-pub same-held : (p : Name) (k : Kind) (b : ℕ) (es : List End) (i : ℕ) → is_held p k (slice_get (forgotten b es) i) ≡ is_held p k (slice_get es i)
+pub same-held : (p : Name) (k : Kind) (b : ℕ) (es : List End) (i : ℕ) → is_held p k (slice_get (without_causes_below b es) i) ≡ is_held p k (slice_get es i)
 same-held p k zero [] i = refl
 same-held p k (suc b) [] i = refl
 same-held p k zero (e ∷ es) i = refl
 same-held p k (suc b) (e ∷ es) zero = same-holds p k e
 same-held p k (suc b) (e ∷ es) (suc i) = same-held p k b es i
 
-pub agree-forgotten : (t : Table) (b : ℕ) (es : List End) → Agree (entries.get t) es → Agree (entries.get t) (forgotten b es)
+pub agree-forgotten : (t : Table) (b : ℕ) (es : List End) → Agree (entries.get t) es → Agree (entries.get t) (without_causes_below b es)
 agree-forgotten t b es a p k i = same-held p k b es i ∙ a p k i
 
-pub forgotten-length : (b : ℕ) (es : List End) → length (forgotten b es) ≡ length es
+pub forgotten-length : (b : ℕ) (es : List End) → length (without_causes_below b es) ≡ length es
 forgotten-length zero [] = refl
 forgotten-length (suc b) [] = refl
 forgotten-length zero (e ∷ es) = refl
 forgotten-length (suc b) (e ∷ es) = ap suc (forgotten-length b es)
 
-pub forgotten-count : (b : ℕ) (es : List End) → count_by is_open (forgotten b es) ≡ count_by is_open es
+pub forgotten-count : (b : ℕ) (es : List End) → count_by is_open (without_causes_below b es) ≡ count_by is_open es
 forgotten-count zero [] = refl
 forgotten-count (suc b) [] = refl
 forgotten-count zero (e ∷ es) = refl
-forgotten-count (suc b) (e ∷ es) = count-cons (without_cause e) (forgotten b es) ∙ (λ j. forgotten-count b es j + one_if (same-open e j)) ∙ sym (count-cons e es)
+forgotten-count (suc b) (e ∷ es) = count-cons (without_cause e) (without_causes_below b es) ∙ (λ j. forgotten-count b es j + one_if (same-open e j)) ∙ sym (count-cons e es)
 
 -- ---- the list of rows
 
@@ -80,15 +80,15 @@ same-row : (slots : Slots) (r : Row) → ((k : ℕ) → r ≡ row.Slot k → is_
 same-row slots (row.Slot k) h = sym (same-end (end_of_row slots (row.Slot k)) (h k refl))
 same-row slots (row.Closed w) h = refl
 
-pub shown-forgotten : (b : ℕ) (rows : List Row) (slots : Slots) → ((i k : ℕ) → slice_get rows i ≡ Some (row.Slot k) → is_open (end_of_row slots (row.Slot k)) ≡ true) → shown (rows_forgotten b rows) slots ≡ forgotten b (shown rows slots)
+pub shown-forgotten : (b : ℕ) (rows : List Row) (slots : Slots) → ((i k : ℕ) → slice_get rows i ≡ Some (row.Slot k) → is_open (end_of_row slots (row.Slot k)) ≡ true) → ends_of_rows (rows_forgotten b rows) slots ≡ without_causes_below b (ends_of_rows rows slots)
 shown-forgotten b [] slots h = sym (forgotten-none b)
 shown-forgotten zero (r ∷ rows) slots h = refl
 shown-forgotten (suc b) (r ∷ rows) slots h =
     let opened : (k : ℕ) → r ≡ row.Slot k → is_open (end_of_row slots r) ≡ true = λ k e. ap (λ (x : Row). is_open (end_of_row slots x)) e ∙ h zero k (ap Some e) in
-    let rest : shown (rows_forgotten b rows) slots ≡ forgotten b (shown rows slots) = shown-forgotten b rows slots (λ i k e. h (suc i) k e) in
+    let rest : ends_of_rows (rows_forgotten b rows) slots ≡ without_causes_below b (ends_of_rows rows slots) = shown-forgotten b rows slots (λ i k e. h (suc i) k e) in
     λ j. same-row slots r opened j ∷ rest j
 
-pub kept-shown : (b : ℕ) (rows : List Row) (slots : Slots) → AreKept rows slots → shown (rows_forgotten b rows) slots ≡ forgotten b (shown rows slots)
+pub kept-shown : (b : ℕ) (rows : List Row) (slots : Slots) → AreKept rows slots → ends_of_rows (rows_forgotten b rows) slots ≡ without_causes_below b (ends_of_rows rows slots)
 kept-shown b rows slots a =
     shown-forgotten b rows slots (λ i k h. let f = a.full i k h in ap (λ (o : Option End). is_open (found_end o)) f.there ∙ f.opened)
 
@@ -96,7 +96,7 @@ pub kept-forgotten : (b : ℕ) (rows : List Row) (slots : Slots) → AreKept row
 kept-forgotten b rows slots a = record {
   full = λ i k h. a.full i k (rows-slot b rows i k h);
   apart = λ i j k h g. a.apart i j k (rows-slot b rows i k h) (rows-slot b rows j k g);
-  counted = a.counted ∙ sym (ap (count_by is_open) (kept-shown b rows slots a) ∙ forgotten-count b (shown rows slots));
+  counted = a.counted ∙ sym (ap (count_by is_open) (kept-shown b rows slots a) ∙ forgotten-count b (ends_of_rows rows slots));
 }
 
 -- ---- a row at a time

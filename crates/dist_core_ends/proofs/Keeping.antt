@@ -15,26 +15,26 @@ use Rattle.slab.specs.Slab.{Slab, ContainsKey}
 use Rattle.dist_core_ends.specs.Change.{one_if, put_end, claim_at, IsThere, StaysClosed}
 use Rattle.dist_peers.specs.declared.entry.EndId.{EndId}
 use Rattle.dist_core_ends.proofs.Changes.{length-put}
-use Rattle.dist_core_ends.specs.Keeping.{Slots, in_slot, found_end, end_of_row, shown, IsFull, AreKept, Puts, Gives}
+use Rattle.dist_core_ends.specs.Keeping.{Slots, in_slot, found_end, end_of_row, ends_of_rows, IsFull, AreKept, Puts, GivesRow}
 use Rattle.dist_core_ends.proofs.Opens.{count-set, count-push}
 
 -- ---- the ends that rows show
 
-pub row-get : (rows : List Row) (slots : Slots) (i : ℕ) (r : Row) → slice_get rows i ≡ Some r → slice_get (shown rows slots) i ≡ Some (end_of_row slots r)
+pub row-get : (rows : List Row) (slots : Slots) (i : ℕ) (r : Row) → slice_get rows i ≡ Some r → slice_get (ends_of_rows rows slots) i ≡ Some (end_of_row slots r)
 row-get [] slots i r h = absurd cc
 row-get (x ∷ rows) slots zero r h = let same : x ≡ r = cc in ap (λ (y : Row). Some (end_of_row slots y)) same
 row-get (x ∷ rows) slots (suc i) r h = row-get rows slots i r h
 
-pub shown-length : (rows : List Row) (slots : Slots) → length (shown rows slots) ≡ length rows
+pub shown-length : (rows : List Row) (slots : Slots) → length (ends_of_rows rows slots) ≡ length rows
 shown-length [] slots = refl
 shown-length (x ∷ rows) slots = ap suc (shown-length rows slots)
 
-pub shown-put : (rows : List Row) (slots : Slots) (i : ℕ) (r : Row) → shown (set rows i r) slots ≡ set (shown rows slots) i (end_of_row slots r)
+pub shown-put : (rows : List Row) (slots : Slots) (i : ℕ) (r : Row) → ends_of_rows (set rows i r) slots ≡ set (ends_of_rows rows slots) i (end_of_row slots r)
 shown-put [] slots i r = refl
 shown-put (x ∷ rows) slots zero r = refl
 shown-put (x ∷ rows) slots (suc i) r = ap (λ es. end_of_row slots x ∷ es) (shown-put rows slots i r)
 
-pub shown-push : (rows : List Row) (slots : Slots) (r : Row) → shown (rows ++ r ∷ []) slots ≡ shown rows slots ++ end_of_row slots r ∷ []
+pub shown-push : (rows : List Row) (slots : Slots) (r : Row) → ends_of_rows (rows ++ r ∷ []) slots ≡ ends_of_rows rows slots ++ end_of_row slots r ∷ []
 shown-push [] slots r = refl
 shown-push (x ∷ rows) slots r = ap (λ es. end_of_row slots x ∷ es) (shown-push rows slots r)
 
@@ -44,11 +44,11 @@ row-other old new k o p (row.Slot m) h = ap found_end (p.others m (λ e. h (ap r
 row-other old new k o p (row.Closed w) h = refl
 
 -- no row has the slot that changes
-pub shown-other : (rows : List Row) (old new : Slots) (k : ℕ) (o : Option End) → Puts old new k o → ((i : ℕ) → slice_get rows i ≡ Some (row.Slot k) → ⊥) → shown rows new ≡ shown rows old
+pub shown-other : (rows : List Row) (old new : Slots) (k : ℕ) (o : Option End) → Puts old new k o → ((i : ℕ) → slice_get rows i ≡ Some (row.Slot k) → ⊥) → ends_of_rows rows new ≡ ends_of_rows rows old
 shown-other [] old new k o p h = refl
 shown-other (x ∷ rows) old new k o p h =
     let here : end_of_row new x ≡ end_of_row old x = row-other old new k o p x (λ e. h zero (ap Some e)) in
-    let rest : shown rows new ≡ shown rows old = shown-other rows old new k o p (λ i. h (suc i)) in
+    let rest : ends_of_rows rows new ≡ ends_of_rows rows old = shown-other rows old new k o p (λ i. h (suc i)) in
     λ j. here j ∷ rest j
 
 suc-apart : (i : ℕ) → suc i ≡ zero → ⊥
@@ -56,13 +56,13 @@ suc-apart i e = omega (arith, e)
 
 -- one row has the slot that changes
 pub shown-set : (rows : List Row) (old new : Slots) (i k : ℕ) (o : Option End) (r : Row) → Puts old new k o → slice_get rows i ≡ Some (row.Slot k) → ((j : ℕ) → slice_get rows j ≡ Some (row.Slot k) → j ≡ i)
-    → shown (set rows i r) new ≡ set (shown rows old) i (end_of_row new r)
+    → ends_of_rows (set rows i r) new ≡ set (ends_of_rows rows old) i (end_of_row new r)
 shown-set [] old new i k o r p at only = absurd cc
 shown-set (x ∷ rows) old new zero k o r p at only =
     ap (λ es. end_of_row new r ∷ es) (shown-other rows old new k o p (λ j e. suc-apart j (only (suc j) e)))
 shown-set (x ∷ rows) old new (suc i) k o r p at only =
     let here : end_of_row new x ≡ end_of_row old x = row-other old new k o p x (λ e. suc-apart i (sym (only zero (ap Some e)))) in
-    let rest : shown (set rows i r) new ≡ set (shown rows old) i (end_of_row new r) = shown-set rows old new i k o r p at (λ j e. omega (arith, only (suc j) e)) in
+    let rest : ends_of_rows (set rows i r) new ≡ set (ends_of_rows rows old) i (end_of_row new r) = shown-set rows old new i k o r p at (λ j e. omega (arith, only (suc j) e)) in
     λ j. here j ∷ rest j
 
 -- ---- rows
@@ -105,7 +105,7 @@ has-slot rows s i k r a at is =
     let P : Option End → Type 0 = λ o. IsSome o in
     subst P (sym f.there) refl
 
-pub finds-slot : (rows : List Row) (slots : Slots) (i k : ℕ) (r : Row) (e : End) → AreKept rows slots → slice_get rows i ≡ Some r → r ≡ row.Slot k → in_slot slots k ≡ Some e → (slice_get (shown rows slots) i ≡ Some e) × (is_open e ≡ true)
+pub finds-slot : (rows : List Row) (slots : Slots) (i k : ℕ) (r : Row) (e : End) → AreKept rows slots → slice_get rows i ≡ Some r → r ≡ row.Slot k → in_slot slots k ≡ Some e → (slice_get (ends_of_rows rows slots) i ≡ Some e) × (is_open e ≡ true)
 finds-slot rows slots i k r e a at is there =
     let f = a.full i k (at ∙ ap Some is) in
     let both : ◌≡◌ {A = Option End} (Some f.kept) (Some e) = sym f.there ∙ there in
@@ -114,7 +114,7 @@ finds-slot rows slots i k r e a at is there =
       ap is_open (sym same) ∙ f.opened,
     )
 
-pub finds-closed : (rows : List Row) (slots : Slots) (i : ℕ) (w : Why) (r : Row) → slice_get rows i ≡ Some r → r ≡ row.Closed w → slice_get (shown rows slots) i ≡ Some (ends.Closed w)
+pub finds-closed : (rows : List Row) (slots : Slots) (i : ℕ) (w : Why) (r : Row) → slice_get rows i ≡ Some r → r ≡ row.Closed w → slice_get (ends_of_rows rows slots) i ≡ Some (ends.Closed w)
 finds-closed rows slots i w r at is = row-get rows slots i r at ∙ ap (λ (x : Row). Some (end_of_row slots x)) is
 
 -- a closed end stays closed
@@ -130,23 +130,23 @@ set-same (x ∷ es) zero e h = let same : e ≡ x = cc in ap (λ y. y ∷ es) sa
 set-same (x ∷ es) (suc i) e h = ap (λ xs. x ∷ xs) (set-same es i e h)
 
 -- the end of a row
-pub kept-end : (rows : List Row) (slots : Slots) (i k : ℕ) → slice_get rows i ≡ Some (row.Slot k) → (f : IsFull slots k) → slice_get (shown rows slots) i ≡ Some f.kept
+pub kept-end : (rows : List Row) (slots : Slots) (i k : ℕ) → slice_get rows i ≡ Some (row.Slot k) → (f : IsFull slots k) → slice_get (ends_of_rows rows slots) i ≡ Some f.kept
 kept-end rows slots i k at f = row-get rows slots i (row.Slot k) at ∙ ap (λ (o : Option End). Some (found_end o)) f.there
 
 module _ (rows : List Row) (old new : Slots) (a : AreKept rows old) where
   -- an open end becomes another
-  pub refilled-shown : (i k : ℕ) (e : End) → slice_get rows i ≡ Some (row.Slot k) → Puts old new k (Some e) → shown rows new ≡ set (shown rows old) i e
+  pub refilled-shown : (i k : ℕ) (e : End) → slice_get rows i ≡ Some (row.Slot k) → Puts old new k (Some e) → ends_of_rows rows new ≡ set (ends_of_rows rows old) i e
   refilled-shown i k e at p =
-      ap (λ rs. shown rs new) (sym (set-here rows i (row.Slot k) at))
+      ap (λ rs. ends_of_rows rs new) (sym (set-here rows i (row.Slot k) at))
       ∙ shown-set rows old new i k (Some e) (row.Slot k) p at (λ j h. a.apart j i k h at)
-      ∙ ap (λ (o : Option End). set (shown rows old) i (found_end o)) p.here
+      ∙ ap (λ (o : Option End). set (ends_of_rows rows old) i (found_end o)) p.here
 
   pub refilled : (i k : ℕ) (e : End) → slice_get rows i ≡ Some (row.Slot k) → Puts old new k (Some e) → count_by is_some new ≡ count_by is_some old → is_open e ≡ true → AreKept rows new
   refilled i k e at p n opened =
       let g = a.full i k at in
       let was : one_if (is_open g.kept) ≡ 1 = ap one_if g.opened in
       let is : one_if (is_open e) ≡ 1 = ap one_if opened in
-      let same : count_by is_open (set (shown rows old) i e) ≡ count_by is_open (shown rows old) = omega (arith, was, is, count-set (shown rows old) i e g.kept (kept-end rows old i k at g)) in
+      let same : count_by is_open (set (ends_of_rows rows old) i e) ≡ count_by is_open (ends_of_rows rows old) = omega (arith, was, is, count-set (ends_of_rows rows old) i e g.kept (kept-end rows old i k at g)) in
       record {
         full = λ j m h. elim (cases_eq m k) [
           | inl s ↦ record { kept = e; there = ap (in_slot new) s ∙ p.here; opened = opened }
@@ -157,7 +157,7 @@ module _ (rows : List Row) (old new : Slots) (a : AreKept rows old) where
       }
 
   -- an open end is closed
-  pub emptied-shown : (i k : ℕ) (w : Why) → slice_get rows i ≡ Some (row.Slot k) → Puts old new k None → shown (set rows i (row.Closed w)) new ≡ set (shown rows old) i (ends.Closed w)
+  pub emptied-shown : (i k : ℕ) (w : Why) → slice_get rows i ≡ Some (row.Slot k) → Puts old new k None → ends_of_rows (set rows i (row.Closed w)) new ≡ set (ends_of_rows rows old) i (ends.Closed w)
   emptied-shown i k w at p = shown-set rows old new i k None (row.Closed w) p at (λ j h. a.apart j i k h at)
 
   pub emptied : (i k : ℕ) (w : Why) → slice_get rows i ≡ Some (row.Slot k) → Puts old new k None → count_by is_some new + 1 ≡ count_by is_some old → AreKept (set rows i (row.Closed w)) new
@@ -165,8 +165,8 @@ module _ (rows : List Row) (old new : Slots) (a : AreKept rows old) where
       let within : i < length rows = slice_get_within rows i (row.Slot k) at in
       let g = a.full i k at in
       let was : one_if (is_open g.kept) ≡ 1 = ap one_if g.opened in
-      let less : count_by is_open (set (shown rows old) i (ends.Closed w)) + 1 ≡ count_by is_open (shown rows old) = omega (arith, was, count-set (shown rows old) i (ends.Closed w) g.kept (kept-end rows old i k at g)) in
-      let same : count_by is_open (shown (set rows i (row.Closed w)) new) ≡ count_by is_open (set (shown rows old) i (ends.Closed w)) = ap (count_by is_open) (emptied-shown i k w at p) in
+      let less : count_by is_open (set (ends_of_rows rows old) i (ends.Closed w)) + 1 ≡ count_by is_open (ends_of_rows rows old) = omega (arith, was, count-set (ends_of_rows rows old) i (ends.Closed w) g.kept (kept-end rows old i k at g)) in
+      let same : count_by is_open (ends_of_rows (set rows i (row.Closed w)) new) ≡ count_by is_open (set (ends_of_rows rows old) i (ends.Closed w)) = ap (count_by is_open) (emptied-shown i k w at p) in
       record {
         full = λ j m h.
             let r = kept-row rows i w j m within h in
@@ -181,17 +181,17 @@ module _ (rows : List Row) (old new : Slots) (a : AreKept rows old) where
 unused : (rows : List Row) (slots : Slots) (k : ℕ) → AreKept rows slots → in_slot slots k ≡ None → (i : ℕ) → slice_get rows i ≡ Some (row.Slot k) → ⊥
 unused rows slots k a free i at = let f = a.full i k at in let bad : ◌≡◌ {A = Option End} None (Some f.kept) = sym free ∙ f.there in absurd cc
 
-pub pushed-shown : (rows : List Row) (old new : Slots) (e : End) (r : Row) → AreKept rows old → Gives old new e r → shown (rows ++ r ∷ []) new ≡ shown rows old ++ e ∷ []
+pub pushed-shown : (rows : List Row) (old new : Slots) (e : End) (r : Row) → AreKept rows old → GivesRow old new e r → ends_of_rows (rows ++ r ∷ []) new ≡ ends_of_rows rows old ++ e ∷ []
 pushed-shown rows old new e (row.Slot k) a g =
     let p = g.1 in
     shown-push rows new (row.Slot k) ∙ (λ j. shown-other rows old new k (Some e) p (unused rows old k a (g.0)) j ++ found_end (p.here j) ∷ [])
-pushed-shown rows old new e (row.Closed w) a g = shown-push rows new (row.Closed w) ∙ (λ j. shown rows (g.0 j) ++ sym (g.1) j ∷ [])
+pushed-shown rows old new e (row.Closed w) a g = shown-push rows new (row.Closed w) ∙ (λ j. ends_of_rows rows (g.0 j) ++ sym (g.1) j ∷ [])
 
-pub pushed : (rows : List Row) (old new : Slots) (e : End) (r : Row) → AreKept rows old → Gives old new e r → AreKept (rows ++ r ∷ []) new
+pub pushed : (rows : List Row) (old new : Slots) (e : End) (r : Row) → AreKept rows old → GivesRow old new e r → AreKept (rows ++ r ∷ []) new
 pushed rows old new e (row.Slot k) a g =
     let p = g.1 in
     let is : one_if (is_open e) ≡ 1 = ap one_if (g.3) in
-    let more : count_by is_open (shown rows old ++ e ∷ []) ≡ count_by is_open (shown rows old) + 1 = count-push (shown rows old) e ∙ ap (λ (n : ℕ). count_by is_open (shown rows old) + n) is in
+    let more : count_by is_open (ends_of_rows rows old ++ e ∷ []) ≡ count_by is_open (ends_of_rows rows old) + 1 = count-push (ends_of_rows rows old) e ∙ ap (λ (n : ℕ). count_by is_open (ends_of_rows rows old) + n) is in
     let clash : (x m : ℕ) → slice_get rows x ≡ Some (row.Slot m) → row.Slot k ≡ row.Slot m → ⊥ = λ x m h s. (let same : m ≡ k = cc in unused rows old k a (g.0) x (h ∙ ap (λ (y : ℕ). Some (row.Slot y)) same)) in
     record {
       full = λ j m h. elim (more-row rows (row.Slot k) j m h) [
@@ -206,7 +206,7 @@ pushed rows old new e (row.Slot k) a g =
     }
 pushed rows old new e (row.Closed w) a g =
     let is : one_if (is_open e) ≡ 0 = ap (λ (y : End). one_if (is_open y)) (g.1) in
-    let more : count_by is_open (shown rows old ++ e ∷ []) ≡ count_by is_open (shown rows old) = omega (arith, is, count-push (shown rows old) e) in
+    let more : count_by is_open (ends_of_rows rows old ++ e ∷ []) ≡ count_by is_open (ends_of_rows rows old) = omega (arith, is, count-push (ends_of_rows rows old) e) in
     let back : (j m : ℕ) → slice_get (rows ++ row.Closed w ∷ []) j ≡ Some (row.Slot m) → slice_get rows j ≡ Some (row.Slot m) = λ j m h. elim (more-row rows (row.Closed w) j m h) [ inl s ↦ (let t = s.1 in absurd cc) | inr s ↦ s ] in
     record {
       full = λ j m h. let f = a.full j m (back j m h) in record { kept = f.kept; there = ap (λ (s : Slots). in_slot s m) (g.0) ∙ f.there; opened = f.opened };
@@ -220,7 +220,7 @@ none-kept rows slots e f =
     record {
       full = λ i k h. absurd (none i k h);
       apart = λ i j k h g. absurd (none i k h);
-      counted = ap (count_by is_some) f ∙ ap (λ (xs : List Row). count_by is_open (shown xs slots)) (sym e);
+      counted = ap (count_by is_some) f ∙ ap (λ (xs : List Row). count_by is_open (ends_of_rows xs slots)) (sym e);
     }
 
 -- an end put in a place that is there
@@ -232,14 +232,14 @@ pub put-behind : (es : List End) (i : ℕ) (e : End) → i ≡ length es → es 
 put-behind es i e h = elim (ltb i (length es)) as (λ b. ltb i (length es) ≡ b → es ++ e ∷ [] ≡ cond b (set es i e) (es ++ e ∷ [])) [ true ↦ λ b. absurd (grind (arith, nat_tests)) | false ↦ λ b. refl ] refl
 
 -- one end more, where the slots had room
-pub behind-shown : (rows more : List Row) (old mid new : Slots) (i : ℕ) (e : End) (r : Row) → i ≡ length rows → more ≡ rows ++ r ∷ [] → mid ≡ old → AreKept rows old → Gives mid new e r → shown more new ≡ put_end (shown rows old) i e
+pub behind-shown : (rows more : List Row) (old mid new : Slots) (i : ℕ) (e : End) (r : Row) → i ≡ length rows → more ≡ rows ++ r ∷ [] → mid ≡ old → AreKept rows old → GivesRow mid new e r → ends_of_rows more new ≡ put_end (ends_of_rows rows old) i e
 behind-shown rows more old mid new i e r at is same a g =
-    let P : Slots → Type 0 = λ s. Gives s new e r in
-    ap (λ rs. shown rs new) is ∙ pushed-shown rows old new e r a (subst P same g) ∙ put-behind (shown rows old) i e (at ∙ sym (shown-length rows old))
+    let P : Slots → Type 0 = λ s. GivesRow s new e r in
+    ap (λ rs. ends_of_rows rs new) is ∙ pushed-shown rows old new e r a (subst P same g) ∙ put-behind (ends_of_rows rows old) i e (at ∙ sym (shown-length rows old))
 
-pub behind : (rows more : List Row) (old mid new : Slots) (e : End) (r : Row) → more ≡ rows ++ r ∷ [] → mid ≡ old → AreKept rows old → Gives mid new e r → AreKept more new
+pub behind : (rows more : List Row) (old mid new : Slots) (e : End) (r : Row) → more ≡ rows ++ r ∷ [] → mid ≡ old → AreKept rows old → GivesRow mid new e r → AreKept more new
 behind rows more old mid new e r is same a g =
-    let P : Slots → Type 0 = λ s. Gives s new e r in
+    let P : Slots → Type 0 = λ s. GivesRow s new e r in
     let Q : List Row → Type 0 = λ rs. AreKept rs new in
     subst Q (sym is) (pushed rows old new e r a (subst P same g))
 
@@ -247,5 +247,5 @@ pub there-put : (es : List End) (i : ℕ) (e : End) (o : Option (EndId × End)) 
 there-put es i e None h = tt
 there-put es i e (Some x) h = omega (arith, h, length-put es i e)
 
-pub past-claim : (rows : List Row) (slots : Slots) (i : ℕ) → length rows ≤ i → claim_at (slice_get (shown rows slots) i) ≡ None
-past-claim rows slots i h = ap claim_at (slice_get_past (shown rows slots) i (omega (arith, h, shown-length rows slots)))
+pub past-claim : (rows : List Row) (slots : Slots) (i : ℕ) → length rows ≤ i → claim_at (slice_get (ends_of_rows rows slots) i) ≡ None
+past-claim rows slots i h = ap claim_at (slice_get_past (ends_of_rows rows slots) i (omega (arith, h, shown-length rows slots)))

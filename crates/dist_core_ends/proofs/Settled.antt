@@ -6,9 +6,9 @@ use Rattle.dist_core_ends.specs.declared.known.End.{End}
 use Rattle.dist_core_ends.specs.declared.known.End.TheVariants as ends
 use Rattle.dist_core_ends.specs.declared.slots.Row.{Row}
 use Rattle.dist_core_ends.specs.Ends.{is_pending}
-use Rattle.dist_core_ends.specs.Change.{put_end, changed, StaysClosed, OtherStaysClosed, IsThere}
-use Rattle.dist_core_ends.specs.Forgetting.{without_cause, forgotten}
-use Rattle.dist_core_ends.specs.Keeping.{Slots, shown, waits, AreSettled}
+use Rattle.dist_core_ends.specs.Change.{put_end, with_change, StaysClosed, OtherStaysClosed, IsThere}
+use Rattle.dist_core_ends.specs.Forgetting.{without_cause, without_causes_below}
+use Rattle.dist_core_ends.specs.Keeping.{Slots, ends_of_rows, waits, AreSettled}
 use Rattle.dist_core_ends.proofs.Changes.{get-put, length-put}
 use Rattle.dist_core_ends.proofs.Keeping.{put-within, shown-length}
 use Rattle.std.proofs.Math.ListN.{length-set}
@@ -40,7 +40,7 @@ put-settled es n x e a within place s i h =
       | false ↦ λ b. a i h
     ] refl
 
-pub changed-settled : (es : List End) (n : ℕ) (id : EndId) (this : End) (other : Option (EndId × End)) → AreSettled es n → n ≤ length es → id.0 ≤ length es → StaysClosed (slice_get es id.0) this → IsThere es other → OtherStaysClosed (put_end es id.0 this) other → AreSettled (changed es id this other) n
+pub changed-settled : (es : List End) (n : ℕ) (id : EndId) (this : End) (other : Option (EndId × End)) → AreSettled es n → n ≤ length es → id.0 ≤ length es → StaysClosed (slice_get es id.0) this → IsThere es other → OtherStaysClosed (put_end es id.0 this) other → AreSettled (with_change es id this other) n
 changed-settled es n id this None a within place s there o = put-settled es n id.0 this a within place s
 changed-settled es n id this (Some x) a within place s there o =
     let fs = put_end es id.0 this in
@@ -49,7 +49,7 @@ changed-settled es n id this (Some x) a within place s there o =
     let P : List End → Type 0 = λ gs. AreSettled gs n in
     subst P (sym (put-within fs y x.1 (omega (arith, there, longer)))) (put-settled fs n y x.1 (put-settled es n id.0 this a within place s) (omega (arith, within, longer)) (omega (arith, there, longer)) o)
 
-pub changed-longer : (es : List End) (id : EndId) (this : End) (other : Option (EndId × End)) → length es ≤ length (changed es id this other)
+pub changed-longer : (es : List End) (id : EndId) (this : End) (other : Option (EndId × End)) → length es ≤ length (with_change es id this other)
 changed-longer es id this None = length-put es id.0 this
 changed-longer es id this (Some x) = omega (arith, length-put es id.0 this, length-set {A = End})
 
@@ -59,14 +59,14 @@ same-waits (ends.Attempt a) = refl
 same-waits (ends.Up r) = refl
 same-waits (ends.Closed w) = refl
 
-waits-forgotten : (b : ℕ) (es : List End) (i : ℕ) → waits (slice_get (forgotten b es) i) ≡ waits (slice_get es i)
+waits-forgotten : (b : ℕ) (es : List End) (i : ℕ) → waits (slice_get (without_causes_below b es) i) ≡ waits (slice_get es i)
 waits-forgotten zero [] i = refl
 waits-forgotten (suc b) [] i = refl
 waits-forgotten zero (e ∷ es) i = refl
 waits-forgotten (suc b) (e ∷ es) zero = same-waits e
 waits-forgotten (suc b) (e ∷ es) (suc i) = waits-forgotten b es i
 
-pub forgotten-settled : (b : ℕ) (es : List End) (n : ℕ) → AreSettled es n → AreSettled (forgotten b es) n
+pub forgotten-settled : (b : ℕ) (es : List End) (n : ℕ) → AreSettled es n → AreSettled (without_causes_below b es) n
 forgotten-settled b es n a i h = waits-forgotten b es i ∙ a i h
 
 -- the ends after a change for which memory may have run out
@@ -75,6 +75,6 @@ either-settled (Ok x) es fs new n a b h g = let P : List End → Type 0 = λ gs.
 either-settled (Err x) es fs new n a b h g = let P : List End → Type 0 = λ gs. AreSettled gs n in subst P (sym g) a
 
 -- there are as many rows at least
-pub either-longer : {X E : Type 0} (r : Result X E) (rows new : List Row) (old slots : Slots) (fs : List End) (n : ℕ) → n ≤ length rows → length (shown rows old) ≤ length fs → OnOk r (shown new slots ≡ fs) → OnErr r (shown new slots ≡ shown rows old) → n ≤ length new
+pub either-longer : {X E : Type 0} (r : Result X E) (rows new : List Row) (old slots : Slots) (fs : List End) (n : ℕ) → n ≤ length rows → length (ends_of_rows rows old) ≤ length fs → OnOk r (ends_of_rows new slots ≡ fs) → OnErr r (ends_of_rows new slots ≡ ends_of_rows rows old) → n ≤ length new
 either-longer (Ok x) rows new old slots fs n within more h g = omega (arith, within, more, ap length h, shown-length rows old, shown-length new slots)
 either-longer (Err x) rows new old slots fs n within more h g = omega (arith, within, ap length g, shown-length rows old, shown-length new slots)

@@ -22,8 +22,8 @@ put_other es None = es
 put_other es (Some x) = slice_set es (let y = x.0 in y.0) x.1
 
 -- WHAT A STEP CHANGES: one end, and at most one other
-abbrev pub changed : List End → EndId → End → Option (EndId × End) → List End
-changed es id this other = put_other (put_end es id.0 this) other
+abbrev pub with_change : List End → EndId → End → Option (EndId × End) → List End
+with_change es id this other = put_other (put_end es id.0 this) other
 
 -- what stands at place i where the end of another change stands there, or else what stood there
 abbrev pub other_view : Option (EndId × End) → (ℕ → Option End) → ℕ → Option End
@@ -42,23 +42,23 @@ one_if false = 0
 -- ---- the entries
 
 -- an end begins to hold a peer
-abbrev pub entered : Table → Name → EndId → Name → Kind → Table
-entered t me id p Out = map.insert t p (entry.Out id)
-entered t me id p In = map.insert t p (let r = ruling (is_greater me p) id (entry_of t p) in r.entry)
-entered t me id p Up = t
+abbrev pub table_after_entry : Table → Name → EndId → Name → Kind → Table
+table_after_entry t me id p Out = map.insert t p (entry.Out id)
+table_after_entry t me id p In = map.insert t p (let r = ruling (is_greater me p) id (entry_of t p) in r.entry)
+table_after_entry t me id p Up = t
 
 -- an end holds its peer in another way
-abbrev pub raised : Table → EndId → Name → Kind → Kind → Table
-raised t id p Out Up = map.insert t p (entry.Up id)
-raised t id p In Up = map.insert t p (entry.Up id)
-raised t id p old new = t
+abbrev pub table_after_rise : Table → EndId → Name → Kind → Kind → Table
+table_after_rise t id p Out Up = map.insert t p (entry.Up id)
+table_after_rise t id p In Up = map.insert t p (entry.Up id)
+table_after_rise t id p old new = t
 
 -- the table once what this end holds has changed
-abbrev pub shifted : Table → Name → EndId → Option Claim → Option Claim → Table
-shifted t me id None None = t
-shifted t me id None (Some c) = entered t me id c.peer c.kind
-shifted t me id (Some d) None = with_entry t d.peer (left_by id (entry_of t d.peer))
-shifted t me id (Some d) (Some c) = raised t id c.peer d.kind c.kind
+abbrev pub table_after_shift : Table → Name → EndId → Option Claim → Option Claim → Table
+table_after_shift t me id None None = t
+table_after_shift t me id None (Some c) = table_after_entry t me id c.peer c.kind
+table_after_shift t me id (Some d) None = with_entry t d.peer (left_by id (entry_of t d.peer))
+table_after_shift t me id (Some d) (Some c) = table_after_rise t id c.peer d.kind c.kind
 
 abbrev pub AsksEnter : Table → Name → Name → Kind → Type 0
 AsksEnter t me p In = same_name me p ≡ false
@@ -84,7 +84,7 @@ claim_at (Some e) = claim_of e
 
 -- the table after end id became this
 abbrev pub table_after : Name → List End → Table → EndId → End → Table
-table_after me es t id this = shifted t me id (claim_at (slice_get es id.0)) (claim_of this)
+table_after me es t id this = table_after_shift t me id (claim_at (slice_get es id.0)) (claim_of this)
 
 abbrev pub IsThere : List End → Option (EndId × End) → Type 0
 IsThere es None = Unit {0}
@@ -109,4 +109,4 @@ pub record Fits (me : Name) (es : List End) (t : Table) (id : EndId) (this : End
   pub stays : StaysClosed (slice_get es id.0) this
   pub other_stays : OtherStaysClosed (put_end es id.0 this) other
   pub asks : AsksShift t me id (claim_at (slice_get es id.0)) (claim_of this)
-  pub agree : Agree (map.get (table_after me es t id this)) (changed es id this other)
+  pub agree : Agree (map.get (table_after me es t id this)) (with_change es id this other)

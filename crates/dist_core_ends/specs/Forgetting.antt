@@ -13,5 +13,5 @@ without_cause (ends.Closed w) = ends.Closed why.Ended
 
 -- THE ENDS, ONCE IT IS FORGOTTEN WHY THOSE BELOW A NUMBER WERE CLOSED: the open ones, and all from that number on, are as they
 -- were
-abbrev pub forgotten : ℕ → List End → List End
-forgotten below es = map without_cause (take below es) ++ drop below es
+abbrev pub without_causes_below : ℕ → List End → List End
+without_causes_below below es = map without_cause (take below es) ++ drop below es

@@ -27,9 +27,9 @@ end_of_row slots (row.Slot k) = found_end (in_slot slots k)
 end_of_row slots (row.Closed w) = ends.Closed w
 
 -- THE ENDS, by their numbers
-abbrev pub shown : List Row → Slots → List End
-shown [] slots = []
-shown (r ∷ rows) slots = end_of_row slots r ∷ shown rows slots
+abbrev pub ends_of_rows : List Row → Slots → List End
+ends_of_rows [] slots = []
+ends_of_rows (r ∷ rows) slots = end_of_row slots r ∷ ends_of_rows rows slots
 
 -- an open end stands in the slot
 pub record IsFull (slots : Slots) (k : ℕ) : Type 0 where
@@ -41,7 +41,7 @@ pub record IsFull (slots : Slots) (k : ℕ) : Type 0 where
 pub record AreKept (rows : List Row) (slots : Slots) : Type 0 where
   pub full : (i k : ℕ) → slice_get rows i ≡ Some (row.Slot k) → IsFull slots k
   pub apart : (i j k : ℕ) → slice_get rows i ≡ Some (row.Slot k) → slice_get rows j ≡ Some (row.Slot k) → i ≡ j
-  pub counted : count_by is_some slots ≡ count_by is_open (shown rows slots)
+  pub counted : count_by is_some slots ≡ count_by is_open (ends_of_rows rows slots)
 
 -- the slot has this, and each other has what it had
 pub record Puts (old new : Slots) (k : ℕ) (o : Option End) : Type 0 where
@@ -57,9 +57,9 @@ abbrev pub Empties : Slab End → Slab End → ℕ → Type 0
 Empties old new k = Puts old.slots new.slots k None × (slab_len new + 1 ≡ slab_len old)
 
 -- the row of a further end, and the slots with it
-abbrev pub Gives : Slots → Slots → End → Row → Type 0
-Gives old new e (row.Slot k) = (in_slot old k ≡ None) × Puts old new k (Some e) × (count_by is_some new ≡ count_by is_some old + 1) × (is_open e ≡ true)
-Gives old new e (row.Closed w) = (new ≡ old) × (e ≡ ends.Closed w)
+abbrev pub GivesRow : Slots → Slots → End → Row → Type 0
+GivesRow old new e (row.Slot k) = (in_slot old k ≡ None) × Puts old new k (Some e) × (count_by is_some new ≡ count_by is_some old + 1) × (is_open e ≡ true)
+GivesRow old new e (row.Closed w) = (new ≡ old) × (e ≡ ends.Closed w)
 
 -- the row of an end of which it is forgotten why it was closed
 abbrev pub without_row_cause : Row → Row

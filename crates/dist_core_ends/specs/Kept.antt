@@ -4,10 +4,10 @@ use Rattle.std.specs.FinMap as map
 use Rattle.dist_peers.specs.Table.{Table}
 use Rattle.dist_core_ends.specs.declared.slots.Row.{Row}
 use Rattle.dist_core_ends.specs.Ends.{Agree}
-use Rattle.dist_core_ends.specs.Keeping.{Slots, shown, AreKept, AreSettled}
+use Rattle.dist_core_ends.specs.Keeping.{Slots, ends_of_rows, AreKept, AreSettled}
 
-pub record IsKept (peers : Table) (rows : List Row) (slots : Slots) (passed : ℕ) : Type 0 where
-  pub agree : Agree (map.get peers) (shown rows slots)
+pub record KeepsEnds (peers : Table) (rows : List Row) (slots : Slots) (passed : ℕ) : Type 0 where
+  pub agree : Agree (map.get peers) (ends_of_rows rows slots)
   pub kept : AreKept rows slots
   pub within : passed ≤ length rows
-  pub settled : AreSettled (shown rows slots) passed
+  pub settled : AreSettled (ends_of_rows rows slots) passed

@@ -5,8 +5,8 @@ ghost use Rattle.std.specs.FinMap as map;
 ghost use Rattle.dist_peers.specs.Verdicts.{is_full};
 ghost use Rattle.dist_core_ends.specs.Ends.{AreLegal, FindsUp, Finds, entry_in, table_of, is_open, is_dialing, claim_of, end_id};
 ghost use Rattle.dist_core_ends.specs.Ends.{record_in, up_from, up_pair, up_id, up_ids, oldest_pending, still_of, awaited_of, verdict_of};
-ghost use Rattle.dist_core_ends.specs.Change.{Fits, StaysClosed, changed};
-ghost use Rattle.dist_core_ends.specs.Forgetting.{forgotten};
+ghost use Rattle.dist_core_ends.specs.Change.{Fits, StaysClosed, with_change};
+ghost use Rattle.dist_core_ends.specs.Forgetting.{without_causes_below};
 
 use crate::known::{End, UpRecord};
 use crate::phase::{Absent, Awaited, Phase, Still};
@@ -36,14 +36,14 @@ pub struct Ends {
 impl Model for Ends {
     ghost use Rattle.std.specs.Prelude.{List};
     ghost use Rattle.dist_core_ends.specs.declared.known.End.{End};
-    ghost use Rattle.dist_core_ends.specs.Kept.{IsKept};
-    ghost use Rattle.dist_core_ends.specs.Keeping.{shown};
+    ghost use Rattle.dist_core_ends.specs.Kept.{KeepsEnds};
+    ghost use Rattle.dist_core_ends.specs.Keeping.{ends_of_rows};
 
     ghost Value = { List End };
 
-    ghost view = { λ b. shown b.rows.items b.slots.slots };
+    ghost view = { λ b. ends_of_rows b.rows.items b.slots.slots };
 
-    ghost invariant = { λ b. IsKept b.peers b.rows.items b.slots.slots b.passed };
+    ghost invariant = { λ b. KeepsEnds b.peers b.rows.items b.slots.slots b.passed };
 }
 
 impl Ends {
@@ -239,7 +239,7 @@ impl Ends {
     /// connection. What is open stays as it is, and so does every end from the number on; the number may be one that was
     /// never given out. It takes no memory, and what the causes took is used again for later ends.
     pub fn forget(&mut self, below: EndId)
-        ensures { self.new ≡ forgotten below.0 self.old }
+        ensures { self.new ≡ without_causes_below below.0 self.old }
     {
         self.rows.forget(below.0 as usize);
     }
@@ -252,7 +252,7 @@ impl Ends {
 
         // It holds where `still` returns that the end is open.
         requires stays { StaysClosed (slice_get self.old id.0) (End.Closed why) }
-        ensures { self.new ≡ changed self.old id (End.Closed why) None }
+        ensures { self.new ≡ with_change self.old id (End.Closed why) None }
     {
         close_end(&mut self.peers, &mut self.rows, &mut self.slots, id, why);
     }
@@ -261,7 +261,7 @@ impl Ends {
     #[inline(always)]
     pub fn add(&mut self) -> Result<(), AllocError>
         requires { length self.old < 2 ^ 32 }
-        ensures ok { OnOk result (self.new ≡ changed self.old (end_id (length self.old)) End.Unnamed None) }
+        ensures ok { OnOk result (self.new ≡ with_change self.old (end_id (length self.old)) End.Unnamed None) }
         ensures err { OnErr result (self.new ≡ self.old) }
     {
         add(&mut self.rows, &mut self.slots)
@@ -277,7 +277,7 @@ impl Ends {
     ) -> Result<(), AllocError>
         requires fits { AreLegal self.old → Fits me.now self.old (table_of self.old) id this other }
         requires few { length self.old < 2 ^ 32 }
-        ensures ok { OnOk result (self.new ≡ changed self.old id this other) }
+        ensures ok { OnOk result (self.new ≡ with_change self.old id this other) }
         ensures err { OnErr result (self.new ≡ self.old) }
 
         // An end that holds no peer afterwards takes no memory.

@@ -3,12 +3,12 @@ ghost use Rattle.std.specs.Prelude.{◌≡◌, ◌≤◌, ℕ, List, [], Option,
 ghost use Rattle.dist_peers.specs.declared.entry.EndId.{EndId};
 ghost use Rattle.dist_core_ends.specs.declared.known.End.{End};
 ghost use Rattle.dist_core_ends.specs.Ends.{AreLegal};
-ghost use Rattle.dist_core_ends.specs.Change.{IsThere, changed, view_after};
+ghost use Rattle.dist_core_ends.specs.Change.{IsThere, with_change, view_after};
 
 /// What stands at each number once an end was changed or the next one was given out, and another one with it.
 pub fn ends_after_a_change()
     ensures { (es : List End) (id : EndId) (this : End) (other : Option (EndId × End)) (i : ℕ)
-        → id.0 ≤ length es → IsThere es other → slice_get (changed es id this other) i ≡ view_after es id this other i }
+        → id.0 ≤ length es → IsThere es other → slice_get (with_change es id this other) i ≡ view_after es id this other i }
 {}
 
 /// Where there are no ends, none holds a peer, and no peer has an entry.

@@ -9,14 +9,15 @@ use crate::why::Why;
 use std::alloc::{AllocError, Global};
 use std::marker::Model;
 
-/// How many rows stand in an array at most, before all of them are moved to the past ones.
+/// How many rows stand in the array before they are moved to the past ones, where few ends are open.
 const MOST_RECENT: usize = 1_024;
 
 /// Where each end is, by its number. Contracts see the list of rows, and for how many more there is room.
 ///
 /// Most ends are closed soon after they were given out, so the rows of the last ones stand in an array, where one is found by
-/// its number alone. When the array is full, its rows become past ones: a closed end costs a byte from then on, and only an
-/// end that is still open takes a place in a map.
+/// its number alone. The array is full with 1,024 rows, or with twice as many as ends are open where that is more, so that
+/// it has place for all open ends. When it is full, its rows become past ones: a closed end costs a byte from then on, and
+/// only an end that is still open takes a place in a map.
 ///
 /// Each event looks here: what concerns the array becomes part of its caller, and what concerns past rows stays a call.
 #[derive(Drop)]
@@ -87,14 +88,18 @@ impl Rows {
         }
     }
 
-    /// Makes room for one row more.
+    /// Makes room for one row more, while so many ends are open.
+    ///
+    /// So half of the rows that move, or more, are of closed ends, and a row is moved once: over all calls, one call moves as
+    /// many rows as it adds.
     #[inline(always)]
-    pub fn reserve(&mut self) -> Result<(), AllocError>
+    pub fn reserve(&mut self, open: usize) -> Result<(), AllocError>
         ensures same { self.new.items ≡ self.old.items }
         ensures ok { OnOk result (0 < self.new.room) }
     {
-        if self.recent.len() >= MOST_RECENT {
-            self.past.reserve(self.recent.len())?;
+        let rows = self.recent.len();
+        if rows >= MOST_RECENT && rows / 2 >= open {
+            self.past.reserve(rows)?;
             move_rows(&mut self.recent, &mut self.past);
             self.before = self.past.len();
         }

@@ -3,7 +3,7 @@ ghost use Rattle.std.specs.Prelude.{◌≡◌, ◌<◌, ◌≤◌, ◌+◌, ◌+
 ghost use Rattle.slab.specs.Slab.{ContainsKey, HasRoomFor, slab_len};
 ghost use Rattle.dist_core_ends.specs.Ends.{is_open, Finds};
 ghost use Rattle.dist_core_ends.specs.Change.{put_end, put_other, StaysClosed, OtherStaysClosed, IsThere};
-ghost use Rattle.dist_core_ends.specs.Keeping.{shown, AreKept, Refills, Empties, Gives, AreSettled, waits};
+ghost use Rattle.dist_core_ends.specs.Keeping.{ends_of_rows, AreKept, Refills, Empties, GivesRow, AreSettled, waits};
 
 use crate::known::End;
 use crate::phase::Absent;
@@ -25,7 +25,7 @@ pub enum Row {
 #[inline(always)]
 pub fn find<'a>(rows: &Rows, slots: &'a Slab<End>, id: EndId) -> Result<&'a End, Absent>
     requires { AreKept rows.now.items slots.now.slots }
-    ensures { Finds result (slice_get (shown rows.now.items slots.now.slots) id.0) }
+    ensures { Finds result (slice_get (ends_of_rows rows.now.items slots.now.slots) id.0) }
 {
     let i = id.0 as usize;
     if rows.len() <= i {
@@ -59,9 +59,9 @@ pub fn empty(slots: &mut Slab<End>, slot: usize)
 // Closes the end of a number, or leaves it closed for the cause that it had.
 pub fn close(rows: &mut Rows, slots: &mut Slab<End>, i: usize, why: Why)
     requires place { i < length rows.old.items }
-    requires stays { StaysClosed (slice_get (shown rows.old.items slots.old.slots) i) (End.Closed why) }
+    requires stays { StaysClosed (slice_get (ends_of_rows rows.old.items slots.old.slots) i) (End.Closed why) }
     requires kept { AreKept rows.old.items slots.old.slots }
-    ensures ends { shown rows.new.items slots.new.slots ≡ slice_set (shown rows.old.items slots.old.slots) i (End.Closed why) }
+    ensures ends { ends_of_rows rows.new.items slots.new.slots ≡ slice_set (ends_of_rows rows.old.items slots.old.slots) i (End.Closed why) }
     ensures kept { AreKept rows.new.items slots.new.slots }
     ensures len { length rows.new.items ≡ length rows.old.items }
 {
@@ -76,8 +76,8 @@ fn fill(rows: &Rows, slots: &mut Slab<End>, i: usize, end: End)
     requires place { i < length rows.now.items }
     requires kept { AreKept rows.now.items slots.old.slots }
     requires open_ { is_open end ≡ true }
-    requires stays { StaysClosed (slice_get (shown rows.now.items slots.old.slots) i) end }
-    ensures ends { shown rows.now.items slots.new.slots ≡ slice_set (shown rows.now.items slots.old.slots) i end }
+    requires stays { StaysClosed (slice_get (ends_of_rows rows.now.items slots.old.slots) i) end }
+    ensures ends { ends_of_rows rows.now.items slots.new.slots ≡ slice_set (ends_of_rows rows.now.items slots.old.slots) i end }
     ensures kept { AreKept rows.now.items slots.new.slots }
 {
     if let Row::Slot(slot) = rows.at(i) {
@@ -89,8 +89,8 @@ fn fill(rows: &Rows, slots: &mut Slab<End>, i: usize, end: End)
 pub fn put(rows: &mut Rows, slots: &mut Slab<End>, i: usize, end: End)
     requires place { i < length rows.old.items }
     requires kept { AreKept rows.old.items slots.old.slots }
-    requires stays { StaysClosed (slice_get (shown rows.old.items slots.old.slots) i) end }
-    ensures ends { shown rows.new.items slots.new.slots ≡ put_end (shown rows.old.items slots.old.slots) i end }
+    requires stays { StaysClosed (slice_get (ends_of_rows rows.old.items slots.old.slots) i) end }
+    ensures ends { ends_of_rows rows.new.items slots.new.slots ≡ put_end (ends_of_rows rows.old.items slots.old.slots) i end }
     ensures kept { AreKept rows.new.items slots.new.slots }
 {
     match end {
@@ -100,10 +100,10 @@ pub fn put(rows: &mut Rows, slots: &mut Slab<End>, i: usize, end: End)
 }
 
 pub fn put_second(rows: &mut Rows, slots: &mut Slab<End>, other: Option<(EndId, End)>)
-    requires there { IsThere (shown rows.old.items slots.old.slots) other }
+    requires there { IsThere (ends_of_rows rows.old.items slots.old.slots) other }
     requires kept { AreKept rows.old.items slots.old.slots }
-    requires stays { OtherStaysClosed (shown rows.old.items slots.old.slots) other }
-    ensures ends { shown rows.new.items slots.new.slots ≡ put_other (shown rows.old.items slots.old.slots) other }
+    requires stays { OtherStaysClosed (ends_of_rows rows.old.items slots.old.slots) other }
+    ensures ends { ends_of_rows rows.new.items slots.new.slots ≡ put_other (ends_of_rows rows.old.items slots.old.slots) other }
     ensures kept { AreKept rows.new.items slots.new.slots }
 {
     if let Some((x, end)) = other {
@@ -115,7 +115,7 @@ pub fn put_second(rows: &mut Rows, slots: &mut Slab<End>, other: Option<(EndId, 
 #[inline(always)]
 pub fn keep(slots: &mut Slab<End>, end: End) -> Row
     requires { HasRoomFor slots.old 1 }
-    ensures { Gives slots.old.slots slots.new.slots end result }
+    ensures { GivesRow slots.old.slots slots.new.slots end result }
 {
     match end {
         End::Closed(why) => Row::Closed(why),
@@ -126,7 +126,7 @@ pub fn keep(slots: &mut Slab<End>, end: End) -> Row
 // Whether the end of this number is open and not up.
 fn waits(rows: &Rows, slots: &Slab<End>, id: EndId) -> bool
     requires { AreKept rows.now.items slots.now.slots }
-    ensures { result ≡ waits (slice_get (shown rows.now.items slots.now.slots) id.0) }
+    ensures { result ≡ waits (slice_get (ends_of_rows rows.now.items slots.now.slots) id.0) }
 {
     match find(rows, slots, id) {
         Ok(End::Up(_)) => false,
@@ -139,10 +139,10 @@ fn waits(rows: &Rows, slots: &Slab<End>, id: EndId) -> bool
 pub fn first_waiting(rows: &Rows, slots: &Slab<End>, from: usize) -> usize
     requires kept { AreKept rows.now.items slots.now.slots }
     requires from { from ≤ length rows.now.items }
-    requires before { AreSettled (shown rows.now.items slots.now.slots) from }
+    requires before { AreSettled (ends_of_rows rows.now.items slots.now.slots) from }
     ensures within { result ≤ length rows.now.items }
-    ensures before { AreSettled (shown rows.now.items slots.now.slots) result }
-    ensures here { result < length rows.now.items → waits (slice_get (shown rows.now.items slots.now.slots) result) ≡ true }
+    ensures before { AreSettled (ends_of_rows rows.now.items slots.now.slots) result }
+    ensures here { result < length rows.now.items → waits (slice_get (ends_of_rows rows.now.items slots.now.slots) result) ≡ true }
 {
     for i in from..rows.len() {
         if waits(rows, slots, EndId(i as u32)) {

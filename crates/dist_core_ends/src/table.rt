@@ -3,9 +3,9 @@ ghost use Rattle.std.specs.Prelude.{◌≡◌, ◌≤◌, ◌<◌, ◌+◌, ◌^
 ghost use Rattle.std.specs.Prelude.{IfOk, IsOk, OnOk, OnErr, true, false, Ok, Err, Some, None};
 ghost use Rattle.std.specs.Option.{option_map};
 ghost use Rattle.dist_core_ends.specs.Ends.{Claim, claim_of, kind_in, end_id};
-ghost use Rattle.dist_core_ends.specs.Keeping.{shown, AreKept};
-ghost use Rattle.dist_core_ends.specs.Change.{put_end, put_other, changed, claim_at, IsThere, StaysClosed, OtherStaysClosed};
-ghost use Rattle.dist_core_ends.specs.Change.{shifted, AsksShift, entered, AsksEnter, raised, AsksRaise};
+ghost use Rattle.dist_core_ends.specs.Keeping.{ends_of_rows, AreKept};
+ghost use Rattle.dist_core_ends.specs.Change.{put_end, put_other, with_change, claim_at, IsThere, StaysClosed, OtherStaysClosed};
+ghost use Rattle.dist_core_ends.specs.Change.{table_after_shift, AsksShift, table_after_entry, AsksEnter, table_after_rise, AsksRaise};
 
 use crate::known::End;
 use crate::phase::{Kind, Phase};
@@ -53,7 +53,7 @@ fn shift(
     new: &End,
 ) -> Result<(), AllocError>
     requires { AsksShift peers.old me.now id (claim_of old.now) (claim_of new.now) }
-    ensures ok { OnOk result (peers.new ≡ shifted peers.old me.now id (claim_of old.now) (claim_of new.now)) }
+    ensures ok { OnOk result (peers.new ≡ table_after_shift peers.old me.now id (claim_of old.now) (claim_of new.now)) }
     ensures err { OnErr result (peers.new ≡ peers.old) }
     ensures loss { claim_of new.now ≡ None → IsOk result }
 {
@@ -79,7 +79,7 @@ fn enter(
     peer: &NodeName,
 ) -> Result<(), AllocError>
     requires { AsksEnter peers.old me.now peer.now kind }
-    ensures ok { OnOk result (peers.new ≡ entered peers.old me.now id peer.now kind) }
+    ensures ok { OnOk result (peers.new ≡ table_after_entry peers.old me.now id peer.now kind) }
     ensures err { OnErr result (peers.new ≡ peers.old) }
 {
     match kind {
@@ -91,7 +91,7 @@ fn enter(
 
 fn raise(peers: &mut Peers, id: EndId, was: Kind, is: Kind, peer: &NodeName)
     requires { AsksRaise peers.old id peer.now was is }
-    ensures { peers.new ≡ raised peers.old id peer.now was is }
+    ensures { peers.new ≡ table_after_rise peers.old id peer.now was is }
 {
     match (was, is) {
         (Kind::Out, Kind::Up) | (Kind::In, Kind::Up) => {
@@ -104,7 +104,7 @@ fn raise(peers: &mut Peers, id: EndId, was: Kind, is: Kind, peer: &NodeName)
 // What an end held is held no longer.
 #[inline(always)]
 fn leave(peers: &mut Peers, id: EndId, old: &End)
-    ensures { peers.new ≡ shifted peers.old [] id (claim_of old.now) None }
+    ensures { peers.new ≡ table_after_shift peers.old [] id (claim_of old.now) None }
 {
     if let Some((_, peer)) = claim(old) {
         peers.lost(peer, id);
@@ -115,10 +115,10 @@ fn leave(peers: &mut Peers, id: EndId, old: &End)
 #[inline(always)]
 pub fn close_end(peers: &mut Peers, rows: &mut Rows, slots: &mut Slab<End>, id: EndId, why: Why)
     requires place { id.0 < length rows.old.items }
-    requires stays { StaysClosed (slice_get (shown rows.old.items slots.old.slots) id.0) (End.Closed why) }
+    requires stays { StaysClosed (slice_get (ends_of_rows rows.old.items slots.old.slots) id.0) (End.Closed why) }
     requires kept { AreKept rows.old.items slots.old.slots }
-    ensures peers { peers.new ≡ shifted peers.old [] id (claim_at (slice_get (shown rows.old.items slots.old.slots) id.0)) None }
-    ensures ends { shown rows.new.items slots.new.slots ≡ changed (shown rows.old.items slots.old.slots) id (End.Closed why) None }
+    ensures peers { peers.new ≡ table_after_shift peers.old [] id (claim_at (slice_get (ends_of_rows rows.old.items slots.old.slots) id.0)) None }
+    ensures ends { ends_of_rows rows.new.items slots.new.slots ≡ with_change (ends_of_rows rows.old.items slots.old.slots) id (End.Closed why) None }
     ensures kept { AreKept rows.new.items slots.new.slots }
 {
     let i = id.0 as usize;
@@ -134,12 +134,12 @@ pub fn close_end(peers: &mut Peers, rows: &mut Rows, slots: &mut Slab<End>, id: 
 pub fn add(rows: &mut Rows, slots: &mut Slab<End>) -> Result<(), AllocError>
     requires few { length rows.old.items < 2 ^ 32 }
     requires kept { AreKept rows.old.items slots.old.slots }
-    ensures ends { OnOk result (shown rows.new.items slots.new.slots
-        ≡ changed (shown rows.old.items slots.old.slots) (end_id (length (shown rows.old.items slots.old.slots))) End.Unnamed None) }
+    ensures ends { OnOk result (ends_of_rows rows.new.items slots.new.slots
+        ≡ with_change (ends_of_rows rows.old.items slots.old.slots) (end_id (length (ends_of_rows rows.old.items slots.old.slots))) End.Unnamed None) }
     ensures kept { AreKept rows.new.items slots.new.slots }
-    ensures err { OnErr result (shown rows.new.items slots.new.slots ≡ shown rows.old.items slots.old.slots) }
+    ensures err { OnErr result (ends_of_rows rows.new.items slots.new.slots ≡ ends_of_rows rows.old.items slots.old.slots) }
 {
-    rows.reserve()?;
+    rows.reserve(slots.len())?;
     slots.reserve(1)?;
     let row = keep(slots, End::Unnamed);
     rows.push(row);
@@ -157,17 +157,17 @@ fn apply_new(
     other: Option<(EndId, End)>,
 ) -> Result<(), AllocError>
     requires place { id.0 ≡ length rows.old.items }
-    requires other { IsThere (shown rows.old.items slots.old.slots) other }
-    requires other_stays { OtherStaysClosed (put_end (shown rows.old.items slots.old.slots) id.0 this) other }
+    requires other { IsThere (ends_of_rows rows.old.items slots.old.slots) other }
+    requires other_stays { OtherStaysClosed (put_end (ends_of_rows rows.old.items slots.old.slots) id.0 this) other }
     requires few { length rows.old.items < 2 ^ 32 }
     requires kept { AreKept rows.old.items slots.old.slots }
     requires asks { AsksShift peers.old me.now id None (claim_of this) }
-    ensures peers { OnOk result (peers.new ≡ shifted peers.old me.now id None (claim_of this)) }
-    ensures ends { OnOk result (shown rows.new.items slots.new.slots ≡ changed (shown rows.old.items slots.old.slots) id this other) }
+    ensures peers { OnOk result (peers.new ≡ table_after_shift peers.old me.now id None (claim_of this)) }
+    ensures ends { OnOk result (ends_of_rows rows.new.items slots.new.slots ≡ with_change (ends_of_rows rows.old.items slots.old.slots) id this other) }
     ensures kept { AreKept rows.new.items slots.new.slots }
-    ensures err { OnErr result ((peers.new ≡ peers.old) × (shown rows.new.items slots.new.slots ≡ shown rows.old.items slots.old.slots)) }
+    ensures err { OnErr result ((peers.new ≡ peers.old) × (ends_of_rows rows.new.items slots.new.slots ≡ ends_of_rows rows.old.items slots.old.slots)) }
 {
-    rows.reserve()?;
+    rows.reserve(slots.len())?;
     slots.reserve(1)?;
     shift(peers, me, id, &End::Unnamed, &this)?;
     let row = keep(slots, this);
@@ -186,8 +186,9 @@ fn shift_at(
     this: &End,
 ) -> Result<(), AllocError>
     requires kept { AreKept rows.now.items slots.now.slots }
-    requires asks { AsksShift peers.old me.now id (claim_at (slice_get (shown rows.now.items slots.now.slots) id.0)) (claim_of this.now) }
-    ensures ok { OnOk result (peers.new ≡ shifted peers.old me.now id (claim_at (slice_get (shown rows.now.items slots.now.slots) id.0)) (claim_of this.now)) }
+    requires asks { AsksShift peers.old me.now id (claim_at (slice_get (ends_of_rows rows.now.items slots.now.slots) id.0)) (claim_of this.now) }
+    ensures ok { OnOk result (peers.new ≡ table_after_shift peers.old me.now id (claim_at (slice_get (ends_of_rows rows.now.items slots.now.slots) id.0))
+        (claim_of this.now)) }
     ensures err { OnErr result (peers.new ≡ peers.old) }
     ensures loss { claim_of this.now ≡ None → IsOk result }
 {
@@ -208,15 +209,16 @@ fn apply_at(
     other: Option<(EndId, End)>,
 ) -> Result<(), AllocError>
     requires place { id.0 < length rows.old.items }
-    requires other { IsThere (shown rows.old.items slots.old.slots) other }
-    requires stays { StaysClosed (slice_get (shown rows.old.items slots.old.slots) id.0) this }
-    requires other_stays { OtherStaysClosed (put_end (shown rows.old.items slots.old.slots) id.0 this) other }
+    requires other { IsThere (ends_of_rows rows.old.items slots.old.slots) other }
+    requires stays { StaysClosed (slice_get (ends_of_rows rows.old.items slots.old.slots) id.0) this }
+    requires other_stays { OtherStaysClosed (put_end (ends_of_rows rows.old.items slots.old.slots) id.0 this) other }
     requires kept { AreKept rows.old.items slots.old.slots }
-    requires asks { AsksShift peers.old me.now id (claim_at (slice_get (shown rows.old.items slots.old.slots) id.0)) (claim_of this) }
-    ensures peers { OnOk result (peers.new ≡ shifted peers.old me.now id (claim_at (slice_get (shown rows.old.items slots.old.slots) id.0)) (claim_of this)) }
-    ensures ends { OnOk result (shown rows.new.items slots.new.slots ≡ changed (shown rows.old.items slots.old.slots) id this other) }
+    requires asks { AsksShift peers.old me.now id (claim_at (slice_get (ends_of_rows rows.old.items slots.old.slots) id.0)) (claim_of this) }
+    ensures peers { OnOk result (peers.new ≡ table_after_shift peers.old me.now id (claim_at (slice_get (ends_of_rows rows.old.items slots.old.slots) id.0))
+        (claim_of this)) }
+    ensures ends { OnOk result (ends_of_rows rows.new.items slots.new.slots ≡ with_change (ends_of_rows rows.old.items slots.old.slots) id this other) }
     ensures kept { AreKept rows.new.items slots.new.slots }
-    ensures err { OnErr result ((peers.new ≡ peers.old) × (shown rows.new.items slots.new.slots ≡ shown rows.old.items slots.old.slots)) }
+    ensures err { OnErr result ((peers.new ≡ peers.old) × (ends_of_rows rows.new.items slots.new.slots ≡ ends_of_rows rows.old.items slots.old.slots)) }
     ensures loss { claim_of this ≡ None → IsOk result }
 {
     shift_at(peers, rows, slots, me, id, &this)?;
@@ -236,16 +238,17 @@ pub fn apply(
     other: Option<(EndId, End)>,
 ) -> Result<(), AllocError>
     requires place { id.0 ≤ length rows.old.items }
-    requires other { IsThere (shown rows.old.items slots.old.slots) other }
-    requires stays { StaysClosed (slice_get (shown rows.old.items slots.old.slots) id.0) this }
-    requires other_stays { OtherStaysClosed (put_end (shown rows.old.items slots.old.slots) id.0 this) other }
+    requires other { IsThere (ends_of_rows rows.old.items slots.old.slots) other }
+    requires stays { StaysClosed (slice_get (ends_of_rows rows.old.items slots.old.slots) id.0) this }
+    requires other_stays { OtherStaysClosed (put_end (ends_of_rows rows.old.items slots.old.slots) id.0 this) other }
     requires few { length rows.old.items < 2 ^ 32 }
     requires kept { AreKept rows.old.items slots.old.slots }
-    requires asks { AsksShift peers.old me.now id (claim_at (slice_get (shown rows.old.items slots.old.slots) id.0)) (claim_of this) }
-    ensures peers { OnOk result (peers.new ≡ shifted peers.old me.now id (claim_at (slice_get (shown rows.old.items slots.old.slots) id.0)) (claim_of this)) }
-    ensures ends { OnOk result (shown rows.new.items slots.new.slots ≡ changed (shown rows.old.items slots.old.slots) id this other) }
+    requires asks { AsksShift peers.old me.now id (claim_at (slice_get (ends_of_rows rows.old.items slots.old.slots) id.0)) (claim_of this) }
+    ensures peers { OnOk result (peers.new ≡ table_after_shift peers.old me.now id (claim_at (slice_get (ends_of_rows rows.old.items slots.old.slots) id.0))
+        (claim_of this)) }
+    ensures ends { OnOk result (ends_of_rows rows.new.items slots.new.slots ≡ with_change (ends_of_rows rows.old.items slots.old.slots) id this other) }
     ensures kept { AreKept rows.new.items slots.new.slots }
-    ensures err { OnErr result ((peers.new ≡ peers.old) × (shown rows.new.items slots.new.slots ≡ shown rows.old.items slots.old.slots)) }
+    ensures err { OnErr result ((peers.new ≡ peers.old) × (ends_of_rows rows.new.items slots.new.slots ≡ ends_of_rows rows.old.items slots.old.slots)) }
     ensures loss { claim_of this ≡ None → id.0 < length rows.old.items → IsOk result }
 {
     if (id.0 as usize) < rows.len() {

@@ -21,10 +21,10 @@ use Rattle.dist_core.specs.declared.event.Event.TheVariants as event
 use Rattle.dist_core.specs.declared.reply.Note.{Note}
 use Rattle.dist_core.specs.declared.reply.Note.TheVariants as note
 use Rattle.dist_core.specs.declared.effect.Effect.{Effect}
-use Rattle.dist_core.specs.Effects.{supersedes, superseded}
+use Rattle.dist_core.specs.Effects.{supersedes, superseded_end}
 use Rattle.dist_core_laws.specs.Laws.{IsDialledChallenge}
 use Rattle.dist_core.specs.Node.{NodeState}
-use Rattle.dist_core.specs.Rows.{IsChallenge, Row, Heard, Taken, Dials, Comes_in, Begins, Ceases, Loses, Ticks, Fails, Hears, Closes, Names, Goes_on, Insists, Replies, Challenges, Complements, Acknowledged, Replied, Accepts, Crosses, Declines, Comes_again, Asks_alive, Asks_again}
+use Rattle.dist_core.specs.Rows.{IsChallenge, StepRow, Heard, Taken, Dials, Comes_in, Begins, Ceases, Loses, Ticks, Fails, Hears, Closes, Names, Goes_on, Insists, Replies, Challenges, Complements, Acknowledged, Replied, Accepts, Crosses, Declines, Comes_again, Asks_alive, Asks_again}
 use Rattle.dist_core.specs.Step.{effect_of, sender_to, sender_in}
 use Rattle.dist_core_ends.proofs.Fitting.{self-same}
 use Rattle.dist_core_ends.proofs.Tables.{same-name}
@@ -48,7 +48,7 @@ taken f p x is e = let bad : note.NameTaken p x ≡ note.ReplySaid = sym is ∙ 
 
 by-taken : (n : NodeState) (id : EndId) (b : Attempt) (f : Effect) → Taken n id b f → noted f ≡ note.ReplySaid → ⊥
 by-taken n id b f (Accepts is k) e = taken f b.peer None (ap noted k) e
-by-taken n id b f (Crosses y is g k) e = superseding id _ b y (superseded (slice_get n.ends y.0)) (sym (ap noted k) ∙ e)
+by-taken n id b f (Crosses y is g k) e = superseding id _ b y (superseded_end (slice_get n.ends y.0)) (sym (ap noted k) ∙ e)
 by-taken n id b f (Declines y is g k) e = taken f b.peer None (ap noted k) e
 by-taken n id b f (Comes_again y is k) e = taken f b.peer None (ap noted k) e
 by-taken n id b f (Asks_alive y is k) e = taken f b.peer None (ap noted k) e
@@ -100,7 +100,7 @@ module _ (n : NodeState) (legal : AreLegal n.ends) where
         held = held id b (at ∙ ap Some un) ph;
       }
 
-  by-row : (v : Event) (fresh : ℕ) (f : Effect) → Row n v fresh f → noted f ≡ note.ReplySaid → IsDialledChallenge n v
+  by-row : (v : Event) (fresh : ℕ) (f : Effect) → StepRow n v fresh f → noted f ≡ note.ReplySaid → IsDialledChallenge n v
   by-row v fresh f (Dials p nm is idle sp full cr k) o = absurd (nothing f (ap noted k) o)
   by-row v fresh f (Comes_in link is sp cr k) o = absurd (nothing f (ap noted k) o)
   by-row v fresh f (Begins id link b is at ph sp k) o = absurd (nothing f (ap noted k) o)
@@ -111,4 +111,4 @@ module _ (n : NodeState) (legal : AreLegal n.ends) where
   by-row v fresh f (Hears id body e side m is at to sp says h) o = by-heard v id body e side m fresh f is at to says h o
 
 pub dialled-challenge : (n : NodeState) (v : Event) (fresh : ℕ) (f : Effect) → AreLegal n.ends → effect_of n v fresh ≡ Ok f → noted f ≡ note.ReplySaid → IsDialledChallenge n v
-dialled-challenge n v fresh f legal is o = by-row n legal v fresh f (of_ok (Row n v fresh) (effect_of n v fresh) f is (row_of n v fresh)) o
+dialled-challenge n v fresh f legal is o = by-row n legal v fresh f (of_ok (StepRow n v fresh) (effect_of n v fresh) f is (row_of n v fresh)) o

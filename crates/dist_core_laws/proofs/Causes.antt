@@ -11,10 +11,10 @@ use Rattle.dist_core_ends.specs.declared.phase.Kind.{Kind}
 use Rattle.dist_core_ends.specs.declared.phase.Kind.TheVariants.{Out, In, Up}
 use Rattle.dist_core_ends.specs.declared.known.End.{End}
 use Rattle.dist_core_ends.specs.declared.known.End.TheVariants as ends
-use Rattle.dist_core_ends.specs.Change.{put_end, changed}
+use Rattle.dist_core_ends.specs.Change.{put_end, with_change}
 use Rattle.dist_core_ends.specs.Ends.{Claim, claim_of, is_claim, is_open, first_of, holds, entry_from, entry_in, row_in, table_of}
-use Rattle.dist_core_ends.specs.Forgetting.{without_cause, forgotten}
-use Rattle.dist_core.specs.Effects.{superseded}
+use Rattle.dist_core_ends.specs.Forgetting.{without_cause, without_causes_below}
+use Rattle.dist_core.specs.Effects.{superseded_end}
 
 -- ---- one end
 
@@ -37,7 +37,7 @@ open-same (ends.Attempt a) = refl
 open-same (ends.Up r) = refl
 open-same (ends.Closed w) = refl
 
-superseded-same : (o : Option End) → superseded (option_map without_cause o) ≡ superseded o
+superseded-same : (o : Option End) → superseded_end (option_map without_cause o) ≡ superseded_end o
 superseded-same None = refl
 superseded-same (Some ends.Unnamed) = refl
 superseded-same (Some (ends.Attempt a)) = refl
@@ -80,7 +80,7 @@ opens-same : (es : List End) → count_by is_open (map without_cause es) ≡ cou
 opens-same es = opens-from 0 es
 
 -- ends of which some are forgotten why they were closed, once all are
-pub forgotten-alike : (below : ℕ) (es : List End) → map without_cause es ≡ map without_cause (forgotten below es)
+pub forgotten-alike : (below : ℕ) (es : List End) → map without_cause es ≡ map without_cause (without_causes_below below es)
 forgotten-alike below es = sym (
     map-append without_cause (map without_cause (take below es)) (drop below es)
     ∙ ap (λ xs. xs ++ map without_cause (drop below es)) (causes-once (take below es))
@@ -106,8 +106,8 @@ module _ (es ds : List End) (alike : map without_cause es ≡ map without_cause 
   pub end-alike : (i : ℕ) → option_map without_cause (slice_get es i) ≡ option_map without_cause (slice_get ds i)
   end-alike i = sym (slice_get-map without_cause es i) ∙ ap (λ xs. slice_get xs i) alike ∙ slice_get-map without_cause ds i
 
-  pub superseded-alike : (i : ℕ) → superseded (slice_get es i) ≡ superseded (slice_get ds i)
-  superseded-alike i = sym (superseded-same (slice_get es i)) ∙ ap superseded (end-alike i) ∙ superseded-same (slice_get ds i)
+  pub superseded-alike : (i : ℕ) → superseded_end (slice_get es i) ≡ superseded_end (slice_get ds i)
+  superseded-alike i = sym (superseded-same (slice_get es i)) ∙ ap superseded_end (end-alike i) ∙ superseded-same (slice_get ds i)
 
   set-alike : (i : ℕ) (e : End) → map without_cause (set es i e) ≡ map without_cause (set ds i e)
   set-alike i e = map-set without_cause es i e ∙ ap (λ xs. set xs i (without_cause e)) alike ∙ sym (map-set without_cause ds i e)
@@ -120,6 +120,6 @@ module _ (es ds : List End) (alike : map without_cause es ≡ map without_cause 
       ap (λ n. map without_cause (cond (ltb i n) (set es i e) (es ++ e ∷ []))) length-alike
       ∙ elim (ltb i (length ds)) as (λ b. map without_cause (cond b (set es i e) (es ++ e ∷ [])) ≡ map without_cause (cond b (set ds i e) (ds ++ e ∷ []))) [ true ↦ set-alike i e | false ↦ push-alike e ]
 
-pub changed-alike : (es ds : List End) → map without_cause es ≡ map without_cause ds → (id : EndId) (this : End) (other : Option (EndId × End)) → map without_cause (changed es id this other) ≡ map without_cause (changed ds id this other)
+pub changed-alike : (es ds : List End) → map without_cause es ≡ map without_cause ds → (id : EndId) (this : End) (other : Option (EndId × End)) → map without_cause (with_change es id this other) ≡ map without_cause (with_change ds id this other)
 changed-alike es ds alike id this None = put-alike es ds alike id.0 this
 changed-alike es ds alike id this (Some x) = set-alike (put_end es id.0 this) (put_end ds id.0 this) (put-alike es ds alike id.0 this) (let y = x.0 in y.0) x.1

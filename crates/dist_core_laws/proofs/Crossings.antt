@@ -12,7 +12,7 @@ use Rattle.dist_core_ends.specs.declared.phase.Phase.{Phase}
 use Rattle.dist_core_ends.specs.declared.phase.Phase.TheVariants as phase
 use Rattle.dist_core_ends.specs.Ends.{AreLegal, entry_in, is_claim, is_held, kind_in, names}
 use Rattle.dist_core.specs.declared.effect.Effect.{Effect}
-use Rattle.dist_core.specs.Effects.{superseded, superseded_in, supersedes}
+use Rattle.dist_core.specs.Effects.{superseded_end, superseded_in, supersedes}
 use Rattle.dist_core_laws.specs.Laws.{Supersedes, Dooms, Drops, doomed_as, was_let_on}
 use Rattle.dist_core.specs.Node.{NodeState}
 
@@ -30,7 +30,7 @@ module _ (n : NodeState) (id : EndId) (say : List ℕ) (b : Attempt) (x : EndId)
   by-phase d phase.AwaitComplement at ph held k = absurd (false≢true held)
   by-phase d phase.AwaitReply at ph held k = absurd (false≢true held)
 
-  by-end : (o : Option End) → slice_get n.ends x.0 ≡ o → is_held b.peer Out o ≡ true → f ≡ supersedes id say b x (superseded o) → Supersedes n id say b x f
+  by-end : (o : Option End) → slice_get n.ends x.0 ≡ o → is_held b.peer Out o ≡ true → f ≡ supersedes id say b x (superseded_end o) → Supersedes n id say b x f
   by-end None at held k = absurd (false≢true held)
   by-end (Some ends.Unnamed) at held k = absurd (false≢true held)
   by-end (Some (ends.Attempt d)) at held k = by-phase d d.phase at refl held k
@@ -38,6 +38,6 @@ module _ (n : NodeState) (id : EndId) (say : List ℕ) (b : Attempt) (x : EndId)
   by-end (Some (ends.Closed w)) at held k = absurd (false≢true held)
 
 pub dooms-or-closes : (n : NodeState) (id : EndId) (say : List ℕ) (b : Attempt) (x : EndId) (f : Effect) → AreLegal n.ends → entry_in n.ends b.peer ≡ Some (entry.Out x)
-    → f ≡ supersedes id say b x (superseded (slice_get n.ends x.0)) → Supersedes n id say b x f
+    → f ≡ supersedes id say b x (superseded_end (slice_get n.ends x.0)) → Supersedes n id say b x f
 dooms-or-closes n id say b x f legal is k =
     by-end n id say b x f (slice_get n.ends x.0) refl (legal b.peer Out x.0 ∙ ap (names Out x.0) is ∙ eq-eqb x.0 x.0 refl) k

@@ -21,7 +21,7 @@ use Rattle.dist_core.specs.declared.reply.Reply.{Reply}
 use Rattle.dist_core.specs.declared.effect.Effect.{Effect}
 use Rattle.dist_core_laws.specs.Laws.{IsOther, is_doomed, doomed_in}
 use Rattle.dist_core.specs.Node.{NodeState, new_id, ends_after}
-use Rattle.dist_core.specs.Rows.{Row, Heard, Dials, Comes_in, Begins, Ceases, Loses, Ticks, Fails, Hears, Closes, Names, Goes_on, Insists, Replies, Challenges, Complements, Acknowledged, Replied}
+use Rattle.dist_core.specs.Rows.{StepRow, Heard, Dials, Comes_in, Begins, Ceases, Loses, Ticks, Fails, Hears, Closes, Names, Goes_on, Insists, Replies, Challenges, Complements, Acknowledged, Replied}
 use Rattle.dist_core.specs.Step.{effect_of, step}
 use Rattle.dist_core.proofs.Closings.{heard-end}
 use Rattle.dist_core.proofs.Counts.{of_ok}
@@ -61,7 +61,7 @@ module _ (n : NodeState) where
       let bad : None ≡ Some e = sym none ∙ sym (ap (λ (y : EndId). slice_get n.ends y.0) own) ∙ at in
       absurd cc
 
-  by-row : (v : Event) (fresh : ℕ) (f : Effect) (e : End) → slice_get n.ends f.reply.end_.0 ≡ Some e → is_doomed e ≡ true → Row n v fresh f → Shuts f
+  by-row : (v : Event) (fresh : ℕ) (f : Effect) (e : End) → slice_get n.ends f.reply.end_.0 ≡ Some e → is_doomed e ≡ true → StepRow n v fresh f → Shuts f
   by-row v fresh f e at d (Dials p o is idle sp full cr k) = past-all f e (ap (λ (f : Effect). f.reply.end_) k) at
   by-row v fresh f e at d (Comes_in link is sp cr k) = past-all f e (ap (λ (f : Effect). f.reply.end_) k) at
   by-row v fresh f e at d (Begins id link b is there ph sp k) =
@@ -75,7 +75,7 @@ module _ (n : NodeState) where
       by-heard id fresh c m f (sym (ap is_doomed (at-own f id e c (heard-end n id fresh c m f h) at there)) ∙ d) h
 
   pub shuts-own : (v : Event) (fresh : ℕ) (f : Effect) (e : End) → effect_of n v fresh ≡ Ok f → slice_get n.ends f.reply.end_.0 ≡ Some e → is_doomed e ≡ true → Shuts f
-  shuts-own v fresh f e is at d = by-row v fresh f e at d (of_ok (Row n v fresh) (effect_of n v fresh) f is (row_of n v fresh))
+  shuts-own v fresh f e is at d = by-row v fresh f e at d (of_ok (StepRow n v fresh) (effect_of n v fresh) f is (row_of n v fresh))
 
 -- a doomed end holds no peer
 holds-none : (p : Name) (k : Kind) (e : End) → is_doomed e ≡ true → holds p k e ≡ true → ⊥

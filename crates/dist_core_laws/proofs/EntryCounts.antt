@@ -24,16 +24,16 @@ use Rattle.dist_core_ends.specs.declared.known.End.TheVariants as ends
 use Rattle.dist_core_ends.specs.declared.why.Why.{Why}
 use Rattle.dist_core_ends.specs.declared.why.Why.TheVariants as why
 use Rattle.dist_core_ends.specs.Ends.{AreLegal, Claim, claim_of, entry_in, kind_in, table_of}
-use Rattle.dist_core_ends.specs.Change.{AsksRaise, AsksShift, claim_at, entered, raised, shifted}
+use Rattle.dist_core_ends.specs.Change.{AsksRaise, AsksShift, claim_at, table_after_entry, table_after_rise, table_after_shift}
 use Rattle.dist_core_setup.specs.declared.setup.Setup.{Setup}
 use Rattle.dist_core_setup.specs.Rules.{asks_name, is_allowed, is_good, is_refused}
 use Rattle.dist_core.specs.declared.event.Event.{Event}
 use Rattle.dist_core.specs.declared.effect.Effect.{Effect}
 use Rattle.dist_core.specs.Node.{NodeState, ends_after, is_full_for, limits_of}
 use Rattle.dist_core.specs.Accepted.{named_attempt}
-use Rattle.dist_core.specs.Effects.{fresh_attempt, held_back, superseded, supersedes}
-use Rattle.dist_core.specs.Fitting.{table_after}
-use Rattle.dist_core.specs.Rows.{Row, Heard, Taken, Dials, Comes_in, Begins, Ceases, Loses, Ticks, Fails, Hears, Closes, Names, Goes_on, Insists, Replies, Challenges, Complements, Acknowledged, Replied, Accepts, Crosses, Declines, Comes_again, Asks_alive, Asks_again}
+use Rattle.dist_core.specs.Effects.{fresh_attempt, held_back, superseded_end, supersedes}
+use Rattle.dist_core.specs.Fitting.{table_after_effect}
+use Rattle.dist_core.specs.Rows.{StepRow, Heard, Taken, Dials, Comes_in, Begins, Ceases, Loses, Ticks, Fails, Hears, Closes, Names, Goes_on, Insists, Replies, Challenges, Complements, Acknowledged, Replied, Accepts, Crosses, Declines, Comes_again, Asks_alive, Asks_again}
 use Rattle.dist_core.specs.Step.{effect_of}
 use Rattle.dist_core_ends.proofs.Legal.{table-legal}
 use Rattle.dist_core_ends.proofs.Tables.{get-table, order, table-agreed}
@@ -97,18 +97,18 @@ len-entered most t p e full h = by (map.get t p) refl full
     by (Some d) is full = omega (arith, h, len-over t p e d is)
 
 -- a change of what an end holds: who begins to hold a peer finds room
-len-shifted : (most : ℕ) (t : Table) (me : Name) (id : EndId) (c d : Option Claim) → AsksShift t me id c d → ((q : Claim) → c ≡ None → d ≡ Some q → is_full most t (map.get t q.peer) ≡ false) → map.len t ≤ most → map.len (shifted t me id c d) ≤ most
+len-shifted : (most : ℕ) (t : Table) (me : Name) (id : EndId) (c d : Option Claim) → AsksShift t me id c d → ((q : Claim) → c ≡ None → d ≡ Some q → is_full most t (map.get t q.peer) ≡ false) → map.len t ≤ most → map.len (table_after_shift t me id c d) ≤ most
 len-shifted most t me id None None asks room h = h
 len-shifted most t me id None (Some q) asks room h = enters q.kind
   where
-    enters : (k : Kind) → map.len (entered t me id q.peer k) ≤ most
+    enters : (k : Kind) → map.len (table_after_entry t me id q.peer k) ≤ most
     enters Out = len-entered most t q.peer _ (room q refl refl) h
     enters In = len-entered most t q.peer _ (room q refl refl) h
     enters Up = h
 len-shifted most t me id (Some d) None asks room h = omega (arith, h, len-left t id d.peer)
 len-shifted most t me id (Some d) (Some q) asks room h = rises d.kind q.kind asks
   where
-    rises : (k l : Kind) → AsksRaise t id q.peer k l → map.len (raised t id q.peer k l) ≤ most
+    rises : (k l : Kind) → AsksRaise t id q.peer k l → map.len (table_after_rise t id q.peer k l) ≤ most
     rises Out Up w = omega (arith, h, len-waiting t id q.peer (entry.Up id) w)
     rises In Up w = omega (arith, h, len-waiting t id q.peer (entry.Up id) w)
     rises Out Out w = h
@@ -164,7 +164,7 @@ module _ (n : NodeState) where
 
   by-taken : (id : EndId) (b : Attempt) (f : Effect) → is_full_for n (entry_in n.ends b.peer) ≡ false → Taken n id b f → Finds f
   by-taken id b f full (Accepts is k) = takes f b (ap (λ (f : Effect). f.this) k) full
-  by-taken id b f full (Crosses x is g k) = takes f b (ap (λ (f : Effect). f.this) k ∙ superseding id _ b x (superseded (slice_get n.ends x.0))) full
+  by-taken id b f full (Crosses x is g k) = takes f b (ap (λ (f : Effect). f.this) k ∙ superseding id _ b x (superseded_end (slice_get n.ends x.0))) full
   by-taken id b f full (Declines x is g k) = closed f why.Crossed (ap (λ (f : Effect). f.this) k)
   by-taken id b f full (Comes_again x is k) = takes f b (ap (λ (f : Effect). f.this) k) full
   by-taken id b f full (Asks_alive x is k) = takes f (held_back b) (ap (λ (f : Effect). f.this) k) full
@@ -181,7 +181,7 @@ module _ (n : NodeState) where
   by-heard id fresh d m f at e (Acknowledged digest b un ph mm right k) = keeps f id d _ e at (ap claim_of un ∙ claimed b phase.AwaitAck Out ph refl)
   by-heard id fresh d m f at e (Replied challenge digest b un ph mm right k) = keeps f id d _ e at (ap claim_of un ∙ claimed b phase.AwaitReply In ph refl)
 
-  by-row : (v : Event) (fresh : ℕ) (f : Effect) → Row n v fresh f → Finds f
+  by-row : (v : Event) (fresh : ℕ) (f : Effect) → StepRow n v fresh f → Finds f
   by-row v fresh f (Dials p o is idle sp full cr k) = takes f (fresh_attempt p o) (ap (λ (f : Effect). f.this) k) (subst (λ (o : Option Entry). is_full_for n o ≡ false) (sym idle) full)
   by-row v fresh f (Comes_in link is sp cr k) = subst Finds (sym k) (λ q h g. let bad : ◌≡◌ {A = Option Claim} None (Some q) = g in absurd cc)
   by-row v fresh f (Begins id link b is at ph sp k) = keeps f id (ends.Attempt b) _ (ap (λ (f : Effect). f.reply.end_) k) at (claimed b phase.Dialing Out ph refl)
@@ -196,8 +196,8 @@ module _ (n : NodeState) where
       let t : Table = table_of n.ends in
       let most : ℕ = (let l = limits_of n in l.entries) in
       let g = fits n t (table-legal n.ends legal) v fresh f is in
-      let finds : Finds f = by-row v fresh f (of_ok (Row n v fresh) (effect_of n v fresh) f is (row_of n v fresh)) in
-      let same : table_after n t f ≡ table_of (ends_after n.ends f) = table-agreed (table_after n t f) (ends_after n.ends f) g.agree in
+      let finds : Finds f = by-row v fresh f (of_ok (StepRow n v fresh) (effect_of n v fresh) f is (row_of n v fresh)) in
+      let same : table_after_effect n t f ≡ table_of (ends_after n.ends f) = table-agreed (table_after_effect n t f) (ends_after n.ends f) g.agree in
       subst (λ (u : Table). map.len u ≤ most) same
       (len-shifted most t n.setup.name f.reply.end_ (claim_at (slice_get n.ends f.reply.end_.0)) (claim_of f.this) g.asks
       (λ q c d. subst (λ (o : Option Entry). is_full most t o ≡ false) (sym (get-table n.ends q.peer)) (finds q c d)) h)

@@ -22,7 +22,7 @@ use Rattle.dist_core_setup.specs.Rules.{form_of_old, is_refused, knows_six, requ
 use Rattle.dist_core_setup.specs.Saying.{greeting_text, status_text}
 use Rattle.dist_core_setup.specs.declared.setup.Setup.{Setup}
 use Rattle.dist_core_ends.specs.Ends.{end_id, entry_in}
-use Rattle.dist_core_ends.specs.Forgetting.{forgotten, without_cause}
+use Rattle.dist_core_ends.specs.Forgetting.{without_causes_below, without_cause}
 use Rattle.dist_core_ends.specs.declared.known.Attempt.{Attempt}
 use Rattle.dist_core_ends.specs.declared.known.End.{End}
 use Rattle.dist_core_ends.specs.declared.known.End.TheVariants as ends
@@ -33,8 +33,8 @@ use Rattle.dist_core.specs.Accepted.{in_await_name, in_await_reply, name_came, n
 use Rattle.dist_core.specs.Dialled.{in_await_ack}
 use Rattle.dist_core.specs.Effects.{closes, fresh_attempt, goes_on, shuts, supersedes}
 use Rattle.dist_core.specs.Node.{NodeState, is_crowded, is_full_for, is_given_out, is_spent, new_id}
-use Rattle.dist_core.specs.Runs.{run, settled}
-use Rattle.dist_core.specs.Step.{after, at_end, came_in, counted, dialled, effect_of, framed_from, heard, in_attempt, opened, sender_to, step, stepped, ticked}
+use Rattle.dist_core.specs.Runs.{run, node_after}
+use Rattle.dist_core.specs.Step.{after, at_end, came_in, unless_spent, dial_effect, effect_of, framed_from, message_effect, in_attempt, opening_effect, sender_to, step, step_result, tick_effect}
 use Rattle.dist_core.specs.declared.effect.Effect.{Effect}
 use Rattle.dist_core.specs.declared.event.Event.{Event}
 use Rattle.dist_core.specs.declared.event.Event.TheVariants as event
@@ -122,7 +122,7 @@ module _ (s : Setup) (k : ℕ) (es ds : List End) (alike : map without_cause es 
   attempts id fresh b phase.AwaitReply x = ap (λ o. in_await_reply s o id b x) (entry-alike es ds alike b.peer)
   attempts id fresh b ph x = refl
 
-  hears : (id : EndId) (fresh : ℕ) (e : End) (r : Result Message MessageError) → heard m id fresh e r ≡ heard n id fresh e r
+  hears : (id : EndId) (fresh : ℕ) (e : End) (r : Result Message MessageError) → message_effect m id fresh e r ≡ message_effect n id fresh e r
   hears id fresh e (Err x) = refl
   hears id fresh ends.Unnamed (Ok x) = names id fresh x
   hears id fresh (ends.Attempt b) (Ok x) = attempts id fresh b b.phase x
@@ -131,11 +131,11 @@ module _ (s : Setup) (k : ℕ) (es ds : List End) (alike : map without_cause es 
 
   framed : (id : EndId) (fresh : ℕ) (body : List ℕ) (e : End) (side : Option Side) → framed_from m id fresh body e side ≡ framed_from n id fresh body e side
   framed id fresh body e None = refl
-  framed id fresh body e (Some side) = ap (counted m) (hears id fresh e (read side body))
+  framed id fresh body e (Some side) = ap (unless_spent m) (hears id fresh e (read side body))
 
   -- ---- the events
 
-  dials : (p : Name) (o : Opening) (q : Option Entry) → dialled m p o q ≡ dialled n p o q
+  dials : (p : Name) (o : Opening) (q : Option Entry) → dial_effect m p o q ≡ dial_effect n p o q
   dials p o (Some e) = refl
   dials p o None =
       λ i. cond (is_spent m || given i) (Err error.Spent) (cond (full None None refl i || crowded i) (Err error.Full) (Ok (goes_on (fresh-id i) [] (ends.Attempt (fresh_attempt p o)) note.Nothing)))
@@ -143,21 +143,21 @@ module _ (s : Setup) (k : ℕ) (es ds : List End) (alike : map without_cause es 
   comes : came_in m ≡ came_in n
   comes = λ i. cond (is_spent m || given i) (Err error.Spent) (cond (crowded i) (Err error.Full) (Ok (goes_on (fresh-id i) [] ends.Unnamed note.Nothing)))
 
-  opens : (id : EndId) (e : End) → opened m id e ≡ opened n id e
+  opens : (id : EndId) (e : End) → opening_effect m id e ≡ opening_effect n id e
   opens id e = refl
 
-  ticks : (id : EndId) (e : End) → ticked m id e ≡ ticked n id e
+  ticks : (id : EndId) (e : End) → tick_effect m id e ≡ tick_effect n id e
   ticks id e = refl
 
   effects : (v : Event) (fresh : ℕ) → seen (effect_of m v fresh) ≡ seen (effect_of n v fresh)
   unfolding effect_of
-  effects (event.Dial p o) fresh = ap seen (ap (dialled m p o) (entry-alike es ds alike p) ∙ dials p o (entry_in ds p))
-  effects (event.Opened id link) fresh = at-alike (slice_get es id.0) (slice_get ds id.0) (opened m id) (opened n id) (end-alike es ds alike id.0) (opens id)
+  effects (event.Dial p o) fresh = ap seen (ap (dial_effect m p o) (entry-alike es ds alike p) ∙ dials p o (entry_in ds p))
+  effects (event.Opened id link) fresh = at-alike (slice_get es id.0) (slice_get ds id.0) (opening_effect m id) (opening_effect n id) (end-alike es ds alike id.0) (opens id)
   effects (event.Incoming link) fresh = ap seen comes
   effects (event.Frame id body) fresh =
       at-alike (slice_get es id.0) (slice_get ds id.0) (λ e. framed_from m id fresh body e (sender_to e)) (λ e. framed_from n id fresh body e (sender_to e)) (end-alike es ds alike id.0) (λ e. framed id fresh body e (sender_to e))
   effects (event.Lost id w) fresh = at-alike (slice_get es id.0) (slice_get ds id.0) (λ e. Ok (closes id w)) (λ e. Ok (closes id w)) (end-alike es ds alike id.0) (λ e. refl)
-  effects (event.Tick id) fresh = at-alike (slice_get es id.0) (slice_get ds id.0) (ticked m id) (ticked n id) (end-alike es ds alike id.0) (ticks id)
+  effects (event.Tick id) fresh = at-alike (slice_get es id.0) (slice_get ds id.0) (tick_effect m id) (tick_effect n id) (end-alike es ds alike id.0) (ticks id)
 
   refusals : (d e : StepError) → told d ≡ told e → AreAlikeAnswers (Err d) (Err e)
   refusals (error.Gone v) (error.Gone w) same = Both_gone v w refl refl
@@ -165,7 +165,7 @@ module _ (s : Setup) (k : ℕ) (es ds : List End) (alike : map without_cause es 
   refusals d (error.Gone w) same = absurd cc
   refusals d e same = Same_refusal d refl (ap Err (sym same))
 
-  answers : (v : Event) (a b : Result Effect StepError) → seen a ≡ seen b → AreAlikeAnswers (stepped m v a) (stepped n v b)
+  answers : (v : Event) (a b : Result Effect StepError) → seen a ≡ seen b → AreAlikeAnswers (step_result m v a) (step_result n v b)
   answers v (Ok f) (Ok g) same =
       let one : g ≡ f = cc in
       Same_reply f.reply (after m v f) (after n v f) refl (ap (λ (e : Effect). Ok (e.reply, after n v e)) one) (record { setup = refl; steps = refl; ends = changed-alike es ds alike f.reply.end_ f.this f.other })
@@ -181,27 +181,27 @@ same_step m n v fresh a =
     let P : NodeState → Type 0 = λ q. AreAlikeAnswers (step q v fresh) (step n v fresh) in
     subst P (λ i. record { setup = sym a.setup i; steps = sym a.steps i; ends = m.ends }) (steps-alike n.setup n.steps m.ends n.ends a.ends v fresh)
 
-pub forgets_alike : (n : NodeState) (below : ℕ) → AreAlike n (record n { ends = forgotten below n.ends })
+pub forgets_alike : (n : NodeState) (below : ℕ) → AreAlike n (record n { ends = without_causes_below below n.ends })
 forgets_alike n below = record { setup = refl; steps = refl; ends = forgotten-alike below n.ends }
 
-pub forgets_still_alike : (m n : NodeState) (below : ℕ) → AreAlike m n → AreAlike (record m { ends = forgotten below m.ends }) n
+pub forgets_still_alike : (m n : NodeState) (below : ℕ) → AreAlike m n → AreAlike (record m { ends = without_causes_below below m.ends }) n
 forgets_still_alike m n below a = record { setup = a.setup; steps = a.steps; ends = sym (forgotten-alike below m.ends) ∙ a.ends }
 
-settled-alike : (m n : NodeState) (a b : Result (Reply × NodeState) StepError) → AreAlike m n → AreAlikeAnswers a b → AreAlike (settled m a) (settled n b)
+settled-alike : (m n : NodeState) (a b : Result (Reply × NodeState) StepError) → AreAlike m n → AreAlikeAnswers a b → AreAlike (node_after m a) (node_after n b)
 settled-alike m n a b alike (Same_reply r x y is was after) =
-    let P : Result (Reply × NodeState) StepError → Type 0 = λ q. AreAlike (settled m q) (settled n b) in
-    let Q : Result (Reply × NodeState) StepError → Type 0 = λ q. AreAlike x (settled n q) in
+    let P : Result (Reply × NodeState) StepError → Type 0 = λ q. AreAlike (node_after m q) (node_after n b) in
+    let Q : Result (Reply × NodeState) StepError → Type 0 = λ q. AreAlike x (node_after n q) in
     subst P (sym is) (subst Q (sym was) after)
 settled-alike m n a b alike (Both_gone v w is was) =
-    let P : Result (Reply × NodeState) StepError → Type 0 = λ q. AreAlike (settled m q) (settled n b) in
-    let Q : Result (Reply × NodeState) StepError → Type 0 = λ q. AreAlike m (settled n q) in
+    let P : Result (Reply × NodeState) StepError → Type 0 = λ q. AreAlike (node_after m q) (node_after n b) in
+    let Q : Result (Reply × NodeState) StepError → Type 0 = λ q. AreAlike m (node_after n q) in
     subst P (sym is) (subst Q (sym was) alike)
 settled-alike m n a b alike (Same_refusal e is was) =
-    let P : Result (Reply × NodeState) StepError → Type 0 = λ q. AreAlike (settled m q) (settled n b) in
-    let Q : Result (Reply × NodeState) StepError → Type 0 = λ q. AreAlike m (settled n q) in
+    let P : Result (Reply × NodeState) StepError → Type 0 = λ q. AreAlike (node_after m q) (node_after n b) in
+    let Q : Result (Reply × NodeState) StepError → Type 0 = λ q. AreAlike m (node_after n q) in
     subst P (sym is) (subst Q (sym was) alike)
 
 pub same_run : (xs : List (Event × ℕ)) (m n : NodeState) → AreAlike m n → AreAlike (run xs m) (run xs n)
 same_run [] m n alike = alike
 same_run (x ∷ xs) m n alike =
-    same_run xs (settled m (step m x.0 x.1)) (settled n (step n x.0 x.1)) (settled-alike m n (step m x.0 x.1) (step n x.0 x.1) alike (same_step m n x.0 x.1 alike))
+    same_run xs (node_after m (step m x.0 x.1)) (node_after n (step n x.0 x.1)) (settled-alike m n (step m x.0 x.1) (step n x.0 x.1) alike (same_step m n x.0 x.1 alike))

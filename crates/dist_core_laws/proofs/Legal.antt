@@ -7,26 +7,26 @@ use Rattle.dist_core.specs.declared.effect.Effect.{Effect}
 use Rattle.dist_core.specs.declared.step_error.StepError.{StepError}
 use Rattle.dist_core_ends.specs.Ends.{AreLegal, table_of}
 use Rattle.dist_core.specs.Node.{NodeState, ends_after}
-use Rattle.dist_core.specs.Fitting.{table_after}
-use Rattle.dist_core.specs.Step.{effect_of, step, stepped}
-use Rattle.dist_core.specs.Runs.{run, settled, opening}
+use Rattle.dist_core.specs.Fitting.{table_after_effect}
+use Rattle.dist_core.specs.Step.{effect_of, step, step_result}
+use Rattle.dist_core.specs.Runs.{run, node_after, opening}
 use Rattle.dist_core_ends.proofs.Legal.{legal, table-legal, none-legal}
 use Rattle.dist_core.proofs.Steps.{fits}
 
-pub legal_step : (n : NodeState) (v : Event) (fresh : ℕ) → AreLegal n.ends → AreLegal (settled n (step n v fresh)).ends
+pub legal_step : (n : NodeState) (v : Event) (fresh : ℕ) → AreLegal n.ends → AreLegal (node_after n (step n v fresh)).ends
 legal_step n v fresh h = by (effect_of n v fresh) refl
   where
-    by : (r : Result Effect StepError) → effect_of n v fresh ≡ r → AreLegal (settled n (step n v fresh)).ends
+    by : (r : Result Effect StepError) → effect_of n v fresh ≡ r → AreLegal (node_after n (step n v fresh)).ends
     by (Ok f) e =
-        let P : Result Effect StepError → Type 0 = λ r. AreLegal (settled n (stepped n v r)).ends in
-        subst P (sym e) (legal (map.get (table_after n (table_of n.ends) f)) (ends_after n.ends f) (let g = fits n (table_of n.ends) (table-legal n.ends h) v fresh f e in g.agree))
+        let P : Result Effect StepError → Type 0 = λ r. AreLegal (node_after n (step_result n v r)).ends in
+        subst P (sym e) (legal (map.get (table_after_effect n (table_of n.ends) f)) (ends_after n.ends f) (let g = fits n (table_of n.ends) (table-legal n.ends h) v fresh f e in g.agree))
     by (Err x) e =
-        let P : Result Effect StepError → Type 0 = λ r. AreLegal (settled n (stepped n v r)).ends in
+        let P : Result Effect StepError → Type 0 = λ r. AreLegal (node_after n (step_result n v r)).ends in
         subst P (sym e) h
 
 legal-run : (xs : List (Event × ℕ)) (n : NodeState) → AreLegal n.ends → AreLegal (run xs n).ends
 legal-run [] n h = h
-legal-run (x ∷ xs) n h = legal-run xs (settled n (step n x.0 x.1)) (legal_step n x.0 x.1 h)
+legal-run (x ∷ xs) n h = legal-run xs (node_after n (step n x.0 x.1)) (legal_step n x.0 x.1 h)
 
 pub legal_opening : (s : Setup) → AreLegal (opening s).ends
 legal_opening s = none-legal

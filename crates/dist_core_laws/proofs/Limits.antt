@@ -15,9 +15,9 @@ use Rattle.dist_peers.specs.declared.entry.Entry.{Entry}
 use Rattle.dist_core_ends.specs.Ends.{AreLegal, is_open, table_of}
 use Rattle.dist_core_laws.specs.Laws.{IsWithinLimits, given_by}
 use Rattle.dist_core.specs.Node.{NodeState, ends_after, is_crowded, is_given_out, is_spent, limits_of}
-use Rattle.dist_core.specs.Rows.{Row, Dials, Comes_in, Begins, Ceases, Loses, Ticks, Fails, Hears}
-use Rattle.dist_core.specs.Runs.{run, settled, opening}
-use Rattle.dist_core.specs.Step.{effect_of, step, stepped, after, cost_of}
+use Rattle.dist_core.specs.Rows.{StepRow, Dials, Comes_in, Begins, Ceases, Loses, Ticks, Fails, Hears}
+use Rattle.dist_core.specs.Runs.{run, node_after, opening}
+use Rattle.dist_core.specs.Step.{effect_of, step, step_result, after, cost_of}
 use Rattle.dist_core_ends.proofs.Tables.{agree-empty, table-agreed}
 use Rattle.dist_core.proofs.Counts.{counts, of_ok}
 use Rattle.dist_core.proofs.Numbers.{numbered}
@@ -48,7 +48,7 @@ module _ (n : NodeState) where
   uncrowded : is_crowded n ≡ false → count_by is_open n.ends + 1 ≤ (let l = limits_of n in l.open_ends)
   uncrowded h = grind (arith, nat_tests, h)
 
-  finds-room : (v : Event) (fresh : ℕ) (f : Effect) → count_by is_open n.ends ≤ (let l = limits_of n in l.open_ends) → Row n v fresh f → Fits v
+  finds-room : (v : Event) (fresh : ℕ) (f : Effect) → count_by is_open n.ends ≤ (let l = limits_of n in l.open_ends) → StepRow n v fresh f → Fits v
   finds-room v fresh f h (Dials p o is idle sp full cr k) = subst Fits (sym is) (uncrowded cr)
   finds-room v fresh f h (Comes_in link is sp cr k) = subst Fits (sym is) (uncrowded cr)
   finds-room v fresh f h (Begins id link b is at ph sp k) = subst Fits (sym is) (omega (arith, h))
@@ -60,17 +60,17 @@ module _ (n : NodeState) where
 
   within-after : (v : Event) (fresh : ℕ) (f : Effect) → AreLegal n.ends → IsWithinLimits n → effect_of n v fresh ≡ Ok f → IsWithinLimits (after n v f)
   within-after v fresh f legal h is =
-      let row : Row n v fresh f = of_ok (Row n v fresh) (effect_of n v fresh) f is (row_of n v fresh) in
+      let row : StepRow n v fresh f = of_ok (StepRow n v fresh) (effect_of n v fresh) f is (row_of n v fresh) in
       let counted = of_ok (λ (f : Effect). (n.steps + cost_of v ≤ (let l = limits_of n in l.steps)) × (length (ends_after n.ends f) ≤ length n.ends + cost_of v)) (effect_of n v fresh) f is (counts n h.steps v fresh) in
       let room : Fits v = finds-room v fresh f h.open_ends row in
       record { steps = counted.0; given_out = numbered n v fresh f row h.given_out; open_ends = omega (arith, room, open_change n legal v fresh f is); entries = entries_after n v fresh f legal h.entries is }
 
-pub within_step : (n : NodeState) (v : Event) (fresh : ℕ) → AreLegal n.ends → IsWithinLimits n → IsWithinLimits (settled n (step n v fresh))
+pub within_step : (n : NodeState) (v : Event) (fresh : ℕ) → AreLegal n.ends → IsWithinLimits n → IsWithinLimits (node_after n (step n v fresh))
 within_step n v fresh legal h = by (effect_of n v fresh) refl
   where
-    by : (r : Result Effect StepError) → effect_of n v fresh ≡ r → IsWithinLimits (settled n (step n v fresh))
-    by (Ok f) e = subst (λ (r : Result Effect StepError). IsWithinLimits (settled n (stepped n v r))) (sym e) (within-after n v fresh f legal h e)
-    by (Err x) e = subst (λ (r : Result Effect StepError). IsWithinLimits (settled n (stepped n v r))) (sym e) h
+    by : (r : Result Effect StepError) → effect_of n v fresh ≡ r → IsWithinLimits (node_after n (step n v fresh))
+    by (Ok f) e = subst (λ (r : Result Effect StepError). IsWithinLimits (node_after n (step_result n v r))) (sym e) (within-after n v fresh f legal h e)
+    by (Err x) e = subst (λ (r : Result Effect StepError). IsWithinLimits (node_after n (step_result n v r))) (sym e) h
 
 -- a node without ends has no entries
 no-entries : map.len (table_of []) ≡ 0
@@ -81,7 +81,7 @@ within_first s = record { steps = omega arith; given_out = omega arith; open_end
 
 within-run : (xs : List (Event × ℕ)) (n : NodeState) → AreLegal n.ends → IsWithinLimits n → IsWithinLimits (run xs n)
 within-run [] n legal h = h
-within-run (x ∷ xs) n legal h = within-run xs (settled n (step n x.0 x.1)) (legal_step n x.0 x.1 legal) (within_step n x.0 x.1 legal h)
+within-run (x ∷ xs) n legal h = within-run xs (node_after n (step n x.0 x.1)) (legal_step n x.0 x.1 legal) (within_step n x.0 x.1 legal h)
 
 pub within_runs : (s : Setup) (xs : List (Event × ℕ)) → IsWithinLimits (run xs (opening s))
 within_runs s xs = within-run xs (opening s) (legal_opening s) (within_first s)

@@ -25,9 +25,9 @@ use Rattle.dist_core_ends.specs.Change.{put_end, one_if}
 use Rattle.dist_core.specs.Accepted.{named_attempt}
 use Rattle.dist_core_setup.specs.Saying.{greeting_text}
 use Rattle.dist_messages.specs.declared.message.Status.TheVariants as status
-use Rattle.dist_core.specs.Effects.{goes_on, shuts, shuts_other, supersedes, superseded, comes_up}
+use Rattle.dist_core.specs.Effects.{goes_on, shuts, shuts_other, supersedes, superseded_end, comes_up}
 use Rattle.dist_core_laws.specs.Laws.{IsOther, closed_by, given_by}
-use Rattle.dist_core.specs.Rows.{Row, Heard, Taken, Dials, Comes_in, Begins, Ceases, Loses, Ticks, Fails, Hears, Closes, Names, Goes_on, Insists, Replies, Challenges, Complements, Acknowledged, Replied, Accepts, Crosses, Declines, Comes_again, Asks_alive, Asks_again}
+use Rattle.dist_core.specs.Rows.{StepRow, Heard, Taken, Dials, Comes_in, Begins, Ceases, Loses, Ticks, Fails, Hears, Closes, Names, Goes_on, Insists, Replies, Challenges, Complements, Acknowledged, Replied, Accepts, Crosses, Declines, Comes_again, Asks_alive, Asks_again}
 use Rattle.dist_core.specs.Step.{effect_of, sender_to}
 use Rattle.dist_core_ends.proofs.Changes.{get-put}
 use Rattle.dist_core.proofs.Closings.{heard-end}
@@ -118,7 +118,7 @@ module _ (n : NodeState) where
 
   by-taken : (id : EndId) (b : Attempt) (f : Effect) → slice_get n.ends id.0 ≡ Some ends.Unnamed → Taken n id b f → ((x : EndId) (s : End) → f.other ≡ Some (x, s) → IsOther n id x) → Change 0 f
   by-taken id b f at (Accepts is k) o = kept-open ends.Unnamed k at refl refl
-  by-taken id b f at (Crosses y is g k) o = superseded-one id y (greeting_text n.setup status.OkSimultaneous b.form b.challenge) b (superseded (slice_get n.ends y.0)) ends.Unnamed k at refl o
+  by-taken id b f at (Crosses y is g k) o = superseded-one id y (greeting_text n.setup status.OkSimultaneous b.form b.challenge) b (superseded_end (slice_get n.ends y.0)) ends.Unnamed k at refl o
   by-taken id b f at (Declines y is g k) o = shut-down ends.Unnamed k at refl
   by-taken id b f at (Comes_again y is k) o = shut-two ends.Unnamed k at refl refl (o y _ (ap (λ (f : Effect). f.other) k))
   by-taken id b f at (Asks_alive y is k) o = kept-open ends.Unnamed k at refl refl
@@ -142,7 +142,7 @@ module _ (n : NodeState) where
   by-heard id fresh d m f at was (Acknowledged digest b un ph mm right k) o = risen (replaced_by (entry_in n.ends b.peer)) d k at was o
   by-heard id fresh d m f at was (Replied challenge digest b un ph mm right k) o = risen (replaced_by (entry_in n.ends b.peer)) d k at was o
 
-  by-row : (v : Event) (fresh : ℕ) (f : Effect) → ((x : EndId) (s : End) → f.other ≡ Some (x, s) → IsOther n f.reply.end_ x) → Row n v fresh f → Change (given_by v) f
+  by-row : (v : Event) (fresh : ℕ) (f : Effect) → ((x : EndId) (s : End) → f.other ≡ Some (x, s) → IsOther n f.reply.end_ x) → StepRow n v fresh f → Change (given_by v) f
   by-row v fresh f o (Dials p nm is idle sp full cr k) = subst (λ (u : Event). Change (given_by u) f) (sym is) (subst (Change 1) (sym k) (begins [] _ note.Nothing refl))
   by-row v fresh f o (Comes_in link is sp cr k) = subst (λ (u : Event). Change (given_by u) f) (sym is) (subst (Change 1) (sym k) (begins [] _ note.Nothing refl))
   by-row v fresh f o (Begins id link b is at ph sp k) = subst (λ (u : Event). Change (given_by u) f) (sym is) (kept-open (ends.Attempt b) k at refl refl)
@@ -155,14 +155,14 @@ module _ (n : NodeState) where
 
   pub open_change : AreLegal n.ends → (v : Event) (fresh : ℕ) (f : Effect) → effect_of n v fresh ≡ Ok f → Change (given_by v) f
   open_change legal v fresh f is =
-      let r = of_ok (Row n v fresh) (effect_of n v fresh) f is (row_of n v fresh) in
+      let r = of_ok (StepRow n v fresh) (effect_of n v fresh) f is (row_of n v fresh) in
       by-row v fresh f (λ x s o. other-row n legal x s v fresh f r o) r
 
   -- a loss closes its end, and no other
   pub loss_change : (x : EndId) (w : Why) (fresh : ℕ) (f : Effect) → effect_of n (event.Lost x w) fresh ≡ Ok f → (ends_after n.ends f ≡ put_end n.ends x.0 (ends.Closed w)) × (count_by is_open (ends_after n.ends f) + 1 ≡ count_by is_open n.ends)
-  loss_change x w fresh f is = by (event.Lost x w) refl (of_ok (Row n (event.Lost x w) fresh) (effect_of n (event.Lost x w) fresh) f is (row_of n (event.Lost x w) fresh))
+  loss_change x w fresh f is = by (event.Lost x w) refl (of_ok (StepRow n (event.Lost x w) fresh) (effect_of n (event.Lost x w) fresh) f is (row_of n (event.Lost x w) fresh))
     where
-      by : (v : Event) → v ≡ event.Lost x w → Row n v fresh f → (ends_after n.ends f ≡ put_end n.ends x.0 (ends.Closed w)) × (count_by is_open (ends_after n.ends f) + 1 ≡ count_by is_open n.ends)
+      by : (v : Event) → v ≡ event.Lost x w → StepRow n v fresh f → (ends_after n.ends f ≡ put_end n.ends x.0 (ends.Closed w)) × (count_by is_open (ends_after n.ends f) + 1 ≡ count_by is_open n.ends)
       by v e (Dials p o is idle sp full cr k) = let bad : event.Dial p o ≡ event.Lost x w = sym is ∙ e in absurd cc
       by v e (Comes_in link is sp cr k) = let bad : event.Incoming link ≡ event.Lost x w = sym is ∙ e in absurd cc
       by v e (Begins id link b is at ph sp k) = let bad : event.Opened id link ≡ event.Lost x w = sym is ∙ e in absurd cc

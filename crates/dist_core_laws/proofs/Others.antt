@@ -22,9 +22,9 @@ use Rattle.dist_core.specs.declared.effect.Effect.{Effect}
 use Rattle.dist_core_ends.specs.Ends.{AreLegal, is_claim, is_held, is_open, kind_in, names, entry_in}
 use Rattle.dist_core.specs.Node.{NodeState}
 use Rattle.dist_core.specs.Accepted.{named_attempt}
-use Rattle.dist_core.specs.Effects.{superseded}
+use Rattle.dist_core.specs.Effects.{superseded_end}
 use Rattle.dist_core_laws.specs.Laws.{IsOther}
-use Rattle.dist_core.specs.Rows.{Row, Heard, Taken, Dials, Comes_in, Begins, Ceases, Loses, Ticks, Fails, Hears, Closes, Names, Goes_on, Insists, Replies, Challenges, Complements, Acknowledged, Replied, Accepts, Crosses, Declines, Comes_again, Asks_alive, Asks_again}
+use Rattle.dist_core.specs.Rows.{StepRow, Heard, Taken, Dials, Comes_in, Begins, Ceases, Loses, Ticks, Fails, Hears, Closes, Names, Goes_on, Insists, Replies, Challenges, Complements, Acknowledged, Replied, Accepts, Crosses, Declines, Comes_again, Asks_alive, Asks_again}
 use Rattle.dist_core.specs.Step.{effect_of}
 use Rattle.dist_core.proofs.Closings.{heard-end}
 use Rattle.dist_core.proofs.Counts.{of_ok}
@@ -68,7 +68,7 @@ module _ (n : NodeState) (legal : AreLegal n.ends) (x : EndId) (s : End) where
   by-taken : (id : EndId) (b : Attempt) (f : Effect) → slice_get n.ends id.0 ≡ Some ends.Unnamed → Taken n id b f → f.other ≡ Some (x, s) → IsOther n id x
   by-taken id b f un (Accepts is k) o = absurd (nothing f x s (ap (λ (f : Effect). f.other) k) o)
   by-taken id b f un (Crosses y is g k) o =
-      let at : y ≡ x = other-of id _ b y (superseded (slice_get n.ends y.0)) x s (ap (λ (f : Effect). f.other) (sym k) ∙ o) in
+      let at : y ≡ x = other-of id _ b y (superseded_end (slice_get n.ends y.0)) x s (ap (λ (f : Effect). f.other) (sym k) ∙ o) in
       apart-from id b.peer Out _ is (names-it y at) (ap (is_held b.peer Out) un)
   by-taken id b f un (Declines y is g k) o = absurd (nothing f x s (ap (λ (f : Effect). f.other) k) o)
   by-taken id b f un (Comes_again y is k) o =
@@ -101,7 +101,7 @@ module _ (n : NodeState) (legal : AreLegal n.ends) (x : EndId) (s : End) where
   by-heard id fresh d m f at (Acknowledged digest b un ph mm right k) o = by-rising id b phase.AwaitAck (at ∙ ap Some un) ph (λ q. refl) (entry_in n.ends b.peer) refl (ap (λ (f : Effect). f.other) (sym k) ∙ o)
   by-heard id fresh d m f at (Replied challenge digest b un ph mm right k) o = by-rising id b phase.AwaitReply (at ∙ ap Some un) ph (λ q. refl) (entry_in n.ends b.peer) refl (ap (λ (f : Effect). f.other) (sym k) ∙ o)
 
-  pub other-row : (v : Event) (fresh : ℕ) (f : Effect) → Row n v fresh f → f.other ≡ Some (x, s) → IsOther n f.reply.end_ x
+  pub other-row : (v : Event) (fresh : ℕ) (f : Effect) → StepRow n v fresh f → f.other ≡ Some (x, s) → IsOther n f.reply.end_ x
   other-row v fresh f (Dials p nm is idle sp full cr k) o = absurd (nothing f x s (ap (λ (f : Effect). f.other) k) o)
   other-row v fresh f (Comes_in link is sp cr k) o = absurd (nothing f x s (ap (λ (f : Effect). f.other) k) o)
   other-row v fresh f (Begins id link b is at ph sp k) o = absurd (nothing f x s (ap (λ (f : Effect). f.other) k) o)
@@ -115,4 +115,4 @@ module _ (n : NodeState) (legal : AreLegal n.ends) (x : EndId) (s : End) where
       subst-end e h = let P : EndId → Type 0 = λ (y : EndId). IsOther n y x in subst P e h
 
 pub another : (n : NodeState) → AreLegal n.ends → (v : Event) (fresh : ℕ) (f : Effect) (x : EndId) (s : End) → effect_of n v fresh ≡ Ok f → f.other ≡ Some (x, s) → IsOther n f.reply.end_ x
-another n legal v fresh f x s is o = other-row n legal x s v fresh f (of_ok (Row n v fresh) (effect_of n v fresh) f is (row_of n v fresh)) o
+another n legal v fresh f x s is o = other-row n legal x s v fresh f (of_ok (StepRow n v fresh) (effect_of n v fresh) f is (row_of n v fresh)) o

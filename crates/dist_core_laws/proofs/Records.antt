@@ -24,7 +24,7 @@ use Rattle.dist_core_ends.specs.declared.known.UpRecord.{UpRecord}
 use Rattle.dist_core_ends.specs.Change.{other_view}
 use Rattle.dist_core_ends.specs.Ends.{AreLegal, entry_in, is_held, names, table_of}
 use Rattle.dist_core_ends.proofs.Fitting.{self-same}
-use Rattle.dist_core_ends.specs.Forgetting.{forgotten, without_cause}
+use Rattle.dist_core_ends.specs.Forgetting.{without_causes_below, without_cause}
 use Rattle.dist_core_ends.proofs.Forgotten.{agree-forgotten}
 use Rattle.dist_core_ends.proofs.Legal.{legal, table-legal}
 use Rattle.dist_core_ends.proofs.Tables.{get-table}
@@ -42,11 +42,11 @@ use Rattle.dist_core.specs.declared.step_error.StepError.{StepError}
 use Rattle.dist_core.specs.Accepted.{named_attempt}
 use Rattle.dist_core.specs.Acts.{Act, Steps, Changes, Forgets, act, changed_or, run_acts}
 use Rattle.dist_core.specs.Changing.{after_change, change, finds_no_room, has_usual, is_in_use}
-use Rattle.dist_core.specs.Effects.{comes_up, supersedes, superseded, superseded_in, record_of}
+use Rattle.dist_core.specs.Effects.{comes_up, supersedes, superseded_end, superseded_in, record_of}
 use Rattle.dist_core.specs.Node.{NodeState, limits_of}
-use Rattle.dist_core.specs.Rows.{Row, Heard, Taken, Dials, Comes_in, Begins, Ceases, Loses, Ticks, Fails, Hears, Closes, Names, Goes_on, Insists, Replies, Challenges, Complements, Acknowledged, Replied, Accepts, Crosses, Declines, Comes_again, Asks_alive, Asks_again}
-use Rattle.dist_core.specs.Runs.{settled, opening}
-use Rattle.dist_core.specs.Step.{effect_of, step, stepped, after}
+use Rattle.dist_core.specs.Rows.{StepRow, Heard, Taken, Dials, Comes_in, Begins, Ceases, Loses, Ticks, Fails, Hears, Closes, Names, Goes_on, Insists, Replies, Challenges, Complements, Acknowledged, Replied, Accepts, Crosses, Declines, Comes_again, Asks_alive, Asks_again}
+use Rattle.dist_core.specs.Runs.{node_after, opening}
+use Rattle.dist_core.specs.Step.{effect_of, step, step_result, after}
 use Rattle.dist_core.proofs.Counts.{of_ok}
 use Rattle.dist_core.proofs.Rows.{row_of}
 use Rattle.dist_core_laws.specs.Laws.{IsWithinLimits}
@@ -86,7 +86,7 @@ module _ (n : NodeState) (rights : AreRight n) where
   over id say a x (ends.Attempt b) h = (tt, tt)
   over id say a x (ends.Up r) h = (tt, h)
 
-  superseded-right : (o : Option End) → RightEnd n.setup (superseded o)
+  superseded-right : (o : Option End) → RightEnd n.setup (superseded_end o)
   superseded-right None = tt
   superseded-right (Some ends.Unnamed) = tt
   superseded-right (Some (ends.Up r)) = tt
@@ -106,7 +106,7 @@ module _ (n : NodeState) (rights : AreRight n) where
 
   taken : (id : EndId) (a : Attempt) (f : Effect) → Taken n id a f → RightEffect n.setup f
   taken id a f (Accepts e k) = subst (RightEffect n.setup) (sym k) (tt, tt)
-  taken id a f (Crosses x e g k) = subst (RightEffect n.setup) (sym k) (over id _ a x (superseded (slice_get n.ends x.0)) (superseded-right (slice_get n.ends x.0)))
+  taken id a f (Crosses x e g k) = subst (RightEffect n.setup) (sym k) (over id _ a x (superseded_end (slice_get n.ends x.0)) (superseded-right (slice_get n.ends x.0)))
   taken id a f (Declines x e g k) = subst (RightEffect n.setup) (sym k) (tt, tt)
   taken id a f (Comes_again x e k) = subst (RightEffect n.setup) (sym k) (tt, tt)
   taken id a f (Asks_alive x e k) = subst (RightEffect n.setup) (sym k) (tt, tt)
@@ -127,7 +127,7 @@ module _ (n : NodeState) (rights : AreRight n) where
   heard id fresh e m f (Acknowledged digest b un ph mm right k) = subst (RightEffect n.setup) (sym k) (risen id [] b digest (replaced_by (entry_in n.ends b.peer)) right)
   heard id fresh e m f (Replied challenge digest b un ph mm right k) = subst (RightEffect n.setup) (sym k) (risen id (ack_text n.setup b.peer challenge) b digest (replaced_by (entry_in n.ends b.peer)) right)
 
-  row : (v : Event) (fresh : ℕ) (f : Effect) → Row n v fresh f → RightEffect n.setup f
+  row : (v : Event) (fresh : ℕ) (f : Effect) → StepRow n v fresh f → RightEffect n.setup f
   row v fresh f (Dials p o is idle sp full cr k) = subst (RightEffect n.setup) (sym k) (tt, tt)
   row v fresh f (Comes_in link is sp cr k) = subst (RightEffect n.setup) (sym k) (tt, tt)
   row v fresh f (Begins id link b is at ph sp k) = subst (RightEffect n.setup) (sym k) (tt, tt)
@@ -139,7 +139,7 @@ module _ (n : NodeState) (rights : AreRight n) where
 
   module _ (legal : AreLegal n.ends) (v : Event) (fresh : ℕ) (f : Effect) (is : effect_of n v fresh ≡ Ok f) where
     effect-right : RightEffect n.setup f
-    effect-right = row v fresh f (of_ok (Row n v fresh) (effect_of n v fresh) f is (row_of n v fresh))
+    effect-right = row v fresh f (of_ok (StepRow n v fresh) (effect_of n v fresh) f is (row_of n v fresh))
 
     module _ (i : ℕ) (e : End) where
       own : cond (eqb f.reply.end_.0 i) (Some f.this) (slice_get n.ends i) ≡ Some e → RightEnd n.setup e
@@ -158,12 +158,12 @@ module _ (n : NodeState) (rights : AreRight n) where
     right-after : AreRight (after n v f)
     right-after i r at = by-other i (ends.Up r) f.other effect-right.1 (sym (stands-after n v fresh f i legal is) ∙ at)
 
-pub right_step : (n : NodeState) (v : Event) (fresh : ℕ) → AreLegal n.ends → AreRight n → AreRight (settled n (step n v fresh))
+pub right_step : (n : NodeState) (v : Event) (fresh : ℕ) → AreLegal n.ends → AreRight n → AreRight (node_after n (step n v fresh))
 right_step n v fresh legal h = by (effect_of n v fresh) refl
   where
-    by : (r : Result Effect StepError) → effect_of n v fresh ≡ r → AreRight (settled n (step n v fresh))
-    by (Ok f) e = subst (λ (r : Result Effect StepError). AreRight (settled n (stepped n v r))) (sym e) (right-after n h legal v fresh f e)
-    by (Err x) e = subst (λ (r : Result Effect StepError). AreRight (settled n (stepped n v r))) (sym e) h
+    by : (r : Result Effect StepError) → effect_of n v fresh ≡ r → AreRight (node_after n (step n v fresh))
+    by (Ok f) e = subst (λ (r : Result Effect StepError). AreRight (node_after n (step_result n v r))) (sym e) (right-after n h legal v fresh f e)
+    by (Err x) e = subst (λ (r : Result Effect StepError). AreRight (node_after n (step_result n v r))) (sym e) h
 
 -- ---- changes
 
@@ -264,7 +264,7 @@ limits_change n v = by (is_in_use n v) (finds_no_room n v)
 -- ---- forgetting
 
 abbrev forgets : NodeState → ℕ → NodeState
-forgets n below = record n { ends = forgotten below n.ends }
+forgets n below = record n { ends = without_causes_below below n.ends }
 
 -- an end that is up now was up before
 was-up : (o : Option End) (r : UpRecord) → option_map without_cause o ≡ Some (ends.Up r) → o ≡ Some (ends.Up r)
@@ -275,19 +275,19 @@ was-up (Some (ends.Up x)) r e = e
 was-up (Some (ends.Closed w)) r e = absurd cc
 
 legal_forgets : (n : NodeState) (below : ℕ) → AreLegal n.ends → AreLegal (forgets n below).ends
-legal_forgets n below h = legal (map.get (table_of n.ends)) (forgotten below n.ends) (agree-forgotten (table_of n.ends) below n.ends (table-legal n.ends h))
+legal_forgets n below h = legal (map.get (table_of n.ends)) (without_causes_below below n.ends) (agree-forgotten (table_of n.ends) below n.ends (table-legal n.ends h))
 
 right_forgets : (n : NodeState) (below : ℕ) → AreRight n → AreRight (forgets n below)
 right_forgets n below h i r at =
     let alike = forgotten-alike below n.ends in
-    h i r (was-up (slice_get n.ends i) r (end-alike n.ends (forgotten below n.ends) alike i ∙ ap (option_map without_cause) at))
+    h i r (was-up (slice_get n.ends i) r (end-alike n.ends (without_causes_below below n.ends) alike i ∙ ap (option_map without_cause) at))
 
 within_forgets : (n : NodeState) (below : ℕ) → IsWithinLimits n → IsWithinLimits (forgets n below)
 within_forgets n below h =
     let alike = forgotten-alike below n.ends in
-    let opened = opens-alike n.ends (forgotten below n.ends) alike in
-    let given = length-alike n.ends (forgotten below n.ends) alike in
-    let rows = ap map.len (table-alike n.ends (forgotten below n.ends) alike) in
+    let opened = opens-alike n.ends (without_causes_below below n.ends) alike in
+    let given = length-alike n.ends (without_causes_below below n.ends) alike in
+    let rows = ap map.len (table-alike n.ends (without_causes_below below n.ends) alike) in
     record { steps = h.steps; given_out = omega (arith, given, h.given_out); open_ends = omega (arith, opened, h.open_ends); entries = omega (arith, rows, h.entries) }
 
 -- ---- runs of all these

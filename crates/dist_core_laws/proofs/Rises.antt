@@ -10,8 +10,8 @@ use Rattle.dist_core.specs.declared.event.Event.{Event}
 use Rattle.dist_core.specs.declared.effect.Effect.{Effect}
 use Rattle.dist_core.specs.Node.{NodeState}
 use Rattle.dist_core.specs.Accepted.{named_attempt}
-use Rattle.dist_core.specs.Effects.{supersedes, superseded, record_of}
-use Rattle.dist_core.specs.Rows.{Row, Heard, Taken, Dials, Comes_in, Begins, Ceases, Loses, Ticks, Fails, Hears, Closes, Names, Goes_on, Insists, Replies, Challenges, Complements, Acknowledged, Replied, Accepts, Crosses, Declines, Comes_again, Asks_alive, Asks_again}
+use Rattle.dist_core.specs.Effects.{supersedes, superseded_end, record_of}
+use Rattle.dist_core.specs.Rows.{StepRow, Heard, Taken, Dials, Comes_in, Begins, Ceases, Loses, Ticks, Fails, Hears, Closes, Names, Goes_on, Insists, Replies, Challenges, Complements, Acknowledged, Replied, Accepts, Crosses, Declines, Comes_again, Asks_alive, Asks_again}
 use Rattle.dist_core.specs.Step.{effect_of}
 use Rattle.dist_core_laws.specs.Laws.{IsRightRecord}
 use Rattle.dist_core.proofs.Counts.{of_ok}
@@ -36,7 +36,7 @@ module _ (n : NodeState) (r : UpRecord) where
 
   by-taken : (id : EndId) (b : Attempt) (f : Effect) → Taken n id b f → f.reply.up ≡ Some r → IsRightRecord n.setup r
   by-taken id b f (Accepts is k) e = none f (ap (λ (f : Effect). f.reply.up) k) e
-  by-taken id b f (Crosses y is g k) e = none f (ap (λ (f : Effect). f.reply.up) k ∙ superseding id _ b y (superseded (slice_get n.ends y.0))) e
+  by-taken id b f (Crosses y is g k) e = none f (ap (λ (f : Effect). f.reply.up) k ∙ superseding id _ b y (superseded_end (slice_get n.ends y.0))) e
   by-taken id b f (Declines y is g k) e = none f (ap (λ (f : Effect). f.reply.up) k) e
   by-taken id b f (Comes_again y is k) e = none f (ap (λ (f : Effect). f.reply.up) k) e
   by-taken id b f (Asks_alive y is k) e = none f (ap (λ (f : Effect). f.reply.up) k) e
@@ -53,7 +53,7 @@ module _ (n : NodeState) (r : UpRecord) where
   by-heard id fresh d m f (Acknowledged digest b un ph mm right k) e = rises f (record_of n.setup b digest) (ap (λ (f : Effect). f.reply.up) k) right e
   by-heard id fresh d m f (Replied challenge digest b un ph mm right k) e = rises f (record_of n.setup b digest) (ap (λ (f : Effect). f.reply.up) k) right e
 
-  by-row : (v : Event) (fresh : ℕ) (f : Effect) → Row n v fresh f → f.reply.up ≡ Some r → IsRightRecord n.setup r
+  by-row : (v : Event) (fresh : ℕ) (f : Effect) → StepRow n v fresh f → f.reply.up ≡ Some r → IsRightRecord n.setup r
   by-row v fresh f (Dials p o is idle sp full cr k) e = none f (ap (λ (f : Effect). f.reply.up) k) e
   by-row v fresh f (Comes_in link is sp cr k) e = none f (ap (λ (f : Effect). f.reply.up) k) e
   by-row v fresh f (Begins id link b is at ph sp k) e = none f (ap (λ (f : Effect). f.reply.up) k) e
@@ -64,4 +64,4 @@ module _ (n : NodeState) (r : UpRecord) where
   by-row v fresh f (Hears id body d side m is at to sp says h) e = by-heard id fresh d m f h e
 
 pub right_record : (n : NodeState) (v : Event) (fresh : ℕ) (f : Effect) (r : UpRecord) → effect_of n v fresh ≡ Ok f → f.reply.up ≡ Some r → IsRightRecord n.setup r
-right_record n v fresh f r is e = by-row n r v fresh f (of_ok (Row n v fresh) (effect_of n v fresh) f is (row_of n v fresh)) e
+right_record n v fresh f r is e = by-row n r v fresh f (of_ok (StepRow n v fresh) (effect_of n v fresh) f is (row_of n v fresh)) e

@@ -16,9 +16,9 @@ use Rattle.dist_core.specs.declared.step_error.StepError.{StepError}
 use Rattle.dist_core_laws.specs.Laws.{HasEffect, IsOfItsEnd, closed_by, given_by}
 use Rattle.dist_core.specs.Losses.{is_loss}
 use Rattle.dist_core.specs.Node.{NodeState, ends_after}
-use Rattle.dist_core.specs.Rows.{Row, Dials, Comes_in, Begins, Ceases, Loses, Ticks, Fails, Hears}
-use Rattle.dist_core.specs.Runs.{settled}
-use Rattle.dist_core.specs.Step.{effect_of, step, stepped, after}
+use Rattle.dist_core.specs.Rows.{StepRow, Dials, Comes_in, Begins, Ceases, Loses, Ticks, Fails, Hears}
+use Rattle.dist_core.specs.Runs.{node_after}
+use Rattle.dist_core.specs.Step.{effect_of, step, step_result, after}
 use Rattle.dist_core_ends.proofs.Changes.{get-put, get-after}
 use Rattle.dist_core_ends.proofs.Legal.{table-legal}
 use Rattle.dist_core.proofs.Closings.{heard-end}
@@ -33,7 +33,7 @@ use Rattle.dist_core.proofs.Steps.{fits}
 pub has-effect : (n : NodeState) (v : Event) (fresh : ℕ) (r : Reply) (m : NodeState) → step n v fresh ≡ Ok (r, m) → HasEffect n v fresh r m
 has-effect n v fresh r m is = by (effect_of n v fresh) refl is
   where
-    by : (s : Result Effect StepError) → effect_of n v fresh ≡ s → stepped n v s ≡ Ok (r, m) → HasEffect n v fresh r m
+    by : (s : Result Effect StepError) → effect_of n v fresh ≡ s → step_result n v s ≡ Ok (r, m) → HasEffect n v fresh r m
     by (Ok f) at e =
         let told : ◌≡◌ {A = Reply × NodeState} (f.reply, after n v f) (r, m) = cc in
         record { effect = f; is = at; reply = ap (λ (x : Reply × NodeState). x.0) told; node = sym (ap (λ (x : Reply × NodeState). x.1) told) }
@@ -43,7 +43,7 @@ pub keeps-setup : (n : NodeState) (v : Event) (fresh : ℕ) (r : Reply) (m : Nod
 keeps-setup n v fresh r m is = let h = has-effect n v fresh r m is in ap (λ (k : NodeState). k.setup) h.node
 
 pub keeps-legal : (n : NodeState) (v : Event) (fresh : ℕ) (r : Reply) (m : NodeState) → AreLegal n.ends → step n v fresh ≡ Ok (r, m) → AreLegal m.ends
-keeps-legal n v fresh r m legal is = subst (λ (s : Result (Reply × NodeState) StepError). AreLegal (settled n s).ends) is (legal_step n v fresh legal)
+keeps-legal n v fresh r m legal is = subst (λ (s : Result (Reply × NodeState) StepError). AreLegal (node_after n s).ends) is (legal_step n v fresh legal)
 
 -- ---- the places
 
@@ -61,7 +61,7 @@ end_in f = f.reply.end_
 abbrev said_in : Effect → List ℕ
 said_in f = f.reply.say
 
-row-end : (n : NodeState) (v : Event) (fresh : ℕ) (f : Effect) → Row n v fresh f → IsOfItsEnd n v f.reply
+row-end : (n : NodeState) (v : Event) (fresh : ℕ) (f : Effect) → StepRow n v fresh f → IsOfItsEnd n v f.reply
 row-end n v fresh f (Dials p o is e s u d k) = subst (λ (v : Event). IsOfItsEnd n v f.reply) (sym is) (ap end_in k, ap said_in k)
 row-end n v fresh f (Comes_in link is s d k) = subst (λ (v : Event). IsOfItsEnd n v f.reply) (sym is) (ap end_in k, ap said_in k)
 row-end n v fresh f (Begins id link b is e ph s k) = subst (λ (v : Event). IsOfItsEnd n v f.reply) (sym is) (ap end_in k)
@@ -72,7 +72,7 @@ row-end n v fresh f (Fails id body e side x is at to s rd k) = subst (λ (v : Ev
 row-end n v fresh f (Hears id body e side m is at to s rd h) = subst (λ (v : Event). IsOfItsEnd n v f.reply) (sym is) (heard-end n id fresh e m f h)
 
 pub effect-end : (n : NodeState) (v : Event) (fresh : ℕ) (f : Effect) → effect_of n v fresh ≡ Ok f → IsOfItsEnd n v f.reply
-effect-end n v fresh f is = row-end n v fresh f (of_ok (Row n v fresh) (effect_of n v fresh) f is (row_of n v fresh))
+effect-end n v fresh f is = row-end n v fresh f (of_ok (StepRow n v fresh) (effect_of n v fresh) f is (row_of n v fresh))
 
 pub reply-end : (n : NodeState) (v : Event) (fresh : ℕ) (r : Reply) (m : NodeState) → step n v fresh ≡ Ok (r, m) → IsOfItsEnd n v r
 reply-end n v fresh r m is = let h = has-effect n v fresh r m is in subst (λ (q : Reply). IsOfItsEnd n v q) h.reply (effect-end n v fresh h.effect h.is)

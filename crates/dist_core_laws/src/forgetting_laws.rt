@@ -1,6 +1,6 @@
 //! Laws of what a node may forget: each is a function that does nothing, and whose contract is the law.
 ghost use Rattle.std.specs.Prelude.{ℕ, List};
-ghost use Rattle.dist_core_ends.specs.Forgetting.{forgotten};
+ghost use Rattle.dist_core_ends.specs.Forgetting.{without_causes_below};
 ghost use Rattle.dist_core.specs.declared.event.Event.{Event};
 ghost use Rattle.dist_core.specs.Node.{NodeState};
 ghost use Rattle.dist_core.specs.Runs.{run};
@@ -15,8 +15,8 @@ pub fn forgetting_changes_no_step()
 
 /// A node that forgets why its ends below a number were closed is alike to what it was, and to each node to which it was alike.
 pub fn a_node_that_forgets_is_alike()
-    ensures itself { (n : NodeState) (below : ℕ) → AreAlike n (record n { ends = forgotten below n.ends }) }
-    ensures other { (m n : NodeState) (below : ℕ) → AreAlike m n → AreAlike (record m { ends = forgotten below m.ends }) n }
+    ensures itself { (n : NodeState) (below : ℕ) → AreAlike n (record n { ends = without_causes_below below n.ends }) }
+    ensures other { (m n : NodeState) (below : ℕ) → AreAlike m n → AreAlike (record m { ends = without_causes_below below m.ends }) n }
 {}
 
 /// Nodes that are alike stay so, whatever events both are given. So a node that forgets from time to time, however often, goes

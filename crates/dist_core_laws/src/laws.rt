@@ -14,29 +14,29 @@ ghost use Rattle.dist_peers.specs.declared.entry.Entry.TheVariants as entry;
 ghost use Rattle.dist_core_ends.specs.declared.known.Attempt.{Attempt};
 ghost use Rattle.dist_core.specs.declared.reply.Reply.{Reply};
 ghost use Rattle.dist_core.specs.declared.reply.Note.TheVariants as note;
-ghost use Rattle.dist_core.specs.Effects.{superseded, supersedes};
+ghost use Rattle.dist_core.specs.Effects.{superseded_end, supersedes};
 ghost use Rattle.dist_core_laws.specs.Laws.{IsDialledChallenge, IsOther, IsRightRecord, Supersedes, is_doomed, given_by, closed_by};
 ghost use Rattle.dist_core.specs.Node.{NodeState, ends_after};
 ghost use Rattle.dist_core_ends.specs.Change.{put_end};
-ghost use Rattle.dist_core.specs.Rows.{Row};
-ghost use Rattle.dist_core.specs.Runs.{run, settled, opening};
+ghost use Rattle.dist_core.specs.Rows.{StepRow};
+ghost use Rattle.dist_core.specs.Runs.{run, node_after, opening};
 ghost use Rattle.dist_core.specs.Step.{effect_of, step};
 
 /// A step that succeeds is one of the rows of the tables, with all facts of that row.
 pub fn steps_are_rows()
-    ensures { (n : NodeState) (v : Event) (fresh : ℕ) (f : Effect) → effect_of n v fresh ≡ Ok f → Row n v fresh f }
+    ensures { (n : NodeState) (v : Event) (fresh : ℕ) (f : Effect) → effect_of n v fresh ≡ Ok f → StepRow n v fresh f }
 {}
 
 /// Whatever events a node is given, the ends that hold a peer are those that make its entry, and no others.
 pub fn entries_are_whole()
     ensures runs { (setup : Setup) (events : List (Event × ℕ)) → AreLegal (run events (opening setup)).ends }
     ensures first { (setup : Setup) → AreLegal (opening setup).ends }
-    ensures step { (n : NodeState) (v : Event) (fresh : ℕ) → AreLegal n.ends → AreLegal (settled n (step n v fresh)).ends }
+    ensures step { (n : NodeState) (v : Event) (fresh : ℕ) → AreLegal n.ends → AreLegal (node_after n (step n v fresh)).ends }
 {}
 
 /// No step changes the setup.
 pub fn setup_never_changes()
-    ensures step { (n : NodeState) (v : Event) (fresh : ℕ) → (settled n (step n v fresh)).setup ≡ n.setup }
+    ensures step { (n : NodeState) (v : Event) (fresh : ℕ) → (node_after n (step n v fresh)).setup ≡ n.setup }
     ensures run { (n : NodeState) (events : List (Event × ℕ)) → (run events n).setup ≡ n.setup }
 {}
 
@@ -61,7 +61,7 @@ pub fn another_end_is_replaced()
 /// A crossing name dooms the dialled end on which no status came yet, and closes the one that a status let go on.
 pub fn a_crossing_dooms_or_closes()
     ensures { (n : NodeState) (id : EndId) (say : List ℕ) (b : Attempt) (x : EndId) (f : Effect) → AreLegal n.ends
-        → entry_in n.ends b.peer ≡ Some (entry.Out x) → f ≡ supersedes id say b x (superseded (slice_get n.ends x.0)) → Supersedes n id say b x f }
+        → entry_in n.ends b.peer ≡ Some (entry.Out x) → f ≡ supersedes id say b x (superseded_end (slice_get n.ends x.0)) → Supersedes n id say b x f }
 {}
 
 /// A doomed end stays as it is until it is closed: it never comes up.

@@ -4,7 +4,7 @@ ghost use Rattle.dist_core_setup.specs.declared.setup.Setup.{Setup};
 ghost use Rattle.dist_core_setup.specs.Limits.{usual_limits};
 ghost use Rattle.dist_core.specs.declared.event.Event.{Event};
 ghost use Rattle.dist_core.specs.Node.{NodeState, is_given_out, is_spent, limits_of};
-ghost use Rattle.dist_core.specs.Runs.{run, settled, opening};
+ghost use Rattle.dist_core.specs.Runs.{run, node_after, opening};
 ghost use Rattle.dist_core.specs.Step.{step};
 ghost use Rattle.dist_core_ends.specs.Ends.{AreLegal};
 ghost use Rattle.dist_core_laws.specs.Laws.{IsWithinLimits};
@@ -20,5 +20,5 @@ pub fn usual_nodes_have_numbers()
 pub fn limits_are_kept()
     ensures runs { (setup : Setup) (events : List (Event × ℕ)) → IsWithinLimits (run events (opening setup)) }
     ensures first { (setup : Setup) → IsWithinLimits (opening setup) }
-    ensures step { (n : NodeState) (v : Event) (fresh : ℕ) → AreLegal n.ends → IsWithinLimits n → IsWithinLimits (settled n (step n v fresh)) }
+    ensures step { (n : NodeState) (v : Event) (fresh : ℕ) → AreLegal n.ends → IsWithinLimits n → IsWithinLimits (node_after n (step n v fresh)) }
 {}

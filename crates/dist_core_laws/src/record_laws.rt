@@ -9,7 +9,7 @@ ghost use Rattle.dist_core.specs.Acts.{Act, act, changed_or, run_acts};
 ghost use Rattle.dist_core.specs.declared.changing.Change.{Change};
 ghost use Rattle.dist_core.specs.Changing.{change};
 ghost use Rattle.dist_core.specs.Node.{NodeState, limits_of};
-ghost use Rattle.dist_core.specs.Runs.{settled, opening};
+ghost use Rattle.dist_core.specs.Runs.{node_after, opening};
 ghost use Rattle.dist_core.specs.Step.{step};
 ghost use Rattle.dist_core_laws.specs.Laws.{IsWithinLimits};
 ghost use Rattle.dist_core_laws.specs.Records.{AreRight};
@@ -26,7 +26,7 @@ pub fn cookies_in_use_stay()
 pub fn records_stay_right()
     ensures runs { (setup : Setup) (acts : List Act) → AreRight (run_acts acts (opening setup)) }
     ensures first { (setup : Setup) → AreRight (opening setup) }
-    ensures step { (n : NodeState) (v : Event) (fresh : ℕ) → AreLegal n.ends → AreRight n → AreRight (settled n (step n v fresh)) }
+    ensures step { (n : NodeState) (v : Event) (fresh : ℕ) → AreLegal n.ends → AreRight n → AreRight (node_after n (step n v fresh)) }
     ensures change { (n : NodeState) (v : Change) → AreLegal n.ends → AreRight n → AreRight (changed_or n (change n v)) }
     ensures act { (n : NodeState) (x : Act) → AreLegal n.ends → AreRight n → AreRight (act n x) }
 {}

@@ -10,10 +10,10 @@ use Rattle.std.specs.declared.cmp.Ordering.TheVariants.{Less, Equal, Greater}
 use Rattle.dist_names.specs.Order.{Name, name_cmp, same_name}
 use Rattle.dist_names.proofs.Orders.{one_lem, itself_lem}
 use Rattle.dist_secret.specs.Digest.{digest_of}
-use Rattle.dist_secret.specs.Cookies.{CookieTable, held, cookie_for, with_cookie}
+use Rattle.dist_secret.specs.Cookies.{CookieTable, own_cookie, cookie_for, with_cookie}
 use Rattle.dist_core_setup.specs.declared.setup.Setup.{Setup}
 use Rattle.dist_core_setup.specs.Rules.{own_digest}
-use Rattle.dist_core_setup.specs.Changing.{DigestsStay, has_own_cookie, keyed, keyed_usually, letting_in}
+use Rattle.dist_core_setup.specs.Changing.{DigestsStay, has_own_cookie, with_own_cookie, keyed_usually, letting_in}
 
 abbrev Row : Type 0
 Row = Name × List ℕ
@@ -46,13 +46,13 @@ some-either : (o : Option (List ℕ)) (x y : List ℕ) → is_some o ≡ true �
 some-either (Some c) x y h = refl
 some-either None x y h = absurd (false≢true h)
 
-pub others-stay : (s : Setup) (p q : Name) (cookie : List ℕ) → same_name p q ≡ false → DigestsStay s (keyed s p cookie) q
+pub others-stay : (s : Setup) (p q : Name) (cookie : List ℕ) → same_name p q ≡ false → DigestsStay s (with_own_cookie s p cookie) q
 unfolding own_digest
 others-stay s p q cookie h challenge = ap (λ c. digest_of c challenge) (cookie-stays s.cookies p q cookie h)
 
 pub owners-stay : (s : Setup) (p : Name) (cookie : List ℕ) → has_own_cookie s p ≡ true → DigestsStay s (keyed_usually s cookie) p
 unfolding own_digest
-owners-stay s p cookie h challenge = ap (λ c. digest_of c challenge) (some-either (let t = s.cookies in held t p) cookie (let t = s.cookies in t.usual) h)
+owners-stay s p cookie h challenge = ap (λ c. digest_of c challenge) (some-either (let t = s.cookies in own_cookie t p) cookie (let t = s.cookies in t.usual) h)
 
 pub all-stay : (s : Setup) (names : Option (List Name)) (p : Name) → DigestsStay s (letting_in s names) p
 unfolding own_digest

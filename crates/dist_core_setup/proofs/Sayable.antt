@@ -5,7 +5,7 @@ use Rattle.std.specs.Int.{w16, w32, w64, to_be_bytes}
 use Rattle.dist_names.specs.NodeName.{IsNodeName}
 use Rattle.dist_names.specs.declared.flags.Flags.{Flags}
 use Rattle.dist_names.specs.declared.creation.Creation.{Creation}
-use Rattle.dist_messages.specs.Canonical.{canonical, bounded}
+use Rattle.dist_messages.specs.Canonical.{canonical, spelling_with_name}
 use Rattle.dist_messages.specs.declared.message.Side.TheVariants.{Dialler, Acceptor}
 use Rattle.dist_messages.specs.Spelling.{is_said_by}
 use Rattle.dist_messages.specs.declared.message.Side.{Side}
@@ -16,7 +16,7 @@ use Rattle.dist_messages.specs.declared.message.Message.TheVariants as message
 use Rattle.dist_messages.specs.declared.message_error.MessageError.TheVariants as errors
 use Rattle.dist_core_setup.specs.Saying.{CanBeSaid}
 
-fits-name : (name : List ℕ) (m : Message) → IsNodeName name → bounded name m ≡ Ok (canonical m)
+fits-name : (name : List ℕ) (m : Message) → IsNodeName name → spelling_with_name name m ≡ Ok (canonical m)
 fits-name name m good =
     let few : ltb 255 (length name) ≡ false = let most = good.most in grind (arith, nat_tests) in
     ap (λ b. cond b (Err errors.BadName) (Ok (canonical m))) few

@@ -5,7 +5,7 @@ use Rattle.std.proofs.lemmas.Nat.{and_le_r}
 use Rattle.std.specs.Int.{w16}
 use Rattle.std.specs.Int.Bits.{bit_or}
 use Rattle.std.specs.List.{flat_map, AllByRecursion}
-use Rattle.dist_frames.specs.Stream.{framed, Fits, Splits}
+use Rattle.dist_frames.specs.Stream.{body_frame, FitsWidth, Splits}
 use Rattle.dist_messages.specs.Canonical.{canonical}
 use Rattle.dist_messages.specs.declared.message.Side.{Side}
 use Rattle.dist_messages.specs.declared.message.Message.{Message}
@@ -13,23 +13,23 @@ use Rattle.dist_core_setup.specs.declared.setup.Setup.{Setup}
 use Rattle.dist_core_setup.specs.declared.version.Version.{Version}
 use Rattle.dist_core_setup.specs.declared.version.Version.TheVariants as version
 use Rattle.dist_core_setup.specs.Rules.{announced_in, announced_by}
-use Rattle.dist_core_setup.specs.Saying.{CanBeSaid, frame_of, said}
+use Rattle.dist_core_setup.specs.Saying.{CanBeSaid, frame_of, frames_of_messages}
 
-joined : (ms : List Message) → said ms ≡ flat_map (framed w16) (map canonical ms)
+joined : (ms : List Message) → frames_of_messages ms ≡ flat_map (body_frame w16) (map canonical ms)
 unfolding frame_of
 joined [] = refl
-joined (m ∷ []) = sym (append-nil (framed w16 (canonical m)))
-joined (m ∷ k ∷ ms) = ap (λ (rest : List ℕ). framed w16 (canonical m) ++ rest) (joined (k ∷ ms))
+joined (m ∷ []) = sym (append-nil (body_frame w16 (canonical m)))
+joined (m ∷ k ∷ ms) = ap (λ (rest : List ℕ). body_frame w16 (canonical m) ++ rest) (joined (k ∷ ms))
 
-all-fit : (side : Side) (ms : List Message) → AllByRecursion (CanBeSaid side) ms → AllByRecursion (Fits w16) (map canonical ms)
+all-fit : (side : Side) (ms : List Message) → AllByRecursion (CanBeSaid side) ms → AllByRecursion (FitsWidth w16) (map canonical ms)
 all-fit side [] h = tt
 all-fit side (m ∷ ms) h = (let g = h.0 in g.1, all-fit side ms h.1)
 
-nothing_framed : (body more : List ℕ) → Fits w16 body → [] ≡ framed w16 body ++ more → ⊥
+nothing_framed : (body more : List ℕ) → FitsWidth w16 body → [] ≡ body_frame w16 body ++ more → ⊥
 nothing_framed body more fits e = cc
 
-pub whole : (side : Side) (ms : List Message) → AllByRecursion (CanBeSaid side) ms → Splits w16 (said ms) (map canonical ms) []
-whole side ms h = record { whole = joined ms ∙ sym (append-nil (flat_map (framed w16) (map canonical ms))); fit = all-fit side ms h; no_more = nothing_framed }
+pub whole : (side : Side) (ms : List Message) → AllByRecursion (CanBeSaid side) ms → Splits w16 (frames_of_messages ms) (map canonical ms) []
+whole side ms h = record { whole = joined ms ∙ sym (append-nil (flat_map (body_frame w16) (map canonical ms))); fit = all-fit side ms h; no_more = nothing_framed }
 
 in-fits : (v : Version) (flags : ℕ) → announced_in v flags < 2 ^ 64
 in-fits version.Six flags = omega (arith, and_le_r (bit_or flags 16777216) 18446744065119617023)

@@ -15,8 +15,8 @@ abbrev pub lacks_room : Setup → Name → Bool
 lacks_room s p = is_full_for s.cookies p
 
 -- the same setup, with this cookie for the peer
-abbrev pub keyed : Setup → Name → List ℕ → Setup
-keyed s p cookie = record s { cookies = with_cookie s.cookies p cookie }
+abbrev pub with_own_cookie : Setup → Name → List ℕ → Setup
+with_own_cookie s p cookie = record s { cookies = with_cookie s.cookies p cookie }
 
 -- the same setup, with this cookie for every peer that has none of its own
 abbrev pub keyed_usually : Setup → List ℕ → Setup

@@ -2,7 +2,7 @@
 use Rattle.std.specs.Prelude.{◌≡◌, ℕ, Bool, true, false, not, ◌&&◌, ◌||◌, if◌then◌else◌, nat_eq, bit_and, List, Option, Some, None, Result, Ok, Err}
 use Rattle.std.specs.Cmp.Lexicographic.{pointwise}
 use Rattle.dist_names.specs.Order.{Name, same_name, is_listed}
-use Rattle.dist_names.specs.NodeName.{named}
+use Rattle.dist_names.specs.NodeName.{name_of_bytes}
 use Rattle.dist_names.specs.Flags.{announced, required, low_half, has_all, handshake_23, name_me}
 use Rattle.dist_names.specs.declared.flags.Flags.{Flags}
 use Rattle.dist_names.specs.declared.name_error.NameError.{NameError}
@@ -65,7 +65,7 @@ is_ok (Err error) = false
 
 -- the form of a name
 unfoldable pub is_good : Name → Bool
-is_good p = is_ok (named p)
+is_good p = is_ok (name_of_bytes p)
 
 -- what is found where a name is looked for in these bytes
 abbrev pub GoodName : Option Name → Name → Type 0

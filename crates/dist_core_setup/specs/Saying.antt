@@ -2,8 +2,8 @@
 use Rattle.std.specs.Prelude.{◌≡◌, ℕ, ◌<◌, ◌^◌, if◌then◌else◌, List, [], ◌∷◌, ◌++◌, length, Ok}
 use Rattle.std.specs.Int.{w16, w32}
 use Rattle.dist_names.specs.Flags.{low_half, high_half}
-use Rattle.dist_frames.specs.Stream.{framed}
-use Rattle.dist_messages.specs.Canonical.{canonical, written}
+use Rattle.dist_frames.specs.Stream.{body_frame}
+use Rattle.dist_messages.specs.Canonical.{canonical, own_spelling}
 use Rattle.dist_messages.specs.declared.message.Side.{Side}
 use Rattle.dist_messages.specs.declared.message.Status.{Status}
 use Rattle.dist_messages.specs.declared.message.Message.{Message}
@@ -15,17 +15,17 @@ use Rattle.dist_core_setup.specs.Rules.{announced_by, opens_new, own_digest}
 
 -- the frame of the one spelling in which a message is sent
 unfoldable pub frame_of : Message → List ℕ
-frame_of m = framed w16 (canonical m)
+frame_of m = body_frame w16 (canonical m)
 
 -- this side has a spelling for the message, and it fits a frame
 abbrev pub CanBeSaid : Side → Message → Type 0
-CanBeSaid side m = (written side m ≡ Ok (canonical m)) × (length (canonical m) < 2 ^ 16)
+CanBeSaid side m = (own_spelling side m ≡ Ok (canonical m)) × (length (canonical m) < 2 ^ 16)
 
 -- these messages, one frame after another
-abbrev pub said : List Message → List ℕ
-said [] = []
-said (m ∷ []) = frame_of m
-said (m ∷ n ∷ ms) = frame_of m ++ said (n ∷ ms)
+abbrev pub frames_of_messages : List Message → List ℕ
+frames_of_messages [] = []
+frames_of_messages (m ∷ []) = frame_of m
+frames_of_messages (m ∷ n ∷ ms) = frame_of m ++ frames_of_messages (n ∷ ms)
 
 -- ---- the messages of a node that is set up so
 
@@ -62,27 +62,27 @@ ack_message s peer challenge = message.Ack (own_digest s peer challenge)
 -- ---- what is sent
 
 abbrev pub status_text : Status → List ℕ
-status_text s = said (message.Status s ∷ [])
+status_text s = frames_of_messages (message.Status s ∷ [])
 
 abbrev pub name_text : Setup → Form → List ℕ
-name_text s o = said (name_message s o ∷ [])
+name_text s o = frames_of_messages (name_message s o ∷ [])
 
 abbrev pub challenge_text : Setup → Form → ℕ → List ℕ
-challenge_text s o fresh = said (challenge_message s o fresh ∷ [])
+challenge_text s o fresh = frames_of_messages (challenge_message s o fresh ∷ [])
 
 -- a status, and the challenge after it
 abbrev pub greeting_text : Setup → Status → Form → ℕ → List ℕ
-greeting_text s status o fresh = said (message.Status status ∷ challenge_message s o fresh ∷ [])
+greeting_text s status o fresh = frames_of_messages (message.Status status ∷ challenge_message s o fresh ∷ [])
 
 -- the reply, after the complement in a handshake that has one
 abbrev pub reply_text : Setup → Form → List ℕ → ℕ → ℕ → List ℕ
-reply_text s form.New peer fresh challenge = said (reply_message s peer fresh challenge ∷ [])
-reply_text s form.Old peer fresh challenge = said (complement_message s ∷ reply_message s peer fresh challenge ∷ [])
-reply_text s form.Five peer fresh challenge = said (reply_message s peer fresh challenge ∷ [])
+reply_text s form.New peer fresh challenge = frames_of_messages (reply_message s peer fresh challenge ∷ [])
+reply_text s form.Old peer fresh challenge = frames_of_messages (complement_message s ∷ reply_message s peer fresh challenge ∷ [])
+reply_text s form.Five peer fresh challenge = frames_of_messages (reply_message s peer fresh challenge ∷ [])
 
 abbrev pub ack_text : Setup → List ℕ → ℕ → List ℕ
-ack_text s peer challenge = said (ack_message s peer challenge ∷ [])
+ack_text s peer challenge = frames_of_messages (ack_message s peer challenge ∷ [])
 
 -- a packet of no bytes
 abbrev pub tick_text : List ℕ
-tick_text = framed w32 []
+tick_text = body_frame w32 []

@@ -1,6 +1,7 @@
 //! What a node's setup decides: what it announces and asks for, its digests, and the checks on a name.
 ghost use Rattle.std.specs.Prelude.{◌≡◌, IfOk, OnErr, true, false, Ok, Err, Some, None};
-ghost use Rattle.dist_core_setup.specs.Rules.{announced_by, required_of, knows_six, form_of_old, opens_new, own_digest, is_good, is_allowed, is_refused, GoodName};
+ghost use Rattle.dist_core_setup.specs.Rules.{announced_by, required_of, knows_six, form_of_old, opens_new, own_digest};
+ghost use Rattle.dist_core_setup.specs.Rules.{is_good, is_allowed, is_refused, GoodName};
 
 use crate::setup::{NameList, Setup};
 use crate::version::Version;

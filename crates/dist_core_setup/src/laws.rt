@@ -18,8 +18,8 @@ ghost use Rattle.dist_messages.specs.Canonical.{canonical};
 ghost use Rattle.dist_messages.specs.Reading.{read};
 ghost use Rattle.dist_core_setup.specs.declared.setup.Setup.{Setup};
 ghost use Rattle.dist_core_setup.specs.Rules.{announced_by, knows_six};
-ghost use Rattle.dist_core_setup.specs.Changing.{DigestsStay, has_own_cookie, keyed, keyed_usually, letting_in};
-ghost use Rattle.dist_core_setup.specs.Saying.{CanBeSaid, said};
+ghost use Rattle.dist_core_setup.specs.Changing.{DigestsStay, has_own_cookie, with_own_cookie, keyed_usually, letting_in};
+ghost use Rattle.dist_core_setup.specs.Saying.{CanBeSaid, frames_of_messages};
 
 use dist_messages::written_is_read;
 
@@ -37,7 +37,7 @@ pub fn messages_can_be_said()
 
 /// What is sent is whole frames, one for each message, and each body is read as the message that was sent.
 pub fn what_is_said_is_read()
-    ensures whole { (side : Side) (ms : List Message) → AllByRecursion (CanBeSaid side) ms → Splits w16 (said ms) (map canonical ms) [] }
+    ensures whole { (side : Side) (ms : List Message) → AllByRecursion (CanBeSaid side) ms → Splits w16 (frames_of_messages ms) (map canonical ms) [] }
     ensures read { (side : Side) (m : Message) → Fits m → CanBeSaid side m → read side (canonical m) ≡ Ok m }
 {
     written_is_read();
@@ -55,13 +55,14 @@ pub fn flags_tell_versions()
 
 /// Where one of two nodes knows version 5 alone, they have no flags in common but those of the lower half.
 pub fn low_halves_suffice()
-    ensures { (own other : Setup) → (knows_six own && knows_six other) ≡ false → common (announced_by own) (low_half (announced_by other)) ≡ common (announced_by own) (announced_by other) }
+    ensures { (own other : Setup) → (knows_six own && knows_six other) ≡ false
+        → common (announced_by own) (low_half (announced_by other)) ≡ common (announced_by own) (announced_by other) }
 {}
 
 /// Which digests a change of cookies leaves: for every other peer those that were, where one peer's cookie changes; for each peer
 /// that has its own those that were, where the usual one does; and all, where the names change that may connect.
 pub fn other_digests_stay()
-    ensures peer { (s : Setup) (p q : Name) (cookie : List ℕ) → same_name p q ≡ false → DigestsStay s (keyed s p cookie) q }
+    ensures peer { (s : Setup) (p q : Name) (cookie : List ℕ) → same_name p q ≡ false → DigestsStay s (with_own_cookie s p cookie) q }
     ensures usual { (s : Setup) (p : Name) (cookie : List ℕ) → has_own_cookie s p ≡ true → DigestsStay s (keyed_usually s cookie) p }
     ensures allowed { (s : Setup) (names : Option (List Name)) (p : Name) → DigestsStay s (letting_in s names) p }
 {}

@@ -1,6 +1,7 @@
 //! The frames that a node sends.
 ghost use Rattle.std.specs.Prelude.{◌≡◌, ◌++◌, IfOk};
-ghost use Rattle.dist_core_setup.specs.Saying.{frame_of, CanBeSaid, status_text, name_text, challenge_text, greeting_text, reply_text, ack_text, reply_message, complement_message};
+ghost use Rattle.dist_core_setup.specs.Saying.{frame_of, CanBeSaid, status_text, name_text, challenge_text, greeting_text, reply_text, ack_text};
+ghost use Rattle.dist_core_setup.specs.Saying.{reply_message, complement_message};
 
 use crate::checks::{announced_by, opens_new, own_digest};
 use crate::setup::Setup;

@@ -3,7 +3,7 @@ use Rattle.std.proofs.Common.{◌≡◌, ℕ, ◌+◌, ◌≤◌, Bool, List, []
 use Rattle.std.specs.Prelude.{is_some, true, false, ◌||◌}
 use Rattle.std.proofs.lemmas.List.{append-nil, map-append, take-append-drop}
 use Rattle.std.specs.Io.KnownBytes.{prepend_known, append_known}
-use Rattle.dist_frames.specs.Reader.{Reader, Short, Linked, fed, next_body, without_next, told, to_come}
+use Rattle.dist_frames.specs.Reader.{Reader, Short, Linked, with_bytes, next_body, without_next, without_count, to_come}
 use Rattle.dist_frames.specs.History.{IsBytes}
 use Rattle.dist_peers.specs.declared.entry.EndId.{EndId}
 use Rattle.dist_core_ends.specs.declared.why.Why.{Why}
@@ -234,7 +234,7 @@ module _ (laws : FrameLaws) {D W : Type 0} (facts : DeskFacts D) (gives : Gives 
   -- a piece came to the reader
   pub hears_on : (start : Start D W) (place : Place D W) (stream : StreamState) (left : ℕ) (reader : Reader) (piece : List ℕ)
       → Runs facts gives start place reader → Hears place.stream stream place.left left None piece → IsBytes piece → length piece ≤ 4096 → place.left ≡ left + 1
-      → Runs facts gives start (read_to place stream left) (told (fed reader piece))
+      → Runs facts gives start (read_to place stream left) (without_count (with_bytes reader piece))
   hears_on start place stream left reader piece p hears bytes small turn =
       let made = spent start.stream.calls start.limit place.left left p.within p.turns hears.spends in
       record {
@@ -252,7 +252,7 @@ module _ (laws : FrameLaws) {D W : Type 0} (facts : DeskFacts D) (gives : Gives 
         ended = hears.spends.ended ∙ p.ended;
         read_failed = hears.spends.read_failed ∙ p.read_failed;
         write_failed = hears.spends.write_failed ∙ p.write_failed;
-        keeps = keeps_told (p.input ++ piece) p.frames p.steps (fed reader piece) (keeps_fed laws p.input piece p.frames p.steps reader bytes p.keeps);
+        keeps = keeps_told (p.input ++ piece) p.frames p.steps (with_bytes reader piece) (keeps_fed laws p.input piece p.frames p.steps reader bytes p.keeps);
       }
 
   -- the read was refused
@@ -292,7 +292,7 @@ module _ (laws : FrameLaws) {D W : Type 0} (facts : DeskFacts D) (gives : Gives 
       subst P (endings_same e (ending_of_stream h.error) h.ends) (unheard start place stream left reader h.error p none h.hears)
   piece_ends start place stream left reader holds e p none (inr h) =
       let P : Ending → Type 0 = λ x. Carries facts gives start (finish_at (read_to place stream left)) x in
-      subst P (sym h.ends) (lacks start (read_to place stream left) (told (fed reader h.piece)) place.draws (hears_on start place stream left reader h.piece p h.hears h.bytes h.small h.turn) (inl refl))
+      subst P (sym h.ends) (lacks start (read_to place stream left) (without_count (with_bytes reader h.piece)) place.draws (hears_on start place stream left reader h.piece p h.hears h.bytes h.small h.turn) (inl refl))
 
   -- one came
   pub piece_comes : (start : Start D W) (place : Place D W) (stream : StreamState) (left : ℕ) (reader holds : Reader) (x : Unit {0})

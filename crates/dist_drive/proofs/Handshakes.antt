@@ -4,8 +4,8 @@ use Rattle.std.specs.List.{flat_map}
 use Rattle.std.specs.Int.{w16}
 use Rattle.std.proofs.lemmas.List.{append-nil}
 use Rattle.std.specs.Io.KnownBytes.{prepend_known}
-use Rattle.dist_frames.specs.Stream.{framed}
-use Rattle.dist_frames.specs.Reader.{Reader, Short, Linked, linked, rest_of}
+use Rattle.dist_frames.specs.Stream.{body_frame}
+use Rattle.dist_frames.specs.Reader.{Reader, Short, Linked, as_linked, rest_of}
 use Rattle.dist_core_ends.specs.declared.known.UpRecord.{UpRecord}
 use Rattle.dist_drive.specs.Desks.{DeskFacts}
 use Rattle.dist_drive.specs.Numbers.{Gives}
@@ -25,13 +25,13 @@ pub comes_up : FrameLaws → {D W : Type 0} (facts : DeskFacts D) (gives : Gives
 comes_up laws facts gives start place (Short pending) kept rest goes up rest_is open_ =
     let runs = goes.runs in
     let keeps = goes.rest refl in
-    let input_is : runs.input ≡ flat_map (framed w16) runs.frames ++ rest = keeps.accounts.whole ∙ ap (λ (l : List ℕ). flat_map (framed w16) runs.frames ++ l) (sym rest_is) in
+    let input_is : runs.input ≡ flat_map (body_frame w16) runs.frames ++ rest = keeps.accounts.whole ∙ ap (λ (l : List ℕ). flat_map (body_frame w16) runs.frames ++ l) (sym rest_is) in
     record {
       frames = runs.frames;
       steps = runs.steps;
       left = place.left;
       input_is = runs.input_is ∙ ap (λ (l : List ℕ). prepend_known l place.stream.unread) input_is;
-      frames_are = sym (ap (λ (l : List ℕ). frames_of l runs.steps) (sym input_is) ∙ frames_are laws runs.input runs.frames runs.steps (linked (Short pending)) (same_length start.end_ runs.steps runs.frames runs.events) runs.keeps ∙ append-nil runs.frames);
+      frames_are = sym (ap (λ (l : List ℕ). frames_of l runs.steps) (sym input_is) ∙ frames_are laws runs.input runs.frames runs.steps (as_linked (Short pending)) (same_length start.end_ runs.steps runs.frames runs.events) runs.keeps ∙ append-nil runs.frames);
       list_is = runs.list_is;
       events = runs.events;
       numbers = runs.numbers;

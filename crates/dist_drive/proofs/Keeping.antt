@@ -8,7 +8,7 @@ use Rattle.std.proofs.lemmas.List.{append-nil}
 use Rattle.std.proofs.lemmas.List.Folds.{position_or_len_push}
 use Rattle.std.proofs.Math.Seq.{take-append_seam}
 use Rattle.dist_frames.specs.Stream.{first_body, after_first, bodies}
-use Rattle.dist_frames.specs.Reader.{Reader, Short, Linked, fed, next_body, without_next, linked, told, to_come}
+use Rattle.dist_frames.specs.Reader.{Reader, Short, Linked, with_bytes, next_body, without_next, as_linked, without_count, to_come}
 use Rattle.dist_frames.specs.History.{Accounts, IsBytes}
 use Rattle.dist_drive.specs.Desks.{Step}
 use Rattle.dist_drive.specs.Driven.{is_up, through, frames_of, next_frame}
@@ -105,17 +105,17 @@ keeps_rest laws input frames steps s body pending is e k =
     last_brings_up input (frames ++ body ∷ []) steps s (after_first w16 pending) is k.none_up (laws.moved_on input frames pending body k.accounts e)
 
 -- a linked reader shows no frame
-pub none_linked : (r : Reader) → to_come (linked r) ≡ []
+pub none_linked : (r : Reader) → to_come (as_linked r) ≡ []
 none_linked (Short pending) = refl
 none_linked (Linked ended rest) = refl
 
 -- ---- more bytes
 
-pub keeps_fed : FrameLaws → (input piece : List ℕ) (frames : List (List ℕ)) (steps : List Step) (r : Reader) → IsBytes piece → Keeps input frames steps r → Keeps (input ++ piece) frames steps (fed r piece)
+pub keeps_fed : FrameLaws → (input piece : List ℕ) (frames : List (List ℕ)) (steps : List Step) (r : Reader) → IsBytes piece → Keeps input frames steps r → Keeps (input ++ piece) frames steps (with_bytes r piece)
 keeps_fed laws input piece frames steps (Short pending) bytes k = record { accounts = laws.fed_on input piece frames pending k.accounts bytes; none_up = k.none_up }
 keeps_fed laws input piece frames steps (Linked ended rest) bytes (more, k) = (more ++ piece, record { accounts = laws.fed_on input piece frames more k.accounts bytes; last_up = k.last_up })
 
-pub keeps_told : (input : List ℕ) (frames : List (List ℕ)) (steps : List Step) (r : Reader) → Keeps input frames steps r → Keeps input frames steps (told r)
+pub keeps_told : (input : List ℕ) (frames : List (List ℕ)) (steps : List Step) (r : Reader) → Keeps input frames steps r → Keeps input frames steps (without_count r)
 keeps_told input frames steps (Short pending) k = k
 keeps_told input frames steps (Linked ended rest) k = k
 

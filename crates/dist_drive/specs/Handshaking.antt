@@ -3,7 +3,7 @@ use Rattle.std.specs.Prelude.{◌≡◌, ℕ, ◌-◌, ◌*◌, ◌≤◌, List,
 use Rattle.std.specs.List.{flat_map}
 use Rattle.std.specs.Int.{w16}
 use Rattle.std.specs.Io.KnownBytes.{prepend_known, append_known}
-use Rattle.dist_frames.specs.Stream.{framed}
+use Rattle.dist_frames.specs.Stream.{body_frame}
 use Rattle.dist_core_ends.specs.declared.known.UpRecord.{UpRecord}
 use Rattle.dist_core.specs.declared.reply.Reply.{Reply}
 use Rattle.dist_stream.specs.Turns.{Rises}
@@ -27,9 +27,9 @@ module _ {D W : Type 0} (facts : DeskFacts D) (gives : Gives W) (start : Start D
     -- how many reads and writes are left
     pub left : ℕ
     -- No byte that was read is lost.
-    pub input_is : start.stream.unread ≡ prepend_known (flat_map (framed w16) frames ++ rest) finish.stream.unread
+    pub input_is : start.stream.unread ≡ prepend_known (flat_map (body_frame w16) frames ++ rest) finish.stream.unread
     -- The frames are those of the call, up to and with the one whose reply brings the end up.
-    pub frames_are : frames ≡ frames_of (flat_map (framed w16) frames ++ rest) steps
+    pub frames_are : frames ≡ frames_of (flat_map (body_frame w16) frames ++ rest) steps
     -- They are handed on, in order.
     pub events : map event_of steps ≡ events_of start.end_ frames
     -- The desk's list grows by their steps.
@@ -44,7 +44,7 @@ module _ {D W : Type 0} (facts : DeskFacts D) (gives : Gives W) (start : Start D
     pub within : left ≤ start.limit
     pub turns : Rises (start.limit - left) start.stream.calls finish.stream.calls
     -- No read gives more than 4,096 bytes.
-    pub pieces : length (flat_map (framed w16) frames ++ rest) ≤ 4096 * (start.limit - left)
+    pub pieces : length (flat_map (body_frame w16) frames ++ rest) ≤ 4096 * (start.limit - left)
     -- No mark is set.
     pub ended : finish.stream.ended ≡ start.stream.ended
     pub read_failed : finish.stream.read_failed ≡ start.stream.read_failed

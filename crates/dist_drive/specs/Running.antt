@@ -3,7 +3,7 @@ use Rattle.std.specs.Prelude.{◌≡◌, ℕ, suc, ◌+◌, ◌-◌, ◌*◌, �
 use Rattle.std.specs.Prelude.{Option, Some, None, is_some, Result, Ok, Err, IfOk, IfErr, OnOk, eqb, if◌then◌else◌}
 use Rattle.std.specs.List.{position_or_len}
 use Rattle.std.specs.Io.KnownBytes.{prepend_known, append_known}
-use Rattle.dist_frames.specs.Reader.{Reader, Short, Linked, fed, linked, told}
+use Rattle.dist_frames.specs.Reader.{Reader, Short, Linked, with_bytes, as_linked, without_count}
 use Rattle.dist_frames.specs.History.{Accounts, IsBytes}
 use Rattle.dist_peers.specs.declared.entry.EndId.{EndId}
 use Rattle.dist_core_ends.specs.declared.why.Why.{Why}
@@ -45,7 +45,7 @@ Keeps input frames steps (Linked ended rest) = (more : List ℕ) × KeepsLinked 
 
 -- the reader once it is known whether the last frame brought the end up: then all that follows is packets
 abbrev pub after_step : Bool → Reader → Reader
-after_step up r = if up then linked r else r
+after_step up r = if up then as_linked r else r
 
 -- the last frame that was handed on brought the end up, and the reader, which is not yet linked, holds what stood behind it
 abbrev pub KeepsUp : List ℕ → List (List ℕ) → List Step → Reader → Type 0
@@ -132,8 +132,8 @@ own_why end_ (Some x) = if eqb x.0.0 end_.0 then Some x.1 else None
 -- whether the call goes on after a reply was written, or not whole
 abbrev pub after_reply : Option Why → Option TurnError → Result (Unit {0}) Ending
 after_reply own (Some fault.Limit) = Err ending.Limit
-after_reply (Some w) told = Err (ending.Shut w)
-after_reply None (Some told) = Err (ending.Fault why.WriteFailed)
+after_reply (Some w) without_count = Err (ending.Shut w)
+after_reply None (Some without_count) = Err (ending.Fault why.WriteFailed)
 after_reply None None = Ok tt
 
 -- what a reply says was written, or a front of it
@@ -237,7 +237,7 @@ pub record HearsSome (old new : StreamState) (turns left : ℕ) (held holds : Re
   -- One turn was taken.
   pub turn : turns ≡ left + 1
   -- The reader has the piece.
-  pub holds_is : OnOk result (holds ≡ told (fed held piece))
+  pub holds_is : OnOk result (holds ≡ without_count (with_bytes held piece))
   -- The call ends only where memory ran out.
   pub ends : IfErr result (λ e. e ≡ ending.Fault why.NoMemory)
 

@@ -3,7 +3,7 @@ ghost use Rattle.std.specs.Prelude.{◌≡◌, ◌<◌, ◌≤◌, ◌+◌, ◌+
 ghost use Rattle.dist_drive.specs.Desks.{Step};
 ghost use Rattle.dist_drive.specs.Driven.{Carries, Drives, IsOnlyGone, LeavesUnread, TellsLoss};
 ghost use Rattle.dist_frames.specs.Reader.Reader.{Short};
-ghost use Rattle.dist_frames.specs.Reader.{next_body, without_next, to_come, fed, told};
+ghost use Rattle.dist_frames.specs.Reader.{next_body, without_next, to_come, with_bytes, without_count};
 ghost use Rattle.dist_frames.specs.History.{IsBytes};
 ghost use Rattle.dist_stream.specs.Turns.{fault_of};
 ghost use Rattle.dist_drive.specs.Running.{after_reply, after_step, ending_of_refusal, ending_of_stream, own_why};
@@ -175,7 +175,7 @@ fn hand_on_all<S: Stream, D: Desk, W: Draws>(
 
 // Gives a piece to the reader. Packets are dropped at once.
 fn keep_piece(frames: &mut Frames, piece: &[u8]) -> Result<(), Ending>
-    ensures ok { OnOk result (frames.new ≡ told (fed frames.old piece.now)) }
+    ensures ok { OnOk result (frames.new ≡ without_count (with_bytes frames.old piece.now)) }
     ensures err { IfErr result (λ e. e ≡ Ending.Fault Why.NoMemory) }
     ensures bytes { IsBytes piece.now }
 {

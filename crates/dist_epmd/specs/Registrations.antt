@@ -64,15 +64,15 @@ abbrev pub with_row : Row → List Row → List Row
 with_row row rows = insert rows (position_or_len (is_behind row.info.name) rows) row
 
 -- the registrations with one more, which takes the next creation
-abbrev pub registered : ℕ → NodeInfo → Registrations → Registrations
-registered conn info registrations = record registrations {
+abbrev pub with_registration : ℕ → NodeInfo → Registrations → Registrations
+with_registration conn info registrations = record registrations {
   next = registrations.next + 1;
   rows = with_row (record { conn = conn; info = info; creation = registrations.next }) registrations.rows;
 }
 
 -- the registrations after one that comes on a connection: a refusal changes nothing
 abbrev pub after_request : ℕ → NodeInfo → Registrations → Registrations
-after_request conn info registrations = if is_accepted conn info registrations then registered conn info registrations else registrations
+after_request conn info registrations = if is_accepted conn info registrations then with_registration conn info registrations else registrations
 
 -- the registrations once a connection is closed
 abbrev pub after_closed : ℕ → Registrations → Registrations
@@ -85,20 +85,20 @@ abbrev pub short_creation : ℕ → ℕ
 short_creation creation = (creation + 2) % 3 + 1
 
 -- the answer that carries this creation, by the node's highest version
-abbrev pub given : NodeInfo → ℕ → Answer
-given info creation = if nat_lt info.highest 6 then answer.Alive 0 (short_creation creation) else answer.AliveX 0 creation
+abbrev pub creation_answer : NodeInfo → ℕ → Answer
+creation_answer info creation = if nat_lt info.highest 6 then answer.Alive 0 (short_creation creation) else answer.AliveX 0 creation
 
 -- the answer that refuses
-abbrev pub refused : NodeInfo → Answer
-refused info = if nat_lt info.highest 6 then answer.Alive 1 0 else answer.AliveX 1 0
+abbrev pub refusal_answer : NodeInfo → Answer
+refusal_answer info = if nat_lt info.highest 6 then answer.Alive 1 0 else answer.AliveX 1 0
 
 -- the answer to a registration that comes on a connection
 abbrev pub answer_to : ℕ → NodeInfo → Registrations → Answer
-answer_to conn info registrations = if is_accepted conn info registrations then given info registrations.next else refused info
+answer_to conn info registrations = if is_accepted conn info registrations then creation_answer info registrations.next else refusal_answer info
 
 -- what the node of this name said of itself, where it is registered
-abbrev pub found : List ℕ → Registrations → Option NodeInfo
-found name registrations = option_map (λ row. row.info) (find (is_named name) registrations.rows)
+abbrev pub registered_info : List ℕ → Registrations → Option NodeInfo
+registered_info name registrations = option_map (λ row. row.info) (find (is_named name) registrations.rows)
 
 -- the line of a row among all names
 abbrev pub line_of : Row → List ℕ

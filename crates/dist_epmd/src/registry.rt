@@ -2,7 +2,7 @@
 
 ghost use Rattle.std.specs.Prelude.{◌≡◌, ◌∷◌, ◌++◌, IfOk, OnOk, OnErr, IsTrue, flat_map, option_copied};
 ghost use Rattle.dist_epmd.specs.Registrations.{Registrations, IsLegal, opening, is_accepted, after_request, after_closed};
-ghost use Rattle.dist_epmd.specs.Registrations.{answer_to, given, refused, found, line_of, names_text};
+ghost use Rattle.dist_epmd.specs.Registrations.{answer_to, creation_answer, refusal_answer, registered_info, line_of, names_text};
 
 use crate::message::{AliveReq, Answer, PortInfo};
 use crate::row::Row;
@@ -22,7 +22,7 @@ const NEWER: u16 = 6;
 
 // The answer that carries this creation, by the node's highest version.
 fn registered_answer(request: &AliveReq, creation: u32) -> Answer
-    ensures { result ≡ given request.now creation }
+    ensures { result ≡ creation_answer request.now creation }
 {
     if request.highest < NEWER {
         Answer::Alive {
@@ -39,7 +39,7 @@ fn registered_answer(request: &AliveReq, creation: u32) -> Answer
 
 // The answer that refuses.
 fn refusal(request: &AliveReq) -> Answer
-    ensures { result ≡ refused request.now }
+    ensures { result ≡ refusal_answer request.now }
 {
     if request.highest < NEWER {
         Answer::Alive {
@@ -140,7 +140,7 @@ impl Registry {
 
     /// What the node of this name said of itself, as it came. It takes no memory.
     pub fn port_please(&self, name: &[u8]) -> Option<&PortInfo>
-        ensures found { option_copied result ≡ found name.now self.now }
+        ensures found { option_copied result ≡ registered_info name.now self.now }
 
         // No two registrations share a name, a connection or a creation, and the next creation is above all of them.
         ensures legal { IsLegal self.now }

@@ -3,7 +3,7 @@ use Rattle.std.proofs.Common.{◌≡◌, ℕ, ◌^◌, ◌<◌, ◌≤◌, List,
 use Rattle.std.proofs.lemmas.List.{length-take-le}
 use Rattle.std.proofs.lemmas.Nat.{be_bytes_2}
 use Rattle.std.specs.Int.{w16, to_be_bytes, from_be_bytes}
-use Rattle.dist_frames.specs.Stream.{framed}
+use Rattle.dist_frames.specs.Stream.{body_frame}
 use Rattle.dist_stream.specs.declared.turn_error.TurnError.{TurnError}
 use Rattle.dist_stream.specs.Stream.{StreamState}
 use Rattle.dist_stream.specs.Turns.{HearsFront}
@@ -44,11 +44,11 @@ frame_cut most len e room all p q =
 
 pub frame_whole : {old mid new : StreamState} {turns between left : ℕ} (most len : ℕ) (room body : List ℕ) → len ≤ most → length room ≡ len → body ≡ room → HearsLen old mid turns between (Ok len) → HearsFront mid new between left None room → HearsFrame old new turns left most (arrived.Body body)
 frame_whole most len room body within all same p q =
-    let front : p.heard ++ room ≡ framed w16 room = ap (λ (l : List ℕ). l ++ room) (p.whole.0 ∙ ap (to_be_bytes w16) (sym all)) in
+    let front : p.heard ++ room ≡ body_frame w16 room = ap (λ (l : List ℕ). l ++ room) (p.whole.0 ∙ ap (to_be_bytes w16) (sym all)) in
     let size : length body ≡ len = ap length same ∙ all in
     let fits : length body ≤ most = omega arith in
     record {
       heard = p.heard ++ room;
       hears = Hears-trans p.hears (all_heard room q);
-      means = (front ∙ ap (framed w16) (sym same), fits);
+      means = (front ∙ ap (body_frame w16) (sym same), fits);
     }

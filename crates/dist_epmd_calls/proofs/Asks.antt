@@ -3,7 +3,7 @@ use Rattle.std.proofs.Common.{◌≡◌, ℕ, ◌≤◌, Bool, true, false, cond
 use Rattle.std.proofs.lemmas.List.{append-nil, take-append-drop}
 use Rattle.std.specs.Prelude.{IsOk, IsErrAnd}
 use Rattle.std.specs.Int.{w16}
-use Rattle.dist_frames.specs.Stream.{framed}
+use Rattle.dist_frames.specs.Stream.{body_frame}
 use Rattle.dist_epmd.specs.declared.epmd_error.EpmdError.{EpmdError}
 use Rattle.dist_epmd.specs.declared.epmd_error.EpmdError.TheVariants as epmd
 use Rattle.dist_epmd.specs.declared.message.Asked.{Asked}
@@ -175,7 +175,7 @@ no_bytes e heard said frame h = let no : bad e ≡ good heard = h.0 in absurd cc
 
 -- the bytes were not had
 pub refusal_of : {X : Type 0} (asked : Asked) (w : Result (List ℕ) EpmdError) (old new : StreamState) (limit : ℕ) (means : List ℕ → Result X LookupError) (e : LookupError) → ExchangesWritten w old new limit (Err e) → AsksWritten w old new limit asked means (Err e)
-refusal_of {X = X} asked (Ok body) old new limit means e a = record { said = a.said; heard = a.heard; stop = a.stop; talks = a.talks; whole = a.whole; tells = tells_as (List ℕ) X a.stop e (IsHeard (Err e) a.heard a.said (framed w16 body)) ((a.said ≡ framed w16 body) × Settles (Err e) (means a.heard) (read_answer asked a.heard)) (no_bytes e a.heard a.said (framed w16 body)) a.tells }
+refusal_of {X = X} asked (Ok body) old new limit means e a = record { said = a.said; heard = a.heard; stop = a.stop; talks = a.talks; whole = a.whole; tells = tells_as (List ℕ) X a.stop e (IsHeard (Err e) a.heard a.said (body_frame w16 body)) ((a.said ≡ body_frame w16 body) × Settles (Err e) (means a.heard) (read_answer asked a.heard)) (no_bytes e a.heard a.said (body_frame w16 body)) a.tells }
 refusal_of asked (Err why) old new limit means e a = (err_as e error.Malformed a.0, a.1)
 
 good_same : (a b : List ℕ) → good a ≡ good b → a ≡ b
@@ -190,7 +190,7 @@ meant None asked means bytes heard said frame r s t = absurd cc
 
 -- the bytes were had
 pub answer_of : {X : Type 0} (asked : Asked) (w : Result (List ℕ) EpmdError) (old new : StreamState) (limit : ℕ) (means : List ℕ → Result X LookupError) (bytes : List ℕ) (r : Result X LookupError) → Settles r (means bytes) (read_answer asked bytes) → ExchangesWritten w old new limit (Ok bytes) → AsksWritten w old new limit asked means r
-answer_of asked (Ok body) old new limit means bytes r s a = record { said = a.said; heard = a.heard; stop = a.stop; talks = a.talks; whole = a.whole; tells = meant a.stop asked means bytes a.heard a.said (framed w16 body) r s a.tells }
+answer_of asked (Ok body) old new limit means bytes r s a = record { said = a.said; heard = a.heard; stop = a.stop; talks = a.talks; whole = a.whole; tells = meant a.stop asked means bytes a.heard a.said (body_frame w16 body) r s a.tells }
 answer_of asked (Err why) old new limit means bytes r s a = absurd cc
 
 -- memory runs out before there is a request

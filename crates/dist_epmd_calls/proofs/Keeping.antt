@@ -8,7 +8,7 @@ use Rattle.dist_epmd.specs.declared.message.Request.TheVariants as request
 use Rattle.dist_epmd.specs.declared.message.Answer.{Answer}
 use Rattle.dist_epmd.specs.declared.message.Answer.TheVariants as answer
 use Rattle.dist_epmd.specs.declared.row.Row.{Row}
-use Rattle.dist_epmd.specs.Registrations.{Registrations, IsLegal, is_accepted, is_of, is_behind, registered, with_row, after_request, after_closed, given, refused, short_creation, answer_to}
+use Rattle.dist_epmd.specs.Registrations.{Registrations, IsLegal, is_accepted, is_of, is_behind, with_registration, with_row, after_request, after_closed, creation_answer, refusal_answer, short_creation, answer_to}
 use Rattle.dist_epmd.specs.History.{IsIn}
 use Rattle.dist_epmd.proofs.Histories.{in_insert, in_filter}
 use Rattle.dist_epmd.proofs.Legal.{registered_legal, closed_legal}
@@ -21,14 +21,14 @@ use Rattle.dist_epmd_calls.specs.Serving.{AfterCut, Serves, served_as}
 
 -- ---- the invariant
 
-request_legal : (conn : ℕ) (info : NodeInfo) (registrations : Registrations) (v : Bool) → is_accepted conn info registrations ≡ v → IsLegal registrations → IsLegal (cond v (registered conn info registrations) registrations)
+request_legal : (conn : ℕ) (info : NodeInfo) (registrations : Registrations) (v : Bool) → is_accepted conn info registrations ≡ v → IsLegal registrations → IsLegal (cond v (with_registration conn info registrations) registrations)
 request_legal conn info registrations true e legal = registered_legal conn info registrations legal e
 request_legal conn info registrations false e legal = legal
 
-allowed_legal : (before after : Registrations) (conn : ℕ) (asked : Request) (given : Answer) → Allows before conn asked given after → IsLegal before → IsLegal after
-allowed_legal before after conn (request.Alive info) given h legal = subst (λ (b : Registrations). IsLegal b) (sym h.1) (request_legal conn info before (is_accepted conn info before) refl legal)
-allowed_legal before after conn (request.PortPlease name) given h legal = subst (λ (b : Registrations). IsLegal b) (sym h.1) legal
-allowed_legal before after conn request.Names given h legal = subst (λ (b : Registrations). IsLegal b) (sym h.1) legal
+allowed_legal : (before after : Registrations) (conn : ℕ) (asked : Request) (creation_answer : Answer) → Allows before conn asked creation_answer after → IsLegal before → IsLegal after
+allowed_legal before after conn (request.Alive info) creation_answer h legal = subst (λ (b : Registrations). IsLegal b) (sym h.1) (request_legal conn info before (is_accepted conn info before) refl legal)
+allowed_legal before after conn (request.PortPlease name) creation_answer h legal = subst (λ (b : Registrations). IsLegal b) (sym h.1) legal
+allowed_legal before after conn request.Names creation_answer h legal = subst (λ (b : Registrations). IsLegal b) (sym h.1) legal
 
 cut_legal : (asked : Request) (conn : ℕ) (between after : Registrations) → AfterCut Leaves asked conn between after → IsLegal between → IsLegal after
 cut_legal (request.Alive info) conn between after h legal = subst (λ (b : Registrations). IsLegal b) (sym h) (closed_legal conn between legal)
@@ -63,18 +63,18 @@ given_well false info short next = refl
 
 -- so an accepted registration is answered with result 0
 is_registered : (conn : ℕ) (info : NodeInfo) (registrations : Registrations) → is_accepted conn info registrations ≡ true → served_as (request.Alive info) (answer_to conn info registrations) ≡ served.Registered
-is_registered conn info registrations e = ap (λ (b : Bool). served_as (request.Alive info) (cond b (given info registrations.next) (refused info))) e ∙ given_well (ltb info.highest 6) info (short_creation registrations.next) registrations.next
+is_registered conn info registrations e = ap (λ (b : Bool). served_as (request.Alive info) (cond b (creation_answer info registrations.next) (refusal_answer info))) e ∙ given_well (ltb info.highest 6) info (short_creation registrations.next) registrations.next
 
-refused_old : (conn : ℕ) (info : NodeInfo) (registrations : Registrations) (v : Bool) → is_accepted conn info registrations ≡ v → (v ≡ true → ⊥) → IsOld registrations (cond v (registered conn info registrations) registrations)
+refused_old : (conn : ℕ) (info : NodeInfo) (registrations : Registrations) (v : Bool) → is_accepted conn info registrations ≡ v → (v ≡ true → ⊥) → IsOld registrations (cond v (with_registration conn info registrations) registrations)
 refused_old conn info registrations true e unless = absurd (unless refl)
 refused_old conn info registrations false e unless = λ row m. m
 
-whole_old : (before after : Registrations) (conn : ℕ) (asked : Request) (given : Answer) (how : Served) → how ≡ served_as asked given → (how ≡ served.Registered → ⊥) → Allows before conn asked given after → IsOld before after
-whole_old before after conn (request.Alive info) given how is unless h =
+whole_old : (before after : Registrations) (conn : ℕ) (asked : Request) (creation_answer : Answer) (how : Served) → how ≡ served_as asked creation_answer → (how ≡ served.Registered → ⊥) → Allows before conn asked creation_answer after → IsOld before after
+whole_old before after conn (request.Alive info) creation_answer how is unless h =
     let shown = λ (e : is_accepted conn info before ≡ true). unless (is ∙ ap (λ (a : Answer). served_as (request.Alive info) a) h.0 ∙ is_registered conn info before e) in
     old_as before after (after_request conn info before) h.1 (refused_old conn info before (is_accepted conn info before) refl shown)
-whole_old before after conn (request.PortPlease name) given how is unless h = old_as before after before h.1 (λ row m. m)
-whole_old before after conn request.Names given how is unless h = old_as before after before h.1 (λ row m. m)
+whole_old before after conn (request.PortPlease name) creation_answer how is unless h = old_as before after before h.1 (λ row m. m)
+whole_old before after conn request.Names creation_answer how is unless h = old_as before after before h.1 (λ row m. m)
 
 own_row : (conn : ℕ) (info : NodeInfo) (next : ℕ) (row : Row) → not (is_of conn row) ≡ true → row ≡ record { conn = conn; info = info; creation = next } → ⊥
 own_row conn info next row kept e =
@@ -82,7 +82,7 @@ own_row conn info next row kept e =
     let own : not (is_of conn row) ≡ false = ap not (eq-eqb row.conn conn at) in
     cc
 
-closed_old : (conn : ℕ) (info : NodeInfo) (registrations : Registrations) (v : Bool) → is_accepted conn info registrations ≡ v → IsOld registrations (after_closed conn (cond v (registered conn info registrations) registrations))
+closed_old : (conn : ℕ) (info : NodeInfo) (registrations : Registrations) (v : Bool) → is_accepted conn info registrations ≡ v → IsOld registrations (after_closed conn (cond v (with_registration conn info registrations) registrations))
 closed_old conn info registrations true e row m =
     let kept = in_filter (λ r. not (is_of conn r)) row (with_row (record { conn = conn; info = info; creation = registrations.next }) registrations.rows) m in
     elim (in_insert row (record { conn = conn; info = info; creation = registrations.next }) registrations.rows (position_or_len (is_behind info.name) registrations.rows) kept.0) [
@@ -91,11 +91,11 @@ closed_old conn info registrations true e row m =
     ]
 closed_old conn info registrations false e row m = (in_filter (λ r. not (is_of conn r)) row registrations.rows m).0
 
-cut_old : (before between after : Registrations) (conn : ℕ) (asked : Request) (given : Answer) → Allows before conn asked given between → AfterCut Leaves asked conn between after → IsOld before after
-cut_old before between after conn (request.Alive info) given h closed =
+cut_old : (before between after : Registrations) (conn : ℕ) (asked : Request) (creation_answer : Answer) → Allows before conn asked creation_answer between → AfterCut Leaves asked conn between after → IsOld before after
+cut_old before between after conn (request.Alive info) creation_answer h closed =
     old_as before after (after_closed conn (after_request conn info before)) (closed ∙ ap (λ (b : Registrations). after_closed conn b) h.1) (closed_old conn info before (is_accepted conn info before) refl)
-cut_old before between after conn (request.PortPlease name) given h closed = old_as before after before (closed ∙ h.1) (λ row m. m)
-cut_old before between after conn request.Names given h closed = old_as before after before (closed ∙ h.1) (λ row m. m)
+cut_old before between after conn (request.PortPlease name) creation_answer h closed = old_as before after before (closed ∙ h.1) (λ row m. m)
+cut_old before between after conn request.Names creation_answer h closed = old_as before after before (closed ∙ h.1) (λ row m. m)
 
 abbrev well : Served → Result Served LookupError
 well how = Ok how

@@ -3,7 +3,7 @@ use Rattle.std.specs.Prelude.{◌≡◌, ℕ, ◌+◌, ◌<◌, ◌≤◌, ◌�
 use Rattle.std.specs.Int.{w16}
 use Rattle.std.specs.Io.KnownBytes.{prepend_known, append_known}
 use Rattle.dist_names.specs.declared.creation.Creation.{Creation}
-use Rattle.dist_frames.specs.Stream.{framed}
+use Rattle.dist_frames.specs.Stream.{body_frame}
 use Rattle.dist_epmd.specs.declared.epmd_error.EpmdError.{EpmdError}
 use Rattle.dist_epmd.specs.declared.message.NodeInfo.{NodeInfo}
 use Rattle.dist_epmd.specs.declared.message.Request.{Request}
@@ -98,7 +98,8 @@ IsUnsentOrSent frame said heard = ((said ≡ []) × (heard ≡ [])) ⊎ (said �
 
 -- One question whose answer is all that comes to the end of the stream, once the whole frame was written. Memory does not run out
 -- between two pieces of the frame.
-pub record Asks {X : Type 0} (old new : StreamState) (limit : ℕ) (frame : List ℕ) (asked : Asked) (means : List ℕ → Result X LookupError) (result : Result X LookupError) : Type 0 where
+pub record Asks {X : Type 0} (old new : StreamState) (limit : ℕ) (frame : List ℕ) (asked : Asked)
+    (means : List ℕ → Result X LookupError) (result : Result X LookupError) : Type 0 where
   pub said : List ℕ
   pub heard : List ℕ
   pub stop : Option TurnError
@@ -107,8 +108,9 @@ pub record Asks {X : Type 0} (old new : StreamState) (limit : ℕ) (frame : List
   pub tells : TellsBy stop result ((said ≡ frame) × Settles result (means heard) (read_answer asked heard))
 
 -- A request that fits no frame is refused, and the stream is as it was.
-abbrev pub AsksWritten : {X : Type 0} → Result (List ℕ) EpmdError → StreamState → StreamState → ℕ → Asked → (List ℕ → Result X LookupError) → Result X LookupError → Type 0
-AsksWritten (Ok body) old new limit asked means result = Asks old new limit (framed w16 body) asked means result
+abbrev pub AsksWritten : {X : Type 0} → Result (List ℕ) EpmdError → StreamState → StreamState → ℕ → Asked
+    → (List ℕ → Result X LookupError) → Result X LookupError → Type 0
+AsksWritten (Ok body) old new limit asked means result = Asks old new limit (body_frame w16 body) asked means result
 AsksWritten (Err why) old new limit asked means result = (result ≡ Err error.Malformed) × (new ≡ old)
 
 -- ONE QUESTION OF A CLIENT: what it writes, what it reads, how many turns it takes, and what the bytes mean
@@ -147,7 +149,7 @@ pub record Registers (old new : StreamState) (limit : ℕ) (frame : List ℕ) (r
 
 -- A request that fits no frame is refused, and the stream is as it was.
 abbrev pub RegistersWritten : Result (List ℕ) EpmdError → StreamState → StreamState → ℕ → Result Creation LookupError → Type 0
-RegistersWritten (Ok body) old new limit result = Registers old new limit (framed w16 body) result
+RegistersWritten (Ok body) old new limit result = Registers old new limit (body_frame w16 body) result
 RegistersWritten (Err why) old new limit result = (result ≡ Err error.Malformed) × (new ≡ old)
 
 -- ONE REGISTRATION OF A CLIENT: what it writes, what it reads, how many turns it takes, and what the answer means

@@ -2,7 +2,7 @@
 use Rattle.std.specs.Prelude.{◌≡◌, ℕ, ◌<◌, ◌≤◌, List, length, Option, Some, None}
 use Rattle.std.specs.Int.{w16}
 use Rattle.dist_names.specs.Bytes.{number}
-use Rattle.dist_frames.specs.Stream.{framed}
+use Rattle.dist_frames.specs.Stream.{body_frame}
 use Rattle.dist_stream.specs.Stream.{StreamState}
 use Rattle.dist_stream.specs.Turns.{Hears}
 use Rattle.dist_stream.specs.declared.turn_error.TurnError.{TurnError}
@@ -18,7 +18,7 @@ stop_of other = None
 -- What these bytes are that came, where a body has at most this many bytes: the frame of the body, a length above the most, a
 -- part of a frame, or the length of one.
 abbrev pub IsArrived : ℕ → Arrived → List ℕ → Type 0
-IsArrived most (arrived.Body body) heard = (heard ≡ framed w16 body) × (length body ≤ most)
+IsArrived most (arrived.Body body) heard = (heard ≡ body_frame w16 body) × (length body ≤ most)
 IsArrived most (arrived.Long len) heard = (heard ≡ number w16 len) × (most < len)
 IsArrived most (arrived.Stopped fault) heard = IsInside heard
 IsArrived most arrived.NoMemory heard = IsLength heard

@@ -6,7 +6,7 @@ use Rattle.dist_epmd.specs.declared.message.Request.{Request}
 use Rattle.dist_epmd.specs.declared.message.Request.TheVariants as request
 use Rattle.dist_epmd.specs.declared.message.Answer.{Answer}
 use Rattle.dist_epmd.specs.declared.message.Answer.TheVariants as answer
-use Rattle.dist_epmd.specs.Registrations.{Registrations, after_closed, after_request, answer_to, found, line_of}
+use Rattle.dist_epmd.specs.Registrations.{Registrations, after_closed, after_request, answer_to, registered_info, line_of}
 
 -- the answer to a lookup: what was found, or the result 1
 abbrev pub port_answer : Option NodeInfo → Answer
@@ -21,7 +21,7 @@ names_answer registrations = answer.Names registrations.port (flat_map line_of r
 -- answered by what is registered under that name, a question for all names by all lines.
 abbrev pub Allows : Registrations → ℕ → Request → Answer → Registrations → Type 0
 Allows before conn (request.Alive info) given after = (given ≡ answer_to conn info before) × (after ≡ after_request conn info before)
-Allows before conn (request.PortPlease name) given after = (given ≡ port_answer (found name before)) × (after ≡ before)
+Allows before conn (request.PortPlease name) given after = (given ≡ port_answer (registered_info name before)) × (after ≡ before)
 Allows before conn request.Names given after = (given ≡ names_answer before) × (after ≡ before)
 
 -- A closed connection takes its registration with it.

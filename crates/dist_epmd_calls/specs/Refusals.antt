@@ -8,15 +8,15 @@ use Rattle.dist_epmd_calls.specs.declared.lookup_error.LookupError.{LookupError}
 use Rattle.dist_epmd_calls.specs.declared.lookup_error.LookupError.TheVariants as error
 
 -- the variant's name
-abbrev pub error_name : LookupError → List ℕ
-error_name error.NotThere = codes "NotThere"
-error_name error.Malformed = codes "Malformed"
-error_name error.ReadFailed = codes "ReadFailed"
-error_name error.WriteFailed = codes "WriteFailed"
-error_name error.Ended = codes "Ended"
-error_name error.NoMemory = codes "NoMemory"
-error_name error.Limit = codes "Limit"
-error_name (error.Refused code) = codes "Refused"
+abbrev pub lookup_error_name : LookupError → List ℕ
+lookup_error_name error.NotThere = codes "NotThere"
+lookup_error_name error.Malformed = codes "Malformed"
+lookup_error_name error.ReadFailed = codes "ReadFailed"
+lookup_error_name error.WriteFailed = codes "WriteFailed"
+lookup_error_name error.Ended = codes "Ended"
+lookup_error_name error.NoMemory = codes "NoMemory"
+lookup_error_name error.Limit = codes "Limit"
+lookup_error_name (error.Refused code) = codes "Refused"
 
 -- a fault of the stream, as it is returned
 abbrev pub lookup_error : TurnError → LookupError

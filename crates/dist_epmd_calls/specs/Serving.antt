@@ -3,7 +3,7 @@ use Rattle.std.specs.Prelude.{◌≡◌, ◌≢◌, ℕ, ◌^◌, ◌<◌, ◌�
 use Rattle.std.specs.Int.{w16}
 use Rattle.dist_names.specs.Bytes.{number}
 use Rattle.std.specs.Io.KnownBytes.{prepend_known, append_known}
-use Rattle.dist_frames.specs.Stream.{framed}
+use Rattle.dist_frames.specs.Stream.{body_frame}
 use Rattle.dist_epmd.specs.declared.epmd_error.EpmdError.{EpmdError}
 use Rattle.dist_epmd.specs.declared.message.Request.{Request}
 use Rattle.dist_epmd.specs.declared.message.Request.TheVariants as request
@@ -25,13 +25,13 @@ use Rattle.dist_epmd_calls.specs.Refusals.{lookup_error}
 -- The bytes are the frame of this request.
 pub record BringsRequest (heard : List ℕ) (request : Request) : Type 0 where
   pub body : List ℕ
-  pub framed : heard ≡ framed w16 body
+  pub framed : heard ≡ body_frame w16 body
   pub read : read_request body ≡ Ok request
 
 -- The bytes are the frame of no request.
 pub record BringsNone (heard : List ℕ) : Type 0 where
   pub body : List ℕ
-  pub framed : heard ≡ framed w16 body
+  pub framed : heard ≡ body_frame w16 body
   pub read : IsErr (read_request body)
 
 -- The bytes end inside a frame: in its length, or before as many bytes came as that says.
@@ -44,7 +44,7 @@ IsLength heard = (len : ℕ) × (len < 2 ^ 16) × (heard ≡ number w16 len)
 
 -- The bytes are the length of a frame alone, or the frame of a request.
 abbrev pub IsLengthOrFrame : List ℕ → Type 0
-IsLengthOrFrame heard = IsLength heard ⊎ ((body : List ℕ) × (heard ≡ framed w16 body) × IsOk (read_request body))
+IsLengthOrFrame heard = IsLength heard ⊎ ((body : List ℕ) × (heard ≡ body_frame w16 body) × IsOk (read_request body))
 
 -- What the bytes that came ask for, or why no request came: the fault of the stream, and it came inside a frame; or
 -- without one a frame that asks for nothing, or memory that ran out.
@@ -88,7 +88,8 @@ AfterCut leaves (request.Alive info) conn between after = leaves between conn af
 AfterCut leaves other conn between after = after ≡ between
 
 -- The mapper answered, and its answer was written whole.
-pub record AnswersWhole {M : Type 0} (allows : M → ℕ → Request → Answer → M → Type 0) (conn : ℕ) (before after : M) (request : Request) (stop : Option TurnError) (how : Served) (said : List ℕ) : Type 0 where
+pub record AnswersWhole {M : Type 0} (allows : M → ℕ → Request → Answer → M → Type 0) (conn : ℕ) (before after : M)
+    (request : Request) (stop : Option TurnError) (how : Served) (said : List ℕ) : Type 0 where
   pub answer : Answer
   pub allowed : allows before conn request answer after
   pub text : written_answer answer ≡ Ok said
@@ -99,7 +100,8 @@ abbrev pub bad : LookupError → Result (Unit {0}) LookupError
 bad why = Err why
 
 -- The mapper answered, and its answer was written in part or not at all.
-pub record AnswersCut {M : Type 0} (allows : M → ℕ → Request → Answer → M → Type 0) (leaves : M → ℕ → M → Type 0) (conn : ℕ) (before after : M) (request : Request) (stop : Option TurnError) (why : LookupError) (said : List ℕ) : Type 0 where
+pub record AnswersCut {M : Type 0} (allows : M → ℕ → Request → Answer → M → Type 0) (leaves : M → ℕ → M → Type 0) (conn : ℕ)
+    (before after : M) (request : Request) (stop : Option TurnError) (why : LookupError) (said : List ℕ) : Type 0 where
   pub answer : Answer
   pub between : M
   pub allowed : allows before conn request answer between
@@ -114,9 +116,11 @@ pub record AnswersNone {M : Type 0} (before after : M) (stop : Option TurnError)
   pub same : after ≡ before
 
 -- what becomes of a request that came
-abbrev pub Replies : {M : Type 0} → (M → ℕ → Request → Answer → M → Type 0) → (M → ℕ → M → Type 0) → ℕ → M → M → Request → Option TurnError → Result Served LookupError → List ℕ → Type 0
+abbrev pub Replies : {M : Type 0} → (M → ℕ → Request → Answer → M → Type 0) → (M → ℕ → M → Type 0)
+    → ℕ → M → M → Request → Option TurnError → Result Served LookupError → List ℕ → Type 0
 Replies allows leaves conn before after request stop (Ok how) said = AnswersWhole allows conn before after request stop how said
-Replies allows leaves conn before after request stop (Err why) said = AnswersNone before after stop why said ⊎ AnswersCut allows leaves conn before after request stop why said
+Replies allows leaves conn before after request stop (Err why) said =
+    AnswersNone before after stop why said ⊎ AnswersCut allows leaves conn before after request stop why said
 
 -- ---- the whole
 
@@ -132,13 +136,15 @@ pub record Unrequested {M : Type 0} (before after : M) (stop : Option TurnError)
   pub same : after ≡ before
 
 -- One request that came was answered, or the call was refused on the way.
-pub record Requested {M : Type 0} (allows : M → ℕ → Request → Answer → M → Type 0) (leaves : M → ℕ → M → Type 0) (conn : ℕ) (before after : M) (stop : Option TurnError) (result : Result Served LookupError) (said heard : List ℕ) : Type 0 where
+pub record Requested {M : Type 0} (allows : M → ℕ → Request → Answer → M → Type 0) (leaves : M → ℕ → M → Type 0) (conn : ℕ)
+    (before after : M) (stop : Option TurnError) (result : Result Served LookupError) (said heard : List ℕ) : Type 0 where
   pub request : Request
   pub came : BringsRequest heard request
   pub replies : Replies allows leaves conn before after request stop result said
 
 -- ONE REQUEST SERVED: what was written and read, how many turns it took, and what became of the mapper
-pub record Serves {M : Type 0} (allows : M → ℕ → Request → Answer → M → Type 0) (leaves : M → ℕ → M → Type 0) (conn limit : ℕ) (old new : StreamState) (before after : M) (result : Result Served LookupError) : Type 0 where
+pub record Serves {M : Type 0} (allows : M → ℕ → Request → Answer → M → Type 0) (leaves : M → ℕ → M → Type 0) (conn limit : ℕ)
+    (old new : StreamState) (before after : M) (result : Result Served LookupError) : Type 0 where
   pub said : List ℕ
   pub heard : List ℕ
   pub written : new.written ≡ append_known old.written said

@@ -2,7 +2,7 @@
 use Rattle.std.specs.Prelude.{◌≡◌, ℕ, ◌^◌, ◌<◌, ◌≤◌, List, ◌++◌, length, take, Option, Some, None, Result, Ok, Err, IsOk, IfOk, OnErr}
 use Rattle.std.specs.Int.{w16}
 use Rattle.dist_names.specs.Bytes.{number}
-use Rattle.dist_frames.specs.Stream.{framed}
+use Rattle.dist_frames.specs.Stream.{body_frame}
 use Rattle.dist_epmd.specs.declared.epmd_error.EpmdError.{EpmdError}
 use Rattle.dist_epmd.specs.declared.message.Request.{Request}
 use Rattle.dist_epmd.specs.declared.message.Answer.{Answer}
@@ -21,7 +21,7 @@ use Rattle.dist_epmd_calls.specs.Serving.{IsInside, IsLength, Came, IsSaid, Repl
 
 -- the frame of what is written, or why there is none
 abbrev pub IsFrameOf : Result (List ℕ) LookupError → Result (List ℕ) EpmdError → Type 0
-IsFrameOf (Ok frame) written = (body : List ℕ) × (written ≡ Ok body) × (frame ≡ framed w16 body)
+IsFrameOf (Ok frame) written = (body : List ℕ) × (written ≡ Ok body) × (frame ≡ body_frame w16 body)
 IsFrameOf (Err error.Malformed) written = (why : EpmdError) × (written ≡ Err why)
 IsFrameOf (Err error.NoMemory) written = IsOk written
 IsFrameOf result written = ⊥
@@ -44,7 +44,7 @@ pub record Exchanges (old new : StreamState) (limit : ℕ) (result : Result (Lis
 
 -- A request that fits no frame is refused, and the stream is as it was.
 abbrev pub ExchangesWritten : Result (List ℕ) EpmdError → StreamState → StreamState → ℕ → Result (List ℕ) LookupError → Type 0
-ExchangesWritten (Ok body) old new limit result = Exchanges old new limit result (framed w16 body)
+ExchangesWritten (Ok body) old new limit result = Exchanges old new limit result (body_frame w16 body)
 ExchangesWritten (Err why) old new limit result = (result ≡ Err error.Malformed) × (new ≡ old)
 
 -- An answer to a registration was read to the front of the room, or a part of one.
@@ -67,7 +67,7 @@ pub record HearsLen (old new : StreamState) (turns left : ℕ) (result : Result 
 -- a frame came, or why none did
 abbrev pub FrameCame : Option TurnError → Result (List ℕ) LookupError → List ℕ → Type 0
 FrameCame (Some fault) result heard = (result ≡ Err (lookup_error fault)) × IsInside heard
-FrameCame None (Ok body) heard = heard ≡ framed w16 body
+FrameCame None (Ok body) heard = heard ≡ body_frame w16 body
 FrameCame None (Err error.NoMemory) heard = IsLength heard
 FrameCame None (Err other) heard = ⊥
 
@@ -93,7 +93,8 @@ pub record SaysAnswer (old new : StreamState) (turns left : ℕ) (result : Resul
   pub is_said : IsSaid stop (written_answer answer) result said
 
 -- A request was answered, or the call was refused on the way.
-pub record SaysReply {M : Type 0} (allows : M → ℕ → Request → Answer → M → Type 0) (leaves : M → ℕ → M → Type 0) (conn : ℕ) (before after : M) (request : Request) (old new : StreamState) (turns left : ℕ) (result : Result Served LookupError) : Type 0 where
+pub record SaysReply {M : Type 0} (allows : M → ℕ → Request → Answer → M → Type 0) (leaves : M → ℕ → M → Type 0) (conn : ℕ)
+    (before after : M) (request : Request) (old new : StreamState) (turns left : ℕ) (result : Result Served LookupError) : Type 0 where
   pub said : List ℕ
   pub stop : Option TurnError
   pub says : Says old new turns left stop said

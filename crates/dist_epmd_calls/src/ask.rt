@@ -41,7 +41,8 @@ fn read_to_end<S: Stream>(
     limited: &mut Limited<'_, S>,
     bytes: &mut Vec<u8>,
 ) -> Result<(), LookupError>
-    ensures hears { HearsAll (S.meaning limited.old.stream.now) (S.meaning limited.new.stream.now) limited.old.left limited.new.left result bytes.old.items bytes.new.items }
+    ensures hears { HearsAll (S.meaning limited.old.stream.now) (S.meaning limited.new.stream.now)
+        limited.old.left limited.new.left result bytes.old.items bytes.new.items }
     ensures loan { limited.new.stream.ghost_name ≡ limited.old.stream.ghost_name }
 {
     let mut room = [0u8; PIECE];

@@ -14,6 +14,8 @@ ghost use Rattle.dist_epmd_calls.specs.declared.serve.Served.TheVariants.{Regist
 /// However the serving of a request ends, the registrations that were lent keep their invariant, and none is new but one
 /// that was answered whole with result 0.
 pub fn registrations_that_are_lent()
-    ensures legal { (conn limit : ℕ) (old new : StreamState) (before after : Registrations) (result : Result Served LookupError) → Serves Allows Leaves conn limit old new before after result → IsLegal before → IsLegal after }
-    ensures answered { (conn limit : ℕ) (old new : StreamState) (before after : Registrations) (result : Result Served LookupError) → Serves Allows Leaves conn limit old new before after result → ¬ (result ≡ Ok Registered) → (row : Row) → IsIn row after.rows → IsIn row before.rows }
+    ensures legal { (conn limit : ℕ) (old new : StreamState) (before after : Registrations) (result : Result Served LookupError)
+        → Serves Allows Leaves conn limit old new before after result → IsLegal before → IsLegal after }
+    ensures answered { (conn limit : ℕ) (old new : StreamState) (before after : Registrations) (result : Result Served LookupError)
+        → Serves Allows Leaves conn limit old new before after result → ¬ (result ≡ Ok Registered) → (row : Row) → IsIn row after.rows → IsIn row before.rows }
 {}

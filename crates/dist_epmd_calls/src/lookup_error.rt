@@ -1,7 +1,7 @@
 //! Why a call over a stream gave no answer.
 
 ghost use Rattle.std.specs.Prelude.{◌≡◌};
-ghost use Rattle.dist_epmd_calls.specs.Refusals.{error_name, lookup_error};
+ghost use Rattle.dist_epmd_calls.specs.Refusals.{lookup_error_name, lookup_error};
 ghost use Rattle.dist_epmd_calls.specs.declared.lookup_error.LookupError.TheVariants.{NoMemory};
 
 use crate::refusals::lookup_error;
@@ -44,7 +44,7 @@ pub enum LookupError {
 impl LookupError {
     /// The variant's name, as a program prints it.
     pub fn name(self) -> &'static str
-        ensures { result.now ≡ error_name self }
+        ensures { result.now ≡ lookup_error_name self }
     {
         match self {
             LookupError::NotThere => "NotThere",

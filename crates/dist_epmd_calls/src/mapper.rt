@@ -1,7 +1,7 @@
 //! Who answers the requests.
 
 ghost use Rattle.std.specs.Prelude.{◌≡◌, IfOk};
-ghost use Rattle.dist_epmd.specs.Registrations.{found};
+ghost use Rattle.dist_epmd.specs.Registrations.{registered_info};
 ghost use Rattle.dist_epmd_calls.specs.Mapping.{port_answer, names_answer};
 
 use dist_epmd::{Answer, Registry, Request};
@@ -33,7 +33,7 @@ pub trait Mapper {
 
 // The answer to a lookup.
 fn port_answer(alloc: Global, registry: &Registry, name: &[u8]) -> Result<Answer, AllocError>
-    ensures { IfOk result (λ answer. answer ≡ port_answer (found name.now registry.now)) }
+    ensures { IfOk result (λ answer. answer ≡ port_answer (registered_info name.now registry.now)) }
 {
     match registry.port_please(name) {
         Some(info) => Ok(Answer::Port(Ok(info.try_clone(alloc)?))),

@@ -101,7 +101,8 @@ fn reply<S: Stream, M: Mapper>(
     conn: u64,
     request: &Request,
 ) -> Result<Served, LookupError>
-    ensures says { SaysReply M.allows M.leaves conn mapper.old mapper.new request.now (S.meaning limited.old.stream.now) (S.meaning limited.new.stream.now) limited.old.left limited.new.left result }
+    ensures says { SaysReply M.allows M.leaves conn mapper.old mapper.new request.now
+        (S.meaning limited.old.stream.now) (S.meaning limited.new.stream.now) limited.old.left limited.new.left result }
     ensures loan { limited.new.stream.ghost_name ≡ limited.old.stream.ghost_name }
 {
     let Ok(answer) = mapper.ask(alloc, conn, request) else {

@@ -10,7 +10,7 @@ use Rattle.std.proofs.lemmas.Cmp.{nat_cmp_total, eq_by_cmp_equiv}
 use Rattle.std.proofs.lemmas.Map.Views.{any-filter_same}
 use Rattle.dist_epmd.specs.declared.message.NodeInfo.{NodeInfo}
 use Rattle.dist_epmd.specs.declared.row.Row.{Row}
-use Rattle.dist_epmd.specs.Registrations.{Registrations, is_of, is_behind, after_closed, is_accepted, registered, answer_to, given, refused, short_creation}
+use Rattle.dist_epmd.specs.Registrations.{Registrations, is_of, is_behind, after_closed, is_accepted, with_registration, answer_to, creation_answer, refusal_answer, short_creation}
 use Rattle.dist_epmd.specs.declared.message.Request.{Request}
 use Rattle.dist_epmd.specs.declared.message.Request.TheVariants as request
 use Rattle.dist_epmd.specs.declared.message.Answer.{Answer}
@@ -46,7 +46,7 @@ any_insert p (x ∷ xs) (suc i) y = ap (λ b. p x || b) (any_insert p xs i y) �
     swapped false b c = refl
 
 -- another registration
-pub any_registered : (conn q : ℕ) (info : NodeInfo) (registrations : Registrations) → list_any (is_of q) (registered conn info registrations).rows ≡ cond (conn == q) true (list_any (is_of q) registrations.rows)
+pub any_registered : (conn q : ℕ) (info : NodeInfo) (registrations : Registrations) → list_any (is_of q) (with_registration conn info registrations).rows ≡ cond (conn == q) true (list_any (is_of q) registrations.rows)
 any_registered conn q info registrations = any_insert (is_of q) registrations.rows (position_or_len (is_behind info.name) registrations.rows) (record { conn = conn; info = info; creation = registrations.next }) ∙ either (conn == q) (list_any (is_of q) registrations.rows)
   where
     either : (a b : Bool) → (a || b) ≡ cond a true b
@@ -121,7 +121,7 @@ same_number n = sym (unsigned_tied n n) ∙ (eq_by_cmp_equiv nat_cmp_total).refl
 pub rows_back : (conn : ℕ) (r : Request) (registrations : Registrations) → list_any (is_of conn) registrations.rows ≡ false → (after_closed conn (registrations_after conn r registrations)).rows ≡ registrations.rows
 rows_back conn (request.PortPlease name) registrations none = kept conn registrations.rows none
 rows_back conn request.Names registrations none = kept conn registrations.rows none
-rows_back conn (request.Alive info) registrations none = elim (is_accepted conn info registrations) as (λ v. (after_closed conn (cond v (registered conn info registrations) registrations)).rows ≡ registrations.rows) [
+rows_back conn (request.Alive info) registrations none = elim (is_accepted conn info registrations) as (λ v. (after_closed conn (cond v (with_registration conn info registrations) registrations)).rows ≡ registrations.rows) [
   | true ↦ filter_insert (λ row. not (is_of conn row)) registrations.rows (position_or_len (is_behind info.name) registrations.rows) (record { conn = conn; info = info; creation = registrations.next }) (ap not (same_number conn)) ∙ kept conn registrations.rows none
   | false ↦ kept conn registrations.rows none
 ]
@@ -139,7 +139,7 @@ allowed_answer conn request.Names a registrations next h = h.0
 port_same : (conn : ℕ) (r : Request) (registrations : Registrations) → (registrations_after conn r registrations).port ≡ registrations.port
 port_same conn (request.PortPlease name) registrations = refl
 port_same conn request.Names registrations = refl
-port_same conn (request.Alive info) registrations = elim (is_accepted conn info registrations) as (λ v. (cond v (registered conn info registrations) registrations).port ≡ registrations.port) [
+port_same conn (request.Alive info) registrations = elim (is_accepted conn info registrations) as (λ v. (cond v (with_registration conn info registrations) registrations).port ≡ registrations.port) [
   | true ↦ refl
   | false ↦ refl
 ]
@@ -147,7 +147,7 @@ port_same conn (request.Alive info) registrations = elim (is_accepted conn info 
 next_rises : (conn : ℕ) (r : Request) (registrations : Registrations) → registrations.next ≤ (registrations_after conn r registrations).next
 next_rises conn (request.PortPlease name) registrations = omega arith
 next_rises conn request.Names registrations = omega arith
-next_rises conn (request.Alive info) registrations = elim (is_accepted conn info registrations) as (λ v. registrations.next ≤ (cond v (registered conn info registrations) registrations).next) [
+next_rises conn (request.Alive info) registrations = elim (is_accepted conn info registrations) as (λ v. registrations.next ≤ (cond v (with_registration conn info registrations) registrations).next) [
   | true ↦ omega arith
   | false ↦ omega arith
 ]
@@ -163,7 +163,7 @@ keeps_closed conn before after k = record { port = k.port; rows = ap (filter (λ
 pub registers_row : (conn q : ℕ) (r : Request) (registrations : Registrations) → served_as r (answer_for conn r registrations) ≡ served.Registered → list_any (is_of q) (registrations_after conn r registrations).rows ≡ cond (conn == q) true (list_any (is_of q) registrations.rows)
 registers_row conn q (request.PortPlease name) registrations granted = cc
 registers_row conn q request.Names registrations granted = cc
-registers_row conn q (request.Alive info) registrations granted = elim (is_accepted conn info registrations) as (λ v. served_as (request.Alive info) (cond v (given info registrations.next) (refused info)) ≡ served.Registered → list_any (is_of q) (cond v (registered conn info registrations) registrations).rows ≡ cond (conn == q) true (list_any (is_of q) registrations.rows)) [
+registers_row conn q (request.Alive info) registrations granted = elim (is_accepted conn info registrations) as (λ v. served_as (request.Alive info) (cond v (creation_answer info registrations.next) (refusal_answer info)) ≡ served.Registered → list_any (is_of q) (cond v (with_registration conn info registrations) registrations).rows ≡ cond (conn == q) true (list_any (is_of q) registrations.rows)) [
   | true ↦ λ g. any_registered conn q info registrations
   | false ↦ λ g. elim (nat_lt info.highest 6) as (λ v. served_as (request.Alive info) (cond v (answer.Alive 1 0) (answer.AliveX 1 0)) ≡ served.Registered → list_any (is_of q) registrations.rows ≡ cond (conn == q) true (list_any (is_of q) registrations.rows)) [
     | true ↦ λ y. cc
@@ -175,26 +175,26 @@ registers_row conn q (request.Alive info) registrations granted = elim (is_accep
 pub refused_same : (conn : ℕ) (r : Request) (registrations : Registrations) → served_as r (answer_for conn r registrations) ≡ served.Answered → registrations_after conn r registrations ≡ registrations
 refused_same conn (request.PortPlease name) registrations denied = refl
 refused_same conn request.Names registrations denied = refl
-refused_same conn (request.Alive info) registrations denied = elim (is_accepted conn info registrations) as (λ v. served_as (request.Alive info) (cond v (given info registrations.next) (refused info)) ≡ served.Answered → cond v (registered conn info registrations) registrations ≡ registrations) [
+refused_same conn (request.Alive info) registrations denied = elim (is_accepted conn info registrations) as (λ v. served_as (request.Alive info) (cond v (creation_answer info registrations.next) (refusal_answer info)) ≡ served.Answered → cond v (with_registration conn info registrations) registrations ≡ registrations) [
   | false ↦ λ g. refl
-  | true ↦ λ g. elim (nat_lt info.highest 6) as (λ v. served_as (request.Alive info) (cond v (answer.Alive 0 (short_creation registrations.next)) (answer.AliveX 0 registrations.next)) ≡ served.Answered → registered conn info registrations ≡ registrations) [
+  | true ↦ λ g. elim (nat_lt info.highest 6) as (λ v. served_as (request.Alive info) (cond v (answer.Alive 0 (short_creation registrations.next)) (answer.AliveX 0 registrations.next)) ≡ served.Answered → with_registration conn info registrations ≡ registrations) [
     | true ↦ λ y. cc
     | false ↦ λ y. cc
   ] g
 ] denied
 
 module _ {S : Type 0} where
-  talked : (o : Option (Client S)) → IsSome o → is_registered (option_map (with_talk Registered) o) ≡ true
-  talked None some = cc
-  talked (Some client) some = refl
+  talked : (name : List ℕ) (o : Option (Client S)) → IsSome o → is_registered (option_map (with_talk (Registered name)) o) ≡ true
+  talked name None some = cc
+  talked name (Some client) some = refl
 
   -- a client stays that registered its node
-  pub stand_stays : (r : Request) (registrations next : Registrations) (m n : BTreeMap ℕ (Client S)) (conn : ℕ) → next ≡ registrations_after conn r registrations → served_as r (answer_for conn r registrations) ≡ served.Registered
-      → IsSome (get nat_cmp m conn) → Updates nat_cmp m n conn (option_map (with_talk Registered) (get nat_cmp m conn)) → Stand registrations m → Stand next n
-  stand_stays r registrations next m n conn e granted some u stand = stand_with registrations next m n conn (option_map (with_talk Registered) (get nat_cmp m conn)) u stand (λ q.
+  pub stand_stays : (name : List ℕ) (r : Request) (registrations next : Registrations) (m n : BTreeMap ℕ (Client S)) (conn : ℕ) → next ≡ registrations_after conn r registrations → served_as r (answer_for conn r registrations) ≡ served.Registered
+      → IsSome (get nat_cmp m conn) → Updates nat_cmp m n conn (option_map (with_talk (Registered name)) (get nat_cmp m conn)) → Stand registrations m → Stand next n
+  stand_stays name r registrations next m n conn e granted some u stand = stand_with registrations next m n conn (option_map (with_talk (Registered name)) (get nat_cmp m conn)) u stand (λ q.
       ap (λ (b : Registrations). list_any (is_of q) b.rows) e
       ∙ registers_row conn q r registrations granted
-      ∙ ap (λ b. cond (conn == q) b (list_any (is_of q) registrations.rows)) (sym (talked (get nat_cmp m conn) some)))
+      ∙ ap (λ b. cond (conn == q) b (list_any (is_of q) registrations.rows)) (sym (talked name (get nat_cmp m conn) some)))
 
   -- any other client leaves
   pub stand_leaves : (r : Request) (registrations next : Registrations) (m n : BTreeMap ℕ (Client S)) (conn : ℕ) → next ≡ registrations_after conn r registrations → served_as r (answer_for conn r registrations) ≡ served.Answered

@@ -61,15 +61,15 @@ module _ {S : Type 0} where
   -- what the first of the others is, and the entry before them by its talk
   abbrev chosen : Talk → ℕ × Client S → List (ℕ × ℕ) → Option (ℕ × ℕ)
   chosen (Asking said) x rest = Some (x.0, x.1.since)
-  chosen Registered x rest = slice_get rest 0
+  chosen (Registered name) x rest = slice_get rest 0
 
   by_first : (t : Talk) (x : ℕ × Client S) (xs : List (ℕ × Client S)) → x.1.talk ≡ t → slice_get (filter_map asking_since (x ∷ xs)) 0 ≡ chosen t x (filter_map asking_since xs)
   by_first (Asking said) x xs e = cc
-  by_first Registered x xs e = cc
+  by_first (Registered name) x xs e = cc
 
   by_head : (t : Talk) (x : ℕ × Client S) (xs : List (ℕ × Client S)) (r : ℕ × ℕ) → x.1.talk ≡ t → (slice_get (filter_map asking_since xs) 0 ≡ Some r → Stands xs r.0) → chosen t x (filter_map asking_since xs) ≡ Some r → Stands (x ∷ xs) r.0
   by_head (Asking said) x xs r e rest h = at_head x xs r h (ap is_registered_talk e)
-  by_head Registered x xs r e rest h = in_rest x xs r.0 (rest h)
+  by_head (Registered name) x xs r e rest h = in_rest x xs r.0 (rest h)
 
   first_place : (es : List (ℕ × Client S)) (r : ℕ × ℕ) → slice_get (filter_map asking_since es) 0 ≡ Some r → Stands es r.0
   first_place [] r h = absurd cc

@@ -32,8 +32,8 @@ module _ {S : Type 0} where
   client_of c conn = get nat_cmp c.clients conn
 
   -- a client that just came
-  abbrev pub came : S → Bool → ℕ → Client S
-  came stream local since = record { stream = stream; local = local; since = since; talk = Asking [] }
+  abbrev pub new_client : S → Bool → ℕ → Client S
+  new_client stream local since = record { stream = stream; local = local; since = since; talk = Asking [] }
 
   -- every other connection has the client that it had, or none
   abbrev pub OthersStay : ℕ → Clients S → Clients S → Type 0

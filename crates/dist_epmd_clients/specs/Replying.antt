@@ -4,7 +4,7 @@ use Rattle.dist_epmd.specs.declared.epmd_error.EpmdError.{EpmdError}
 use Rattle.dist_epmd.specs.declared.message.Request.{Request}
 use Rattle.dist_epmd.specs.declared.message.Request.TheVariants as request
 use Rattle.dist_epmd.specs.declared.message.Answer.{Answer}
-use Rattle.dist_epmd.specs.Registrations.{Registrations, after_closed, after_request, answer_to, found}
+use Rattle.dist_epmd.specs.Registrations.{Registrations, after_closed, after_request, answer_to, registered_info}
 use Rattle.dist_epmd.specs.Layout.{written_answer}
 use Rattle.dist_epmd_calls.specs.Mapping.{port_answer, names_answer}
 use Rattle.dist_epmd_calls.specs.Serving.{served_as}
@@ -25,7 +25,7 @@ use Rattle.dist_epmd_clients.specs.Asking.{question}
 -- Registered Names from EPMD
 abbrev pub answer_for : ℕ → Request → Registrations → Answer
 answer_for conn (request.Alive info) registrations = answer_to conn info registrations
-answer_for conn (request.PortPlease name) registrations = port_answer (found name registrations)
+answer_for conn (request.PortPlease name) registrations = port_answer (registered_info name registrations)
 answer_for conn request.Names registrations = names_answer registrations
 
 -- the registry after it: only a registration changes it
@@ -33,6 +33,12 @@ abbrev pub registrations_after : ℕ → Request → Registrations → Registrat
 registrations_after conn (request.Alive info) registrations = after_request conn info registrations
 registrations_after conn (request.PortPlease name) registrations = registrations
 registrations_after conn request.Names registrations = registrations
+
+-- the name that a request has, if it has one
+abbrev pub name_in : Request → List ℕ
+name_in (request.Alive info) = info.name
+name_in (request.PortPlease name) = name
+name_in request.Names = []
 
 -- the bytes where there are some, and otherwise none
 abbrev pub or_none : Result (List ℕ) EpmdError → List ℕ
@@ -66,14 +72,15 @@ module _ {S : Type 0} where
 
   -- A client that registered its node keeps its connection (Register a Node in EPMD). That of any other that was answered is
   -- closed.
-  abbrev pub replies : Served → Client S → List ℕ → Registrations → Outcome S
-  replies Registered client text registrations = record { turn = Stay text; client = Some (with_talk talk.Registered client); registrations = registrations }
-  replies Answered client text registrations = record { turn = Leave client.stream text; client = None; registrations = registrations }
+  abbrev pub replies : Served → Client S → List ℕ → List ℕ → Registrations → Outcome S
+  replies Registered client name text registrations =
+      record { turn = Stay text; client = Some (with_talk (talk.Registered name) client); registrations = registrations }
+  replies Answered client name text registrations = record { turn = Leave client.stream text; client = None; registrations = registrations }
 
   -- what a request makes of a client that had not asked before
   abbrev pub asks : ℕ → Client S → Request → Registrations → Outcome S
   asks conn client request registrations = let answer = answer_for conn request registrations in
-      replies (served_as request answer) client (text_of answer) (registrations_after conn request registrations)
+      replies (served_as request answer) client (name_in request) (text_of answer) (registrations_after conn request registrations)
 
   -- what all that a client has said by now makes of it, by what it asks for
   abbrev pub outcome : ℕ → Client S → List ℕ → Registrations → Question → Outcome S
@@ -84,7 +91,7 @@ module _ {S : Type 0} where
   -- what bytes make of a client, by where its talk stands: whoever is registered says nothing any more
   abbrev pub talks : ℕ → Client S → Talk → List ℕ → Registrations → Outcome S
   talks conn client (talk.Asking said) piece registrations = outcome conn client (said ++ piece) registrations (question client.local (said ++ piece))
-  talks conn client talk.Registered piece registrations = leaves conn client registrations
+  talks conn client (talk.Registered name) piece registrations = leaves conn client registrations
 
   -- WHAT BYTES THAT COME ON A CONNECTION MAKE OF IT, where its client is here
   abbrev pub after_piece : ℕ → Option (Client S) → List ℕ → Registrations → Outcome S

@@ -11,7 +11,7 @@ use Rattle.dist_epmd_clients.specs.declared.client.Talk.TheVariants.{Asking, Reg
 -- whether this is where the talk of a registered client stands
 abbrev pub is_registered_talk : Talk → Bool
 is_registered_talk (Asking said) = false
-is_registered_talk Registered = true
+is_registered_talk (Registered name) = true
 
 module _ {S : Type 0} where
   -- whether there is a client, and its node is registered
@@ -22,7 +22,7 @@ module _ {S : Type 0} where
   -- the number of a client that has not asked yet, and when it came
   abbrev pub asking_at : ℕ → Client S → Talk → Option (ℕ × ℕ)
   asking_at conn client (Asking said) = Some (conn, client.since)
-  asking_at conn client Registered = None
+  asking_at conn client (Registered name) = None
 
   -- the same of a client of the table, which has its number beside it
   abbrev pub asking_since : ℕ × Client S → Option (ℕ × ℕ)

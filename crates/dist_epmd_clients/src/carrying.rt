@@ -6,6 +6,7 @@ ghost use Rattle.std.specs.BTreeMap.{get, IsUnchanged};
 ghost use Rattle.dist_stream.specs.Stream.{Reads, Writes};
 ghost use Rattle.dist_epmd_clients.specs.Carrying.{Carries, Moves};
 ghost use Rattle.dist_epmd_clients.specs.Clients.{client_of, next_of, IsSame};
+ghost use Rattle.dist_epmd_clients.specs.Reporting.{journal_of};
 
 use crate::client::Client;
 use crate::holding::Clients;
@@ -56,6 +57,7 @@ impl<S: Stream + Drop> Clients<S> {
         ensures none { IfNone result (client_of self.old conn ≡ None) }
         ensures unchanged { IfNone result (IsSame self.old self.new) }
         ensures next { next_of self.new ≡ next_of self.old }
+        ensures journal { journal_of self.new ≡ journal_of self.old }
     {
         read_from_client(&mut self.clients, conn, room)
     }
@@ -68,6 +70,7 @@ impl<S: Stream + Drop> Clients<S> {
         ensures none { IfNone result (client_of self.old conn ≡ None) }
         ensures unchanged { IfNone result (IsSame self.old self.new) }
         ensures next { next_of self.new ≡ next_of self.old }
+        ensures journal { journal_of self.new ≡ journal_of self.old }
     {
         write_to_client(&mut self.clients, conn, bytes)
     }

@@ -7,8 +7,8 @@ use dist_names::ByteString;
 pub enum Talk {
     /// It has not asked yet: what came of the frame of its request so far.
     Asking(ByteString),
-    /// It got the answer that its node is registered, and has sent nothing since.
-    Registered,
+    /// It got the answer that its node is registered under this name, and has sent nothing since.
+    Registered(ByteString),
 }
 
 /// A client that is connected.

@@ -1,18 +1,25 @@
 //! All clients of a port mapper, and its registry.
 
 ghost use Rattle.std.specs.Prelude.{◌≡◌, ◌↔◌, ◌+◌, ◌^◌, ℕ, false, IfOk, IsOk, IsErrOf, OnOk, OnErr};
-ghost use Rattle.std.specs.Prelude.{IfSome, None, Some, IsSome, option_map, option_copied, length, slice_get};
+ghost use Rattle.std.specs.Prelude.{[], IfSome, None, Some, IsSome, option_map, option_copied, length, slice_get};
 ghost use Rattle.std.specs.List.{list_any, filter_map};
 ghost use Rattle.dist_epmd.specs.Registrations.{opening, after_closed, is_of};
+ghost use Rattle.dist_epmd_clients.specs.Journal.{keeping, no_counts, Journals};
+ghost use Rattle.dist_epmd_clients.specs.declared.event.ClientEvent.TheVariants.{NoMemory, Unanswered};
+ghost use Rattle.dist_epmd_clients.specs.Reporting.{asked_event, ended_event, piece_event, counts_of, events_of, journal_of};
 ghost use Rattle.dist_epmd_clients.specs.Standing.{asking_since, is_registered};
 ghost use Rattle.dist_epmd_clients.specs.Replying.{after_piece, asks, leaves};
-ghost use Rattle.dist_epmd_clients.specs.Clients.{registrations_of, client_of, clients_of, next_of, came, Becomes, CanLack, Drops, IsKept, IsSame};
+ghost use Rattle.dist_epmd_clients.specs.Clients.{registrations_of, client_of, clients_of, next_of, new_client, Becomes, CanLack, Drops, IsKept, IsSame};
 
 use crate::client::{Client, Talk};
+use crate::counts::Counts;
+use crate::event::ClientEvent;
 use crate::holding::Clients;
+use crate::journal::Journal;
 use crate::open_error::OpenError;
 use crate::question::{Question, question_of};
 use crate::replying::{drop_registration, reply_to};
+use crate::reporting::{name_in, note_answer, note_end, note_registration};
 use crate::table::{client_in, first_asking, is_registered_in, put_client, set_talk, take_client};
 use crate::turn::Turn;
 use dist_epmd::{Registry, Request};
@@ -29,11 +36,14 @@ impl<S: Drop> Clients<S> {
         ensures registrations { registrations_of result ≡ opening port first }
         ensures none { (conn : ℕ) → client_of result conn ≡ None }
         ensures next { next_of result ≡ 0 }
+        ensures counts { counts_of result ≡ no_counts }
+        ensures events { events_of result ≡ [] }
     {
         Clients {
             registry: Registry::new(alloc, port, first),
             next: 0,
             clients: BTreeMap::new(alloc),
+            journal: Journal::new(alloc),
         }
     }
 
@@ -54,6 +64,37 @@ impl<S: Drop> Clients<S> {
         ensures { result.now ≡ registrations_of self.now }
     {
         &self.registry
+    }
+
+    /// How often what happened.
+    pub fn counts(&self) -> &Counts
+        ensures { result.now ≡ counts_of self.now }
+    {
+        &self.journal.counts
+    }
+
+    /// The events that wait for whoever reads them, the oldest first.
+    pub fn events(&self) -> &[ClientEvent]
+        ensures { result.now ≡ events_of self.now }
+    {
+        &self.journal.events
+    }
+
+    /// Keeps no event that waits: they were read.
+    pub fn forget_events(&mut self)
+        ensures events { events_of self.new ≡ [] }
+        ensures counts { counts_of self.new ≡ counts_of self.old }
+        ensures same { IsSame self.old self.new }
+    {
+        self.journal.events.clear();
+    }
+
+    /// From now on so many events may wait for whoever reads them. Without this call none does, and only the counts rise.
+    pub fn keep_events(&mut self, most: usize)
+        ensures journal { journal_of self.new ≡ keeping most (journal_of self.old) }
+        ensures same { IsSame self.old self.new }
+    {
+        self.journal.most = most;
     }
 
     /// What carries the bytes of a connection, where its client is here.
@@ -84,7 +125,7 @@ impl<S: Drop> Clients<S> {
         since: u64,
     ) -> Result<u64, OpenError>
         ensures ok { IfOk result (λ conn. (conn ≡ next_of self.old)
-            × Becomes (Some (came stream local since)) (registrations_of self.old) conn self.old self.new) }
+            × Becomes (Some (new_client stream local since)) (registrations_of self.old) conn self.old self.new) }
         ensures next { OnOk result (next_of self.new ≡ next_of self.old + 1) }
 
         // No client had the number.
@@ -93,6 +134,7 @@ impl<S: Drop> Clients<S> {
         ensures numbers { IsErrOf result OpenError.Numbers ↔ (next_of self.old + 1 ≡ 2 ^ 64) }
 
         ensures unchanged { OnErr result (IsSame self.old self.new) }
+        ensures journal { journal_of self.new ≡ journal_of self.old }
     {
         let conn = self.next;
         let Some(next) = conn.checked_add(1) else {
@@ -111,21 +153,33 @@ impl<S: Drop> Clients<S> {
         Ok(conn)
     }
 
-    /// A connection is over, or is to be: its client leaves, and its registration with it. Gives back what carried its
-    /// bytes. It takes no memory.
-    pub fn close(&mut self, conn: u64) -> Option<S>
-        ensures stream { result ≡ option_map (λ client. client.stream) (client_of self.old conn) }
+    // Takes the client of a connection out, and its registration with it.
+    fn remove(&mut self, conn: u64) -> Option<Client<S>>
+        ensures client { result ≡ client_of self.old conn }
         ensures after { Becomes None (after_closed conn (registrations_of self.old)) conn self.old self.new }
         ensures next { next_of self.new ≡ next_of self.old }
+        ensures journal { journal_of self.new ≡ journal_of self.old }
     {
         drop_registration(
             &mut self.registry,
             conn,
             is_registered_in(&self.clients, conn),
         );
-        match take_client(&mut self.clients, conn) {
+        take_client(&mut self.clients, conn)
+    }
+
+    /// A connection is over, or is to be: its client leaves, and its registration with it. Gives back what carried its
+    /// bytes. It takes no memory.
+    pub fn close(&mut self, conn: u64) -> Option<S>
+        ensures stream { result ≡ option_map (λ client. client.stream) (client_of self.old conn) }
+        ensures after { Becomes None (after_closed conn (registrations_of self.old)) conn self.old self.new }
+        ensures next { next_of self.new ≡ next_of self.old }
+        ensures journal { Journals (ended_event conn (client_of self.old conn)) (journal_of self.old) (journal_of self.new) }
+    {
+        match self.remove(conn) {
             Some(client) => {
-                let Client { stream, .. } = client;
+                let Client { stream, talk, .. } = client;
+                note_end(&mut self.journal, conn, talk);
                 Some(stream)
             }
             None => None,
@@ -143,11 +197,15 @@ impl<S: Drop> Clients<S> {
         ensures lacks { OnErr result (CanLack (client_of self.old conn) piece.now) }
         ensures err { OnErr result (Drops conn self.old self.new) }
         ensures next { next_of self.new ≡ next_of self.old }
+        ensures journal { OnOk result (Journals (piece_event conn (client_of self.old conn) piece.now (registrations_of self.old))
+            (journal_of self.old) (journal_of self.new)) }
+        ensures no_memory { OnErr result (Journals (Some (NoMemory conn)) (journal_of self.old) (journal_of self.new)) }
     {
         match self.take_piece(alloc, conn, piece) {
             Ok(turn) => Ok(turn),
             Err(error) => {
-                let _ = self.close(conn);
+                let _ = self.remove(conn);
+                self.journal.note(ClientEvent::NoMemory { conn });
                 Err(error)
             }
         }
@@ -160,6 +218,9 @@ impl<S: Drop> Clients<S> {
         ensures lacks { OnErr result (CanLack (client_of self.old conn) piece.now) }
         ensures err { OnErr result (IsKept self.old self.new) }
         ensures next { next_of self.new ≡ next_of self.old }
+        ensures journal { OnOk result (Journals (piece_event conn (client_of self.old conn) piece.now (registrations_of self.old))
+            (journal_of self.old) (journal_of self.new)) }
+        ensures no_memory { OnErr result (journal_of self.new ≡ journal_of self.old) }
     {
         let Some(client) = client_in(&self.clients, conn) else {
             return Ok(Turn::Wait);
@@ -177,8 +238,8 @@ impl<S: Drop> Clients<S> {
                 set_talk(&mut self.clients, conn, Talk::Asking(all));
                 Ok(Turn::Wait)
             }
-            Question::Nothing => Ok(self.leave(alloc, conn)),
-            Question::Asks(request) => self.reply(alloc, conn, &request),
+            Question::Nothing => Ok(self.ignore(alloc, conn)),
+            Question::Asks(request) => self.reply(alloc, conn, request),
         }
     }
 
@@ -189,6 +250,7 @@ impl<S: Drop> Clients<S> {
         ensures after { IfSome (client_of self.old conn) (λ client. let after = leaves conn client (registrations_of self.old) in
             (result ≡ after.turn) × Becomes after.client after.registrations conn self.old self.new) }
         ensures next { next_of self.new ≡ next_of self.old }
+        ensures journal { Journals (ended_event conn (client_of self.old conn)) (journal_of self.old) (journal_of self.new) }
     {
         match self.close(conn) {
             Some(stream) => Turn::Leave(stream, ByteString::new(alloc)),
@@ -196,21 +258,52 @@ impl<S: Drop> Clients<S> {
         }
     }
 
+    // A client leaves that has asked for nothing that is answered.
+    fn ignore(&mut self, alloc: Global, conn: u64) -> Turn<S>
+        // The caller looked it up.
+        requires there { IsSome (client_of self.old conn) }
+        ensures after { IfSome (client_of self.old conn) (λ client. let after = leaves conn client (registrations_of self.old) in
+            (result ≡ after.turn) × Becomes after.client after.registrations conn self.old self.new) }
+        ensures next { next_of self.new ≡ next_of self.old }
+        ensures journal { IfSome (client_of self.old conn) (λ client.
+            Journals (Some (Unanswered conn client.local)) (journal_of self.old) (journal_of self.new)) }
+    {
+        match self.remove(conn) {
+            Some(client) => {
+                let Client { stream, local, .. } = client;
+                self.journal.note(ClientEvent::Unanswered {
+                    conn,
+                    is_local: local,
+                });
+                Turn::Leave(stream, ByteString::new(alloc))
+            }
+            None => Turn::Wait,
+        }
+    }
+
     // Answers the request of a client that has not asked before.
-    fn reply(&mut self, alloc: Global, conn: u64, request: &Request) -> Result<Turn<S>, AllocError>
+    fn reply(&mut self, alloc: Global, conn: u64, request: Request) -> Result<Turn<S>, AllocError>
         // The caller looked it up.
         requires there { IsSome (client_of self.old conn) }
         requires asking { is_registered (client_of self.old conn) ≡ false }
-        ensures ok { IfOk result (λ turn. IfSome (client_of self.old conn) (λ client. let after = asks conn client request.now (registrations_of self.old) in
+        ensures ok { IfOk result (λ turn. IfSome (client_of self.old conn) (λ client. let after = asks conn client request (registrations_of self.old) in
             (turn ≡ after.turn) × Becomes after.client after.registrations conn self.old self.new)) }
         ensures err { OnErr result (IsKept self.old self.new) }
         ensures next { next_of self.new ≡ next_of self.old }
+        ensures journal { OnOk result (Journals (asked_event conn request (registrations_of self.old)) (journal_of self.old) (journal_of self.new)) }
+        ensures no_memory { OnErr result (journal_of self.new ≡ journal_of self.old) }
     {
-        let (served, text) = reply_to(&mut self.registry, alloc, conn, request)?;
+        let (served, text) = reply_to(&mut self.registry, alloc, conn, &request)?;
         if let Served::Registered = served {
-            set_talk(&mut self.clients, conn, Talk::Registered);
+            note_registration(&mut self.journal, alloc, conn, &request);
+            set_talk(
+                &mut self.clients,
+                conn,
+                Talk::Registered(name_in(alloc, request)),
+            );
             return Ok(Turn::Stay(text));
         }
+        note_answer(&mut self.journal, &self.registry, conn, request);
         match take_client(&mut self.clients, conn) {
             Some(client) => {
                 let Client { stream, .. } = client;

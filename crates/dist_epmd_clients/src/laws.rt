@@ -3,7 +3,7 @@
 ghost use Rattle.std.specs.Prelude.{◌≡◌, ◌≢◌, ℕ, ◌<◌, ◌≤◌, ◌∷◌, ◌++◌, [], Bool, List, None, Some, Ok, length};
 ghost use Rattle.std.specs.Int.{w16};
 ghost use Rattle.std.specs.List.{AllByRecursion, concat};
-ghost use Rattle.dist_frames.specs.Stream.{framed};
+ghost use Rattle.dist_frames.specs.Stream.{body_frame};
 ghost use Rattle.dist_epmd.specs.Registrations.{Registrations};
 ghost use Rattle.dist_epmd.specs.Layout.{InfoFits, RequestFits, TextsFit, SpellsRequest, request_text};
 ghost use Rattle.dist_epmd.specs.Reading.{info_at, read_request};
@@ -11,7 +11,7 @@ ghost use Rattle.dist_epmd.specs.declared.message.NodeInfo.{NodeInfo};
 ghost use Rattle.dist_epmd.specs.declared.message.Request.{Request};
 ghost use Rattle.dist_epmd.specs.declared.message.Request.TheVariants.{Alive, Names};
 ghost use Rattle.dist_epmd_clients.specs.Asking.{request_question, front, question};
-ghost use Rattle.dist_epmd_clients.specs.Clients.{came};
+ghost use Rattle.dist_epmd_clients.specs.Clients.{new_client};
 ghost use Rattle.dist_epmd_clients.specs.Replying.{after_piece, after_pieces};
 ghost use Rattle.dist_epmd_clients.specs.declared.question.Question.TheVariants.{Inside, Nothing};
 
@@ -30,19 +30,19 @@ pub fn a_front_asks()
 /// In whatever pieces a frame comes, it asks once, and for what the front of its body asks: a part of it is no question yet, the
 /// whole is the question, and with bytes behind it nothing is asked.
 pub fn a_frame_asks_once()
-    ensures front { (local : Bool) (body part rest : List ℕ) → length body ≤ 4094 → 0 < length rest → framed w16 body ≡ part ++ rest →
+    ensures front { (local : Bool) (body part rest : List ℕ) → length body ≤ 4094 → 0 < length rest → body_frame w16 body ≡ part ++ rest →
         question local part ≡ Inside }
     ensures whole { (local : Bool) (body : List ℕ) → length body ≤ 4094
-        → question local (framed w16 body) ≡ request_question local (read_request (front body)) }
+        → question local (body_frame w16 body) ≡ request_question local (read_request (front body)) }
     ensures behind { (local : Bool) (body more : List ℕ) → length body ≤ 4094 → 0 < length more →
-        question local (framed w16 body ++ more) ≡ Nothing }
+        question local (body_frame w16 body ++ more) ≡ Nothing }
 {}
 
 /// The pieces of a question do not matter: in whatever pieces its frame comes from a client that just came, the turn of the last
 /// piece, and what is left of the client and of the registry, are those of the whole frame.
 pub fn any_pieces<S>()
     ensures { (conn : ℕ) (stream : S) (local : Bool) (since : ℕ) (body : List ℕ) (pieces : List (List ℕ)) (registrations : Registrations) →
-        length body ≤ 4094 → AllByRecursion (λ piece. piece ≢ []) pieces → concat pieces ≡ framed w16 body →
-        after_pieces conn (Some (came stream local since)) pieces registrations
-        ≡ after_piece conn (Some (came stream local since)) (framed w16 body) registrations }
+        length body ≤ 4094 → AllByRecursion (λ piece. piece ≢ []) pieces → concat pieces ≡ body_frame w16 body →
+        after_pieces conn (Some (new_client stream local since)) pieces registrations
+        ≡ after_piece conn (Some (new_client stream local since)) (body_frame w16 body) registrations }
 {}

@@ -8,17 +8,23 @@
 mod carrying;
 mod client;
 mod clients;
+mod counts;
+mod event;
 mod front;
 mod holding;
+mod journal;
 mod laws;
 mod open_error;
 mod question;
 mod replying;
+mod reporting;
 mod sweeping;
 mod table;
 mod turn;
 
 pub use client::{Client, Talk};
+pub use counts::Counts;
+pub use event::{ClientEvent, EventKind};
 pub use holding::Clients;
 pub use laws::{a_frame_asks_once, a_front_asks, any_pieces};
 pub use open_error::OpenError;

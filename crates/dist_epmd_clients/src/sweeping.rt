@@ -1,16 +1,21 @@
 //! Clients that make room, or are late, since they have not asked.
 
-ghost use Rattle.std.specs.Prelude.{◌≡◌, false, not, None, IfSome, slice_get};
+ghost use Rattle.std.specs.Prelude.{◌≡◌, ◌-◌, length, false, not, None, IfSome, slice_get};
 ghost use Rattle.std.specs.List.{filter, filter_map};
 ghost use Rattle.std.specs.Option.{MatchOption, option_map};
 ghost use Rattle.std.specs.Ordering.{nat_cmp};
 ghost use Rattle.std.specs.BTreeMap.{get, IsOrdered};
 ghost use Rattle.dist_epmd_clients.specs.Clients.{registrations_of, client_of, clients_of, next_of, Becomes, IsSame};
+ghost use Rattle.dist_epmd_clients.specs.declared.event.ClientEvent.TheVariants.{MadeRoom};
+ghost use Rattle.dist_epmd_clients.specs.Journal.{Journals};
+ghost use Rattle.dist_epmd_clients.specs.Reporting.{journal_of, late_event};
 ghost use Rattle.dist_epmd_clients.specs.Standing.{asking_since, is_registered};
 ghost use Rattle.dist_epmd_clients.specs.Sweeping.{is_late};
 
 use crate::client::{Client, Talk};
+use crate::event::ClientEvent;
 use crate::holding::Clients;
+use crate::journal::Journal;
 use crate::table::{first_asking, take_client};
 use std::collections::BTreeMap;
 
@@ -39,6 +44,15 @@ fn first_unregistered<S>(clients: &BTreeMap<u64, Client<S>>) -> Option<(u64, u64
     first_asking(clients)
 }
 
+// So many clients were late.
+fn note_late(journal: &mut Journal, count: u64)
+    ensures { Journals (late_event count) journal.old journal.new }
+{
+    if count > 0 {
+        journal.note(ClientEvent::Late { count });
+    }
+}
+
 impl<S: Drop> Clients<S> {
     /// Closes each client that has not asked, and came this many seconds ago or earlier: bytes that came in between do not
     /// prolong its time. All others stay, and so do all registrations. It takes no memory.
@@ -46,8 +60,12 @@ impl<S: Drop> Clients<S> {
         ensures clients { clients_of self.new ≡ filter (λ e. not (is_late now seconds e.1)) (clients_of self.old) }
         ensures registry { registrations_of self.new ≡ registrations_of self.old }
         ensures next { next_of self.new ≡ next_of self.old }
+        ensures journal { Journals (late_event (length (clients_of self.old) - length (clients_of self.new))) (journal_of self.old) (journal_of self.new) }
     {
+        let before = self.clients.len();
         drop_late_clients(&mut self.clients, now, seconds);
+        let count = before.saturating_sub(self.clients.len()) as u64;
+        note_late(&mut self.journal, count);
     }
 
     /// Closes the client that is here for the longest of those that have not asked, and returns its stream. All others stay,
@@ -58,8 +76,11 @@ impl<S: Drop> Clients<S> {
         ensures after { MatchOption (slice_get (filter_map asking_since (clients_of self.old)) 0) (IsSame self.old self.new)
             (λ first. Becomes None (registrations_of self.old) first.0 self.old self.new) }
         ensures next { next_of self.new ≡ next_of self.old }
+        ensures journal { Journals (option_map (λ first. MadeRoom first.0) (slice_get (filter_map asking_since (clients_of self.old)) 0))
+            (journal_of self.old) (journal_of self.new) }
     {
         let (conn, _since) = first_unregistered(&self.clients)?;
+        self.journal.note(ClientEvent::MadeRoom { conn });
         match take_client(&mut self.clients, conn) {
             Some(client) => {
                 let Client { stream, .. } = client;

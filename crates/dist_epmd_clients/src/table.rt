@@ -24,7 +24,7 @@ fn asking_since<S>(conn: u64, client: &Client<S>) -> Option<(u64, u64)>
 {
     match client.talk {
         Talk::Asking(_) => Some((conn, client.since)),
-        Talk::Registered => None,
+        Talk::Registered(_) => None,
     }
 }
 
@@ -43,7 +43,7 @@ pub fn is_registered_in<S>(clients: &BTreeMap<u64, Client<S>>, conn: u64) -> boo
     ensures { result ≡ is_registered (get nat_cmp clients.now conn) }
 {
     match client_in(clients, conn) {
-        Some(client) => matches!(client.talk, Talk::Registered),
+        Some(client) => matches!(client.talk, Talk::Registered(_)),
         None => false,
     }
 }

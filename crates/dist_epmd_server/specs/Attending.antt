@@ -20,18 +20,18 @@ WatchIsOf false made = made ≡ watch.Nothing
 module _ {S : Type 0} (meaning : S → StreamState) where
   -- WHAT IS OWED AFTER A STEP: a client that leaves is sent its text, or the text is owed to it; no other step changes what is
   -- owed.
-  abbrev pub Settles : Step S → ℕ → ℕ → Owing S → Owing S → Watch → Type 0
-  Settles step.Quiet conn now old new made = (made ≡ watch.Nothing) × (all_owed new ≡ all_owed old)
-  Settles step.More conn now old new made = (made ≡ watch.Reading) × (all_owed new ≡ all_owed old)
-  Settles step.Closed conn now old new made = (made ≡ watch.Nothing) × (all_owed new ≡ all_owed old)
-  Settles (step.Leaves stream text) conn now old new made = (left : Bool) × WatchIsOf left made × AfterLeave meaning left stream text now conn old new
+  abbrev pub SettlesOwed : Step S → ℕ → ℕ → Owing S → Owing S → Watch → Type 0
+  SettlesOwed step.Quiet conn now old new made = (made ≡ watch.Nothing) × (all_owed new ≡ all_owed old)
+  SettlesOwed step.More conn now old new made = (made ≡ watch.Reading) × (all_owed new ≡ all_owed old)
+  SettlesOwed step.Closed conn now old new made = (made ≡ watch.Nothing) × (all_owed new ≡ all_owed old)
+  SettlesOwed (step.Leaves stream text) conn now old new made = (left : Bool) × WatchIsOf left made × AfterLeave meaning left stream text now conn old new
 
   -- A client is served: by reads one after another, each of which gives what came to the table, and then what the last of them
   -- asks for is done.
   pub record ServesClient (conn now : ℕ) (old new : Clients S) (owing after : Owing S) (made : Watch) : Type 0 where
     pub step : Step S
     pub reads : Chain meaning conn old new step
-    pub settles : Settles step conn now owing after made
+    pub settles : SettlesOwed step conn now owing after made
 
   -- What is owed on a connection goes on by one write, and on no other.
   pub record GoesOnOwed (conn : ℕ) (old new : Owing S) (made : Watch) : Type 0 where

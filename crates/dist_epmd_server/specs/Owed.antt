@@ -10,8 +10,8 @@ module _ {S : Type 0} where
   stream_of owed = owed.stream
 
   -- the whole text
-  abbrev pub text_of : Owed S → List ℕ
-  text_of owed = owed.text
+  abbrev pub owed_text : Owed S → List ℕ
+  owed_text owed = owed.text
 
   -- when its client left
   abbrev pub since_of : Owed S → ℕ

@@ -7,7 +7,7 @@ use Rattle.std.specs.BTreeMap.{BTreeMap, get, insert_entry, Updates}
 use Rattle.dist_stream.specs.Stream.{StreamState}
 use Rattle.dist_epmd_server.specs.declared.owed.Owed.{Owed}
 use Rattle.dist_epmd_server.specs.declared.owing.Owing.{Owing}
-use Rattle.dist_epmd_server.specs.Owed.{stream_of, text_of, since_of, said_of, left_of, sent_in_all, IsSent}
+use Rattle.dist_epmd_server.specs.Owed.{stream_of, owed_text, since_of, said_of, left_of, sent_in_all, IsSent}
 
 module _ {S : Type 0} where
   -- all that is owed, with the numbers of the connections, in the order in which they came
@@ -29,7 +29,7 @@ module _ {S : Type 0} where
 module _ {S : Type 0} (meaning : S → StreamState) where
   -- A FIRST TRY TO SEND A TEXT, behind what was written on its stream before. It is over where the write failed or all is sent.
   pub record FirstTry (stream : S) (text : List ℕ) (now : ℕ) (owed : Owed S) (over : Bool) : Type 0 where
-    pub whole : text_of owed ≡ text
+    pub whole : owed_text owed ≡ text
     pub since : since_of owed ≡ now
     pub sent : IsSent meaning (meaning stream).written owed
     pub in_all : sent_in_all meaning owed ≡ append_known (meaning stream).written text
@@ -40,7 +40,7 @@ module _ {S : Type 0} (meaning : S → StreamState) where
   -- ONE TRY MORE: some of what was left is sent, from its first byte, and nothing else. It is over where the write failed or
   -- all is sent.
   pub record TryMore (old new : Owed S) (over : Bool) : Type 0 where
-    pub whole : text_of new ≡ text_of old
+    pub whole : owed_text new ≡ owed_text old
     pub since : since_of new ≡ since_of old
     pub count : ℕ
     pub said : said_of new ≡ said_of old ++ take count (left_of old)

@@ -4,7 +4,7 @@ use Rattle.std.specs.List.{filter_map}
 use Rattle.dist_epmd.specs.Registrations.{after_closed}
 use Rattle.dist_stream.specs.declared.socket.SocketStream.{SocketStream}
 use Rattle.dist_epmd_clients.specs.declared.holding.Clients.{Clients}
-use Rattle.dist_epmd_clients.specs.Clients.{registrations_of, clients_of, next_of, came, Becomes, IsSame}
+use Rattle.dist_epmd_clients.specs.Clients.{registrations_of, clients_of, next_of, new_client, Becomes, IsSame}
 use Rattle.dist_epmd_clients.specs.Standing.{asking_since}
 use Rattle.dist_epmd_server.specs.declared.owing.Owing.{Owing}
 use Rattle.dist_epmd_server.specs.declared.server.Server.{Server}
@@ -48,9 +48,9 @@ module _ {S : Type 0} where
   FindsPlace false old new owing left found = MakesRoom (oldest_of old) old new owing left found
 
   -- the client that came on a connection is here under the next number, or, where it was not taken in, nothing is changed
-  abbrev pub IsIn : Option ℕ → S → Bool → ℕ → Clients S → Clients S → Type 0
-  IsIn None stream local now old new = IsSame old new
-  IsIn (Some conn) stream local now old new = (conn ≡ next_of old) × Becomes (Some (came stream local now)) (registrations_of old) conn old new
+  abbrev pub IsTakenIn : Option ℕ → S → Bool → ℕ → Clients S → Clients S → Type 0
+  IsTakenIn None stream local now old new = IsSame old new
+  IsTakenIn (Some conn) stream local now old new = (conn ≡ next_of old) × Becomes (Some (new_client stream local now)) (registrations_of old) conn old new
 
   -- A CLIENT COMES: a place is found for it, by what makes room where all are taken, and then it is taken in; where there is no
   -- place it is not
@@ -59,7 +59,7 @@ module _ {S : Type 0} where
     pub found : Bool
     pub place : FindsPlace (nat_lt (length (clients_of old) + length (all_owed owing)) most) old mid owing left found
     pub shut_out : found ≡ false → taken ≡ None
-    pub comes : IsIn taken stream local now mid new
+    pub comes : IsTakenIn taken stream local now mid new
 
 -- A CONNECTION COMES to a server: a client is taken in, and closed again where the system does not watch it
 pub record ComesTo (now most : ℕ) (old new : Clients SocketStream) (owing left : Owing SocketStream) : Type 0 where

@@ -1,7 +1,7 @@
 //! What is done for a connection when it is ready: its client is served, or what is owed on it goes on.
 
 ghost use Rattle.dist_epmd_clients.specs.Clients.{OthersStay};
-ghost use Rattle.dist_epmd_server.specs.Attending.{Attends, GoesOnOwed, ServesClient, Settles, WatchIsOf};
+ghost use Rattle.dist_epmd_server.specs.Attending.{Attends, GoesOnOwed, ServesClient, SettlesOwed, WatchIsOf};
 
 use crate::owing::Owing;
 use crate::turns::{Step, read_all};
@@ -39,7 +39,7 @@ fn watch_of(is_left: bool) -> Watch
 
 // Does what a step of a connection asks for.
 fn settle<S: Stream + Drop>(owing: &mut Owing<S>, conn: u64, step: Step<S>, now: u64) -> Watch
-    ensures { Settles S.meaning step conn now owing.old owing.new result }
+    ensures { SettlesOwed S.meaning step conn now owing.old owing.new result }
 {
     match step {
         Step::More => Watch::Reading,

@@ -18,6 +18,6 @@ pub use attending::{Watch, attend};
 pub use owed::Owed;
 pub use owing::Owing;
 pub use saying::{Said, say};
-pub use server::{Limits, Server};
-pub use serving::serve;
+pub use server::{Limits, Server, other_of};
+pub use serving::{serve, serve_ready};
 pub use turns::{Step, read_all};

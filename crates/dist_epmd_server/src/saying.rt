@@ -2,7 +2,7 @@
 
 ghost use Rattle.std.specs.Prelude.{◌≡◌, ℕ, ◌++◌, ◌≤◌, ◌-◌, ◌||◌, ◌&&◌, [], List, Option, length, take, drop, nat_le};
 ghost use Rattle.std.specs.Io.KnownBytes.{append_known};
-ghost use Rattle.dist_epmd_server.specs.Owed.{stream_of, text_of, since_of, said_of, left_of, sent_in_all, IsSent};
+ghost use Rattle.dist_epmd_server.specs.Owed.{stream_of, owed_text, since_of, said_of, left_of, sent_in_all, IsSent};
 
 use crate::owed::Owed;
 use dist_names::ByteString;
@@ -50,7 +50,7 @@ impl<S: Stream> Owed<S> {
     /// A text of which nothing was sent yet, to a client that left at this time, in seconds.
     pub fn new(stream: S, text: ByteString, since: u64) -> Owed<S>
         ensures stream { stream_of result ≡ stream }
-        ensures text { text_of result ≡ text }
+        ensures text { owed_text result ≡ text }
         ensures since { since_of result ≡ since }
         ensures said { said_of result ≡ [] }
         ensures sent { IsSent S.meaning (S.meaning stream).written result }
@@ -66,7 +66,7 @@ impl<S: Stream> Owed<S> {
 
     /// Nothing is lost between what was sent and what is left, and nothing stands in both: the law of every value of this type.
     pub fn nothing_is_lost(&self)
-        ensures { said_of self.now ++ left_of self.now ≡ text_of self.now }
+        ensures { said_of self.now ++ left_of self.now ≡ owed_text self.now }
     {}
 
     /// The stream.
@@ -92,7 +92,7 @@ impl<S: Stream> Owed<S> {
 
     /// Goes on to send what is left, from its first byte. What the stream takes of it is sent, and no longer left.
     pub fn go_on(&mut self) -> Said
-        ensures text { text_of self.new ≡ text_of self.old }
+        ensures text { owed_text self.new ≡ owed_text self.old }
         ensures since { since_of self.new ≡ since_of self.old }
         ensures said { said_of self.new ≡ said_of self.old ++ take result.count (left_of self.old) }
         ensures left { left_of self.new ≡ drop result.count (left_of self.old) }

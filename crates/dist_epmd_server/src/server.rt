@@ -1,7 +1,9 @@
 //! The sockets of a port mapper and their clients.
 
-ghost use Rattle.std.specs.Prelude.{◌≡◌, ◌<◌, ◌≤◌, ◌-◌, not, filter, nat_le};
-ghost use Rattle.dist_epmd_clients.specs.Clients.{registrations_of, clients_of};
+ghost use Rattle.std.specs.Prelude.{[], length, ◌≡◌, ◌<◌, ◌≤◌, ◌-◌, not, filter, nat_le};
+ghost use Rattle.dist_epmd_clients.specs.Clients.{registrations_of, clients_of, IsSame};
+ghost use Rattle.dist_epmd_clients.specs.Journal.{keeping};
+ghost use Rattle.dist_epmd_clients.specs.Reporting.{counts_of, events_of, journal_of};
 ghost use Rattle.dist_epmd_clients.specs.Sweeping.{is_late};
 ghost use Rattle.dist_epmd_server.specs.Attending.{Attends};
 ghost use Rattle.dist_epmd_server.specs.declared.attending.Watch.{Watch};
@@ -28,6 +30,9 @@ const ACCEPTS: usize = 256;
 
 // The most listeners.
 const LISTENERS: usize = 16;
+
+// The most sockets that are watched beside its own.
+const OTHERS: usize = 16;
 
 /// The limits of a port mapper.
 #[derive(Clone, Copy, Debug, PartialEq, Eq)]
@@ -71,6 +76,17 @@ fn listener_of(token: Token) -> Option<usize> {
     if place < LISTENERS { Some(place) } else { None }
 }
 
+// The token of a socket that is none of the port mapper's.
+fn token_of_other(place: usize) -> Token {
+    Token((usize::MAX - LISTENERS).saturating_sub(place))
+}
+
+/// Which socket a token is of, where it is none of the port mapper's.
+pub fn other_of(token: Token) -> Option<usize> {
+    let place = (usize::MAX - LISTENERS).checked_sub(token.0)?;
+    if place < OTHERS { Some(place) } else { None }
+}
+
 fn token_of(conn: u64) -> Option<Token> {
     match usize::try_from(conn) {
         Ok(number) => Some(Token(number)),
@@ -97,6 +113,56 @@ impl Server {
             stuck: false,
             swept: 0,
         })
+    }
+
+    /// Its clients, how often what happened to them, and the events that wait for whoever reads them.
+    pub fn clients(&self) -> &Clients<SocketStream>
+        ensures { result.now ≡ clients_at self.now }
+    {
+        &self.clients
+    }
+
+    /// On how many connections something is owed to a client that has left.
+    pub fn owing(&self) -> usize
+        ensures { result ≡ length (all_owed (owing_at self.now)) }
+    {
+        self.owing.len()
+    }
+
+    /// Whether connections may wait that could not be accepted: it has no descriptors or no memory left.
+    pub fn is_stuck(&self) -> bool {
+        self.stuck
+    }
+
+    /// From now on so many events may wait for whoever reads them. Without this call none does.
+    pub fn keep_events(&mut self, most: usize)
+        ensures journal { journal_of (clients_at self.new) ≡ keeping most (journal_of (clients_at self.old)) }
+        ensures clients { IsSame (clients_at self.old) (clients_at self.new) }
+        ensures owing { owing_at self.new ≡ owing_at self.old }
+    {
+        self.clients.keep_events(most);
+    }
+
+    /// Keeps no event that waits: they were read.
+    pub fn forget_events(&mut self)
+        ensures events { events_of (clients_at self.new) ≡ [] }
+        ensures counts { counts_of (clients_at self.new) ≡ counts_of (clients_at self.old) }
+        ensures clients { IsSame (clients_at self.old) (clients_at self.new) }
+        ensures owing { owing_at self.new ≡ owing_at self.old }
+    {
+        self.clients.forget_events();
+    }
+
+    /// Asks to be notified when a socket is ready to be read that is none of its own: `place` tells it from others.
+    pub fn watch_other(&self, fd: i32, place: usize) -> bool {
+        self.poll
+            .registry()
+            .register(
+                &mut SourceFd(&fd),
+                token_of_other(place),
+                Interest::READABLE,
+            )
+            .is_ok()
     }
 
     /// Listens at one more socket, which does not block.
@@ -232,7 +298,7 @@ impl Server {
     /// Serves the clients among what is ready. They come before the listeners: the end of a connection is noticed before a
     /// later connection asks.
     pub fn serve_client(&mut self, token: Token, room: &mut [u8], now: u64) {
-        if listener_of(token).is_none() {
+        if listener_of(token).is_none() && other_of(token).is_none() {
             self.attend(token.0 as u64, room, now);
         }
     }

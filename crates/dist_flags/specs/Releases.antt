@@ -27,12 +27,12 @@ abbrev pub shows : ℕ → ℕ → Bool
 shows flags one = has_all flags one
 
 -- the flags with those for which MANDATORY_25_DIGEST stands
-abbrev pub expanded : ℕ → ℕ
-expanded flags = if shows flags 0x4000000 then bit_or flags mandatory_25 else flags
+abbrev pub with_mandatory : ℕ → ℕ
+with_mandatory flags = if shows flags 0x4000000 then bit_or flags mandatory_25 else flags
 
 -- which of the wanted flags are absent
 abbrev pub missing : ℕ → ℕ → ℕ
-missing flags wanted = bit_and wanted (2 ^ 64 - 1 - expanded flags)
+missing flags wanted = bit_and wanted (2 ^ 64 - 1 - with_mandatory flags)
 
 -- the newest release one of whose own flags is there
 abbrev pub release_of : ℕ → Release

@@ -8,4 +8,4 @@ mod dflag;
 mod release;
 
 pub use dflag::Dflag;
-pub use release::{Release, Told, expanded, missing, release_of, told_by};
+pub use release::{Release, Told, missing, release_of, told_by, with_mandatory};

@@ -1,7 +1,7 @@
 //! What releases of Erlang/OTP announce and ask of a peer, and which release a node's flags are those of.
 
 ghost use Rattle.std.specs.Prelude.{◌≡◌};
-ghost use Rattle.dist_flags.specs.Releases.{announced_by, expanded, is_just, missing, release_of, required_by, told_by};
+ghost use Rattle.dist_flags.specs.Releases.{announced_by, with_mandatory, is_just, missing, release_of, required_by, told_by};
 
 use dist_names::Flags;
 
@@ -64,8 +64,8 @@ impl Release {
 
 /// The flags, and those for which DFLAG_MANDATORY_25_DIGEST stands where it is one of them. OTP reads them so from release
 /// 25 on.
-pub fn expanded(flags: Flags) -> Flags
-    ensures { result.0 ≡ expanded flags.0 }
+pub fn with_mandatory(flags: Flags) -> Flags
+    ensures { result.0 ≡ with_mandatory flags.0 }
 {
     if flags.has(Flags(0x4000000)) {
         Flags(flags.0 | 0x1070f94)
@@ -78,7 +78,7 @@ pub fn expanded(flags: Flags) -> Flags
 pub fn missing(flags: Flags, wanted: Flags) -> Flags
     ensures { result.0 ≡ missing flags.0 wanted.0 }
 {
-    Flags(wanted.0 & !expanded(flags).0)
+    Flags(wanted.0 & !with_mandatory(flags).0)
 }
 
 /// The release that a node's flags are those of.

@@ -3,8 +3,8 @@ use Rattle.std.specs.Prelude.{◌≡◌, ℕ, ◌-◌, List, [], ◌∷◌, ◌+
 use Rattle.std.specs.List.{flat_map, AllByRecursion}
 use Rattle.std.specs.Int.{w16}
 pub use Rattle.dist_names.specs.Bytes.{IsBytes}
-use Rattle.dist_frames.specs.Stream.{framed, Fits, bodies, packets, partial}
-use Rattle.dist_frames.specs.Reader.{Reader, Short, Linked, capped_count, fed, next_body, without_next, linked, told}
+use Rattle.dist_frames.specs.Stream.{body_frame, FitsWidth, bodies, packets, partial}
+use Rattle.dist_frames.specs.Reader.{Reader, Short, Linked, capped_count, with_bytes, next_body, without_next, as_linked, without_count}
 
 -- a call that succeeded; Take moves the next body out or drops it
 pub data Call : Type 0 where
@@ -29,12 +29,12 @@ opening = record { reader = Short []; stream = []; moved = []; before = 0 }
 
 -- the bytes that were not moved out
 abbrev pub rest_of_stream : Seen → List ℕ
-rest_of_stream s = drop (length (flat_map (framed w16) s.moved)) s.stream
+rest_of_stream s = drop (length (flat_map (body_frame w16) s.moved)) s.stream
 
 -- The bytes that came are the frames of the bodies moved out, and then those that are pending.
 pub record Accounts (stream : List ℕ) (moved : List (List ℕ)) (pending : List ℕ) : Type 0 where
-  pub whole : stream ≡ flat_map (framed w16) moved ++ pending
-  pub fit : AllByRecursion (Fits w16) moved
+  pub whole : stream ≡ flat_map (body_frame w16) moved ++ pending
+  pub fit : AllByRecursion (FitsWidth w16) moved
   pub bytes : IsBytes pending
 
 -- how many packets have ended by now, where they are reported
@@ -44,10 +44,10 @@ ended_by_now (Linked ended rest) s = packets (rest_of_stream s)
 
 -- the same after one more call
 abbrev pub after_call : Seen → Call → Seen
-after_call s (Feed piece) = record s { reader = fed s.reader piece; stream = s.stream ++ piece }
+after_call s (Feed piece) = record s { reader = with_bytes s.reader piece; stream = s.stream ++ piece }
 after_call s Take = record s { reader = without_next s.reader; moved = s.moved ++ option_to_list (next_body s.reader) }
-after_call s Link = record s { reader = linked s.reader }
-after_call s Skip = record s { reader = told s.reader; before = ended_by_now s.reader s }
+after_call s Link = record s { reader = as_linked s.reader }
+after_call s Skip = record s { reader = without_count s.reader; before = ended_by_now s.reader s }
 
 -- the same after these calls in turn
 abbrev pub after_all : Seen → List Call → Seen
@@ -64,7 +64,7 @@ FeedBytes (call ∷ calls) = FeedBytes calls
 -- packets not yet reported are those of all bytes from the first that was not moved out that ended since the last report
 abbrev pub IsRight : Reader → Seen → Type 0
 IsRight (Short pending) s = s.moved ++ bodies pending ≡ bodies s.stream
-IsRight (Linked ended rest) s = (more : List ℕ) × (s.stream ≡ flat_map (framed w16) s.moved ++ more) × (ended ≡ capped_count (packets more - s.before))
+IsRight (Linked ended rest) s = (more : List ℕ) × (s.stream ≡ flat_map (body_frame w16) s.moved ++ more) × (ended ≡ capped_count (packets more - s.before))
 
 -- NO BYTE IS LOST: those that were fed are the frames of the bodies moved out, and then those that the reader holds or,
 -- once it is linked, the stream of packets of which it keeps the rest

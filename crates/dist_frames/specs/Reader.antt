@@ -17,9 +17,9 @@ abbrev pub capped_count : ℕ → ℕ
 capped_count count = min count (2 ^ 64 - 1)
 
 -- the reader when more bytes have come
-abbrev pub fed : Reader → List ℕ → Reader
-fed (Short pending) piece = Short (pending ++ piece)
-fed (Linked ended rest) piece = Linked (capped_count (ended + packets (rest ++ piece))) (partial (rest ++ piece))
+abbrev pub with_bytes : Reader → List ℕ → Reader
+with_bytes (Short pending) piece = Short (pending ++ piece)
+with_bytes (Linked ended rest) piece = Linked (capped_count (ended + packets (rest ++ piece))) (partial (rest ++ piece))
 
 -- the body that is moved out next
 abbrev pub next_body : Reader → Option (List ℕ)
@@ -37,9 +37,9 @@ without_next (Short pending) = Short (after_first w16 pending)
 without_next (Linked ended rest) = Linked ended rest
 
 -- the reader when all bytes not yet moved out are those of packets; a linked one stays as it is
-abbrev pub linked : Reader → Reader
-linked (Short pending) = fed (Linked 0 []) pending
-linked (Linked ended rest) = Linked ended rest
+abbrev pub as_linked : Reader → Reader
+as_linked (Short pending) = with_bytes (Linked 0 []) pending
+as_linked (Linked ended rest) = Linked ended rest
 
 -- how many packets ended and were not reported
 abbrev pub untold : Reader → ℕ
@@ -47,9 +47,9 @@ untold (Short pending) = 0
 untold (Linked ended rest) = ended
 
 -- the reader once they are reported
-abbrev pub told : Reader → Reader
-told (Short pending) = Short pending
-told (Linked ended rest) = Linked 0 rest
+abbrev pub without_count : Reader → Reader
+without_count (Short pending) = Short pending
+without_count (Linked ended rest) = Linked 0 rest
 
 -- the bytes that were fed and not moved out, where the reader keeps them: a linked one keeps none of packets
 abbrev pub rest_of : Reader → List ℕ

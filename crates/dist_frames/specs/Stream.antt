@@ -9,18 +9,18 @@ pub use Rattle.dist_names.specs.Bytes.{number}
 -- ---- in the words of the subject
 
 -- the frame of a body: its length in a field of this width, then the body; the length does not count itself
-abbrev pub framed : Width → List ℕ → List ℕ
-framed w body = number w (length body) ++ body
+abbrev pub body_frame : Width → List ℕ → List ℕ
+body_frame w body = number w (length body) ++ body
 
 -- the length of a body fits its field
-abbrev pub Fits : Width → List ℕ → Type 0
-Fits w body = length body < 2 ^ (8 * byte_len w)
+abbrev pub FitsWidth : Width → List ℕ → Type 0
+FitsWidth w body = length body < 2 ^ (8 * byte_len w)
 
 -- THE BODIES OF A STREAM: it is their frames joined, and what is left begins with no whole frame
 pub record Splits (w : Width) (stream : List ℕ) (bodies : List (List ℕ)) (rest : List ℕ) : Type 0 where
-  pub whole : stream ≡ flat_map (framed w) bodies ++ rest
-  pub fit : AllByRecursion (Fits w) bodies
-  pub no_more : (body more : List ℕ) → Fits w body → rest ≡ framed w body ++ more → ⊥
+  pub whole : stream ≡ flat_map (body_frame w) bodies ++ rest
+  pub fit : AllByRecursion (FitsWidth w) bodies
+  pub no_more : (body more : List ℕ) → FitsWidth w body → rest ≡ body_frame w body ++ more → ⊥
 
 -- ---- the same, computed
 

@@ -1,5 +1,5 @@
 ghost use Rattle.std.specs.Prelude.{◌≡◌, [], option_map, option_copied, OnOk, OnErr, IfOk, IsOk, IsSome, MatchOption, drop, ◌∷◌};
-ghost use Rattle.dist_frames.specs.Reader.{fed, next_body, to_come, without_next, linked, untold, told, rest_of, IsLinked};
+ghost use Rattle.dist_frames.specs.Reader.{with_bytes, next_body, to_come, without_next, as_linked, untold, without_count, rest_of, IsLinked};
 ghost use Rattle.dist_frames.specs.Reader.Reader.{Short};
 
 use crate::byte_queue::ByteQueue;
@@ -87,7 +87,7 @@ impl Frames {
     /// Takes the next piece of the stream, of any number of bytes. An `Err` changes nothing. A linked reader takes no memory,
     /// and so cannot fail.
     pub fn feed(&mut self, piece: &[u8]) -> Result<(), AllocError>
-        ensures ok { OnOk result (self.new ≡ fed self.old piece.now) }
+        ensures ok { OnOk result (self.new ≡ with_bytes self.old piece.now) }
         ensures err { OnErr result (self.new ≡ self.old) }
         ensures linked { IsLinked self.old → IsOk result }
     {
@@ -123,7 +123,7 @@ impl Frames {
     /// Treats the bytes that were not moved out, and all later ones, as packets with lengths of 4 bytes. A second call
     /// changes nothing. It takes no memory.
     pub fn to_linked(&mut self)
-        ensures { self.new ≡ linked self.old }
+        ensures { self.new ≡ as_linked self.old }
     {
         if let Stage::Short(pending) = &self.stage {
             let mut left = Partial::new();
@@ -136,7 +136,7 @@ impl Frames {
     /// `to_linked` it returns 0 and drops nothing. It takes no memory.
     pub fn skip_long(&mut self) -> usize
         ensures count { result ≡ untold self.old }
-        ensures after { self.new ≡ told self.old }
+        ensures after { self.new ≡ without_count self.old }
     {
         match &mut self.stage {
             Stage::Short(_) => 0,

@@ -4,7 +4,7 @@
 
 ghost use Rattle.std.specs.Prelude.{◌≡◌, ℕ, ◌+◌, ◌<◌, ◌≤◌, ◌==◌, ◌++◌, [], length, take, drop, if◌then◌else◌};
 ghost use Rattle.std.specs.Int.{w32, to_be_bytes};
-ghost use Rattle.dist_frames.specs.Stream.{framed, packets, partial};
+ghost use Rattle.dist_frames.specs.Stream.{body_frame, packets, partial};
 ghost use Rattle.dist_frames.specs.Reader.{capped_count};
 ghost use Rattle.dist_frames.specs.Kept.{kept_of};
 
@@ -12,7 +12,7 @@ use std::marker::Model;
 
 /// The packet of no bytes: `00000000`.
 pub fn tick() -> [u8; 4]
-    ensures { result ≡ framed w32 [] }
+    ensures { result ≡ body_frame w32 [] }
 {
     [0; 4]
 }

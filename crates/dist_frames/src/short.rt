@@ -3,7 +3,7 @@
 
 ghost use Rattle.std.specs.Prelude.{◌≡◌, ◌↔◌, ◌≤◌, ◌^◌, ◌++◌, length, option_copied, IfOk, OnOk, IsErrOf};
 ghost use Rattle.std.specs.Int.{w16};
-ghost use Rattle.dist_frames.specs.Stream.{framed, first_body, after_first};
+ghost use Rattle.dist_frames.specs.Stream.{body_frame, first_body, after_first};
 ghost use Rattle.dist_frames.specs.Kept.{frame_len};
 
 use crate::byte_queue::ByteQueue;
@@ -63,7 +63,7 @@ fn put_length(body: &mut Vec<u8>, header: [u8; 2]) -> Result<(), AllocError>
 ///
 /// Refused as `TooLong` above 65,535 bytes, then `NoMemory`.
 pub fn into_short(mut body: Vec<u8>) -> Result<Vec<u8>, FrameError>
-    ensures ok { IfOk result (λ frame. frame.items ≡ framed w16 body.items) }
+    ensures ok { IfOk result (λ frame. frame.items ≡ body_frame w16 body.items) }
     ensures too_long { IsErrOf result FrameError.TooLong ↔ (2 ^ 16 ≤ length body.items) }
 {
     if body.len() > MOST {
@@ -78,7 +78,7 @@ pub fn into_short(mut body: Vec<u8>) -> Result<Vec<u8>, FrameError>
 ///
 /// Refused as `TooLong` above 65,535 bytes, then `NoMemory`.
 pub fn write_short(alloc: Global, body: &[u8]) -> Result<Vec<u8>, FrameError>
-    ensures ok { IfOk result (λ frame. frame.items ≡ framed w16 body.now) }
+    ensures ok { IfOk result (λ frame. frame.items ≡ body_frame w16 body.now) }
     ensures too_long { IsErrOf result FrameError.TooLong ↔ (2 ^ 16 ≤ length body.now) }
 {
     if body.len() > MOST {

@@ -6,7 +6,7 @@ use Rattle.std.proofs.lemmas.List.{append-nil}
 use Rattle.std.proofs.lemmas.List.Concat.{flat_map-append}
 use Rattle.dist_names.specs.Bytes.{IsBytes}
 use Rattle.dist_names.proofs.Bytes.{IsBytes-drop, IsBytes-append}
-use Rattle.dist_frames.specs.Stream.{framed, Fits, head, has_first, front, behind, split_bodies}
+use Rattle.dist_frames.specs.Stream.{body_frame, FitsWidth, head, has_first, front, behind, split_bodies}
 use Rattle.dist_frames.proofs.Splitting.{wide32, begins, bodies-framed}
 use Rattle.dist_link.specs.Reading.{Reading, reading, with_piece, is_too_long, next_packet, without_next, up_to, packets_within, to_come}
 use Rattle.dist_link.specs.History.{Call, Feed, Take, Seen, opening, packets_in, after_call, after_all, FeedBytes}
@@ -15,8 +15,8 @@ use Rattle.dist_link.proofs.Fronts.{answer_of, left_of, Short, up_to-front, is_s
 -- all that a reader keeps
 record Kept (most : ℕ) (reader : Reading) (stream : List ℕ) (moved : List (List ℕ)) : Type 0 where
   pub most_is : reader.most ≡ most
-  pub whole : stream ≡ flat_map (framed w32) moved ++ reader.pending
-  pub fit : AllByRecursion (Fits w32) moved
+  pub whole : stream ≡ flat_map (body_frame w32) moved ++ reader.pending
+  pub fit : AllByRecursion (FitsWidth w32) moved
   pub short : Short most moved
   pub bytes : IsBytes reader.pending
 
@@ -30,7 +30,7 @@ kept_opening most rest bytes = record { most_is = refl; whole = refl; fit = tt; 
 kept_fed : (most : ℕ) (r : Reading) (stream piece : List ℕ) (moved : List (List ℕ)) → IsBytes piece → Kept most r stream moved → Kept most (with_piece r piece) (stream ++ piece) moved
 kept_fed most r stream piece moved bytes k = record {
   most_is = k.most_is;
-  whole = ap (λ (x : List ℕ). x ++ piece) k.whole ∙ append_assoc (flat_map (framed w32) moved) r.pending piece;
+  whole = ap (λ (x : List ℕ). x ++ piece) k.whole ∙ append_assoc (flat_map (body_frame w32) moved) r.pending piece;
   fit = k.fit;
   short = k.short;
   bytes = IsBytes-append r.pending piece k.bytes bytes;
@@ -41,11 +41,11 @@ kept_front : (most : ℕ) (r : Reading) (stream : List ℕ) (moved : List (List 
 kept_front most r stream moved k long whole =
     let packet = front w32 r.pending in
     let b = begins w32 wide32 r.pending k.bytes whole in
-    let one : flat_map (framed w32) (moved ++ packet ∷ []) ≡ flat_map (framed w32) moved ++ framed w32 packet = flat_map-append (framed w32) moved (packet ∷ []) ∙ ap (λ (x : List ℕ). flat_map (framed w32) moved ++ x) (append-nil (framed w32 packet)) in
+    let one : flat_map (body_frame w32) (moved ++ packet ∷ []) ≡ flat_map (body_frame w32) moved ++ body_frame w32 packet = flat_map-append (body_frame w32) moved (packet ∷ []) ∙ ap (λ (x : List ℕ). flat_map (body_frame w32) moved ++ x) (append-nil (body_frame w32 packet)) in
     record {
       most_is = k.most_is;
-      whole = k.whole ∙ ap (λ (x : List ℕ). flat_map (framed w32) moved ++ x) b.framed_front ∙ sym (append_assoc (flat_map (framed w32) moved) (framed w32 packet) (behind w32 r.pending)) ∙ ap (λ (x : List ℕ). x ++ behind w32 r.pending) (sym one);
-      fit = all_and_one (Fits w32) moved packet k.fit b.fits;
+      whole = k.whole ∙ ap (λ (x : List ℕ). flat_map (body_frame w32) moved ++ x) b.framed_front ∙ sym (append_assoc (flat_map (body_frame w32) moved) (body_frame w32 packet) (behind w32 r.pending)) ∙ ap (λ (x : List ℕ). x ++ behind w32 r.pending) (sym one);
+      fit = all_and_one (FitsWidth w32) moved packet k.fit b.fits;
       short = all_and_one (λ p. length p ≤ most) moved packet k.short (subst (λ (n : ℕ). length packet ≤ n) k.most_is (is_short r long whole));
       bytes = IsBytes-drop (head w32 r.pending) (drop 4 r.pending) (IsBytes-drop 4 r.pending k.bytes);
     }
@@ -78,5 +78,5 @@ right_after most rest calls bytes fits =
     let s = after_all (opening most rest) calls in
     kept_right most s.reader s.stream s.moved (kept_all most calls (opening most rest) fits (kept_opening most rest bytes))
 
-pub whole_after : (most : ℕ) (rest : List ℕ) (calls : List Call) → IsBytes rest → FeedBytes calls → (after_all (opening most rest) calls).stream ≡ flat_map (framed w32) (after_all (opening most rest) calls).moved ++ (after_all (opening most rest) calls).reader.pending
+pub whole_after : (most : ℕ) (rest : List ℕ) (calls : List Call) → IsBytes rest → FeedBytes calls → (after_all (opening most rest) calls).stream ≡ flat_map (body_frame w32) (after_all (opening most rest) calls).moved ++ (after_all (opening most rest) calls).reader.pending
 whole_after most rest calls bytes fits = (kept_all most calls (opening most rest) fits (kept_opening most rest bytes)).whole

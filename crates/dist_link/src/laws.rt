@@ -4,7 +4,7 @@
 ghost use Rattle.std.specs.Prelude.{◌≡◌, ◌≢◌, ◌+◌, ◌<◌, ◌≤◌, ◌*◌, ◌++◌, ◌∷◌, ℕ, List};
 ghost use Rattle.std.specs.List.{flat_map, AllByRecursion};
 ghost use Rattle.std.specs.Int.{w32};
-ghost use Rattle.dist_frames.specs.Stream.{framed};
+ghost use Rattle.dist_frames.specs.Stream.{body_frame};
 ghost use Rattle.dist_names.specs.Bytes.{IsBytes};
 ghost use Rattle.dist_link.specs.Reading.{packets_within, to_come};
 ghost use Rattle.dist_link.specs.History.{Call, FeedBytes, opening, after_all};
@@ -22,7 +22,7 @@ pub fn any_pieces()
     // No byte is lost: those that came are the packets moved out, and then those that the reader holds.
     ensures whole { (most : ℕ) (rest : List ℕ) (calls : List Call) → IsBytes rest → FeedBytes calls →
         (after_all (opening most rest) calls).stream
-        ≡ flat_map (framed w32) (after_all (opening most rest) calls).moved ++ (after_all (opening most rest) calls).reader.pending }
+        ≡ flat_map (body_frame w32) (after_all (opening most rest) calls).moved ++ (after_all (opening most rest) calls).reader.pending }
 {}
 
 /// A peer is given up where nothing was read from it for four quarters, and nowhere else.

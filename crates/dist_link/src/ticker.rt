@@ -9,7 +9,7 @@ use std::marker::Model;
 pub enum Due {
     /// Nothing for this many milliseconds, if nothing is read or written meanwhile. At least 1.
     Nothing { wait: u64 },
-    /// A tick: nothing was written for a quarter of the time of a tick. Whoever writes it reports it to `said`, as of all that it
+    /// A tick: nothing was written for a quarter of the time of a tick. Whoever writes it reports it to `note_write`, as of all that it
     /// writes.
     Tick,
     /// Nothing was read for the whole time: the link is given up, and its loss reported to the node (`Why::GaveUp`).
@@ -52,14 +52,14 @@ impl Ticker {
     }
 
     /// Something was read now: a tick, or a part of a packet.
-    pub fn heard(&mut self, now: u64)
+    pub fn note_read(&mut self, now: u64)
         ensures { self.new ≡ after_read now self.old }
     {
         self.heard = self.heard.max(now);
     }
 
     /// Something was written now: a tick, or a part of a packet.
-    pub fn said(&mut self, now: u64)
+    pub fn note_write(&mut self, now: u64)
         ensures { self.new ≡ after_write now self.old }
     {
         self.said = self.said.max(now);

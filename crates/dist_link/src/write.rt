@@ -3,7 +3,7 @@
 
 ghost use Rattle.std.specs.Prelude.{◌≡◌, ◌↔◌, ℕ, List, ◌≤◌, ◌^◌, ◌++◌, length, IfOk, IsErrOf};
 ghost use Rattle.std.specs.Int.{w32};
-ghost use Rattle.dist_frames.specs.Stream.{framed};
+ghost use Rattle.dist_frames.specs.Stream.{body_frame};
 ghost use Rattle.dist_link.specs.declared.packet_error.PacketError.TheVariants as error;
 
 use crate::packet_error::PacketError;
@@ -15,7 +15,7 @@ const MOST: usize = 4294967295;
 /// The 4 bytes that stand before a body of this many bytes. Whoever writes them and then the body has written the packet, and
 /// copied nothing.
 pub fn header(len: u32) -> [u8; 4]
-    ensures { (body : List ℕ) → length body ≡ len → framed w32 body ≡ result ++ body }
+    ensures { (body : List ℕ) → length body ≡ len → body_frame w32 body ≡ result ++ body }
 {
     len.to_be_bytes()
 }
@@ -24,7 +24,7 @@ pub fn header(len: u32) -> [u8; 4]
 ///
 /// Refused as `TooLong` above 4,294,967,295 bytes, then `NoMemory`.
 pub fn write_packet(alloc: Global, body: &[u8]) -> Result<Vec<u8>, PacketError>
-    ensures ok { IfOk result (λ packet. packet.items ≡ framed w32 body.now) }
+    ensures ok { IfOk result (λ packet. packet.items ≡ body_frame w32 body.now) }
     ensures too_long { IsErrOf result (error.TooLong (length body.now)) ↔ (2 ^ 32 ≤ length body.now) }
 {
     if body.len() > MOST {

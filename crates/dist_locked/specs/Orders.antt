@@ -36,10 +36,10 @@ abbrev pub TakesOne : List Taken → List Taken → DialOrder → Type 0
 TakesOne before after order = (place : ℕ) × (after ≡ before ++ (place, order) ∷ [])
 
 -- the orders below a number, in turn
-abbrev pub numbered : ℕ → List DialOrder
-numbered zero = []
-numbered (suc n) = numbered n ++ record { 0 = n } ∷ []
+abbrev pub orders_below : ℕ → List DialOrder
+orders_below zero = []
+orders_below (suc n) = orders_below n ++ record { 0 = n } ∷ []
 
 -- the orders of a run: those below a number, and a last one for each worker
 abbrev pub orders_of : ℕ → List DialOrder
-orders_of count = (numbered count ++ record { 0 = 4294967295 } ∷ []) ++ record { 0 = 4294967295 } ∷ []
+orders_of count = (orders_below count ++ record { 0 = 4294967295 } ∷ []) ++ record { 0 = 4294967295 } ∷ []

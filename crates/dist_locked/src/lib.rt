@@ -28,7 +28,7 @@ pub use dist_locked_book::{Book, CloseError, Closed, Line, Receipt, Seat, close,
 pub use driven::{Driven, drive_end};
 pub use gate::{Gate, Moment, Open};
 pub use locked_node::{LockedNode, Tickets};
-pub use losing::{lose, settled};
+pub use losing::{lose, settle};
 pub use queue::{Orders, PutPass, TakePass};
 pub use rule::DialOrder;
 pub use seat_desk::SeatDesk;

@@ -36,7 +36,7 @@ fn give_up<R: Wait>(rt: &R, node: &LockedNode, seat: &mut Seat, end_: EndId) -> 
 
 /// Loses an end that its driver left open and that is not up: with GaveUp where its turns have run out, with NoMemory
 /// where it was not driven at all. The seat comes back, and whether the end is over now. Source: our own choice.
-pub fn settled<R: Wait>(
+pub fn settle<R: Wait>(
     rt: &R,
     node: &LockedNode,
     end_: EndId,

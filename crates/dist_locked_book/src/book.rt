@@ -1,4 +1,5 @@
-ghost use Rattle.std.specs.Prelude.{◌≡◌, ◌≢◌, ◌<◌, ◌+◌, ◌≤◌, ◌∷◌, [], ◌++◌, length, vec_len, vec_capacity, true, false, MatchBool, Ok, Err, IfOk, IfErr, OnOk, OnErr, IsOk, Some, slice_get};
+ghost use Rattle.std.specs.Prelude.{◌≡◌, ◌≢◌, ◌<◌, ◌+◌, ◌≤◌, ◌∷◌, [], ◌++◌, length, vec_len, vec_capacity, true, false, MatchBool};
+ghost use Rattle.std.specs.Prelude.{Ok, Err, IfOk, IfErr, OnOk, OnErr, IsOk, Some, slice_get};
 ghost use Rattle.dist_peers.specs.declared.entry.EndId.{EndId};
 ghost use Rattle.dist_core_ends.specs.declared.why.Why.{Why};
 ghost use Rattle.dist_core_ends.specs.declared.known.End.{End};
@@ -103,7 +104,8 @@ impl Book {
         requires { IsPrepared self.old.node event fresh prepared }
         ensures step { OnOk result (step self.old.node event fresh ≡ Ok (prepared.reply, self.new.node)) }
         ensures at_end { IfOk result (λ at_. at_ ≡ length self.old.history) }
-        ensures line { OnOk result (self.new.history ≡ self.old.history ++ record { ticket = ticket; seat = seat; event = event; fresh = fresh; reply = prepared.reply } ∷ []) }
+        ensures line { OnOk result (self.new.history
+            ≡ self.old.history ++ record { ticket = ticket; seat = seat; event = event; fresh = fresh; reply = prepared.reply } ∷ []) }
         ensures seats { self.new.seats ≡ self.old.seats }
         ensures err { OnErr result (self.new ≡ self.old) }
         ensures refused { IfErr result (λ e. e ≡ StepError.NoMemory) }
@@ -172,7 +174,8 @@ pub fn step_on(
 
     // A loss takes no memory where the seat has room, as it has after a receipt that is not of a loss.
     ensures gone { IsLoss event.now → 0 < seat.old.spare → IfErr result IsGone }
-    ensures open_end { (x : EndId) (w : Why) (e : End) → event.now ≡ Event.Lost x w → slice_get book.old.node.ends x.0 ≡ Some e → is_open e ≡ true → ends_in_loss seat.old.list ≡ false → IsOk result }
+    ensures open_end { (x : EndId) (w : Why) (e : End) → event.now ≡ Event.Lost x w
+        → slice_get book.old.node.ends x.0 ≡ Some e → is_open e ≡ true → ends_in_loss seat.old.list ≡ false → IsOk result }
     ensures room { OnOk result (is_loss event.now ≡ false → 0 < seat.new.spare) }
     ensures room_kept { OnErr result (seat.old.spare ≤ seat.new.spare) }
 {
@@ -207,7 +210,8 @@ fn prepare_line(
 
     ensures refused { IfErr result (λ e. Refuses e (step node.now event.now fresh)) }
     ensures gone { IsLoss event.now → 0 < seat.old.spare → IfErr result IsGone }
-    ensures open_end { (x : EndId) (w : Why) (e : End) → event.now ≡ Event.Lost x w → slice_get node.now.ends x.0 ≡ Some e → is_open e ≡ true → ends_in_loss seat.old.list ≡ false → IsOk result }
+    ensures open_end { (x : EndId) (w : Why) (e : End) → event.now ≡ Event.Lost x w
+        → slice_get node.now.ends x.0 ≡ Some e → is_open e ≡ true → ends_in_loss seat.old.list ≡ false → IsOk result }
 {
     let prepared = node.prepare(alloc, event, fresh)?;
     if seat.make_room(event.is_lost()).is_err() {

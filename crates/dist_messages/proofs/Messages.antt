@@ -15,7 +15,7 @@ use Rattle.dist_messages.specs.declared.message_error.MessageError.{MessageError
 use Rattle.dist_messages.specs.declared.message_error.MessageError.TheVariants as errors
 use Rattle.dist_messages.specs.Answer.{Answers}
 use Rattle.dist_messages.specs.Spelling.{Spells, Fits, text_of, is_said_by}
-use Rattle.dist_messages.specs.Canonical.{written}
+use Rattle.dist_messages.specs.Canonical.{own_spelling}
 use Rattle.dist_names.specs.Bytes.{IsBytes}
 use Rattle.dist_names.proofs.Bytes.{IsBytes-rest}
 use Rattle.dist_messages.specs.Reading.{read, old_name, new_name, old_challenge, new_challenge, complement, reply, ack, status_of, status_message}
@@ -162,7 +162,7 @@ few : (name : List ℕ) → ltb 255 (length name) ≡ false → length name < 2 
 few name h = let le : length name ≤ 255 = ltb-false 255 (length name) h in omega arith
 
 -- one spelling of the many
-pub written_is_spelled : (side : Side) (m : Message) (body : List ℕ) → written side m ≡ Ok body → Spells side m body
+pub written_is_spelled : (side : Side) (m : Message) (body : List ℕ) → own_spelling side m ≡ Ok body → Spells side m body
 written_is_spelled Dialler (message.OldName flags name) body e =
     let p = bounded_ok (ltb 255 (length name)) (0x6e ∷ to_be_bytes w16 5 ++ to_be_bytes w32 flags ++ name) body e in
     (5, lit< tt, sym p.1)
@@ -194,7 +194,7 @@ written_is_spelled Acceptor (message.Reply challenge digest) body e = absurd cc
 pub one_message_lem : (side : Side) (m n : Message) (body : List ℕ) → Fits m → Fits n → Spells side m body → Spells side n body → m ≡ n
 one_message_lem side m n body fm fn sm sn = ok_is m n (sym (spelled_is_read side m body fm sm) ∙ spelled_is_read side n body fn sn)
 
-pub written_is_read_lem : (side : Side) (m : Message) (body : List ℕ) → Fits m → written side m ≡ Ok body → read side body ≡ Ok m
+pub written_is_read_lem : (side : Side) (m : Message) (body : List ℕ) → Fits m → own_spelling side m ≡ Ok body → read side body ≡ Ok m
 written_is_read_lem side m body f e = spelled_is_read side m body f (written_is_spelled side m body e)
 
 -- ---- in the words of the answers

@@ -3,7 +3,7 @@ use Rattle.std.proofs.Common.{◌≡◌, ℕ, List, ◌++◌, Result, Ok, Err, c
 use Rattle.std.specs.Prelude.{OnOk, is_ok}
 use Rattle.dist_messages.specs.declared.message.Message.{Message}
 use Rattle.dist_messages.specs.declared.message_error.MessageError.{MessageError}
-use Rattle.dist_messages.specs.Canonical.{bounded}
+use Rattle.dist_messages.specs.Canonical.{spelling_with_name}
 use Rattle.dist_messages.specs.Writing.{AnswersCheck, name_in}
 
 -- a piece behind those that are there
@@ -21,5 +21,5 @@ last_slice (Ok x) old front piece body next e f = more old front piece body next
 last_slice (Err x) old front piece body next e f = tt
 
 -- what the check of a name says of the message that has it
-pub named : (m : Message) (bytes : List ℕ) (r : Result (Unit {0}) MessageError) → bytes ≡ name_in m → ((n : Message) → name_in n ≡ bytes → AnswersCheck n r (bounded bytes n)) → AnswersCheck m r (bounded (name_in m) m)
-named m bytes r e h = subst (λ (b : List ℕ). AnswersCheck m r (bounded b m)) e (h m (sym e))
+pub named : (m : Message) (bytes : List ℕ) (r : Result (Unit {0}) MessageError) → bytes ≡ name_in m → ((n : Message) → name_in n ≡ bytes → AnswersCheck n r (spelling_with_name bytes n)) → AnswersCheck m r (spelling_with_name (name_in m) m)
+named m bytes r e h = subst (λ (b : List ℕ). AnswersCheck m r (spelling_with_name b m)) e (h m (sym e))

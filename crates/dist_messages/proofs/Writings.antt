@@ -12,7 +12,7 @@ use Rattle.dist_messages.specs.declared.message.Message.TheVariants as message
 use Rattle.dist_messages.specs.declared.message_error.MessageError.{MessageError}
 use Rattle.dist_messages.specs.declared.message_error.MessageError.TheVariants as errors
 use Rattle.dist_messages.specs.Spelling.{Spells, is_said_by}
-use Rattle.dist_messages.specs.Canonical.{canonical, written}
+use Rattle.dist_messages.specs.Canonical.{canonical, own_spelling}
 use Rattle.dist_messages.specs.Writing.{name_in, nameless, HasRow, IsPlain, IsWritten, HasNoRow, HasLongName, IsOtherStatus}
 
 abbrev fine : List ℕ → Result (List ℕ) MessageError
@@ -98,7 +98,7 @@ status_judged Dialler s false h = record { status = s; is = refl; no_row = λ r.
 status_judged Acceptor s true h = record { spelled = (h, refl); plain = tt; short = lit≤ tt }
 status_judged Acceptor s false h = record { status = s; is = refl; no_row = λ r. let t : is_said_by s Acceptor ≡ true = (r.row).0 in cc }
 
-judged : (side : Side) (m : Message) → Judged side m (written side m)
+judged : (side : Side) (m : Message) → Judged side m (own_spelling side m)
 judged Dialler (message.OldName flags name) =
     named_judged Dialler (message.OldName flags name) (ltb 255 (length name)) refl (record { body = canonical (nameless (message.OldName flags name)); row = (5, lit< tt, refl) })
     (λ h. record { spelled = (5, lit< tt, refl); plain = refl; short = h })
@@ -156,14 +156,14 @@ status_back side m h (Err e) j = absurd j
 
 -- ---- each answer exactly where its cause stands
 
-pub written_law : (side : Side) (m : Message) (body : List ℕ) → (written side m ≡ Ok body) ↔ IsWritten side m body
-written_law side m body = (λ e. subst (Judged side m) e (judged side m), λ h. written_back side m body h (written side m) (judged side m))
+pub written_law : (side : Side) (m : Message) (body : List ℕ) → (own_spelling side m ≡ Ok body) ↔ IsWritten side m body
+written_law side m body = (λ e. subst (Judged side m) e (judged side m), λ h. written_back side m body h (own_spelling side m) (judged side m))
 
-pub tag_law : (side : Side) (m : Message) → (written side m ≡ Err errors.UnknownTag) ↔ HasNoRow side m
-tag_law side m = (λ e. subst (Judged side m) e (judged side m), λ h. tag_back side m h (written side m) (judged side m))
+pub tag_law : (side : Side) (m : Message) → (own_spelling side m ≡ Err errors.UnknownTag) ↔ HasNoRow side m
+tag_law side m = (λ e. subst (Judged side m) e (judged side m), λ h. tag_back side m h (own_spelling side m) (judged side m))
 
-pub name_law : (side : Side) (m : Message) → (written side m ≡ Err errors.BadName) ↔ HasLongName side m
-name_law side m = (λ e. subst (Judged side m) e (judged side m), λ h. name_back side m h (written side m) (judged side m))
+pub name_law : (side : Side) (m : Message) → (own_spelling side m ≡ Err errors.BadName) ↔ HasLongName side m
+name_law side m = (λ e. subst (Judged side m) e (judged side m), λ h. name_back side m h (own_spelling side m) (judged side m))
 
-pub status_law : (side : Side) (m : Message) → (written side m ≡ Err errors.UnknownStatus) ↔ IsOtherStatus side m
-status_law side m = (λ e. subst (Judged side m) e (judged side m), λ h. status_back side m h (written side m) (judged side m))
+pub status_law : (side : Side) (m : Message) → (own_spelling side m ≡ Err errors.UnknownStatus) ↔ IsOtherStatus side m
+status_law side m = (λ e. subst (Judged side m) e (judged side m), λ h. status_back side m h (own_spelling side m) (judged side m))

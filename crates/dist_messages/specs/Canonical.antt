@@ -26,17 +26,17 @@ canonical (message.Reply challenge digest) = 0x72 ∷ to_be_bytes w32 challenge 
 canonical (message.Ack digest) = 0x61 ∷ digest
 
 -- the spelling of a message with this name, which has at most 255 bytes
-abbrev pub bounded : List ℕ → Message → Result (List ℕ) MessageError
-bounded name m = if nat_lt 255 (length name) then Err errors.BadName else Ok (canonical m)
+abbrev pub spelling_with_name : List ℕ → Message → Result (List ℕ) MessageError
+spelling_with_name name m = if nat_lt 255 (length name) then Err errors.BadName else Ok (canonical m)
 
 -- What this side writes for a message, or the first reason why it writes none. Writing.antt has the same in words.
-abbrev pub written : Side → Message → Result (List ℕ) MessageError
-written Dialler (message.OldName flags name) = bounded name (message.OldName flags name)
-written Dialler (message.NewName flags creation name) = bounded name (message.NewName flags creation name)
-written Dialler (message.Complement high creation) = Ok (canonical (message.Complement high creation))
-written Dialler (message.Reply challenge digest) = Ok (canonical (message.Reply challenge digest))
-written Acceptor (message.OldChallenge flags challenge name) = bounded name (message.OldChallenge flags challenge name)
-written Acceptor (message.NewChallenge flags challenge creation name) = bounded name (message.NewChallenge flags challenge creation name)
-written Acceptor (message.Ack digest) = Ok (canonical (message.Ack digest))
-written side (message.Status s) = if is_said_by s side then Ok (canonical (message.Status s)) else Err errors.UnknownStatus
-written _ _ = Err errors.UnknownTag
+abbrev pub own_spelling : Side → Message → Result (List ℕ) MessageError
+own_spelling Dialler (message.OldName flags name) = spelling_with_name name (message.OldName flags name)
+own_spelling Dialler (message.NewName flags creation name) = spelling_with_name name (message.NewName flags creation name)
+own_spelling Dialler (message.Complement high creation) = Ok (canonical (message.Complement high creation))
+own_spelling Dialler (message.Reply challenge digest) = Ok (canonical (message.Reply challenge digest))
+own_spelling Acceptor (message.OldChallenge flags challenge name) = spelling_with_name name (message.OldChallenge flags challenge name)
+own_spelling Acceptor (message.NewChallenge flags challenge creation name) = spelling_with_name name (message.NewChallenge flags challenge creation name)
+own_spelling Acceptor (message.Ack digest) = Ok (canonical (message.Ack digest))
+own_spelling side (message.Status s) = if is_said_by s side then Ok (canonical (message.Status s)) else Err errors.UnknownStatus
+own_spelling _ _ = Err errors.UnknownTag

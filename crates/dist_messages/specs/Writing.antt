@@ -7,7 +7,7 @@ use Rattle.dist_messages.specs.declared.message.Message.{Message}
 use Rattle.dist_messages.specs.declared.message.Message.TheVariants as message
 use Rattle.dist_names.specs.Answer.{RefusedBut}
 use Rattle.dist_messages.specs.declared.message_error.MessageError.{MessageError}
-use Rattle.dist_messages.specs.Answer.{is_want}
+use Rattle.dist_messages.specs.Answer.{is_message_memory_error}
 use Rattle.dist_messages.specs.Canonical.{canonical, written_version}
 use Rattle.dist_messages.specs.Spelling.{Spells}
 
@@ -22,7 +22,7 @@ name_in _ = []
 -- What a check before writing answered: the message is written as its spelling and has a short name, or it is refused so.
 abbrev pub AnswersCheck : Message → Result (Unit {0}) MessageError → Result (List ℕ) MessageError → Type 0
 AnswersCheck m (Ok _) answer = (answer ≡ Ok (canonical m)) × (length (name_in m) ≤ 255)
-AnswersCheck m (Err error) answer = RefusedBut (is_want error) error answer
+AnswersCheck m (Err error) answer = RefusedBut (is_message_memory_error error) error answer
 
 -- the same message with a name of no bytes
 abbrev pub nameless : Message → Message

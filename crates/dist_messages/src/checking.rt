@@ -4,7 +4,7 @@ ghost use Rattle.std.specs.Prelude.{◌≡◌};
 ghost use Rattle.dist_messages.specs.declared.message.Side.TheVariants.{Dialler, Acceptor};
 ghost use Rattle.dist_messages.specs.declared.message.Message.{Message};
 ghost use Rattle.dist_messages.specs.declared.message.Message.TheVariants as message;
-ghost use Rattle.dist_messages.specs.Canonical.{written, bounded};
+ghost use Rattle.dist_messages.specs.Canonical.{own_spelling, spelling_with_name};
 ghost use Rattle.dist_messages.specs.Writing.{AnswersCheck, name_in};
 
 use crate::message::{Message, Side, Status};
@@ -13,7 +13,7 @@ use crate::message_error::MessageError;
 const LONGEST_NAME: usize = 255;
 
 fn check_name(name: &[u8]) -> Result<(), MessageError>
-    ensures { (m : Message) → name_in m ≡ name.now → AnswersCheck m result (bounded name.now m) }
+    ensures { (m : Message) → name_in m ≡ name.now → AnswersCheck m result (spelling_with_name name.now m) }
 {
     if name.len() > LONGEST_NAME {
         return Err(MessageError::BadName);
@@ -22,7 +22,7 @@ fn check_name(name: &[u8]) -> Result<(), MessageError>
 }
 
 fn check_status(side: Side, status: Status) -> Result<(), MessageError>
-    ensures { AnswersCheck (message.Status status) result (written side (message.Status status)) }
+    ensures { AnswersCheck (message.Status status) result (own_spelling side (message.Status status)) }
 {
     if !status.is_said_by(side) {
         return Err(MessageError::UnknownStatus);
@@ -31,7 +31,7 @@ fn check_status(side: Side, status: Status) -> Result<(), MessageError>
 }
 
 fn check_diallers(message: &Message) -> Result<(), MessageError>
-    ensures { AnswersCheck message.now result (written Dialler message.now) }
+    ensures { AnswersCheck message.now result (own_spelling Dialler message.now) }
 {
     match message {
         Message::OldName { name, .. } => check_name(name.as_slice()),
@@ -44,7 +44,7 @@ fn check_diallers(message: &Message) -> Result<(), MessageError>
 }
 
 fn check_acceptors(message: &Message) -> Result<(), MessageError>
-    ensures { AnswersCheck message.now result (written Acceptor message.now) }
+    ensures { AnswersCheck message.now result (own_spelling Acceptor message.now) }
 {
     match message {
         Message::Status(status) => check_status(Side::Acceptor, *status),
@@ -57,7 +57,7 @@ fn check_acceptors(message: &Message) -> Result<(), MessageError>
 
 /// The first reason for which this side does not write the message, if there is one.
 pub fn check(side: Side, message: &Message) -> Result<(), MessageError>
-    ensures { AnswersCheck message.now result (written side message.now) }
+    ensures { AnswersCheck message.now result (own_spelling side message.now) }
 {
     match side {
         Side::Dialler => check_diallers(message),

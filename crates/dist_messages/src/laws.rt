@@ -6,7 +6,7 @@ ghost use Rattle.dist_messages.specs.declared.message.Side.{Side};
 ghost use Rattle.dist_messages.specs.declared.message.Message.{Message};
 ghost use Rattle.dist_messages.specs.declared.message_error.MessageError.TheVariants as errors;
 ghost use Rattle.dist_messages.specs.Spelling.{Spells, Fits};
-ghost use Rattle.dist_messages.specs.Canonical.{written};
+ghost use Rattle.dist_messages.specs.Canonical.{own_spelling};
 ghost use Rattle.dist_names.specs.Bytes.{IsBytes};
 ghost use Rattle.dist_messages.specs.Causes.{HasUnknownTag, IsShort, IsLong, HasUnknownStatus};
 ghost use Rattle.dist_messages.specs.Reading.{read};
@@ -20,9 +20,9 @@ pub fn one_message()
 
 /// What is written is a spelling of the message, and is read as this message.
 pub fn written_is_read()
-    ensures spelled { (side : Side) (m : Message) (body : List ℕ) → written side m ≡ Ok body → Spells side m body }
+    ensures spelled { (side : Side) (m : Message) (body : List ℕ) → own_spelling side m ≡ Ok body → Spells side m body }
     ensures read { (side : Side) (m : Message) (body : List ℕ) → Fits m →
-        written side m ≡ Ok body → read side body ≡ Ok m }
+        own_spelling side m ≡ Ok body → read side body ≡ Ok m }
 {}
 
 /// Each refusal of a body is met exactly where its cause stands, in the words of the layouts.
@@ -48,15 +48,15 @@ pub fn causes_of_refusals()
 /// What is written, and each refusal to write, is met exactly where its cause stands, in the words of the layouts.
 pub fn causes_of_writing()
     // the spelling with version 5 and no bytes after the name, which has at most 255
-    ensures written { (side : Side) (m : Message) (body : List ℕ) → (written side m ≡ Ok body) ↔ IsWritten side m body }
+    ensures written { (side : Side) (m : Message) (body : List ℕ) → (own_spelling side m ≡ Ok body) ↔ IsWritten side m body }
 
     // no status, and the side has no row for it
-    ensures unknown_tag { (side : Side) (m : Message) → (written side m ≡ Err errors.UnknownTag) ↔ HasNoRow side m }
+    ensures unknown_tag { (side : Side) (m : Message) → (own_spelling side m ≡ Err errors.UnknownTag) ↔ HasNoRow side m }
 
     // the side has a row for it, and the name has more than 255 bytes
-    ensures bad_name { (side : Side) (m : Message) → (written side m ≡ Err errors.BadName) ↔ HasLongName side m }
+    ensures bad_name { (side : Side) (m : Message) → (own_spelling side m ≡ Err errors.BadName) ↔ HasLongName side m }
 
     // a status of the other side
     ensures unknown_status { (side : Side) (m : Message) →
-        (written side m ≡ Err errors.UnknownStatus) ↔ IsOtherStatus side m }
+        (own_spelling side m ≡ Err errors.UnknownStatus) ↔ IsOtherStatus side m }
 {}

@@ -3,7 +3,7 @@
 ghost use Rattle.std.specs.Prelude.{◌≡◌, ◌∷◌, ◌≤◌, ◌++◌, length, IfOk, OnOk};
 ghost use Rattle.dist_messages.specs.declared.message.Message.TheVariants as message;
 ghost use Rattle.dist_messages.specs.Answer.{Answers};
-ghost use Rattle.dist_messages.specs.Canonical.{canonical, written};
+ghost use Rattle.dist_messages.specs.Canonical.{canonical, own_spelling};
 ghost use Rattle.dist_messages.specs.Writing.{name_in};
 
 use crate::checking::check;
@@ -109,7 +109,7 @@ fn body_of(alloc: Global, message: &Message) -> Result<Vec<u8>, AllocError>
 /// the words of the layouts in [`causes_of_writing`](crate::causes_of_writing). The body has room for the length that its frame
 /// puts before it.
 pub fn encode(alloc: Global, side: Side, message: &Message) -> Result<Vec<u8>, MessageError>
-    ensures exact { Answers (λ v. v.items) result (written side message.now) }
+    ensures exact { Answers (λ v. v.items) result (own_spelling side message.now) }
 {
     check(side, message)?;
     Ok(body_of(alloc, message)?)

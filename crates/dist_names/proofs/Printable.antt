@@ -2,7 +2,7 @@
 use Rattle.std.proofs.Common.{◌≡◌, ℕ, ◌<◌, ◌≤◌, List, [], ◌∷◌, ◌++◌, codes, length, drop, drop_of_length-le, append-nil, sym, ap, ◌∙◌, arith}
 use Rattle.std.specs.List.{All, AllByRecursion, flat_map}
 use Rattle.std.proofs.lemmas.List.Elements.{All-nil, All-append, All-from_recursion, All-weaker, All-same, recursion_from_All}
-use Rattle.dist_names.specs.Escaped.{escape_of, escape_in_lines, escape_in_quotes, quoted, escaped, escaped_lines, IsPrintable, IsPrintableOrLineFeed}
+use Rattle.dist_names.specs.Escaped.{escape_of, escape_in_lines, escape_in_quotes, in_double_quotes, escapes_of, escaped_lines, IsPrintable, IsPrintableOrLineFeed}
 
 of_each : (P : ℕ → Type 0) (f : ℕ → List ℕ) (bytes : List ℕ) → AllByRecursion (λ b. All P (f b)) bytes → All P (flat_map f bytes)
 of_each P f [] h = All-nil P
@@ -21,7 +21,7 @@ printable b h = All-from_recursion IsPrintable (escape_of b) (grind arith)
 printable_in_lines : (b : ℕ) → b < 256 → All IsPrintableOrLineFeed (escape_in_lines b)
 printable_in_lines b h = All-from_recursion IsPrintableOrLineFeed (escape_in_lines b) (grind arith)
 
-pub all_printable : (text bytes : List ℕ) (at : ℕ) → length bytes ≤ at → text ++ escaped (drop at bytes) ≡ escaped bytes → All (λ b. b < 256) bytes → All IsPrintable text
+pub all_printable : (text bytes : List ℕ) (at : ℕ) → length bytes ≤ at → text ++ escapes_of (drop at bytes) ≡ escapes_of bytes → All (λ b. b < 256) bytes → All IsPrintable text
 all_printable = written IsPrintable escape_of printable
 
 pub all_printable_in_lines : (text bytes : List ℕ) (at : ℕ) → length bytes ≤ at → text ++ escaped_lines (drop at bytes) ≡ escaped_lines bytes → All (λ b. b < 256) bytes → All IsPrintableOrLineFeed text
@@ -33,7 +33,7 @@ printable_in_quotes b h = All-from_recursion IsPrintable (escape_in_quotes b) (g
 quote : All IsPrintable (codes "\"")
 quote = All-from_recursion IsPrintable (codes "\"") (grind arith)
 
-pub all_printable_in_quotes : (text bytes : List ℕ) → text ≡ quoted bytes → All (λ b. b < 256) bytes → All IsPrintable text
+pub all_printable_in_quotes : (text bytes : List ℕ) → text ≡ in_double_quotes bytes → All (λ b. b < 256) bytes → All IsPrintable text
 all_printable_in_quotes text bytes e h =
     let within : All IsPrintable (flat_map escape_in_quotes bytes) = of_each IsPrintable escape_in_quotes bytes (recursion_from_All (λ b. All IsPrintable (escape_in_quotes b)) bytes (All-weaker (λ b. b < 256) (λ b. All IsPrintable (escape_in_quotes b)) printable_in_quotes bytes h)) in
-    All-same IsPrintable text (quoted bytes) e (All-append IsPrintable (codes "\"") (flat_map escape_in_quotes bytes ++ codes "\"") quote (All-append IsPrintable (flat_map escape_in_quotes bytes) (codes "\"") within quote))
+    All-same IsPrintable text (in_double_quotes bytes) e (All-append IsPrintable (codes "\"") (flat_map escape_in_quotes bytes ++ codes "\"") quote (All-append IsPrintable (flat_map escape_in_quotes bytes) (codes "\"") within quote))

@@ -10,14 +10,14 @@ RefusedBut false error expected = expected ≡ Err error
 
 -- Seen by view, the answer is the one expected, or out of memory, which the test recognizes among the errors.
 abbrev pub AnswersBut : {E X Y : Type 0} → (E → Bool) → (X → Y) → Result X E → Result Y E → Type 0
-AnswersBut is_want view (Ok value) expected = expected ≡ Ok (view value)
-AnswersBut is_want view (Err error) expected = RefusedBut (is_want error) error expected
+AnswersBut is_name_memory_error view (Ok value) expected = expected ≡ Ok (view value)
+AnswersBut is_name_memory_error view (Err error) expected = RefusedBut (is_name_memory_error error) error expected
 
 -- memory ran out
-abbrev pub is_want : NameError → Bool
-is_want NoMemory = true
-is_want _ = false
+abbrev pub is_name_memory_error : NameError → Bool
+is_name_memory_error NoMemory = true
+is_name_memory_error _ = false
 
 -- the same of a name
-abbrev pub Answers : {Y : Type 0} → Result Y NameError → Result Y NameError → Type 0
-Answers result expected = AnswersBut is_want (λ value. value) result expected
+abbrev pub AnswersName : {Y : Type 0} → Result Y NameError → Result Y NameError → Type 0
+AnswersName result expected = AnswersBut is_name_memory_error (λ value. value) result expected

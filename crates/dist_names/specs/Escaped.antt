@@ -21,16 +21,16 @@ abbrev pub escape_in_quotes : ℕ → List ℕ
 escape_in_quotes b = if b == 0x22 then by_digits b else escape_of b
 
 -- each byte's escape, one behind the other
-abbrev pub escaped : List ℕ → List ℕ
-escaped bytes = flat_map escape_of bytes
+abbrev pub escapes_of : List ℕ → List ℕ
+escapes_of bytes = flat_map escape_of bytes
 
 -- the same, with the line feeds left as they are
 abbrev pub escaped_lines : List ℕ → List ℕ
 escaped_lines bytes = flat_map escape_in_lines bytes
 
 -- the escapes between double quotes, of which none has a third one
-abbrev pub quoted : List ℕ → List ℕ
-quoted bytes = codes "\"" ++ flat_map escape_in_quotes bytes ++ codes "\""
+abbrev pub in_double_quotes : List ℕ → List ℕ
+in_double_quotes bytes = codes "\"" ++ flat_map escape_in_quotes bytes ++ codes "\""
 
 -- a byte that no terminal acts upon
 abbrev pub IsPrintable : ℕ → Type 0

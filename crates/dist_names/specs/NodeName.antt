@@ -34,8 +34,8 @@ pub record IsNodeName (name : List ℕ) : Type 0 where
   pub host : 0 < length (host_of name)
 
 -- the bytes where they are a name, or the first reason why they are none
-abbrev pub named : List ℕ → Result (List ℕ) NameError
-named bytes =
+abbrev pub name_of_bytes : List ℕ → Result (List ℕ) NameError
+name_of_bytes bytes =
     if nat_lt (length bytes) 3 then Err TooShort else (
     if nat_lt 255 (length bytes) then Err TooLong else (
     if not (list_all is_visible bytes) then Err BadByte else (

@@ -4,7 +4,7 @@ ghost use Rattle.std.specs.Prelude.{◌≡◌, ◌++◌, ◌<◌, IfOk, OnOk};
 ghost use Rattle.std.specs.List.{All};
 ghost use Rattle.std.specs.String.{string_bytes};
 ghost use Rattle.std.specs.Char.{digit_char};
-ghost use Rattle.dist_names.specs.Escaped.{by_digits, escape_of, escape_in_lines, escape_in_quotes, escaped, escaped_lines, quoted};
+ghost use Rattle.dist_names.specs.Escaped.{by_digits, escape_of, escape_in_lines, escape_in_quotes, escapes_of, escaped_lines, in_double_quotes};
 ghost use Rattle.dist_names.specs.Escaped.{IsPrintable, IsPrintableOrLineFeed};
 
 use crate::plain::is_printable;
@@ -61,7 +61,7 @@ fn push_escape_in_quotes(text: &mut String, byte: u8) -> Result<(), AllocError>
 /// The bytes as text of the bytes from 0x20 to 0x7E alone: every other one is written `\x1b`, in two hexadecimal digits of
 /// lower case, and a backslash `\\`, so that the bytes can be read back. The form is our own choice.
 pub fn escape(alloc: Global, bytes: &[u8]) -> Result<String, AllocError>
-    ensures text { IfOk result (λ text. string_bytes text ≡ escaped bytes.now) }
+    ensures text { IfOk result (λ text. string_bytes text ≡ escapes_of bytes.now) }
     ensures printable { IfOk result (λ text. All IsPrintable (string_bytes text)) }
 {
     let mut text = String::new(alloc);
@@ -85,7 +85,7 @@ pub fn escape_lines(alloc: Global, bytes: &[u8]) -> Result<String, AllocError>
 
 // The escapes of the bytes between double quotes.
 fn between_quotes(alloc: Global, bytes: &[u8]) -> Result<String, AllocError>
-    ensures { IfOk result (λ text. string_bytes text ≡ quoted bytes.now) }
+    ensures { IfOk result (λ text. string_bytes text ≡ in_double_quotes bytes.now) }
 {
     let mut text = String::from_str(alloc, "\"")?;
     for byte in bytes {
@@ -98,7 +98,7 @@ fn between_quotes(alloc: Global, bytes: &[u8]) -> Result<String, AllocError>
 /// The bytes between double quotes, escaped as by `escape`, and a double quote among them as `\x22`, so that one sees where they
 /// end.
 pub fn quote(alloc: Global, bytes: &[u8]) -> Result<String, AllocError>
-    ensures text { IfOk result (λ text. string_bytes text ≡ quoted bytes.now) }
+    ensures text { IfOk result (λ text. string_bytes text ≡ in_double_quotes bytes.now) }
     ensures printable { IfOk result (λ text. All IsPrintable (string_bytes text)) }
 {
     between_quotes(alloc, bytes)

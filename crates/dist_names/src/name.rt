@@ -1,9 +1,9 @@
 ghost use Rattle.std.specs.Prelude.{◌≡◌, ◌↔◌, Some, None, IsTrue, IfOk, OnOk, option_copied, if◌then◌else◌};
 ghost use Rattle.std.specs.List.{list_all};
 ghost use Rattle.dist_names.specs.Bytes.{is_visible};
-ghost use Rattle.dist_names.specs.NodeName.{short_of, host_of, has_two_parts, named, IsNodeName};
+ghost use Rattle.dist_names.specs.NodeName.{short_of, host_of, has_two_parts, name_of_bytes, IsNodeName};
 ghost use Rattle.dist_names.specs.Order.{same_name};
-ghost use Rattle.dist_names.specs.Answer.{Answers};
+ghost use Rattle.dist_names.specs.Answer.{AnswersName};
 
 use crate::name_error::NameError;
 use crate::plain::{are_visible, host_part, is_same_text, short_part};
@@ -58,10 +58,10 @@ fn is_two_parts(bytes: &[u8]) -> bool
 impl NodeName {
     /// The name that these bytes are, or the first reason why they are none.
     pub fn new(alloc: Global, bytes: &[u8]) -> Result<NodeName, NameError>
-        ensures exact { Answers result (named bytes.now) }
+        ensures exact { AnswersName result (name_of_bytes bytes.now) }
 
         // The bytes of a name are accepted, unless memory runs out, and no others are.
-        ensures accepts { IsNodeName bytes.now → Answers result (Ok bytes.now) }
+        ensures accepts { IsNodeName bytes.now → AnswersName result (Ok bytes.now) }
         ensures good { OnOk result (IsNodeName bytes.now) }
     {
         if bytes.len() < LEAST {

@@ -14,4 +14,4 @@ mod verdict;
 
 pub use entry::{EndId, Entry, PeersError, Ruling, Verdict};
 pub use peers::Peers;
-pub use verdict::replaced;
+pub use verdict::replaced_end;

@@ -3,11 +3,11 @@ ghost use Rattle.std.specs.Option.{option_map};
 ghost use Rattle.std.specs.FinMap as map;
 ghost use Rattle.dist_names.specs.Order.{same_name};
 ghost use Rattle.dist_peers.specs.Table.{entry_of, is_waiting, replaced_by, left_by, with_entry, up_ids, OthersStay};
-ghost use Rattle.dist_peers.specs.Verdicts.{is_full, is_greater, ruling, dialled, named, verdict_on, Does};
+ghost use Rattle.dist_peers.specs.Verdicts.{is_full, is_greater, ruling, table_after_dial, table_after_name, verdict_on, Does};
 
 use crate::by_name::{change_row, drop_row, entry_in, put_row, row_at, set_row, up_count, up_in};
 use crate::entry::{EndId, Entry, PeersError, Verdict};
-use crate::verdict::{left_over, replaced, ruling_of, verdict_by, waits_for};
+use crate::verdict::{left_over, replaced_end, ruling_of, verdict_by, waits_for};
 use dist_names::NodeName;
 use std::alloc::{AllocError, Global};
 use std::collections::BTreeMap;
@@ -130,7 +130,7 @@ impl Peers {
     /// Refused as `Busy` where the peer is not idle, then `Full`, then `NoMemory`; the table then stays as it was.
     #[tactic(auto, using(crate::proofs::Others::others_same, crate::proofs::Others::others_insert))]
     pub fn dial(&mut self, peer: &NodeName, id: EndId) -> Result<(), PeersError>
-        ensures entry { Does result (dialled self.old peer.now id (entry_of self.old peer.now)) self.old self.new }
+        ensures entry { Does result (table_after_dial self.old peer.now id (entry_of self.old peer.now)) self.old self.new }
         ensures others { OthersStay peer.now self.old self.new }
         ensures unchanged { OnErr result (self.new ≡ self.old) }
     {
@@ -159,7 +159,7 @@ impl Peers {
         // The own name is refused before; `NodeName::is_same` is the test.
         requires { same_name me.now peer.now ≡ false }
         ensures verdict { IfOk result (λ v. v ≡ verdict_on self.old me.now peer.now id) }
-        ensures entry { Does result (named self.old peer.now (is_greater me.now peer.now) id) self.old self.new }
+        ensures entry { Does result (table_after_name self.old peer.now (is_greater me.now peer.now) id) self.old self.new }
         ensures others { OthersStay peer.now self.old self.new }
         ensures unchanged { OnErr result (self.new ≡ self.old) }
     {
@@ -214,7 +214,7 @@ impl Peers {
         ensures entry { self.new ≡ map.insert self.old peer.now (Entry.Up id) }
         ensures others { OthersStay peer.now self.old self.new }
     {
-        replaced(self.change(peer, Entry::Up(id)))
+        replaced_end(self.change(peer, Entry::Up(id)))
     }
 
     /// This end is lost, or was closed by its own message. Changes nothing where the peer's entry does not name it.

@@ -3,7 +3,7 @@ use Rattle.std.specs.Prelude.{◌≡◌, ℕ, ◌<◌, ◌≤◌, ◌⊎◌, Boo
 use Rattle.std.specs.List.{list_any}
 use Rattle.std.specs.Int.{w16}
 use Rattle.dist_names.specs.Bytes.{number}
-use Rattle.dist_frames.specs.Stream.{framed}
+use Rattle.dist_frames.specs.Stream.{body_frame}
 use Rattle.dist_stream.specs.Stream.{StreamState}
 use Rattle.dist_stream.specs.Turns.{Hears, fault_of}
 use Rattle.dist_stream.specs.declared.turn_error.TurnError.{TurnError}
@@ -28,7 +28,7 @@ IsBodyOf most tags body = (length body ≤ most) ⊎ (begins_with_one tags body 
 -- What these bytes are that came, where a length above the most is that of a body only if one of these tags begins it: the frame
 -- of the body; a length above the most and one byte that is none of the tags; a part of a frame.
 abbrev pub IsArrivedOf : ℕ → List ℕ → Arrived → List ℕ → Type 0
-IsArrivedOf most tags (arrived.Body body) heard = (heard ≡ framed w16 body) × IsBodyOf most tags body
+IsArrivedOf most tags (arrived.Body body) heard = (heard ≡ body_frame w16 body) × IsBodyOf most tags body
 IsArrivedOf most tags (arrived.Long len) heard = (first : ℕ) × (heard ≡ number w16 len ++ first ∷ []) × (most < len) × (is_one_of tags first ≡ false)
 IsArrivedOf most tags (arrived.Stopped fault) heard = IsInside heard
 IsArrivedOf most tags arrived.NoMemory heard = Unit {0}

@@ -56,9 +56,9 @@ abbrev pub Rests : StreamState → StreamState → ℕ → ℕ → Type 0
 Rests old new turns left = (new ≡ old) × (left ≡ turns)
 
 -- what is received behind a text: the next message where all of it was sent, else why not
-abbrev pub HearsBehind : Option TurnError → StreamState → StreamState → ℕ → ℕ → Heard → Type 0
-HearsBehind None old new turns left h = HearsMessage old new turns left h
-HearsBehind (Some error) old new turns left h = Rests old new turns left × (h ≡ heard_instead error)
+abbrev pub HearsBehindText : Option TurnError → StreamState → StreamState → ℕ → ℕ → Heard → Type 0
+HearsBehindText None old new turns left h = HearsMessage old new turns left h
+HearsBehindText (Some error) old new turns left h = Rests old new turns left × (h ≡ heard_instead error)
 
 -- The text was sent, and then one message was received; or the text was not sent whole, and nothing was received.
 pub record Exchanges (text : List ℕ) (h : Heard) (old new : StreamState) (turns left : ℕ) : Type 0 where
@@ -66,7 +66,7 @@ pub record Exchanges (text : List ℕ) (h : Heard) (old new : StreamState) (turn
   pub between : ℕ
   pub stop : Option TurnError
   pub said : SaysFront old mid turns between stop text
-  pub behind : HearsBehind stop mid new between left h
+  pub behind : HearsBehindText stop mid new between left h
 
 -- the same, or there was no memory for the text, and nothing was sent
 abbrev pub Asks : List ℕ → Heard → StreamState → StreamState → ℕ → ℕ → Type 0
@@ -85,7 +85,8 @@ Leaves other old new turns left = Rests old new turns left
 -- ---- the talk, from its end
 
 -- The reply was sent, and what was received upon it decides.
-pub record Replies (setup : Setup) (target : List ℕ) (fresh challenge : ℕ) (old new : StreamState) (turns left : ℕ) (outcome : Result (Unit {0}) Verdict) : Type 0 where
+pub record Replies (setup : Setup) (target : List ℕ)
+    (fresh challenge : ℕ) (old new : StreamState) (turns left : ℕ) (outcome : Result (Unit {0}) Verdict) : Type 0 where
   pub third : Heard
   pub asked : Asks (reply_text setup form.New target fresh challenge) third old new turns left
   pub is : outcome ≡ outcome_of (ack_verdict (lacking setup) (own_digest setup target fresh) third)

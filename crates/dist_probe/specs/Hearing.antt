@@ -2,7 +2,7 @@
 use Rattle.std.specs.Prelude.{◌≡◌, ℕ, ◌<◌, false, List, [], ◌∷◌, ◌++◌, Option, Some, None}
 use Rattle.std.specs.Int.{w16}
 use Rattle.dist_names.specs.Bytes.{number}
-use Rattle.dist_frames.specs.Stream.{framed}
+use Rattle.dist_frames.specs.Stream.{body_frame}
 use Rattle.dist_messages.specs.Spelling.{Spells}
 use Rattle.dist_messages.specs.Causes.{IsCause}
 use Rattle.dist_messages.specs.declared.message.Side.TheVariants.{Acceptor}
@@ -35,7 +35,7 @@ heard_instead fault.Limit = heard.Silent
 
 -- The bytes are the frame of a message of the accepting side.
 abbrev pub Frames : Message → List ℕ → Type 0
-Frames m bytes = (body : List ℕ) × (bytes ≡ framed w16 body) × Spells Acceptor m body
+Frames m bytes = (body : List ℕ) × (bytes ≡ body_frame w16 body) × Spells Acceptor m body
 
 -- a body, and what is received in it
 abbrev pub IsHeardIn : Heard → List ℕ → Type 0
@@ -47,7 +47,7 @@ IsHeardIn other body = ⊥
 -- what these bytes are read as, where no read failed
 abbrev pub IsWhole : Heard → List ℕ → Type 0
 IsWhole (heard.Said m) bytes = Frames m bytes
-IsWhole (heard.NoMessage error) bytes = (body : List ℕ) × (bytes ≡ framed w16 body) × IsCause Acceptor body error
+IsWhole (heard.NoMessage error) bytes = (body : List ℕ) × (bytes ≡ body_frame w16 body) × IsCause Acceptor body error
 IsWhole (heard.Length front) bytes = (first : ℕ) × (bytes ≡ number w16 front ++ first ∷ []) × (most < front) × (is_one_of tags first ≡ false)
 IsWhole heard.NoMemory bytes = Unit {0}
 IsWhole other bytes = ⊥

@@ -5,3 +5,6 @@ pub mod Styles
 pub mod Verdicts
 pub mod Hearing
 pub mod Ending
+pub mod Unreached
+pub mod Places
+pub mod Reaching

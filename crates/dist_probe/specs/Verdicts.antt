@@ -27,7 +27,7 @@ refusal a (heard.Said m) = verdict.Unexpected a
 refusal a (heard.NoMessage error) = verdict.Unexpected a
 refusal a (heard.Length front) = verdict.Foreign (service_of front)
 refusal a heard.Gone = verdict.Gone a
-refusal a heard.Broken = verdict.Gone a
+refusal a heard.Broken = verdict.Reset a
 refusal a heard.Silent = verdict.Silent a
 refusal a heard.NoMemory = verdict.NoMemory
 
@@ -42,7 +42,8 @@ status_verdict is_own lacking other = Some (refusal awaited.Status other)
 
 -- behind a status that goes on
 abbrev pub challenge_verdict : Flags → List ℕ → Heard → Option Verdict
-challenge_verdict lacking target (heard.Said (message.NewChallenge flags challenge creation name)) = if pointwise ◌==◌ name target then None else Some verdict.OtherName
+challenge_verdict lacking target (heard.Said (message.NewChallenge flags challenge creation name)) = if pointwise ◌==◌ name target then None
+    else Some verdict.OtherName
 challenge_verdict lacking target (heard.Said (message.OldChallenge flags challenge name)) = Some verdict.Version5
 challenge_verdict lacking target (heard.Said (message.Status status.NotAllowed)) = Some (not_allowed false lacking)
 challenge_verdict lacking target other = Some (refusal awaited.Challenge other)

@@ -3,7 +3,8 @@
 ghost use Rattle.std.specs.Prelude.{◌≡◌, Err, IfErr, IsOk, None};
 ghost use Rattle.dist_messages.specs.declared.form.Form.TheVariants as form;
 ghost use Rattle.dist_core_setup.specs.Saying.{name_text, reply_text};
-ghost use Rattle.dist_probe.specs.Ending.{Asks, BehindChallenge, Ends, Exchanges, GoesOn, Leaves, SaysFalse, challenge_in, lacking, outcome_of, peer_in, status_in};
+ghost use Rattle.dist_probe.specs.Ending.{Asks, BehindChallenge, Ends, Exchanges, GoesOn, Leaves};
+ghost use Rattle.dist_probe.specs.Ending.{SaysFalse, challenge_in, lacking, outcome_of, peer_in, status_in};
 
 use crate::hearing::{Heard, hear, heard_instead};
 use crate::judging::{ack_verdict, challenge_verdict, status_verdict};
@@ -121,7 +122,8 @@ fn exchange<S: Stream>(alloc: Global, limited: &mut Limited<'_, S>, text: &ByteS
 
 // Sends the own name, and receives what comes upon it.
 fn greet<S: Stream>(alloc: Global, limited: &mut Limited<'_, S>, setup: &Setup) -> Heard
-    ensures asks { Asks (name_text setup.now form.New) result (S.meaning limited.old.stream.now) (S.meaning limited.new.stream.now) limited.old.left limited.new.left }
+    ensures asks { Asks (name_text setup.now form.New) result
+        (S.meaning limited.old.stream.now) (S.meaning limited.new.stream.now) limited.old.left limited.new.left }
     ensures loan { limited.new.stream.ghost_name ≡ limited.old.stream.ghost_name }
 {
     match name_frame(alloc, setup, Form::New) {
@@ -139,7 +141,8 @@ fn reply<S: Stream>(
     fresh: u32,
     challenge: u32,
 ) -> Heard
-    ensures asks { Asks (reply_text setup.now form.New target.now fresh challenge) result (S.meaning limited.old.stream.now) (S.meaning limited.new.stream.now) limited.old.left limited.new.left }
+    ensures asks { Asks (reply_text setup.now form.New target.now fresh challenge) result
+        (S.meaning limited.old.stream.now) (S.meaning limited.new.stream.now) limited.old.left limited.new.left }
     ensures loan { limited.new.stream.ghost_name ≡ limited.old.stream.ghost_name }
 {
     match reply_frame(alloc, setup, Form::New, target, fresh, challenge) {
@@ -169,7 +172,8 @@ fn answer_challenge<S: Stream>(
     replies: bool,
     challenge: u32,
 ) -> Result<(), Verdict>
-    ensures tries { BehindChallenge replies setup.now target.now fresh challenge (S.meaning limited.old.stream.now) (S.meaning limited.new.stream.now) limited.old.left limited.new.left result }
+    ensures tries { BehindChallenge replies setup.now target.now fresh challenge
+        (S.meaning limited.old.stream.now) (S.meaning limited.new.stream.now) limited.old.left limited.new.left result }
     ensures loan { limited.new.stream.ghost_name ≡ limited.old.stream.ghost_name }
 {
     if !replies {
@@ -190,7 +194,8 @@ fn go_on<S: Stream>(
     replies: bool,
     status: Option<Status>,
 ) -> Report
-    ensures goes { GoesOn replies setup.now target.now fresh (S.meaning limited.old.stream.now) (S.meaning limited.new.stream.now) limited.old.left limited.new.left result }
+    ensures goes { GoesOn replies setup.now target.now fresh
+        (S.meaning limited.old.stream.now) (S.meaning limited.new.stream.now) limited.old.left limited.new.left result }
     ensures status { result.status ≡ status }
     ensures loan { limited.new.stream.ghost_name ≡ limited.old.stream.ghost_name }
 {

@@ -40,7 +40,8 @@ fn refusal(awaited: Awaited, heard: &Heard) -> Verdict
     match heard {
         Heard::Said(_) | Heard::NoMessage(_) => Verdict::Unexpected(awaited),
         Heard::Length(front) => Verdict::Foreign(service_of(*front)),
-        Heard::Gone | Heard::Broken => Verdict::Gone(awaited),
+        Heard::Gone => Verdict::Gone(awaited),
+        Heard::Broken => Verdict::Reset(awaited),
         Heard::Silent => Verdict::Silent(awaited),
         Heard::NoMemory => Verdict::NoMemory,
     }

@@ -1,7 +1,7 @@
 -- The port that the text of ERL_EPMD_PORT names.
 use Rattle.std.specs.Prelude.{◌≡◌, ℕ, ◌<◌, ◌^◌, List, ◌++◌, codes, Result, Ok, Err, string_bytes}
 use Rattle.std.specs.Str.Parse.{IsNumeral, digits_value}
-use Rattle.dist_names.specs.Escaped.{quoted}
+use Rattle.dist_names.specs.Escaped.{in_double_quotes}
 use Rattle.dist_program.specs.declared.port_error.PortError.{PortError}
 use Rattle.dist_program.specs.declared.port_error.PortError.TheVariants as error
 
@@ -11,7 +11,7 @@ NamesPort text = IsNumeral 10 text × (0 < digits_value 10 text) × (digits_valu
 
 -- the sentence that refuses a text, which stands in it between double quotes, safe to print
 abbrev pub refusal_of : List ℕ → List ℕ
-refusal_of text = codes "ERL_EPMD_PORT is no port number from 1 to 65535: " ++ quoted text
+refusal_of text = codes "ERL_EPMD_PORT is no port number from 1 to 65535: " ++ in_double_quotes text
 
 -- what is told of a text that names none: that sentence, unless memory runs out
 abbrev pub Refuses : List ℕ → PortError → Type 0

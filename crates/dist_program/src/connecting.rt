@@ -3,7 +3,7 @@
 ghost use Rattle.std.specs.Prelude.{◌≡◌, None, IfOk};
 ghost use Rattle.std.specs.Duration.{as_nanos};
 ghost use Rattle.std.specs.Net.Socket.{socket_ip, socket_port};
-ghost use Rattle.dist_stream.specs.Stream.{unused};
+ghost use Rattle.dist_stream.specs.Stream.{new_stream};
 
 use dist_stream::{DeadlineStream, SocketStream, Stream, connect_by, deadline_after};
 use std::io;
@@ -70,7 +70,7 @@ pub fn connect<R: Net<Listener = TcpListener, Stream = TcpStream> + Clock>(
     address: &SocketAddr,
     seconds: u16,
 ) -> io::Result<SocketStream>
-    ensures { IfOk result (λ s. ⟦<SocketStream as Stream>⟧.meaning s ≡ unused None None) }
+    ensures { IfOk result (λ s. ⟦<SocketStream as Stream>⟧.meaning s ≡ new_stream None None) }
 {
     let until = deadline_in(rt, seconds)?;
     Ok(connect_by(rt, address, until)?.into_inner())
@@ -81,7 +81,7 @@ pub fn talk_here<'a, R: Net<Listener = TcpListener, Stream = TcpStream> + Clock>
     rt: &'a R,
     port: u16,
 ) -> io::Result<DeadlineStream<&'a R>>
-    ensures { IfOk result (λ s. ⟦<DeadlineStream<&'a R> as Stream>⟧.meaning s ≡ unused None None) }
+    ensures { IfOk result (λ s. ⟦<DeadlineStream<&'a R> as Stream>⟧.meaning s ≡ new_stream None None) }
 {
     let stream = connect(rt, &this_host(port), CONNECT_SECONDS)?;
     talk_over(rt, stream, ANSWER_SECONDS)
@@ -92,7 +92,7 @@ pub fn connect_here<R: Net<Listener = TcpListener, Stream = TcpStream>>(
     rt: &R,
     port: u16,
 ) -> io::Result<SocketStream>
-    ensures { IfOk result (λ s. ⟦<SocketStream as Stream>⟧.meaning s ≡ unused None None) }
+    ensures { IfOk result (λ s. ⟦<SocketStream as Stream>⟧.meaning s ≡ new_stream None None) }
 {
     let limit = Duration::from_secs(u64::from(CONNECT_SECONDS));
     dist_stream::connect(rt, &this_host(port), limit, one_turn())

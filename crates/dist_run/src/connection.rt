@@ -2,7 +2,7 @@
 
 use dist_core::Why;
 use dist_drive::SocketStream;
-use dist_locked::{Seat, drive_end, lose, settled};
+use dist_locked::{Seat, drive_end, lose, settle};
 use dist_names::ByteString;
 use dist_peers::EndId;
 use dist_run_hosts::{Challenges, Host, say_goodbye};
@@ -91,7 +91,7 @@ impl<'a> Job<'a> {
             first,
             turns,
         );
-        let (seat, is_over) = settled(rt, node, end_, driven);
+        let (seat, is_over) = settle(rt, node, end_, driven);
         if is_over {
             say_goodbye(&carrier.stream);
         }

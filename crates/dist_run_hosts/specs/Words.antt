@@ -1,7 +1,7 @@
 -- The words for the end of a run, and for an order that was not followed, as programs print them.
 use Rattle.std.specs.Prelude.{◌≡◌, ◌⊎◌, ℕ, ℤ, Bool, true, false, List, Option, Some, codes, pos}
 use Rattle.dist_core.specs.Words.{refusal_name}
-use Rattle.dist_epmd_calls.specs.Refusals.{error_name}
+use Rattle.dist_epmd_calls.specs.Refusals.{lookup_error_name}
 use Rattle.dist_epmd_calls.specs.declared.lookup_error.LookupError.{LookupError}
 use Rattle.dist_epmd_calls.specs.declared.lookup_error.LookupError.TheVariants as lookup
 use Rattle.dist_locked_book.specs.declared.closing.CloseError.TheVariants as closing
@@ -15,7 +15,7 @@ abbrev pub run_error_name : RunError → List ℕ
 run_error_name run.NoRandomBytes = codes "ReadFailed"
 run_error_name run.ListenFailed = codes "ListenFailed"
 run_error_name run.ConnectFailed = codes "ConnectFailed"
-run_error_name (run.NotRegistered e) = error_name e
+run_error_name (run.NotRegistered e) = lookup_error_name e
 run_error_name run.ThreadFailed = codes "ThreadFailed"
 run_error_name (run.NotClosed closing.MissingSeat) = codes "MissingSeat"
 run_error_name (run.NotClosed closing.ReceiptAbsent) = codes "ReceiptAbsent"
@@ -27,7 +27,7 @@ run_error_name run.NoMemory = codes "NoMemory"
 abbrev pub order_refusal_name : OrderRefusal → List ℕ
 order_refusal_name refusal.NoRegistry = codes "NoRegistry"
 order_refusal_name refusal.NoDescriptors = codes "NoDescriptors"
-order_refusal_name (refusal.Lookup e) = error_name e
+order_refusal_name (refusal.Lookup e) = lookup_error_name e
 order_refusal_name (refusal.Step e) = refusal_name e
 
 -- THE NUMBER OF AN ERROR OF THE SYSTEM SAYS THAT NO DESCRIPTOR IS LEFT: the process has as many as it may (EMFILE), or all

@@ -4,9 +4,15 @@ ghost use Rattle.std.specs.Prelude.{◌≡◌, ◌+◌, ◌*◌};
 
 use dist_program::{connect_here, one_turn};
 use dist_stream::SocketStream;
+use libc::types::pollfd;
+use std::io::ErrorKind;
 use std::net::{Ipv4Addr, Net, SocketAddr, TcpListener, TcpStream};
+use std::os::fd::AsRawFd;
 use std::time::Clock;
 use std::{io, thread};
+
+/// How long an accept waits, as the system's `poll` takes it.
+const TURN_MILLISECONDS: i32 = 10;
 
 /// A connection, and the port at its dialling end.
 #[derive(Drop)]
@@ -58,16 +64,33 @@ pub fn listen<R: Net<Listener = TcpListener, Stream = TcpStream>>(
 fn take_connection(listener: &TcpListener) -> io::Result<Connection> {
     let (socket, from) = listener.accept()?;
     Ok(Connection {
-        stream: SocketStream::timed(socket, one_turn())?,
+        stream: SocketStream::with_turn(socket, one_turn())?,
         dialler_port: port_of(from),
     })
 }
 
-/// The next connection, where one has come. Else waits for a turn.
+// Waits until a connection has come, a turn at most.
+fn wait_for_connection<R: Clock>(rt: &R, listener: &TcpListener) {
+    let mut waits = [pollfd {
+        fd: listener.as_raw_fd(),
+        events: libc::net::POLLIN,
+        revents: 0,
+    }];
+    if libc::net::poll(&mut waits, TURN_MILLISECONDS) < 0 {
+        thread::sleep(rt, one_turn());
+    }
+}
+
+/// The next connection. Waits for one a turn at most. Where the system refuses to give one out, for lack of descriptors say, a
+/// turn passes.
 pub fn accept<R: Clock>(rt: &R, listener: &TcpListener) -> Option<Connection> {
     match take_connection(listener) {
         Ok(connection) => Some(connection),
-        Err(_) => {
+        Err(error) => {
+            if error.kind() == ErrorKind::WouldBlock {
+                wait_for_connection(rt, listener);
+                return take_connection(listener).ok();
+            }
             thread::sleep(rt, one_turn());
             None
         }

@@ -5,7 +5,7 @@ use Rattle.std.specs.List.{list_all}
 use Rattle.toml.specs.Data.{Data, integer, Items, no_items, item, Members, no_members, member, as_str, as_array, as_table}
 use Rattle.dist_names.specs.Bytes.{is_printable}
 use Rattle.dist_names.specs.Digits as digits
-use Rattle.dist_names.specs.NodeName.{named}
+use Rattle.dist_names.specs.NodeName.{name_of_bytes}
 use Rattle.dist_names.specs.declared.flags.Flags.{Flags}
 use Rattle.dist_core_setup.specs.declared.version.Version.{Version}
 use Rattle.dist_core_setup.specs.declared.version.Version.TheVariants as version
@@ -19,7 +19,7 @@ number_in least most _ = None
 
 -- a text that is the name of a node
 abbrev pub name_in : Data → Option (List ℕ)
-name_in value = option_and_then (λ text. result_ok (named text)) (as_str value)
+name_in value = option_and_then (λ text. result_ok (name_of_bytes text)) (as_str value)
 
 -- a text of printable ASCII characters, spaces among them, that is a cookie
 abbrev pub cookie_in : Data → Option (List ℕ)
@@ -33,7 +33,8 @@ cookies_with cookies _ _ = None
 -- these cookies, and then those of a table: its keys are names, and its values are cookies
 abbrev pub cookies_of : CookieTable → Members → Option CookieTable
 cookies_of cookies no_members = Some cookies
-cookies_of cookies (member key value rest) = option_and_then (λ more. cookies_of more rest) (cookies_with cookies (result_ok (named key)) (cookie_in value))
+cookies_of cookies (member key value rest) = option_and_then (λ more. cookies_of more rest)
+    (cookies_with cookies (result_ok (name_of_bytes key)) (cookie_in value))
 
 -- these cookies, and then those of a value that is a table
 abbrev pub cookies_in : CookieTable → Data → Option CookieTable

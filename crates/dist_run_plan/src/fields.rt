@@ -4,7 +4,7 @@ ghost use Rattle.std.specs.Prelude.{◌≡◌, map, Some, None, MatchResult};
 ghost use Rattle.toml.specs.Data.{as_str, as_table};
 ghost use Rattle.toml.specs.View.{view, table_view};
 ghost use Rattle.std.specs.Result.{result_ok};
-ghost use Rattle.dist_names.specs.NodeName.{named};
+ghost use Rattle.dist_names.specs.NodeName.{name_of_bytes};
 ghost use Rattle.dist_secret.specs.Cookie.{cookie_of};
 ghost use Rattle.dist_run_plan.specs.declared.plan_error.PlanError.TheVariants.{Bad, NoMemory};
 ghost use Rattle.dist_run_plan.specs.Answer.{Reads, ReadsPlainly};
@@ -80,7 +80,7 @@ pub fn turns_of(value: &Value) -> Result<u32, PlanError>
 
 // The name of a text.
 fn name_of_text(alloc: Global, text: &[u8]) -> Result<NodeName, PlanError>
-    ensures { Reads result (result_ok (named text.now)) }
+    ensures { Reads result (result_ok (name_of_bytes text.now)) }
 {
     match NodeName::new(alloc, text) {
         Ok(name) => Ok(name),
@@ -141,8 +141,8 @@ fn add_cookie(
     value: &Value,
 ) -> Result<(), PlanError>
     ensures { MatchResult result
-        (λ _. cookies_with cookies.old (result_ok (named key.now)) (cookie_in (view value.now)) ≡ Some cookies.new)
-        (λ error. error ≡ Bad → cookies_with cookies.old (result_ok (named key.now)) (cookie_in (view value.now)) ≡ None) }
+        (λ _. cookies_with cookies.old (result_ok (name_of_bytes key.now)) (cookie_in (view value.now)) ≡ Some cookies.new)
+        (λ error. error ≡ Bad → cookies_with cookies.old (result_ok (name_of_bytes key.now)) (cookie_in (view value.now)) ≡ None) }
 {
     let name = name_of_text(alloc, key.as_bytes())?;
     let cookie = cookie_of(alloc, value)?;

@@ -9,7 +9,9 @@ use Rattle.dist_script.specs.Fields.{◌>>=◌, behind, first_in, if_done, meani
 
 -- the first word of each kind of line
 abbrev pub event_kinds : List (List ℕ × Kind)
-event_kinds = (codes "incoming", kind.Incoming) ∷ (codes "dial", kind.Dial) ∷ (codes "opened", kind.Opened) ∷ (codes "bytes", kind.Bytes) ∷ (codes "lost", kind.Lost) ∷ (codes "tick", kind.Tick) ∷ []
+event_kinds =
+    (codes "incoming", kind.Incoming) ∷ (codes "dial", kind.Dial) ∷ (codes "opened", kind.Opened) ∷ (codes "bytes", kind.Bytes) ∷
+    (codes "lost", kind.Lost) ∷ (codes "tick", kind.Tick) ∷ []
 
 -- how many words stand behind the first
 abbrev pub words_behind : Kind → ℕ
@@ -37,23 +39,23 @@ came_in words =
     Some (line.Bytes end_ bytes fresh)))))
 
 -- what the words behind the first say
-abbrev pub told_in : Kind → List (List ℕ) → Option Line
-told_in kind.Incoming words = first_in (number_in 64) words >>= (λ link. Some (line.Event (event.Incoming link)))
-told_in kind.Dial words = dial_in words
-told_in kind.Opened words =
+abbrev pub event_in : Kind → List (List ℕ) → Option Line
+event_in kind.Incoming words = first_in (number_in 64) words >>= (λ link. Some (line.Event (event.Incoming link)))
+event_in kind.Dial words = dial_in words
+event_in kind.Opened words =
     first_in end_in words >>= (λ end_.
     first_in (number_in 64) (drop 1 words) >>= (λ link.
     Some (line.Event (event.Opened end_ link))))
-told_in kind.Bytes words = came_in words
-told_in kind.Lost words =
+event_in kind.Bytes words = came_in words
+event_in kind.Lost words =
     first_in end_in words >>= (λ end_.
     first_in why_in (drop 1 words) >>= (λ why.
     Some (line.Event (event.Lost end_ why))))
-told_in kind.Tick words = first_in end_in words >>= (λ end_. Some (line.Event (event.Tick end_)))
+event_in kind.Tick words = first_in end_in words >>= (λ end_. Some (line.Event (event.Tick end_)))
 
 -- THE LINE OF AN EVENT: a first word of the table, what stands behind it, and no word more
 abbrev pub line_in : List (List ℕ) → Option Line
 line_in words =
     first_in (meaning_in event_kinds) words >>= (λ kind.
-    told_in kind (drop 1 words) >>= (λ told.
+    event_in kind (drop 1 words) >>= (λ told.
     if_done (behind (words_behind kind) (drop 1 words)) told))

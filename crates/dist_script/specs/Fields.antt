@@ -1,10 +1,11 @@
 -- What the words of a line say.
-use Rattle.std.specs.Prelude.{◌≡◌, ℕ, zero, suc, ◌&&◌, ◌^◌, nat_lt, if◌then◌else◌, List, [], ◌∷◌, drop, codes, Option, Some, None, option_map, option_and_then, Result, MatchResult}
+use Rattle.std.specs.Prelude.{◌≡◌, ℕ, zero, suc, ◌&&◌, ◌^◌, nat_lt, if◌then◌else◌, List, [], ◌∷◌}
+use Rattle.std.specs.Prelude.{drop, codes, Option, Some, None, option_map, option_and_then, Result, MatchResult}
 use Rattle.std.specs.Result.{result_ok}
 use Rattle.std.specs.Str.Parse.{digits_value}
 use Rattle.hex.specs.Hex.{decode_of}
 use Rattle.dist_names.specs.Digits.{is_numeral}
-use Rattle.dist_names.specs.NodeName.{named}
+use Rattle.dist_names.specs.NodeName.{name_of_bytes}
 use Rattle.dist_names.specs.Order.{same_name}
 use Rattle.dist_names.specs.declared.creation.Creation.{Creation}
 use Rattle.dist_messages.specs.declared.opening.Opening.{Opening}
@@ -77,7 +78,7 @@ bytes_in (digit ∷ digits) = result_ok (decode_of (digit ∷ digits))
 
 -- the name of a node
 abbrev pub name_in : List ℕ → Option (List ℕ)
-name_in word = result_ok (named word)
+name_in word = result_ok (name_of_bytes word)
 
 -- the two forms of a name message
 abbrev pub openings : List (List ℕ × Opening)

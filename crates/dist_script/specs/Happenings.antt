@@ -9,24 +9,27 @@ use Rattle.dist_script.specs.Fields.{◌>>=◌, behind, first_in, count_in, crea
 
 -- the first word of each kind of line
 abbrev pub happening_kinds : List (List ℕ × Kind)
-happening_kinds = (codes "begin", kind.Begin) ∷ (codes "halt", kind.Halt) ∷ (codes "dial", kind.Dial) ∷ (codes "reach", kind.Reach) ∷ (codes "opened", kind.Opened) ∷ (codes "accept", kind.Accept) ∷ (codes "deliver", kind.Deliver) ∷ (codes "take", kind.Take) ∷ (codes "lose", kind.Lose) ∷ (codes "tick", kind.Tick) ∷ []
+happening_kinds =
+    (codes "begin", kind.Begin) ∷ (codes "halt", kind.Halt) ∷ (codes "dial", kind.Dial) ∷ (codes "reach", kind.Reach) ∷
+    (codes "opened", kind.Opened) ∷ (codes "accept", kind.Accept) ∷ (codes "deliver", kind.Deliver) ∷ (codes "take", kind.Take) ∷
+    (codes "lose", kind.Lose) ∷ (codes "tick", kind.Tick) ∷ []
 
 -- how many words stand behind the first
-abbrev pub words_behind : Kind → ℕ
-words_behind kind.Begin = 2
-words_behind kind.Halt = 1
-words_behind kind.Dial = 3
-words_behind kind.Reach = 3
-words_behind kind.Opened = 2
-words_behind kind.Accept = 1
-words_behind kind.Deliver = 3
-words_behind kind.Take = 3
-words_behind kind.Lose = 3
-words_behind kind.Tick = 2
+abbrev pub happening_words : Kind → ℕ
+happening_words kind.Begin = 2
+happening_words kind.Halt = 1
+happening_words kind.Dial = 3
+happening_words kind.Reach = 3
+happening_words kind.Opened = 2
+happening_words kind.Accept = 1
+happening_words kind.Deliver = 3
+happening_words kind.Take = 3
+happening_words kind.Lose = 3
+happening_words kind.Tick = 2
 
 -- a node, its peer, and the form in which that is spoken to
-abbrev pub dial_in : List (List ℕ) → Option Happening
-dial_in words =
+abbrev pub happening_dial : List (List ℕ) → Option Happening
+happening_dial words =
     first_in count_in words >>= (λ node.
     first_in opening_in (drop 1 (drop 1 words)) >>= (λ opening.
     first_in name_in (drop 1 words) >>= (λ peer.
@@ -61,46 +64,46 @@ abbrev pub at_end_behind : Kind → ℕ → List (List ℕ) → Option Happening
 at_end_behind kind node words = first_in end_in words >>= (λ end_. behind_end kind node end_ (drop 1 words))
 
 -- what the words behind the first say
-abbrev pub told_in : Kind → List (List ℕ) → Option Happening
-told_in kind.Begin words =
+abbrev pub happening_in : Kind → List (List ℕ) → Option Happening
+happening_in kind.Begin words =
     first_in count_in words >>= (λ node.
     first_in creation_in (drop 1 words) >>= (λ creation.
     Some (happening.Begin node creation)))
-told_in kind.Halt words = first_in count_in words >>= (λ node. Some (happening.Halt node))
-told_in kind.Dial words = dial_in words
-told_in kind.Reach words =
+happening_in kind.Halt words = first_in count_in words >>= (λ node. Some (happening.Halt node))
+happening_in kind.Dial words = happening_dial words
+happening_in kind.Reach words =
     first_in count_in words >>= (λ node.
     first_in end_in (drop 1 words) >>= (λ end_.
     first_in count_in (drop 1 (drop 1 words)) >>= (λ target.
     Some (happening.Reach node end_ target))))
-told_in kind.Opened words =
+happening_in kind.Opened words =
     first_in count_in words >>= (λ node.
     first_in end_in (drop 1 words) >>= (λ end_.
     Some (happening.Opened node end_)))
-told_in kind.Accept words = first_in count_in words >>= (λ conn. Some (happening.Accept conn))
-told_in kind.Deliver words =
+happening_in kind.Accept words = first_in count_in words >>= (λ conn. Some (happening.Accept conn))
+happening_in kind.Deliver words =
     first_in count_in words >>= (λ node.
     first_in end_in (drop 1 words) >>= (λ end_.
     first_in count_in (drop 1 (drop 1 words)) >>= (λ bytes.
     Some (happening.Deliver node end_ bytes))))
-told_in kind.Take words =
+happening_in kind.Take words =
     first_in count_in words >>= (λ node.
     first_in end_in (drop 1 words) >>= (λ end_.
     first_in count_in (drop 1 (drop 1 words)) >>= (λ fresh.
     Some (happening.Take node end_ fresh))))
-told_in kind.Lose words =
+happening_in kind.Lose words =
     first_in count_in words >>= (λ node.
     first_in end_in (drop 1 words) >>= (λ end_.
     first_in why_in (drop 1 (drop 1 words)) >>= (λ why.
     Some (happening.Lose node end_ why))))
-told_in kind.Tick words =
+happening_in kind.Tick words =
     first_in count_in words >>= (λ node.
     first_in end_in (drop 1 words) >>= (λ end_.
     Some (happening.Tick node end_)))
 
 -- THE LINE OF A HAPPENING: a first word of the table, what stands behind it, and no word more
-abbrev pub line_in : List (List ℕ) → Option Happening
-line_in words =
+abbrev pub happening_line : List (List ℕ) → Option Happening
+happening_line words =
     first_in (meaning_in happening_kinds) words >>= (λ kind.
-    told_in kind (drop 1 words) >>= (λ told.
-    if_done (behind (words_behind kind) (drop 1 words)) told))
+    happening_in kind (drop 1 words) >>= (λ told.
+    if_done (behind (happening_words kind) (drop 1 words)) told))

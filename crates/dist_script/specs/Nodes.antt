@@ -111,7 +111,16 @@ abbrev pub behind_cookies : List ℕ → Terms → CookieTable → List (List �
 behind_cookies name terms cookies words =
     allowed_in words >>= (λ allow.
     name_in name >>= (λ named.
-    Some (record { name = named; cookies = cookies; version = terms.version; flags = terms.flags; required = terms.required; creation = terms.creation; allow = allow; limits = usual_limits })))
+    Some (record {
+      name = named;
+      cookies = cookies;
+      version = terms.version;
+      flags = terms.flags;
+      required = terms.required;
+      creation = terms.creation;
+      allow = allow;
+      limits = usual_limits;
+    })))
 
 -- THE LINE OF A NODE, behind its first word: a name, the usual cookie, how the node is met, the cookies of peers, the names
 -- that are allowed

@@ -1,5 +1,6 @@
 -- THE SCRIPT OF A TEXT. Its language is in docs/PROTOCOL.md, section 8.
-use Rattle.std.specs.Prelude.{ℕ, ◌+◌, Bool, false, true, ◌||◌, ◌==◌, if◌then◌else◌, List, [], ◌∷◌, ◌++◌, drop, codes, is_some, Option, Some, None, Result, Ok, Err}
+use Rattle.std.specs.Prelude.{ℕ, ◌+◌, Bool, false, true, ◌||◌, ◌==◌, if◌then◌else◌, List, [], ◌∷◌, ◌++◌}
+use Rattle.std.specs.Prelude.{drop, codes, is_some, Option, Some, None, Result, Ok, Err}
 use Rattle.dist_core_setup.specs.declared.setup.Setup.{Setup}
 use Rattle.dist_world_model.specs.declared.happening.Happening.{Happening}
 use Rattle.dist_script_words.specs.Words.{before_first, words_of, is_skipped}
@@ -45,11 +46,11 @@ with_event s words = events.line_in words >>= (λ line. Some (record s { events 
 
 -- the line of a happening
 abbrev pub with_happening : SoFar → List (List ℕ) → Option SoFar
-with_happening s words = happenings.line_in words >>= (λ told. Some (record s { happenings = s.happenings ++ told ∷ [] }))
+with_happening s words = happenings.happening_line words >>= (λ told. Some (record s { happenings = s.happenings ++ told ∷ [] }))
 
 -- whether a line is one of these two
 abbrev pub is_either : List (List ℕ) → Bool
-is_either words = is_some (events.line_in words) || is_some (happenings.line_in words)
+is_either words = is_some (events.line_in words) || is_some (happenings.happening_line words)
 
 -- a line that sets no node up, behind these nodes. Behind none it may be of either form, and nothing is kept of it
 abbrev pub with_told : List Setup → SoFar → List (List ℕ) → Option SoFar

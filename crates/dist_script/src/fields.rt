@@ -2,7 +2,7 @@
 
 ghost use Rattle.std.specs.Prelude.{◌≡◌, ◌↔◌, ℕ, List, [], drop, map, IsTrue, MatchResult};
 ghost use Rattle.std.specs.Result.{result_ok};
-ghost use Rattle.dist_names.specs.NodeName.{named};
+ghost use Rattle.dist_names.specs.NodeName.{name_of_bytes};
 ghost use Rattle.dist_names.specs.Order.{same_name};
 ghost use Rattle.dist_script_words.specs.declared.words.LineFault.TheVariants.{Bad};
 ghost use Rattle.dist_script.specs.Fields.{Reads, ReadsPlainly, first_in, meaning_in, number_in, count_in, end_in, bytes_in, name_in, opening_in, why_in};
@@ -17,7 +17,7 @@ const OPENINGS: [(&str, Opening); 2] = [("new", Opening::New), ("old", Opening::
 
 /// The name that a word is.
 pub fn name_of(alloc: Global, word: &[u8]) -> Result<NodeName, LineFault>
-    ensures { Reads result (result_ok (named word.now)) }
+    ensures { Reads result (result_ok (name_of_bytes word.now)) }
 {
     match NodeName::new(alloc, word) {
         Ok(name) => Ok(name),

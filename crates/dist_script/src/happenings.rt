@@ -2,7 +2,7 @@
 
 ghost use Rattle.std.specs.Prelude.{◌≡◌, drop, pred, OnOk};
 ghost use Rattle.dist_script.specs.Fields.{Reads, ReadsPlainly, behind, first_in, meaning_in};
-ghost use Rattle.dist_script.specs.Happenings.{happening_kinds, words_behind, begin_behind, dial_behind, at_end_behind, told_in, line_in};
+ghost use Rattle.dist_script.specs.Happenings.{happening_kinds, happening_words, begin_behind, dial_behind, at_end_behind, happening_in, happening_line};
 
 use crate::fields::{
     count_word, end_word, line_end, meaning_of, name_of, number_word, opening_word, why_word,
@@ -68,7 +68,7 @@ fn dial(alloc: Global, node: usize, words: &mut Words<'_>) -> Result<Happening, 
 // What happens at an end of a node, in the words behind the node. The other kinds happen at no end.
 fn at_end(kind: Kind, node: usize, words: &mut Words<'_>) -> Result<Happening, LineFault>
     ensures reads { Reads result (at_end_behind kind node words.old) }
-    ensures rest { OnOk result (words.new ≡ behind (pred (words_behind kind)) words.old) }
+    ensures rest { OnOk result (words.new ≡ behind (pred (happening_words kind)) words.old) }
 {
     let end_ = end_word(words)?;
     Ok(match kind {
@@ -99,9 +99,13 @@ fn at_end(kind: Kind, node: usize, words: &mut Words<'_>) -> Result<Happening, L
 }
 
 // What happens, in the words behind the first. The first of them is the node, or the connection that is accepted.
-fn told(alloc: Global, kind: Kind, words: &mut Words<'_>) -> Result<Happening, LineFault>
-    ensures reads { Reads result (told_in kind words.old) }
-    ensures rest { OnOk result (words.new ≡ behind (words_behind kind) words.old) }
+fn happening_behind(
+    alloc: Global,
+    kind: Kind,
+    words: &mut Words<'_>,
+) -> Result<Happening, LineFault>
+    ensures reads { Reads result (happening_in kind words.old) }
+    ensures rest { OnOk result (words.new ≡ behind (happening_words kind) words.old) }
 {
     let node = count_word(words)?;
     match kind {
@@ -124,10 +128,10 @@ fn kind_word(words: &mut Words<'_>) -> Result<Kind, LineFault>
 /// The happening that a line names.
 #[tactic(auto, using(crate::proofs::Reading::not_done))]
 pub fn happening_of(alloc: Global, words: &mut Words<'_>) -> Result<Happening, LineFault>
-    ensures { Reads result (line_in words.old) }
+    ensures { Reads result (happening_line words.old) }
 {
     let kind = kind_word(words)?;
-    let told = told(alloc, kind, words)?;
+    let told = happening_behind(alloc, kind, words)?;
     line_end(words)?;
     Ok(told)
 }

@@ -2,7 +2,7 @@
 
 ghost use Rattle.std.specs.Prelude.{◌≡◌, drop, OnOk};
 ghost use Rattle.dist_script.specs.Fields.{Reads, ReadsPlainly, behind, first_in, meaning_in};
-ghost use Rattle.dist_script.specs.Events.{event_kinds, words_behind, dial_in, came_in, told_in, line_in};
+ghost use Rattle.dist_script.specs.Events.{event_kinds, words_behind, dial_in, came_in, event_in, line_in};
 
 use crate::fields::{
     bytes_from, end_word, line_end, link_word, meaning_of, name_of, number_word, opening_word,
@@ -59,8 +59,8 @@ fn bytes(alloc: Global, words: &mut Words<'_>) -> Result<Line, LineFault>
 }
 
 // What is given, in the words behind the first.
-fn told(alloc: Global, kind: Kind, words: &mut Words<'_>) -> Result<Line, LineFault>
-    ensures reads { Reads result (told_in kind words.old) }
+fn line_behind(alloc: Global, kind: Kind, words: &mut Words<'_>) -> Result<Line, LineFault>
+    ensures reads { Reads result (event_in kind words.old) }
     ensures rest { OnOk result (words.new ≡ behind (words_behind kind) words.old) }
 {
     Ok(Line::Event(match kind {
@@ -97,7 +97,7 @@ pub fn line_of(alloc: Global, words: &mut Words<'_>) -> Result<Line, LineFault>
     ensures { Reads result (line_in words.old) }
 {
     let kind = kind_word(words)?;
-    let told = told(alloc, kind, words)?;
+    let told = line_behind(alloc, kind, words)?;
     line_end(words)?;
     Ok(told)
 }

@@ -4,7 +4,8 @@ ghost use Rattle.std.specs.Prelude.{◌≡◌, drop, Some, None, OnOk, MatchResu
 ghost use Rattle.dist_names.specs.Digits.{flags_in};
 ghost use Rattle.dist_script_words.specs.declared.words.LineFault.TheVariants.{Bad};
 ghost use Rattle.dist_script.specs.Fields.{Reads, ReadsPlainly, behind, first_in, creation_in};
-ghost use Rattle.dist_script.specs.Nodes.{version_in, behind_version, required_in, behind_required, cookie_in, cookie_added, further_in, cookies_in, names_in, allowed_in, terms_in, behind_terms, behind_cookies, node_in};
+ghost use Rattle.dist_script.specs.Nodes.{version_in, behind_version, required_in, behind_required, cookie_in, cookie_added, further_in, cookies_in};
+ghost use Rattle.dist_script.specs.Nodes.{names_in, allowed_in, terms_in, behind_terms, behind_cookies, node_in};
 
 use crate::fields::{line_end, name_of, name_word, number_word};
 use dist_core::{Limits, NameList, Setup, Version};
@@ -46,7 +47,8 @@ fn cookie_of(alloc: Global, word: &[u8]) -> Result<Cookie, LineFault>
 
 // A cookie for this peer, which has none of its own yet.
 fn set_cookie(cookies: &mut Cookies, peer: NodeName, cookie: Cookie) -> Result<(), LineFault>
-    ensures { MatchResult result (λ _. cookie_added cookies.old peer cookie ≡ Some cookies.new) (λ fault. fault ≡ Bad → cookie_added cookies.old peer cookie ≡ None) }
+    ensures { MatchResult result (λ _. cookie_added cookies.old peer cookie ≡ Some cookies.new)
+        (λ fault. fault ≡ Bad → cookie_added cookies.old peer cookie ≡ None) }
 {
     let before = cookies.len();
     match cookies.set(peer, cookie) {
@@ -58,7 +60,8 @@ fn set_cookie(cookies: &mut Cookies, peer: NodeName, cookie: Cookie) -> Result<(
 
 // The next two words: a peer, and the cookie for it.
 fn add_cookie(alloc: Global, cookies: &mut Cookies, words: &mut Words<'_>) -> Result<(), LineFault>
-    ensures adds { MatchResult result (λ _. further_in cookies.old words.old ≡ Some cookies.new) (λ fault. fault ≡ Bad → further_in cookies.old words.old ≡ None) }
+    ensures adds { MatchResult result (λ _. further_in cookies.old words.old ≡ Some cookies.new)
+        (λ fault. fault ≡ Bad → further_in cookies.old words.old ≡ None) }
     ensures rest { words.new ≡ drop 2 words.old }
 {
     let peer = words.word()?;
@@ -70,7 +73,8 @@ fn add_cookie(alloc: Global, cookies: &mut Cookies, words: &mut Words<'_>) -> Re
 // Adds cookies of peers, each behind `cookie` and the peer's name.
 #[tactic(auto, using(crate::proofs::Rows::one_cookie, crate::proofs::Rows::bad_cookie))]
 fn add_cookies(alloc: Global, cookies: &mut Cookies, words: &mut Words<'_>) -> Result<(), LineFault>
-    ensures { MatchResult result (λ _. cookies_in cookies.old words.old ≡ Some (record { table = cookies.new; rest = words.new })) (λ fault. fault ≡ Bad → cookies_in cookies.old words.old ≡ None) }
+    ensures { MatchResult result (λ _. cookies_in cookies.old words.old ≡ Some (record { table = cookies.new; rest = words.new }))
+        (λ fault. fault ≡ Bad → cookies_in cookies.old words.old ≡ None) }
 {
     'cookies: while words.skip(b"cookie") {
         add_cookie(alloc, cookies, words)?;

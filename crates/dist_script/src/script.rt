@@ -5,7 +5,8 @@ ghost use Rattle.dist_script_words.specs.Words.{words_of};
 ghost use Rattle.dist_script_words.specs.declared.fault.ScriptFault.TheVariants.{BadLine, NoMemory};
 ghost use Rattle.dist_script_words.specs.declared.words.LineFault.TheVariants.{Bad};
 ghost use Rattle.dist_script.specs.Happenings as happenings;
-ghost use Rattle.dist_script.specs.Scripts.{lines_of, nothing, with_node, with_event, with_happening, is_either, with_words, with_line, with_lines, script_in, says};
+ghost use Rattle.dist_script.specs.Scripts.{lines_of, nothing, with_node, with_event, with_happening, is_either, with_words, with_line, with_lines};
+ghost use Rattle.dist_script.specs.Scripts.{script_in, says};
 
 use crate::happenings::happening_of;
 use crate::lines::line_of;
@@ -77,7 +78,8 @@ impl Draft {
 
     // Takes a line that is not skipped. The lines of the nodes stand before all others.
     fn take(&mut self, alloc: Global, text: &[u8]) -> Result<(), LineFault>
-        ensures { MatchResult result (λ _. with_words self.old (words_of text.now) ≡ Some self.new) (λ fault. fault ≡ Bad → with_words self.old (words_of text.now) ≡ None) }
+        ensures { MatchResult result (λ _. with_words self.old (words_of text.now) ≡ Some self.new)
+            (λ fault. fault ≡ Bad → with_words self.old (words_of text.now) ≡ None) }
     {
         let mut words = Words::new(text);
         if words.skip(b"node") {
@@ -109,7 +111,8 @@ impl Draft {
     }
 
     fn happen(&mut self, alloc: Global, words: &mut Words<'_>) -> Result<(), LineFault>
-        ensures { MatchResult result (λ _. with_happening self.old words.old ≡ Some self.new) (λ fault. fault ≡ Bad → with_happening self.old words.old ≡ None) }
+        ensures { MatchResult result (λ _. with_happening self.old words.old ≡ Some self.new)
+            (λ fault. fault ≡ Bad → with_happening self.old words.old ≡ None) }
     {
         self.happenings.push(happening_of(alloc, words)?)?;
         Ok(())
@@ -117,7 +120,8 @@ impl Draft {
 
     // Takes a line of this number, unless it is skipped.
     fn take_line(&mut self, alloc: Global, text: &[u8], number: usize) -> Result<(), ScriptFault>
-        ensures { MatchResult result (λ _. with_line self.old text.now ≡ Some self.new) (λ fault. (fault ≡ NoMemory) ⊎ ((fault ≡ BadLine number) × (with_line self.old text.now ≡ None))) }
+        ensures { MatchResult result (λ _. with_line self.old text.now ≡ Some self.new)
+            (λ fault. (fault ≡ NoMemory) ⊎ ((fault ≡ BadLine number) × (with_line self.old text.now ≡ None))) }
     {
         if is_skipped(text) {
             return Ok(());
@@ -142,7 +146,8 @@ fn is_line(alloc: Global, text: &[u8]) -> Result<(), LineFault>
 }
 
 fn is_happening(alloc: Global, text: &[u8]) -> Result<(), LineFault>
-    ensures { MatchResult result (λ _. is_some (happenings.line_in (words_of text.now)) ≡ true) (λ fault. fault ≡ Bad → happenings.line_in (words_of text.now) ≡ None) }
+    ensures { MatchResult result (λ _. is_some (happenings.happening_line (words_of text.now)) ≡ true)
+        (λ fault. fault ≡ Bad → happenings.happening_line (words_of text.now) ≡ None) }
 {
     happening_of(alloc, &mut Words::new(text))?;
     Ok(())
@@ -150,7 +155,8 @@ fn is_happening(alloc: Global, text: &[u8]) -> Result<(), LineFault>
 
 // What all lines of a text say.
 fn draft_of(alloc: Global, text: &[u8]) -> Result<Draft, ScriptFault>
-    ensures { MatchResult result (λ draft. with_lines nothing 1 (lines_of text.now) ≡ Ok draft) (λ fault. (fault ≡ NoMemory) ⊎ (with_lines nothing 1 (lines_of text.now) ≡ Err fault)) }
+    ensures { MatchResult result (λ draft. with_lines nothing 1 (lines_of text.now) ≡ Ok draft)
+        (λ fault. (fault ≡ NoMemory) ⊎ (with_lines nothing 1 (lines_of text.now) ≡ Err fault)) }
 {
     let mut draft = Draft::new(alloc);
     let mut number = 0usize;

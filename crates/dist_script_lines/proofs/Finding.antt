@@ -25,7 +25,7 @@ use Rattle.dist_core.specs.Node.{NodeState}
 use Rattle.dist_world_model.specs.World.{World, Life}
 use Rattle.dist_world_model.specs.Agreement.{Counts}
 use Rattle.dist_world.specs.Asking.{node_of}
-use Rattle.dist_script_lines.specs.Later.{ArePlaces, place_of, behind, later_at, AreLater, HasAllFrom}
+use Rattle.dist_script_lines.specs.Later.{ArePlaces, place_of, place_behind, later_at, AreLater, HasAllFrom}
 
 itself : (n : Name) → same_name n n ≡ true
 itself n = ap is_eq (tied_itself order n)
@@ -67,7 +67,7 @@ found_at p e (r ∷ rows) is =
 
 -- ---- whom a node counts as up is looked up
 
-behind_there : (a b : ℕ) → a < b → behind a (Some b) ≡ Some b
+behind_there : (a b : ℕ) → a < b → place_behind a (Some b) ≡ Some b
 behind_there a b l = ap (λ v. cond v (Some b) None) (lt-ltb a b l)
 
 module _ (w : World) (a : ℕ) (n : NodeState) (places : BTreeMap Name ℕ) (there : node_of w a ≡ Some n) (are : ArePlaces places w.setups (length w.setups)) where
@@ -88,7 +88,7 @@ module _ (w : World) (a : ℕ) (n : NodeState) (places : BTreeMap Name ℕ) (the
       let r = found_at p e.0 rows found in
       let few : r.0 < length rows = slice_get_within rows r.0 (r.1, e.0) r.2 in
       let place : get name_cmp places r.1 ≡ Some b = ap (get name_cmp places) (sym (same-name p r.1 r.3)) ∙ are.known b u.other (slice_get_within w.setups b u.other u.named) u.named in
-      (r.0, omega (arith, few, len-entries (table_of n.ends)), ap (λ o. behind a (place_of places o)) r.2 ∙ ap (behind a) place ∙ behind_there a b l)
+      (r.0, omega (arith, few, len-entries (table_of n.ends)), ap (λ o. place_behind a (place_of places o)) r.2 ∙ ap (place_behind a) place ∙ behind_there a b l)
 
   pub has_all : (later : BTreeSet ℕ) → AreLater later places a n (map.len (table_of n.ends)) → HasAllFrom later w a (suc a)
   has_all later h = record {

@@ -8,7 +8,7 @@ use Rattle.dist_core.specs.Node.{NodeState}
 use Rattle.dist_core_setup.specs.declared.setup.Setup.{Setup}
 use Rattle.dist_world_model.specs.World.{World}
 use Rattle.dist_world.specs.Asking.{node_of}
-use Rattle.dist_script_lines.specs.Lines.{row_text, found_text, rows_text, lines_of, node_text}
+use Rattle.dist_script_lines.specs.Lines.{row_text, found_text, rows_text, table_lines, node_text}
 use Rattle.dist_script_lines.specs.Worlds.{nodes_from, nodes_text}
 
 -- nothing more
@@ -37,12 +37,12 @@ row_more a b c n rows i lt q r =
     subst (λ k. Appends a c (rows_text n (take k rows))) next (subst (λ t. Appends a c t) (sym (more_rows n rows i lt)) (Appends-trans a b c _ _ q r))
 
 -- all rows, of which there is one
-pub all_rows : (a b : Option (List ℕ)) (n : NodeState) (rows : List (Name × Entry)) (i : ℕ) → 0 < length rows → length rows ≤ i → Appends a b (rows_text n (take i rows)) → Appends a b (lines_of n rows)
+pub all_rows : (a b : Option (List ℕ)) (n : NodeState) (rows : List (Name × Entry)) (i : ℕ) → 0 < length rows → length rows ≤ i → Appends a b (rows_text n (take i rows)) → Appends a b (table_lines n rows)
 all_rows a b n [] i some all p = absurd (omega arith)
 all_rows a b n (r ∷ rs) i some all p = subst (λ rows. Appends a b (rows_text n rows)) (take_all i (r ∷ rs) all) p
 
 -- no rows
-pub no_rows : (n : NodeState) (rows : List (Name × Entry)) → length rows ≡ 0 → codes "no peers\n" ≡ lines_of n rows
+pub no_rows : (n : NodeState) (rows : List (Name × Entry)) → length rows ≡ 0 → codes "no peers\n" ≡ table_lines n rows
 no_rows n [] none = refl
 no_rows n (r ∷ rs) none = absurd (omega arith)
 

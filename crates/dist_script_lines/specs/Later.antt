@@ -24,13 +24,13 @@ place_of places None = None
 place_of places (Some row) = get name_cmp places row.0
 
 -- the same, where it is behind a
-abbrev pub behind : ℕ → Option ℕ → Option ℕ
-behind a None = None
-behind a (Some b) = if nat_lt a b then Some b else None
+abbrev pub place_behind : ℕ → Option ℕ → Option ℕ
+place_behind a None = None
+place_behind a (Some b) = if nat_lt a b then Some b else None
 
 -- the place of the peer in this row of a table, where it is behind a
 abbrev pub later_at : BTreeMap Name ℕ → ℕ → NodeState → ℕ → Option ℕ
-later_at places a n row = behind a (place_of places (slice_get (map.entries (table_of n.ends)) row))
+later_at places a n row = place_behind a (place_of places (slice_get (map.entries (table_of n.ends)) row))
 
 abbrev pub is_this : ℕ → Option ℕ → Bool
 is_this q None = false

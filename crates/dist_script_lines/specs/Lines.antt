@@ -106,13 +106,13 @@ found_text n None = []
 found_text n (Some row) = row_text n row
 
 -- these lines, or that there is none
-abbrev pub lines_of : NodeState → List (Name × Entry) → List ℕ
-lines_of n [] = codes "no peers\n"
-lines_of n (row ∷ rows) = rows_text n (row ∷ rows)
+abbrev pub table_lines : NodeState → List (Name × Entry) → List ℕ
+table_lines n [] = codes "no peers\n"
+table_lines n (row ∷ rows) = rows_text n (row ∷ rows)
 
 -- THE TABLE of a node, in the order of the peers' names
 abbrev pub table_text : NodeState → List ℕ
-table_text n = lines_of n (map.entries (table_of n.ends))
+table_text n = table_lines n (map.entries (table_of n.ends))
 
 -- A NODE of a world: node NAME running CREATION and its table, or node NAME halted
 abbrev pub node_text : Name → Option NodeState → List ℕ

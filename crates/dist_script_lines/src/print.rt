@@ -42,7 +42,7 @@ fn creation(creation: Option<Creation>) -> Piece<'static>
     }
 }
 
-fn said(say: &[u8]) -> Piece<'_>
+fn said_piece(say: &[u8]) -> Piece<'_>
     ensures { text_of result ≡ said_text say.now }
 {
     if say.is_empty() {
@@ -52,7 +52,7 @@ fn said(say: &[u8]) -> Piece<'_>
     }
 }
 
-fn closed<W: Write>(out: &mut W, closed: Option<(EndId, Why)>) -> io::Result<()>
+fn write_closed<W: Write>(out: &mut W, closed: Option<(EndId, Why)>) -> io::Result<()>
     ensures { OnOk result (Appends (W.contents out.old) (W.contents out.new) (closed_text closed)) }
 {
     match closed {
@@ -100,10 +100,10 @@ pub fn reply<W: Write>(out: &mut W, reply: &Reply) -> io::Result<()>
             Piece::Text(b"end "),
             end_number(reply.end_),
             Piece::Text(b" say "),
-            said(reply.say.as_slice()),
+            said_piece(reply.say.as_slice()),
         ],
     )?;
-    closed(out, reply.closed)?;
+    write_closed(out, reply.closed)?;
     came_up(out, reply.up.as_ref())
 }
 
@@ -170,7 +170,7 @@ fn detail<W: Write>(out: &mut W, error: StepError) -> io::Result<()>
 
 /// Why a step was refused.
 #[tactic(auto, using(crate::proofs::Printing::in_three))]
-pub fn refused<W: Write>(out: &mut W, error: StepError) -> io::Result<()>
+pub fn write_refused<W: Write>(out: &mut W, error: StepError) -> io::Result<()>
     ensures { OnOk result (Appends (W.contents out.old) (W.contents out.new) (refused_line error)) }
 {
     put(out, &[Piece::Text(b"refused "), refusal(error)])?;
@@ -179,7 +179,7 @@ pub fn refused<W: Write>(out: &mut W, error: StepError) -> io::Result<()>
 }
 
 /// How many packets of a linked stream ended.
-pub fn skipped<W: Write>(out: &mut W, count: usize) -> io::Result<()>
+pub fn write_skipped<W: Write>(out: &mut W, count: usize) -> io::Result<()>
     ensures { OnOk result (Appends (W.contents out.old) (W.contents out.new) (skipped_line count)) }
 {
     put(
@@ -283,7 +283,7 @@ pub fn closed_end<W: Write>(out: &mut W, node: usize, id: EndId, why: Why) -> io
 }
 
 /// How many happenings of a script applied.
-pub fn applied<W: Write>(out: &mut W, applied: usize, all: usize) -> io::Result<()>
+pub fn write_applied<W: Write>(out: &mut W, applied: usize, all: usize) -> io::Result<()>
     ensures { OnOk result (Appends (W.contents out.old) (W.contents out.new) (applied_line applied all)) }
 {
     put(

@@ -1,6 +1,6 @@
 -- The faults that stop the playing of a script.
-use Rattle.std.proofs.Common.{◌≡◌, ◌∙◌, ◌≤◌, ◌⊎◌, inl, inr, ⊎_elim, ℕ, ◌+◌, true, cond, List, [], ◌∷◌, length, Option, Some, None, Result, Ok, Err, IfErr, refl, sym, ap, subst, arith}
-use Rattle.std.specs.Io.KnownBytes.{Consumes, Keeps, IsAtEnd}
+use Rattle.std.proofs.Common.{◌≡◌, ◌∙◌, ◌≤◌, ◌⊎◌, inl, inr, ⊎_elim, ℕ, ◌+◌, true, false, cond, List, [], ◌∷◌, length, Option, Some, None, Result, Ok, Err, OnOk, IfErr, refl, sym, ap, subst, arith}
+use Rattle.std.specs.Io.KnownBytes.{Appends, Consumes, IsAtEnd}
 use Rattle.std.proofs.KnownBytes.{Keeps-refl}
 use Rattle.std.proofs.lemmas.Bool.{lt-ltb}
 use Rattle.dist_core_setup.specs.declared.setup.Setup.{Setup}
@@ -8,13 +8,17 @@ use Rattle.dist_world.specs.Setups.{names_repeat}
 use Rattle.dist_script_words.specs.Fault.{status_of, fault_line, StopsReading}
 use Rattle.dist_script_words.specs.Texts.{PutsFront}
 use Rattle.dist_script_words.specs.declared.fault.ScriptFault.{ScriptFault}
-use Rattle.dist_script_words.specs.declared.fault.ScriptFault.TheVariants.{TooLong, SameName, ReadFailed, WriteFailed, NoMemory}
+use Rattle.dist_script_words.specs.declared.fault.ScriptFault.TheVariants.{TooLong, SameName, WriteFailed, NoMemory}
 use Rattle.dist_script.specs.Scripts.{SoFar, nothing, lines_of, with_line, unless_bad, with_lines, whole, all_good, script_in}
-use Rattle.dist_script.specs.Scripts.Says.{Happenings}
+use Rattle.dist_script.specs.Scripts.Says.{Events, Happenings}
 use Rattle.dist_world_model.specs.declared.happening.Happening.{Happening}
-use Rattle.dist_script_play.specs.Played.{fault_said, fault_in}
-use Rattle.dist_script_play.specs.Scenes.{IsBad, Stops, StopsWorld}
+use Rattle.dist_script.specs.declared.script.Line.{Line}
+use Rattle.dist_world_model.specs.World.{World, empty}
+use Rattle.dist_script_play.specs.Played.{at_first, lines_text, IsFront, fault_said, fault_in}
+use Rattle.dist_script_play.specs.Pages.{IsOfSystem, BreaksOff}
+use Rattle.dist_script_play.specs.Scenes.{PutsFrom, PutsFromPart, BreaksWorld, IsBad, IsCut, Stops, StopsWorld}
 use Rattle.dist_script_play.proofs.Lines.{not_long}
+use Rattle.dist_script_play.proofs.Worlds.{breaks_world}
 
 -- ---- a text that says nothing has a fault of status 2
 
@@ -56,13 +60,16 @@ unread before after a fault s =
         fault_is = ap (λ b. cond b (Some TooLong) (fault_said (script_in s.read))) (lt-ltb 1048576 (length s.read) long.1) ∙ ap Some (sym long.0);
         kept = Keeps-refl a;
       },
-    )) (λ other. inl (⊎_elim (λ e. ap status_of e) (λ e. ap status_of e) other)) s.cause
+    )) (λ other. inl (
+      ⊎_elim (λ e. ap status_of e) (λ e. ap status_of e) other,
+      inl (record { read = s.read; taken = s.taken; cause = other; kept = Keeps-refl a }),
+    )) s.cause
 
 -- what was read says nothing
 pub bad_script : (before after a : Option (List ℕ)) (text read : List ℕ) (fault : ScriptFault)
     → Consumes before after text → IsAtEnd after → length text ≤ 1048576 → read ≡ text → (fault ≡ NoMemory) ⊎ (script_in read ≡ Err fault) → Stops before after a a fault
 bad_script before after a text read fault taken end few is cause =
-    ⊎_elim (λ e. inl (ap status_of e)) (λ e.
+    ⊎_elim (λ e. inl (ap status_of e, inl (record { read = text; taken = taken; cause = inr e; kept = Keeps-refl a }))) (λ e.
     let said : script_in text ≡ Err fault = subst (λ t. script_in t ≡ Err fault) is e in
     inr (
       of_script text fault said,
@@ -75,43 +82,92 @@ bad_script before after a text read fault taken end few is cause =
       },
     )) cause
 
--- a fault of status 1
-pub of_system : (before after a b : Option (List ℕ)) (fault : ScriptFault) → status_of fault ≡ 1 → Stops before after a b fault
-of_system before after a b fault one = inl one
+-- memory ran out, or a write failed
+of_system : (fault : ScriptFault) → IsOfSystem fault → status_of fault ≡ 1
+of_system fault cause = ⊎_elim (λ e. ap status_of e) (λ e. ap status_of e) cause
 
--- what was played was stopped so, or could not be written
-pub of_played : {X : Type 0} (played : Result X ScriptFault) (fault : ScriptFault) → IfErr played (λ f. status_of f ≡ 1) → (fault ≡ WriteFailed) ⊎ (played ≡ Err fault) → status_of fault ≡ 1
-of_played played fault one cause = ⊎_elim (λ e. ap status_of e) (λ e. subst (λ r. IfErr r (λ f. status_of f ≡ 1)) e one) cause
+-- a script of one node was played in part
+pub cut_node : (before after a b : Option (List ℕ)) (text read : List ℕ) (node : Setup) (lines told : List Line) (fault : ScriptFault)
+    → Consumes before after text → IsAtEnd after → length text ≤ 1048576 → read ≡ text → script_in read ≡ Ok (Events node lines) → told ≡ lines → BreaksOff (lines_text (at_first node) told) a b fault
+    → Stops before after a b fault
+cut_node before after a b text read node lines told fault taken end few is says same breaks =
+    let said : script_in text ≡ Ok (Events node lines) = subst (λ t. script_in t ≡ Ok (Events node lines)) is says in
+    let here : BreaksOff (lines_text (at_first node) lines) a b fault = subst (λ ls. BreaksOff (lines_text (at_first node) ls) a b fault) same breaks in
+    inl (
+      of_system fault here.cause,
+      inr (record {
+        script = text;
+        front = here.front.front;
+        taken = taken;
+        end = end;
+        cause = here.cause;
+        printed = (not_long text few ∙ ap fault_said said, Events node lines, said, here.front.begins);
+        put = here.front.put;
+      }),
+    )
 
 -- several nodes were no world
-pub no_world : (setups : List Setup) (a : Option (List ℕ)) (fault : ScriptFault) → (fault ≡ NoMemory) ⊎ ((fault ≡ SameName) × (names_repeat setups ≡ true)) → StopsWorld setups a a fault
-no_world setups a fault cause = ⊎_elim (λ e. inl (ap status_of e)) (λ two. inr (two.0, two.1, Keeps-refl a)) cause
+pub same_name : (setups : List Setup) (hs : List Happening) (a : Option (List ℕ)) (fault : ScriptFault) → (fault ≡ SameName) × (names_repeat setups ≡ true) → StopsWorld setups hs a a fault
+same_name setups hs a fault two = inl (two.0, two.1, Keeps-refl a)
 
--- or what happened was stopped
-pub of_world : {X : Type 0} (played : Result X ScriptFault) (setups : List Setup) (a b : Option (List ℕ)) (fault : ScriptFault) → IfErr played (λ f. status_of f ≡ 1) → (fault ≡ WriteFailed) ⊎ (played ≡ Err fault) → StopsWorld setups a b fault
-of_world played setups a b fault one cause = inl (of_played played fault one cause)
+-- or what they print breaks off
+pub of_world : {X : Type 0} (played : Result X ScriptFault) (setups : List Setup) (hs : List Happening) (w0 : World) (a b c : Option (List ℕ)) (p q : List ℕ) (fault : ScriptFault)
+    → w0 ≡ empty setups → names_repeat setups ≡ false → p ≡ [] → OnOk played (PutsFrom w0 hs a b p q) → IfErr played (λ f. PutsFromPart w0 hs a b p q f) → PutsFront q b c
+    → (fault ≡ WriteFailed) ⊎ (played ≡ Err fault) → StopsWorld setups hs a c fault
+of_world played setups hs w0 a b c p q fault first apart none puts part front cause =
+    inr (apart, breaks_world played setups hs w0 a b c p q fault first none puts part front cause)
+
+-- of a world this was printed, and why no more
+record IsFrontOf (setups : List Setup) (hs : List Happening) (a b : Option (List ℕ)) (fault : ScriptFault) : Type 0 where
+  front : List ℕ
+  is : IsFront (Happenings setups hs) front
+  put : Appends a b front
+  cause : IsOfSystem fault
+
+front_of : (setups : List Setup) (hs : List Happening) (a b : Option (List ℕ)) (fault : ScriptFault) → BreaksWorld setups hs a b fault → IsFrontOf setups hs a b fault
+front_of setups hs a b fault breaks =
+    ⊎_elim (λ x. record { front = x.front.front; is = inl x.front.begins; put = x.front.put; cause = x.cause })
+    (λ x. let y = x.2 in record { front = y.front.front; is = inr (x.0, x.1, y.front.begins); put = y.front.put; cause = y.cause }) breaks
 
 -- a script of several was stopped
-pub bad_world : (before after a b : Option (List ℕ)) (text read : List ℕ) (setups : List Setup) (happenings : List Happening) (fault : ScriptFault)
-    → Consumes before after text → IsAtEnd after → length text ≤ 1048576 → read ≡ text → script_in read ≡ Ok (Happenings setups happenings) → StopsWorld setups a b fault → Stops before after a b fault
-bad_world before after a b text read setups happenings fault taken end few is says cause =
+pub stopped_world : (before after a b : Option (List ℕ)) (text read : List ℕ) (setups : List Setup) (happenings told : List Happening) (fault : ScriptFault)
+    → Consumes before after text → IsAtEnd after → length text ≤ 1048576 → read ≡ text → script_in read ≡ Ok (Happenings setups happenings) → told ≡ happenings → StopsWorld setups told a b fault
+    → Stops before after a b fault
+stopped_world before after a b text read setups happenings told fault taken end few is says same cause =
     let said : script_in text ≡ Ok (Happenings setups happenings) = subst (λ t. script_in t ≡ Ok (Happenings setups happenings)) is says in
-    ⊎_elim (λ one. inl one) (λ same. inr (
-      ap status_of same.0,
+    let faultless : fault_in text ≡ cond (names_repeat setups) (Some SameName) None = not_long text few ∙ ap fault_said said in
+    let here : StopsWorld setups happenings a b fault = subst (λ hs. StopsWorld setups hs a b fault) same cause in
+    ⊎_elim (λ twice. inr (
+      ap status_of twice.0,
       record {
         script = text;
         taken = taken;
         end = inl end;
-        fault_is = not_long text few ∙ ap fault_said said ∙ ap (λ b. cond b (Some SameName) None) same.1 ∙ ap Some (sym same.0);
-        kept = same.2;
+        fault_is = faultless ∙ ap (λ b. cond b (Some SameName) None) twice.1 ∙ ap Some (sym twice.0);
+        kept = twice.2;
       },
-    )) cause
+    )) (λ breaks.
+    let x = front_of setups happenings a b fault breaks.1 in
+    inl (
+      of_system fault x.cause,
+      inr (record {
+        script = text;
+        front = x.front;
+        taken = taken;
+        end = end;
+        cause = x.cause;
+        printed = (faultless ∙ ap (λ b. cond b (Some SameName) None) breaks.0, Happenings setups happenings, said, x.is);
+        put = x.put;
+      }),
+    )) here
 
 -- ---- the exit status
 
 pub is_bad : (before after a b c d : Option (List ℕ)) (fault : ScriptFault) (status : ℕ) → Stops before after a b fault → status ≡ status_of fault → PutsFront (fault_line fault) c d → status ≡ 2 → (f : ScriptFault) × IsBad before after a b f × PutsFront (fault_line f) c d
 is_bad before after a b c d fault status stops is front two =
-    ⊎_elim (λ one. absurd (omega (arith, one, is, two))) (λ bad. (fault, bad.1, front)) stops
+    ⊎_elim (λ cut. absurd (omega (arith, cut.0, is, two))) (λ bad. (fault, bad.1, front)) stops
 
-pub is_cut : (c d : Option (List ℕ)) (fault : ScriptFault) (status : ℕ) → status ≡ status_of fault → PutsFront (fault_line fault) c d → status ≡ 1 → (f : ScriptFault) × (status_of f ≡ 1) × PutsFront (fault_line f) c d
-is_cut c d fault status is front one = (fault, sym is ∙ one, front)
+pub is_cut : (before after a b c d : Option (List ℕ)) (fault : ScriptFault) (status : ℕ) → Stops before after a b fault → status ≡ status_of fault → PutsFront (fault_line fault) c d → status ≡ 1
+    → (f : ScriptFault) × IsCut before after a b f × (status_of f ≡ 1) × PutsFront (fault_line f) c d
+is_cut before after a b c d fault status stops is front one =
+    ⊎_elim (λ cut. (fault, cut.1, cut.0, front)) (λ bad. absurd (omega (arith, bad.0, is, one))) stops

@@ -3,7 +3,7 @@ use Rattle.std.proofs.Common.{◌≡◌, ◌∙◌, ℕ, Bool, true, false, cond
 use Rattle.std.specs.Int.{w16}
 use Rattle.std.specs.Io.KnownBytes.{Appends}
 use Rattle.std.proofs.KnownBytes.{Appends-nil, Appends-trans}
-use Rattle.dist_frames.specs.Reader.{Reader, next_body, to_come, without_next, untold, told}
+use Rattle.dist_frames.specs.Reader.{Reader, next_body, to_come, without_next, untold, without_count}
 use Rattle.dist_frames.specs.Reader.Reader.{Short, Linked}
 use Rattle.dist_frames.specs.Stream.{has_first, front, behind, bodies_up_to}
 use Rattle.dist_peers.specs.declared.entry.EndId.{EndId}
@@ -14,7 +14,7 @@ use Rattle.dist_core.specs.Node.{NodeState}
 use Rattle.dist_core.specs.Step.{step}
 use Rattle.dist_script_play.specs.declared.scene.Then.{Then}
 use Rattle.dist_script_play.specs.declared.scene.Then.TheVariants as then
-use Rattle.dist_script_play.specs.Played.{Standing, Hearing, step_text, reply_in, after_step, then_on, reader_on, no_more, behind_text, heard_on, heard, is_said, packets_text}
+use Rattle.dist_script_play.specs.Played.{Standing, Hearing, step_text, reply_in, after_step, then_on, reader_on, no_more, behind_text, heard_on, hearing_of_frames, is_said, packets_text}
 use Rattle.dist_script_play.specs.Scenes.{Hears, HearsBytes}
 
 -- where no body is next, none is dropped
@@ -27,7 +27,7 @@ no_next (Short pending) e =
     ] e
 
 -- the frames behind one are those that its reader has to give
-heard_more : (x : EndId) (fresh : ℕ) (t : Then) (s : Standing) (r : Reader) → heard_on t s r (heard x fresh (to_come r) s r) ≡ heard x fresh (to_come (reader_on t r)) s (reader_on t r)
+heard_more : (x : EndId) (fresh : ℕ) (t : Then) (s : Standing) (r : Reader) → heard_on t s r (hearing_of_frames x fresh (to_come r) s r) ≡ hearing_of_frames x fresh (to_come (reader_on t r)) s (reader_on t r)
 unfolding bodies_up_to
 heard_more x fresh then.GoesOn s r = refl
 heard_more x fresh then.Links s (Short pending) = refl
@@ -48,10 +48,10 @@ pub record SoFar (x : EndId) (fresh : ℕ) (all : Hearing) (some : Bool) (old ne
   pub done : List ℕ
   pub put : Appends old new done
   pub any : some ≡ is_said done
-  pub rest : behind_text done (heard x fresh (to_come r) s r) ≡ all
+  pub rest : behind_text done (hearing_of_frames x fresh (to_come r) s r) ≡ all
 
 -- before the first
-pub none_yet : (x : EndId) (fresh : ℕ) (old : Option (List ℕ)) (s : Standing) (r : Reader) → SoFar x fresh (heard x fresh (to_come r) s r) false old old s r
+pub none_yet : (x : EndId) (fresh : ℕ) (old : Option (List ℕ)) (s : Standing) (r : Reader) → SoFar x fresh (hearing_of_frames x fresh (to_come r) s r) false old old s r
 none_yet x fresh old s r = record { done = []; put = Appends-nil old; any = refl; rest = refl }
 
 -- one more
@@ -65,24 +65,24 @@ one_more x fresh all any old mid new s r r1 body reply s2 r2 so first without pu
     let t = then_on x (reply_in made) in
     let after = after_step s made in
     let next : r2 ≡ reader_on t r1 = is_reader ∙ ap (λ o. reader_on (then_on x o) r1) is_reply in
-    let step1 : heard x fresh (to_come r2) s2 r2 ≡ heard x fresh (to_come (reader_on t r1)) after (reader_on t r1) =
-    ap (λ q. heard x fresh (to_come q) s2 q) next ∙ ap (λ z. heard x fresh (to_come (reader_on t r1)) z (reader_on t r1)) is_after in
-    let step2 : heard x fresh (to_come (reader_on t r1)) after (reader_on t r1) ≡ heard_on t after (without_next r) (heard x fresh (to_come r1) after (without_next r)) =
-    sym (heard_more x fresh t after r1) ∙ ap (λ q. heard_on t after q (heard x fresh (to_come r1) after q)) without in
-    let step3 : behind_text (step_text made) (heard x fresh (to_come r2) s2 r2) ≡ heard x fresh (to_come r) s r =
-    ap (behind_text (step_text made)) (step1 ∙ step2) ∙ ap (λ bs. heard x fresh bs s r) (sym first) in
+    let step1 : hearing_of_frames x fresh (to_come r2) s2 r2 ≡ hearing_of_frames x fresh (to_come (reader_on t r1)) after (reader_on t r1) =
+    ap (λ q. hearing_of_frames x fresh (to_come q) s2 q) next ∙ ap (λ z. hearing_of_frames x fresh (to_come (reader_on t r1)) z (reader_on t r1)) is_after in
+    let step2 : hearing_of_frames x fresh (to_come (reader_on t r1)) after (reader_on t r1) ≡ heard_on t after (without_next r) (hearing_of_frames x fresh (to_come r1) after (without_next r)) =
+    sym (heard_more x fresh t after r1) ∙ ap (λ q. heard_on t after q (hearing_of_frames x fresh (to_come r1) after q)) without in
+    let step3 : behind_text (step_text made) (hearing_of_frames x fresh (to_come r2) s2 r2) ≡ hearing_of_frames x fresh (to_come r) s r =
+    ap (behind_text (step_text made)) (step1 ∙ step2) ∙ ap (λ bs. hearing_of_frames x fresh bs s r) (sym first) in
     record {
       done = so.done ++ step_text made;
       put = Appends-trans old mid new so.done (step_text made) so.put put;
       any = sym (step_said made so.done);
-      rest = both_behind so.done (step_text made) (heard x fresh (to_come r2) s2 r2) ∙ ap (behind_text so.done) step3 ∙ so.rest;
+      rest = both_behind so.done (step_text made) (hearing_of_frames x fresh (to_come r2) s2 r2) ∙ ap (behind_text so.done) step3 ∙ so.rest;
     }
 
 -- no frame is left
 pub no_frame_left : (x : EndId) (fresh : ℕ) (all : Hearing) (any : Bool) (old new : Option (List ℕ)) (s : Standing) (r r1 : Reader)
     → SoFar x fresh all any old new s r → to_come r ≡ [] → r1 ≡ r → Hears all any old new s r1
 no_frame_left x fresh all any old new s r r1 so none same =
-    let ends : behind_text so.done (no_more s r) ≡ all = ap (λ bs. behind_text so.done (heard x fresh bs s r)) (sym none) ∙ so.rest in
+    let ends : behind_text so.done (no_more s r) ≡ all = ap (λ bs. behind_text so.done (hearing_of_frames x fresh bs s r)) (sym none) ∙ so.rest in
     let texts : so.done ≡ all.text = sym (append-nil so.done) ∙ ap (λ h. h.text) ends in
     record {
       text = subst (Appends old new) texts so.put;
@@ -93,14 +93,14 @@ no_frame_left x fresh all any old new s r r1 so none same =
 
 -- the frames, and what stands behind their lines
 pub hears_bytes : (x : EndId) (fresh : ℕ) (s0 : Standing) (r0 r1 : Reader) (some : Bool) (a b c : Option (List ℕ)) (s : Standing) (r r2 : Reader) (k : ℕ)
-    → r1 ≡ r0 → Hears (heard x fresh (to_come r1) s0 r1) some a b s r → k ≡ untold r → r2 ≡ told r → Appends b c (packets_text some k)
-    → HearsBytes (heard x fresh (to_come r0) s0 r0) a c s r2
+    → r1 ≡ r0 → Hears (hearing_of_frames x fresh (to_come r1) s0 r1) some a b s r → k ≡ untold r → r2 ≡ without_count r → Appends b c (packets_text some k)
+    → HearsBytes (hearing_of_frames x fresh (to_come r0) s0 r0) a c s r2
 hears_bytes x fresh s0 r0 r1 some a b c s r r2 k same hears count after put =
-    let h1 = heard x fresh (to_come r1) s0 r1 in
+    let h1 = hearing_of_frames x fresh (to_come r1) s0 r1 in
     let is : k ≡ untold h1.reader = count ∙ ap untold hears.reader in
     let line : Appends b c (packets_text (is_said h1.text) (untold h1.reader)) = subst (λ q. Appends b c (packets_text (is_said h1.text) q)) is (subst (λ q. Appends b c (packets_text q k)) hears.any put) in
-    subst (λ q. HearsBytes (heard x fresh (to_come q) s0 q) a c s r2) same (record {
+    subst (λ q. HearsBytes (hearing_of_frames x fresh (to_come q) s0 q) a c s r2) same (record {
       text = Appends-trans a b c h1.text (packets_text (is_said h1.text) (untold h1.reader)) hears.text line;
       after = hears.after;
-      reader = after ∙ ap told hears.reader;
+      reader = after ∙ ap without_count hears.reader;
     })

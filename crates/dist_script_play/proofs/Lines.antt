@@ -1,7 +1,6 @@
 -- What the lines of a script for one node print, in turn.
-use Rattle.std.proofs.Common.{◌≡◌, ◌∙◌, ℕ, zero, suc, ◌+◌, ◌<◌, ◌≤◌, cond, List, [], ◌∷◌, ◌++◌, length, drop, get_or, Option, Some, None, Result, Ok, OnOk, IsOk, false, refl, sym, ap, subst, arith, append_assoc}
-use Rattle.std.specs.Io.KnownBytes.{Appends, Consumes, IsAtEnd, Keeps, append_known}
-use Rattle.std.proofs.KnownBytes.{Appends-nil, Appends-trans}
+use Rattle.std.proofs.Common.{◌≡◌, ◌∙◌, ◌⊎◌, ℕ, zero, suc, ◌+◌, ◌<◌, ◌≤◌, cond, List, [], ◌∷◌, ◌++◌, length, drop, get_or, Option, Some, None, Result, Ok, Err, OnOk, IfErr, false, refl, sym, ap, subst, arith, append_assoc, append-nil}
+use Rattle.std.specs.Io.KnownBytes.{Appends, Consumes, IsAtEnd}
 use Rattle.std.proofs.lemmas.Bool.{le-ltb}
 use Rattle.dist_script.specs.declared.script.Line.{Line}
 use Rattle.dist_script_lines.specs.Lines.{table_text}
@@ -12,24 +11,26 @@ use Rattle.dist_script_play.specs.Played.{Standing, line_text, after_line, lines
 use Rattle.dist_world.specs.Setups.{names_repeat}
 use Rattle.dist_script_words.specs.Fault.{status_of}
 use Rattle.dist_script_words.specs.declared.fault.ScriptFault.{ScriptFault}
-use Rattle.dist_script_words.specs.declared.fault.ScriptFault.TheVariants.{TooLong, SameName}
+use Rattle.dist_script_words.specs.declared.fault.ScriptFault.TheVariants.{TooLong, SameName, WriteFailed}
 use Rattle.dist_script_words.specs.declared.fault.ScriptFault.TheVariants as fault
 use Rattle.dist_script.specs.Scripts.{script_in}
 use Rattle.dist_script_play.specs.Scenes.{PutsWorld, Plays}
-use Rattle.dist_script_play.proofs.Pages.{there, put_and_turned}
+use Rattle.dist_script_words.specs.Texts.{PutsFront}
+use Rattle.dist_script_play.specs.Pages.{Puts, PutsPart, BreaksOff}
+use Rattle.dist_script_play.proofs.Pages.{puts_none, puts_more, part_more, breaks_off}
 
 -- what is not too long has the fault that its lines have
 pub not_long : (script : List ℕ) → length script ≤ 1048576 → fault_in script ≡ fault_said (script_in script)
 not_long script few = ap (λ b. cond b (Some TooLong) (fault_said (script_in script))) (le-ltb 1048576 (length script) few)
 
 -- the lines so far, and those of what is left, are those of all
-pub record ToldSoFar (s0 : Standing) (all : List Line) (old : Option (List ℕ)) (s : Standing) (place : ℕ) (new : Option (List ℕ)) : Type 0 where
+pub record ToldSoFar (s0 : Standing) (all : List Line) (old now : Option (List ℕ)) (page left : List ℕ) (s : Standing) (place : ℕ) : Type 0 where
   pub done : List ℕ
-  pub put : Appends old new done
+  pub put : Puts done old now page left
   pub text : done ++ lines_text s (drop place all) ≡ lines_text s0 all
 
-pub none_told : (s0 : Standing) (all : List Line) (old : Option (List ℕ)) → ToldSoFar s0 all old s0 0 old
-none_told s0 all old = record { done = []; put = Appends-nil old; text = refl }
+pub none_told : (s0 : Standing) (all : List Line) (old : Option (List ℕ)) (page : List ℕ) → ToldSoFar s0 all old old page page s0 0
+none_told s0 all old page = record { done = []; put = puts_none old page; text = refl }
 
 one_line : (s : Standing) (all : List Line) (place : ℕ) (d : Line) → place < length all → lines_text s (drop place all) ≡ line_text s (get_or all place d) ++ lines_text (after_line s (get_or all place d)) (drop (suc place) all)
 one_line s [] place d lt = absurd (omega arith)
@@ -37,10 +38,10 @@ one_line s (l ∷ ls) zero d lt = refl
 one_line s (l ∷ ls) (suc place) d lt = one_line s ls place d (omega arith)
 
 -- one more
-pub one_told : (s0 : Standing) (all : List Line) (old mid new : Option (List ℕ)) (s : Standing) (place : ℕ) (d : Line) (s2 : Standing)
-    → ToldSoFar s0 all old s place mid → place < length all → Appends mid new (line_text s (get_or all place d)) → s2 ≡ after_line s (get_or all place d)
-    → ToldSoFar s0 all old s2 (place + 1) new
-one_told s0 all old mid new s place d s2 so lt put is_after =
+pub one_told : (s0 : Standing) (all : List Line) (old mid new : Option (List ℕ)) (page p q : List ℕ) (s : Standing) (place : ℕ) (d : Line) (s2 : Standing)
+    → ToldSoFar s0 all old mid page p s place → place < length all → Puts (line_text s (get_or all place d)) mid new p q → s2 ≡ after_line s (get_or all place d)
+    → ToldSoFar s0 all old new page q s2 (place + 1)
+one_told s0 all old mid new page p q s place d s2 so lt put is_after =
     let l = get_or all place d in
     let next : suc place ≡ place + 1 = omega arith in
     let others = drop (suc place) all in
@@ -48,17 +49,17 @@ one_told s0 all old mid new s place d s2 so lt put is_after =
     let both : line_text s l ++ lines_text s2 others ≡ lines_text s (drop place all) = ap (λ t. line_text s l ++ t) rest ∙ sym (one_line s all place d lt) in
     record {
       done = so.done ++ line_text s l;
-      put = Appends-trans old mid new so.done (line_text s l) so.put put;
+      put = puts_more old mid new page p q so.done (line_text s l) so.put put;
       text = subst (λ k. (so.done ++ line_text s l) ++ lines_text s2 (drop k all) ≡ lines_text s0 all) next (
           append_assoc so.done (line_text s l) (lines_text s2 others) ∙ ap (λ t. so.done ++ t) both ∙ so.text);
     }
 
--- one more, on a page
-pub one_on_page : {X E : Type 0} (res : Result X E) (s0 : Standing) (all : List Line) (old a b : Option (List ℕ)) (p q r : List ℕ) (s : Standing) (place : ℕ) (d : Line) (s2 : Standing)
-    → ToldSoFar s0 all old s place (append_known a p) → place < length all → IsOk res → OnOk res (Appends (Some p) (Some q) (line_text s (get_or all place d))) → OnOk res (s2 ≡ after_line s (get_or all place d))
-    → Keeps (append_known a q) (append_known b r) → ToldSoFar s0 all old s2 (place + 1) (append_known b r)
-one_on_page res s0 all old a b p q r s place d s2 so lt is put is_after keeps =
-    one_told s0 all old (append_known a p) (append_known b r) s place d s2 so lt (put_and_turned a b p q r _ (there res put is) keeps) (there res is_after is)
+-- or a beginning of one more
+pub cut_told : (s0 : Standing) (all : List Line) (old mid new : Option (List ℕ)) (page p q : List ℕ) (s : Standing) (place : ℕ) (d : Line) (fault : ScriptFault)
+    → ToldSoFar s0 all old mid page p s place → place < length all → PutsPart (line_text s (get_or all place d)) mid new p q fault → PutsPart (lines_text s0 all) old new page q fault
+cut_told s0 all old mid new page p q s place d fault so lt part =
+    let l = get_or all place d in
+    part_more old mid new page p q so.done (line_text s l) (lines_text (after_line s l) (drop (suc place) all)) (lines_text s0 all) fault so.put part (ap (λ t. so.done ++ t) (sym (one_line s all place d lt)) ∙ so.text)
 
 no_line : (s : Standing) (all : List Line) (place : ℕ) → length all ≤ place → lines_text s (drop place all) ≡ table_text s.node
 no_line s [] zero le = refl
@@ -67,10 +68,16 @@ no_line s (l ∷ ls) zero le = absurd (omega arith)
 no_line s (l ∷ ls) (suc place) le = no_line s ls place (omega arith)
 
 -- the table behind all of them
-pub all_told : (s0 : Standing) (all : List Line) (old mid new : Option (List ℕ)) (s : Standing) (place : ℕ)
-    → ToldSoFar s0 all old s place mid → length all ≤ place → Appends mid new (table_text s.node) → Appends old new (lines_text s0 all)
-all_told s0 all old mid new s place so le put =
-    subst (Appends old new) (ap (λ t. so.done ++ t) (sym (no_line s all place le)) ∙ so.text) (Appends-trans old mid new so.done (table_text s.node) so.put put)
+pub all_told : (s0 : Standing) (all : List Line) (old mid new : Option (List ℕ)) (page p q : List ℕ) (s : Standing) (place : ℕ)
+    → ToldSoFar s0 all old mid page p s place → length all ≤ place → Puts (table_text s.node) mid new p q → Puts (lines_text s0 all) old new page q
+all_told s0 all old mid new page p q s place so le put =
+    subst (λ t. Puts t old new page q) (ap (λ t. so.done ++ t) (sym (no_line s all place le)) ∙ so.text) (puts_more old mid new page p q so.done (table_text s.node) so.put put)
+
+-- or a beginning of it
+pub cut_table : (s0 : Standing) (all : List Line) (old mid new : Option (List ℕ)) (page p q : List ℕ) (s : Standing) (place : ℕ) (fault : ScriptFault)
+    → ToldSoFar s0 all old mid page p s place → length all ≤ place → PutsPart (table_text s.node) mid new p q fault → PutsPart (lines_text s0 all) old new page q fault
+cut_table s0 all old mid new page p q s place fault so le part =
+    part_more old mid new page p q so.done (table_text s.node) [] (lines_text s0 all) fault so.put part (ap (λ t. so.done ++ t) (append-nil (table_text s.node) ∙ sym (no_line s all place le)) ∙ so.text)
 
 -- a script of one node was played
 pub of_events : (script read : List ℕ) (node : Setup) (lines told : List Line) (before after a b : Option (List ℕ))
@@ -110,3 +117,19 @@ never_zero fault.SameName e = cc
 never_zero fault.ReadFailed e = cc
 never_zero fault.WriteFailed e = cc
 never_zero fault.NoMemory e = cc
+
+-- the same of a line that was read off
+pub cut_item : (s0 : Standing) (all : List Line) (old mid new : Option (List ℕ)) (page p q : List ℕ) (s : Standing) (place : ℕ) (x : Line) (fault : ScriptFault)
+    → ToldSoFar s0 all old mid page p s place → place < length all → x ≡ get_or all place x → PutsPart (line_text s x) mid new p q fault → PutsPart (lines_text s0 all) old new page q fault
+cut_item s0 all old mid new page p q s place x fault so lt is part =
+    cut_told s0 all old mid new page p q s place x fault so lt (subst (λ l. PutsPart (line_text s l) mid new p q fault) is part)
+
+-- all of them were played from the beginning of a node and of a page, and that broke off
+pub node_breaks : {X : Type 0} (played : Result X ScriptFault) (setup : Setup) (lines : List Line) (s : Standing) (a b c : Option (List ℕ)) (p q : List ℕ) (fault : ScriptFault)
+    → s ≡ at_first setup → p ≡ [] → OnOk played (Puts (lines_text s lines) a b p q) → IfErr played (λ f. PutsPart (lines_text s lines) a b p q f) → PutsFront q b c → (fault ≡ WriteFailed) ⊎ (played ≡ Err fault)
+    → BreaksOff (lines_text (at_first setup) lines) a c fault
+node_breaks played setup lines s a b c p q fault first none puts part front cause =
+    subst (λ z. BreaksOff (lines_text z lines) a c fault) first (breaks_off played a b c p q (lines_text s lines) fault none puts part front cause)
+
+-- what lines do in turn
+pub ruleset lines_in_turn = (none_told, one_told, cut_told, all_told, cut_table)

@@ -1,6 +1,6 @@
 -- What is printed of a world.
-use Rattle.std.proofs.Common.{◌≡◌, ℕ, List, [], ◌++◌, length, Option, Some, refl, subst}
-use Rattle.std.specs.Io.KnownBytes.{Appends, append_known}
+use Rattle.std.proofs.Common.{◌≡◌, ◌⊎◌, inl, inr, ⊎_elim, ℕ, List, [], ◌++◌, length, Option, Some, Result, Ok, Err, OnOk, IfErr, IsOk, refl, ap, subst, append-nil}
+use Rattle.std.specs.Io.KnownBytes.{Appends}
 use Rattle.std.proofs.KnownBytes.{Appends-trans}
 use Rattle.dist_core_setup.specs.declared.setup.Setup.{Setup}
 use Rattle.dist_world_model.specs.declared.happening.Happening.{Happening}
@@ -8,27 +8,80 @@ use Rattle.dist_world_model.specs.World.{World, empty}
 use Rattle.dist_world_model.specs.Run.{run, count_applied}
 use Rattle.dist_script_lines.specs.Lines.{applied_line}
 use Rattle.dist_script_lines.specs.Worlds.{nodes_text, PutsAgreements}
+use Rattle.dist_script_words.specs.Texts.{PutsFront}
+use Rattle.dist_script_words.specs.declared.fault.ScriptFault.{ScriptFault}
+use Rattle.dist_script_words.specs.declared.fault.ScriptFault.TheVariants.{WriteFailed, NoMemory}
 use Rattle.dist_script_play.specs.Played.{happenings_text}
-use Rattle.dist_script_play.specs.Scenes.{PutsEnd, PutsFrom, PutsWorld}
-use Rattle.dist_script_play.proofs.Pages.{put, whole}
+use Rattle.dist_script_play.specs.Pages.{Puts, PutsPart}
+use Rattle.dist_script_play.specs.Scenes.{PutsEnd, PutsEndOn, PutsEndPart, PutsFrom, PutsFromPart, PutsWorld, BreaksWorld}
+use Rattle.dist_script_play.proofs.Pages.{there, line_lost, put_on_page, broken_on_page, puts_more, part_more, whole, breaks_off}
 
 -- its end
 pub ends : (w : World) (applied all : ℕ) (a b c d : Option (List ℕ)) → Appends a b (applied_line applied all) → Appends b c (nodes_text w) → PutsAgreements w c d → PutsEnd w applied all a d
 ends w applied all a b c d p q r =
     (applied_line applied all ++ nodes_text w ++ r.0, (r.0, r.1, refl), Appends-trans a c d (applied_line applied all ++ nodes_text w) r.0 (Appends-trans a b c (applied_line applied all) (nodes_text w) p q) r.2)
 
--- the happenings, and its end, which is put on the page
-pub plays : (hs : List Happening) (w0 w : World) (applied all : ℕ) (x b : Option (List ℕ)) (q r : List ℕ)
-    → Appends x (append_known b q) (happenings_text w0 hs) → w ≡ run hs w0 → applied ≡ count_applied hs w0 → all ≡ length hs → PutsEnd w applied all (Some q) (Some r) → PutsFrom w0 hs x (append_known b r)
-plays hs w0 w applied all x b q r p after count length_is puts =
-    let end : PutsEnd (run hs w0) (count_applied hs w0) (length hs) (Some q) (Some r) =
-    subst (λ n. PutsEnd (run hs w0) (count_applied hs w0) n (Some q) (Some r)) length_is (subst (λ k. PutsEnd (run hs w0) k all (Some q) (Some r)) count (subst (λ v. PutsEnd v applied all (Some q) (Some r)) after puts)) in
-    (end.0, end.1, Appends-trans x (append_known b q) (append_known b r) (happenings_text w0 hs) end.0 p (put b q r end.0 end.2))
+-- on a page
+pub end_put : {X E : Type 0} (r : Result X E) (w : World) (applied all : ℕ) (a b : Option (List ℕ)) (p q x y : List ℕ)
+    → x ≡ [] → IsOk r → OnOk r (PutsEnd w applied all (Some x) (Some y)) → Puts y a b p q → PutsEndOn w applied all a b p q
+end_put r w applied all a b p q x y none is end puts =
+    let here : PutsEnd w applied all (Some x) (Some y) = there r end is in
+    (here.0, here.1, put_on_page a b p q x y here.0 none here.2 puts)
 
--- the same from the beginning of a world and of a page, once the page is written out
-pub of_world : (setups : List Setup) (hs : List Happening) (w0 : World) (a b c : Option (List ℕ)) (p q : List ℕ) → w0 ≡ empty setups → p ≡ [] → PutsFrom w0 hs (append_known a p) (append_known b q) → Appends b c q → PutsWorld setups hs a c
+-- a beginning of it
+pub end_cut : {X E : Type 0} (r : Result X E) (w : World) (applied all : ℕ) (a b : Option (List ℕ)) (p q x y : List ℕ) (fault : ScriptFault)
+    → x ≡ [] → IsOk r → OnOk r (PutsEnd w applied all (Some x) (Some y)) → PutsPart y a b p q fault → PutsEndPart w applied all a b p q fault
+end_cut r w applied all a b p q x y fault none is end part =
+    let here : PutsEnd w applied all (Some x) (Some y) = there r end is in
+    inr (here.0, here.1, broken_on_page a b p q x y here.0 fault none here.2 part)
+
+-- nothing of it, since memory ran out
+pub end_lost : (w : World) (applied all : ℕ) (a : Option (List ℕ)) (p q : List ℕ) (fault : ScriptFault) → q ≡ p → fault ≡ NoMemory → PutsEndPart w applied all a a p q fault
+end_lost w applied all a p q fault same is = inl (line_lost a p q [] fault same is)
+
+-- ---- the happenings, and its end
+
+module _ (hs : List Happening) (w0 w : World) (applied all : ℕ) (after : w ≡ run hs w0) (count : applied ≡ count_applied hs w0) (length_is : all ≡ length hs) where
+  same_end : (P : World → ℕ → ℕ → Type 0) → P w applied all → P (run hs w0) (count_applied hs w0) (length hs)
+  same_end P p = subst (λ n. P (run hs w0) (count_applied hs w0) n) length_is (subst (λ k. P (run hs w0) k all) count (subst (λ v. P v applied all) after p))
+
+pub plays : (hs : List Happening) (w0 w : World) (applied all : ℕ) (a b c : Option (List ℕ)) (p q r : List ℕ)
+    → Puts (happenings_text w0 hs) a b p q → w ≡ run hs w0 → applied ≡ count_applied hs w0 → all ≡ length hs → PutsEndOn w applied all b c q r → PutsFrom w0 hs a c p r
+plays hs w0 w applied all a b c p q r puts after count length_is end =
+    let here : PutsEndOn (run hs w0) (count_applied hs w0) (length hs) b c q r = same_end hs w0 w applied all after count length_is (λ v k n. PutsEndOn v k n b c q r) end in
+    (here.0, here.1, puts_more a b c p q r (happenings_text w0 hs) here.0 puts here.2)
+
+-- the happenings were cut
+pub cut_early : (hs : List Happening) (w0 : World) (a b : Option (List ℕ)) (p q : List ℕ) (fault : ScriptFault) → PutsPart (happenings_text w0 hs) a b p q fault → PutsFromPart w0 hs a b p q fault
+cut_early hs w0 a b p q fault part = inl part
+
+-- or the end was
+pub cut_at_end : (hs : List Happening) (w0 w : World) (applied all : ℕ) (a b c : Option (List ℕ)) (p q r : List ℕ) (fault : ScriptFault)
+    → Puts (happenings_text w0 hs) a b p q → w ≡ run hs w0 → applied ≡ count_applied hs w0 → all ≡ length hs → PutsEndPart w applied all b c q r fault → PutsFromPart w0 hs a c p r fault
+cut_at_end hs w0 w applied all a b c p q r fault puts after count length_is end =
+    let text = happenings_text w0 hs in
+    let here : PutsEndPart (run hs w0) (count_applied hs w0) (length hs) b c q r fault = same_end hs w0 w applied all after count length_is (λ v k n. PutsEndPart v k n b c q r fault) end in
+    ⊎_elim (λ none. inl (part_more a b c p q r text [] [] text fault puts none (append-nil text)))
+    (λ part. inr (part.0, part.1, part_more a b c p q r text part.0 [] (text ++ part.0) fault puts part.2 (ap (λ t. text ++ t) (append-nil part.0)))) here
+
+-- ---- from the beginning of a world and of a page, once the page is written out
+
+pub of_world : (setups : List Setup) (hs : List Happening) (w0 : World) (a b c : Option (List ℕ)) (p q : List ℕ) → w0 ≡ empty setups → p ≡ [] → PutsFrom w0 hs a b p q → Appends b c q → PutsWorld setups hs a c
 of_world setups hs w0 a b c p q first none puts out =
-    let here : PutsFrom (empty setups) hs (append_known a []) (append_known b q) =
-    subst (λ w. PutsFrom w hs (append_known a []) (append_known b q)) first (subst (λ l. PutsFrom w0 hs (append_known a l) (append_known b q)) none puts) in
+    let here : PutsFrom (empty setups) hs a b p q = subst (λ w. PutsFrom w hs a b p q) first puts in
     let text = happenings_text (empty setups) hs ++ here.0 in
-    (text, (here.0, here.1, refl), whole a b c q text here.2 out)
+    (text, (here.0, here.1, refl), whole a b c p q text none here.2 out)
+
+-- a fault that stops what was played, or a write that failed
+pub breaks_world : {X : Type 0} (played : Result X ScriptFault) (setups : List Setup) (hs : List Happening) (w0 : World) (a b c : Option (List ℕ)) (p q : List ℕ) (fault : ScriptFault)
+    → w0 ≡ empty setups → p ≡ [] → OnOk played (PutsFrom w0 hs a b p q) → IfErr played (λ f. PutsFromPart w0 hs a b p q f) → PutsFront q b c → (fault ≡ WriteFailed) ⊎ (played ≡ Err fault)
+    → BreaksWorld setups hs a c fault
+breaks_world (Ok x) setups hs w0 a b c p q fault first none puts part front cause =
+    let here : PutsFrom (empty setups) hs a b p q = subst (λ w. PutsFrom w hs a b p q) first puts in
+    let text = happenings_text (empty setups) hs ++ here.0 in
+    inr (text, (here.0, here.1, refl), breaks_off (Ok x) a b c p q text fault none here.2 tt front cause)
+breaks_world (Err f) setups hs w0 a b c p q fault first none puts part front cause =
+    let here : PutsFromPart (empty setups) hs a b p q f = subst (λ w. PutsFromPart w hs a b p q f) first part in
+    let text = happenings_text (empty setups) hs in
+    ⊎_elim (λ early. inl (breaks_off (Err f) a b c p q text fault none tt early front cause))
+    (λ late. inr (text ++ late.0, (late.0, late.1, refl), breaks_off (Err f) a b c p q (text ++ late.0) fault none tt late.2 front cause)) here

@@ -1,11 +1,13 @@
 -- WHAT A SCRIPT PRINTS. The language of scripts, and of what is printed of them, is in docs/SCRIPTS.md; the lines are those of
 -- dist_script_lines.
-use Rattle.std.specs.Prelude.{◌≡◌, ℕ, zero, suc, ◌==◌, Bool, true, false, nat_lt, if◌then◌else◌, List, [], ◌∷◌, ◌++◌, length, codes, is_some, Option, Some, None, Result, Ok, Err, slice_get}
+use Rattle.std.specs.Prelude.{◌≡◌, ◌⊎◌, ℕ, zero, suc, ◌==◌, Bool, true, false, nat_lt, if◌then◌else◌, List, [], ◌∷◌, ◌++◌, length, codes}
+use Rattle.std.specs.Prelude.{is_some, Option, Some, None, Result, Ok, Err, slice_get}
+use Rattle.std.specs.Io.{StartsWith}
 use Rattle.std.specs.Option.{unwrap_or}
 use Rattle.std.specs.Ordering.{nat_cmp}
 use Rattle.std.specs.Map.{lookup, remove_entry}
 use Rattle.std.specs.BTreeMap.{is_at, insert_entry}
-use Rattle.dist_frames.specs.Reader.{Reader, fed, to_come, without_next, linked, untold, told}
+use Rattle.dist_frames.specs.Reader.{Reader, with_bytes, to_come, without_next, as_linked, untold, without_count}
 use Rattle.dist_frames.specs.Reader.Reader.{Short}
 use Rattle.dist_peers.specs.declared.entry.EndId.{EndId}
 use Rattle.dist_core_ends.specs.declared.why.Why.{Why}
@@ -100,7 +102,7 @@ then_on x (Some r) = then_after x r
 -- the reader of the end, once a frame was moved out and given to the node
 abbrev pub reader_on : Then → Reader → Reader
 reader_on then.GoesOn reader = reader
-reader_on then.Links reader = linked reader
+reader_on then.Links reader = as_linked reader
 reader_on then.Stops reader = Short []
 
 -- what frames print, how things stand after them, and the reader of their end
@@ -120,16 +122,17 @@ behind_text text h = record { text = text ++ h.text; after = h.after; reader = h
 -- the frames behind one that was given to the node
 abbrev pub heard_on : Then → Standing → Reader → Hearing → Hearing
 heard_on then.GoesOn s reader others = others
-heard_on then.Links s reader others = no_more s (linked reader)
+heard_on then.Links s reader others = no_more s (as_linked reader)
 heard_on then.Stops s reader others = no_more s (Short [])
 
 -- FRAMES OF AN END, IN TURN: a line for each, until one of them ends that
-abbrev pub heard : EndId → ℕ → List (List ℕ) → Standing → Reader → Hearing
-heard x fresh [] s reader = no_more s reader
-heard x fresh (body ∷ bodies) s reader =
+abbrev pub hearing_of_frames : EndId → ℕ → List (List ℕ) → Standing → Reader → Hearing
+hearing_of_frames x fresh [] s reader = no_more s reader
+hearing_of_frames x fresh (body ∷ bodies) s reader =
     let made = step s.node (event.Frame x body) fresh in
     let after = after_step s made in
-    behind_text (step_text made) (heard_on (then_on x (reply_in made)) after (without_next reader) (heard x fresh bodies after (without_next reader)))
+    behind_text (step_text made) (heard_on (then_on x (reply_in made)) after (without_next reader)
+    (hearing_of_frames x fresh bodies after (without_next reader)))
 
 -- something was printed
 abbrev pub is_said : List ℕ → Bool
@@ -145,8 +148,8 @@ packets_text false zero = codes "waiting\n"
 -- the frames that are whole once these bytes came for an open end
 abbrev pub hearing : Standing → EndId → List ℕ → ℕ → Hearing
 hearing s x bytes fresh =
-    let reader = fed (reader_of s.readers x) bytes in
-    heard x fresh (to_come reader) (record { node = s.node; readers = without_reader s.readers x }) reader
+    let reader = with_bytes (reader_of s.readers x) bytes in
+    hearing_of_frames x fresh (to_come reader) (record { node = s.node; readers = without_reader s.readers x }) reader
 
 -- what is printed of that
 abbrev pub hearing_text : Hearing → List ℕ
@@ -154,7 +157,7 @@ hearing_text h = h.text ++ packets_text (is_said h.text) (untold h.reader)
 
 -- how things stand after that: the packets are counted once
 abbrev pub after_hearing : EndId → Hearing → Standing
-after_hearing x h = let s = h.after in record { node = s.node; readers = with_reader s.readers x (told h.reader) }
+after_hearing x h = let s = h.after in record { node = s.node; readers = with_reader s.readers x (without_count h.reader) }
 
 -- bytes for an end that stands so
 abbrev pub bytes_text : Still → Standing → EndId → List ℕ → ℕ → List ℕ
@@ -228,6 +231,13 @@ abbrev pub IsPrinted : Says → List ℕ → Type 0
 IsPrinted (Events node lines) text = text ≡ lines_text (at_first node) lines
 IsPrinted (Happenings nodes happenings) text = IsOfWorld nodes happenings text
 
+-- what may be printed of a script until it is cut: a beginning of what it prints; with several nodes also one of what the
+-- happenings print, where the end was not reached
+abbrev pub IsFront : Says → List ℕ → Type 0
+IsFront (Events node lines) front = StartsWith (lines_text (at_first node) lines) front
+IsFront (Happenings nodes happenings) front =
+    StartsWith (happenings_text (empty nodes) happenings) front ⊎ ((text : List ℕ) × IsOfWorld nodes happenings text × StartsWith text front)
+
 -- two nodes of one name
 abbrev pub fault_said : Result Says ScriptFault → Option ScriptFault
 fault_said (Err fault) = Some fault
@@ -241,3 +251,7 @@ fault_in text = if nat_lt 1048576 (length text) then Some TooLong else fault_sai
 -- WHAT A TEXT PRINTS: it is a script without a fault, and this is printed of it
 abbrev pub IsPlayed : List ℕ → List ℕ → Type 0
 IsPlayed script text = (fault_in script ≡ None) × (says : Says) × (script_in script ≡ Ok says) × IsPrinted says text
+
+-- WHAT A TEXT PRINTS UNTIL IT IS CUT: it is a script without a fault, and this is a beginning of what is printed of it
+abbrev pub IsPlayedPart : List ℕ → List ℕ → Type 0
+IsPlayedPart script front = (fault_in script ≡ None) × (says : Says) × (script_in script ≡ Ok says) × IsFront says front

@@ -1,10 +1,13 @@
-//! Writes that may fail; and the page on which stands what is printed, until it is long or whole.
+//! The page on which stands what is printed, until it is long or whole.
 
 ghost use Rattle.std.specs.Prelude.{◌≡◌, ◌⊎◌, [], IsOk, OnOk, IfErr, Err};
-ghost use Rattle.std.specs.Io.KnownBytes.{Appends, Keeps, append_known};
+ghost use Rattle.std.specs.Io.KnownBytes.{Appends};
+ghost use Rattle.dist_script_words.specs.Texts.{PutsFront};
 ghost use Rattle.dist_script_words.specs.declared.fault.ScriptFault.TheVariants.{NoMemory, WriteFailed};
+ghost use Rattle.dist_script_play.specs.Pages.{Puts, PutsPart};
 
-use dist_script_words::{ScriptFault, written};
+use dist_script_words::{ScriptFault, or_write_failed, put_bytes};
+use std::alloc::Global;
 use std::io::Write;
 
 /// From this many bytes on a page is written out.
@@ -21,46 +24,73 @@ pub fn on_page(put: Result<(), ScriptFault>) -> Result<(), ScriptFault>
     }
 }
 
-/// Writes a page out, which is empty then, also where that failed: what was written of it is not written again.
-#[tactic(auto, using(crate::proofs::Pages::there))]
-pub fn write_out<W: Write>(page: &mut Vec<u8>, out: &mut W) -> Result<(), ScriptFault>
-    ensures text { OnOk result (Appends (W.contents out.old) (W.contents out.new) page.old.items) }
-    ensures page { page.new.items ≡ [] }
-    ensures fault { IfErr result (λ fault. fault ≡ WriteFailed) }
-{
-    let put = written(out.write_all(page.as_slice()));
-    page.clear();
-    put?;
-    Ok(())
+/// What is printed and was not written out yet, and the line that is put together. A line goes onto the page whole, or not at
+/// all where memory runs out.
+#[derive(Drop)]
+pub struct Page {
+    /// What was printed.
+    pub text: Vec<u8>,
+    /// The line that comes next.
+    pub line: Vec<u8>,
 }
 
-/// Writes a long page out.
-#[tactic(auto, using(crate::proofs::Pages::same, crate::proofs::Pages::moved))]
-pub fn turn<W: Write>(page: &mut Vec<u8>, out: &mut W) -> Result<(), ScriptFault>
-    ensures same { OnOk result (Keeps (append_known (W.contents out.old) page.old.items) (append_known (W.contents out.new) page.new.items)) }
-    ensures fault { IfErr result (λ fault. fault ≡ WriteFailed) }
-{
-    if page.len() < LONG {
-        return Ok(());
+impl Page {
+    /// A page on which nothing stands. It takes no memory.
+    pub fn new(alloc: Global) -> Page
+        ensures { result.text.items ≡ [] }
+    {
+        Page {
+            text: Vec::new(alloc),
+            line: Vec::new(alloc),
+        }
     }
-    write_out(page, out)
-}
 
-/// Writes out what stands on the page at the end, also where the playing stopped. Returns the first fault.
-#[tactic(auto, using(crate::proofs::Pages::there, crate::proofs::Pages::flushed))]
-pub fn finish<W: Write>(
-    played: Result<(), ScriptFault>,
-    page: &mut Vec<u8>,
-    out: &mut W,
-) -> Result<(), ScriptFault>
-    ensures played { OnOk result (IsOk played) }
-    ensures text { OnOk result (Appends (W.contents out.old) (W.contents out.new) page.old.items) }
-    ensures fault { IfErr result (λ fault. (fault ≡ WriteFailed) ⊎ (played ≡ Err fault)) }
-{
-    let put = write_out(page, out);
-    let flushed = written(out.flush());
-    played?;
-    put?;
-    flushed?;
-    Ok(())
+    // Writes the page out, which is empty then, also where that failed: what was written of it is not written again.
+    #[tactic(auto, using(crate::proofs::Pages::there, crate::proofs::Pages::front_written))]
+    fn write_out<W: Write>(&mut self, out: &mut W) -> Result<(), ScriptFault>
+        ensures text { OnOk result (Appends (W.contents out.old) (W.contents out.new) self.old.text.items) }
+        ensures front { PutsFront self.old.text.items (W.contents out.old) (W.contents out.new) }
+        ensures page { self.new.text.items ≡ [] }
+        ensures fault { IfErr result (λ fault. fault ≡ WriteFailed) }
+    {
+        let put = or_write_failed(put_bytes(out, self.text.as_slice()));
+        self.text.clear();
+        put?;
+        Ok(())
+    }
+
+    /// Puts the line behind what stands on the page, and writes a long page out.
+    #[tactic(auto, using(crate::proofs::Pages::line_put))]
+    pub fn put_line<W: Write>(&mut self, out: &mut W) -> Result<(), ScriptFault>
+        ensures text { OnOk result (Puts self.old.line.items (W.contents out.old) (W.contents out.new) self.old.text.items self.new.text.items) }
+        ensures cut { IfErr result (λ fault. PutsPart self.old.line.items (W.contents out.old) (W.contents out.new)
+            self.old.text.items self.new.text.items fault) }
+    {
+        self.text.extend_from_slice(self.line.as_slice())?;
+        if self.text.len() < LONG {
+            return Ok(());
+        }
+        self.write_out(out)?;
+        Ok(())
+    }
+
+    /// Writes out what stands on the page at the end, also where the playing stopped. Returns the first fault.
+    #[tactic(auto, using(crate::proofs::Pages::there, crate::proofs::Pages::flushed, crate::proofs::Pages::front_flushed))]
+    pub fn finish<W: Write>(
+        &mut self,
+        played: Result<(), ScriptFault>,
+        out: &mut W,
+    ) -> Result<(), ScriptFault>
+        ensures played { OnOk result (IsOk played) }
+        ensures text { OnOk result (Appends (W.contents out.old) (W.contents out.new) self.old.text.items) }
+        ensures front { PutsFront self.old.text.items (W.contents out.old) (W.contents out.new) }
+        ensures fault { IfErr result (λ fault. (fault ≡ WriteFailed) ⊎ (played ≡ Err fault)) }
+    {
+        let put = self.write_out(out);
+        let flushed = or_write_failed(out.flush());
+        played?;
+        put?;
+        flushed?;
+        Ok(())
+    }
 }

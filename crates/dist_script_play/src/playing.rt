@@ -1,15 +1,17 @@
 //! The command `enact`: a script from the input, what comes of it on the output.
 
 ghost use Rattle.std.specs.Prelude.{◌≡◌, ◌≤◌, false, OnOk, IfErr};
-ghost use Rattle.std.specs.Io.KnownBytes.{Appends, Keeps, append_known};
+ghost use Rattle.std.specs.Io.KnownBytes.{Appends, Keeps};
 ghost use Rattle.dist_script_words.specs.Fault.{status_of, fault_line};
 ghost use Rattle.dist_script_words.specs.Texts.{PutsFront};
 ghost use Rattle.dist_script_words.specs.declared.fault.ScriptFault.{ScriptFault as Fault};
 ghost use Rattle.dist_world.specs.Setups.{names_repeat};
-ghost use Rattle.dist_script_play.specs.Played.{at_first, lines_text};
-ghost use Rattle.dist_script_play.specs.Scenes.{PutsWorld, Plays, IsBad, Stops, StopsWorld};
+ghost use Rattle.dist_script_lines.specs.Lines.{table_text};
+ghost use Rattle.dist_script_play.specs.Played.{at_first, line_text, after_line, lines_text};
+ghost use Rattle.dist_script_play.specs.Pages.{Puts, PutsPart, BreaksOff};
+ghost use Rattle.dist_script_play.specs.Scenes.{PutsWorld, Plays, IsBad, IsCut, Stops, StopsWorld};
 
-use crate::page::{finish, on_page, turn};
+use crate::page::{Page, on_page};
 use crate::scene::Scene;
 use crate::stage;
 use dist_core::Setup;
@@ -19,28 +21,63 @@ use dist_world::Happening;
 use std::alloc::Global;
 use std::io::{Read, Write};
 
+// What the node is given by a line.
+#[tactic(auto, using(crate::proofs::Pages::text_put))]
+fn tell<W: Write>(
+    alloc: Global,
+    scene: &mut Scene,
+    line: &Line,
+    page: &mut Page,
+    out: &mut W,
+) -> Result<(), ScriptFault>
+    ensures text { OnOk result (Puts (line_text scene.old line.now)
+        (W.contents out.old) (W.contents out.new) page.old.text.items page.new.text.items) }
+    ensures after { OnOk result (scene.new ≡ after_line scene.old line.now) }
+    ensures cut { IfErr result (λ fault. PutsPart (line_text scene.old line.now)
+        (W.contents out.old) (W.contents out.new) page.old.text.items page.new.text.items fault) }
+{
+    page.line.clear();
+    on_page(scene.tell(alloc, line, &mut page.line))?;
+    page.put_line(out)?;
+    Ok(())
+}
+
+// The table of the node.
+#[tactic(auto, using(crate::proofs::Pages::text_put))]
+fn tell_table<W: Write>(scene: &Scene, page: &mut Page, out: &mut W) -> Result<(), ScriptFault>
+    ensures text { OnOk result (Puts (table_text scene.now.node) (W.contents out.old) (W.contents out.new) page.old.text.items page.new.text.items) }
+    ensures cut { IfErr result (λ fault. PutsPart (table_text scene.now.node)
+        (W.contents out.old) (W.contents out.new) page.old.text.items page.new.text.items fault) }
+{
+    page.line.clear();
+    on_page(scene.print_table(&mut page.line))?;
+    page.put_line(out)?;
+    Ok(())
+}
+
 // What one node is given, and its table at the end.
-#[tactic(auto, using(crate::proofs::Lines::none_told, crate::proofs::Lines::one_on_page))]
+#[tactic(auto, using(crate::proofs::Lines::lines_in_turn))]
 fn tell_all<W: Write>(
     alloc: Global,
     scene: &mut Scene,
     lines: &[Line],
-    page: &mut Vec<u8>,
+    page: &mut Page,
     out: &mut W,
 ) -> Result<(), ScriptFault>
-    ensures text { OnOk result (Appends (append_known (W.contents out.old) page.old.items) (append_known (W.contents out.new) page.new.items) (lines_text scene.old lines.now)) }
-    ensures fault { IfErr result (λ fault. status_of fault ≡ 1) }
+    ensures text { OnOk result (Puts (lines_text scene.old lines.now)
+        (W.contents out.old) (W.contents out.new) page.old.text.items page.new.text.items) }
+    ensures cut { IfErr result (λ fault. PutsPart (lines_text scene.old lines.now)
+        (W.contents out.old) (W.contents out.new) page.old.text.items page.new.text.items fault) }
 {
     for line in lines {
-        on_page(scene.tell(alloc, line, page))?;
-        turn(page, out)?;
+        tell(alloc, scene, line, page, out)?;
     }
-    on_page(scene.print_table(page))?;
+    tell_table(scene, page, out)?;
     Ok(())
 }
 
 // Plays a script of one node. What was printed until a fault is written out.
-#[tactic(auto, using(crate::proofs::Pages::there, crate::proofs::Pages::whole, crate::proofs::Faults::of_played))]
+#[tactic(auto, using(crate::proofs::Pages::there, crate::proofs::Pages::whole, crate::proofs::Pages::breaks_off))]
 fn play_node<W: Write>(
     alloc: Global,
     node: Setup,
@@ -48,16 +85,16 @@ fn play_node<W: Write>(
     out: &mut W,
 ) -> Result<(), ScriptFault>
     ensures text { OnOk result (Appends (W.contents out.old) (W.contents out.new) (lines_text (at_first node) lines.now)) }
-    ensures fault { IfErr result (λ fault. status_of fault ≡ 1) }
+    ensures cut { IfErr result (BreaksOff (lines_text (at_first node) lines.now) (W.contents out.old) (W.contents out.new)) }
 {
-    let mut page = Vec::new(alloc);
+    let mut page = Page::new(alloc);
     let told = tell_all(alloc, &mut Scene::new(alloc, node), lines, &mut page, out);
-    finish(told, &mut page, out)?;
+    page.finish(told, out)?;
     Ok(())
 }
 
 // Plays a script of several nodes. What was printed until a fault is written out.
-#[tactic(auto, using(crate::proofs::Faults::no_world, crate::proofs::Faults::of_world))]
+#[tactic(auto, using(crate::proofs::Faults::same_name, crate::proofs::Faults::of_world))]
 fn play_nodes<W: Write>(
     alloc: Global,
     nodes: Vec<Setup>,
@@ -66,20 +103,20 @@ fn play_nodes<W: Write>(
 ) -> Result<(), ScriptFault>
     ensures text { OnOk result (PutsWorld nodes.items happenings.now (W.contents out.old) (W.contents out.new)) }
     ensures names { OnOk result (names_repeat nodes.items ≡ false) }
-    ensures fault { IfErr result (λ fault. StopsWorld nodes.items (W.contents out.old) (W.contents out.new) fault) }
+    ensures fault { IfErr result (StopsWorld nodes.items happenings.now (W.contents out.old) (W.contents out.new)) }
 {
     let mut world = stage::world_of(alloc, nodes)?;
-    let mut page = Vec::new(alloc);
+    let mut page = Page::new(alloc);
     let told = stage::play(alloc, &mut world, happenings, &mut page, out);
-    finish(told, &mut page, out)?;
+    page.finish(told, out)?;
     Ok(())
 }
 
 // Reads a script and plays it.
-#[tactic(auto, using(crate::proofs::Faults::unread, crate::proofs::Faults::bad_script, crate::proofs::Faults::of_system, crate::proofs::Faults::bad_world))]
+#[tactic(auto, using(crate::proofs::Faults::unread, crate::proofs::Faults::bad_script, crate::proofs::Faults::cut_node, crate::proofs::Faults::stopped_world))]
 fn perform<R: Read, W: Write>(alloc: Global, input: &mut R, out: &mut W) -> Result<(), ScriptFault>
     ensures played { OnOk result (Plays (R.remaining input.old) (R.remaining input.new) (W.contents out.old) (W.contents out.new)) }
-    ensures fault { IfErr result (λ fault. Stops (R.remaining input.old) (R.remaining input.new) (W.contents out.old) (W.contents out.new) fault) }
+    ensures fault { IfErr result (Stops (R.remaining input.old) (R.remaining input.new) (W.contents out.old) (W.contents out.new)) }
 {
     let text = read_text(alloc, input)?;
     match script_of(alloc, &text)? {
@@ -115,10 +152,15 @@ pub fn enact<R: Read, W: Write, E: Write>(
     ensures played { result ≡ 0 → Plays (R.remaining input.old) (R.remaining input.new) (W.contents out.old) (W.contents out.new) }
     ensures silent { result ≡ 0 → Keeps (E.contents err.old) (E.contents err.new) }
 
-    // With status 2 what was read has a fault, whose line is reported, and nothing was printed. With status 1 the line of a fault
-    // of that status is. Where `err` fails, a beginning of the line stands there.
-    ensures bad { result ≡ 2 → (fault : Fault) × IsBad (R.remaining input.old) (R.remaining input.new) (W.contents out.old) (W.contents out.new) fault × PutsFront (fault_line fault) (E.contents err.old) (E.contents err.new) }
-    ensures cut { result ≡ 1 → (fault : Fault) × (status_of fault ≡ 1) × PutsFront (fault_line fault) (E.contents err.old) (E.contents err.new) }
+    // With status 2 what was read has a fault, whose line is reported, and nothing was printed. Where `err` fails, a beginning of
+    // the line stands there.
+    ensures bad { result ≡ 2 → (fault : Fault) × IsBad (R.remaining input.old) (R.remaining input.new) (W.contents out.old) (W.contents out.new) fault
+        × PutsFront (fault_line fault) (E.contents err.old) (E.contents err.new) }
+
+    // With status 1 a read or a write failed, or memory ran out, which is reported. Either nothing was printed; or what was read
+    // is a script without a fault, and a beginning of what that script prints was.
+    ensures cut { result ≡ 1 → (fault : Fault) × IsCut (R.remaining input.old) (R.remaining input.new) (W.contents out.old) (W.contents out.new) fault
+        × (status_of fault ≡ 1) × PutsFront (fault_line fault) (E.contents err.old) (E.contents err.new) }
 {
     match perform(alloc, input, out) {
         Ok(()) => 0,

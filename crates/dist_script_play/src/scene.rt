@@ -2,10 +2,11 @@
 
 ghost use Rattle.std.specs.Prelude.{◌≡◌, ◌≤◌, ℕ, List, [], ◌∷◌, length, IfOk, OnOk, MatchOption};
 ghost use Rattle.std.specs.Io.KnownBytes.{Appends};
-ghost use Rattle.dist_frames.specs.Reader.{to_come, without_next, fed, told};
+ghost use Rattle.dist_frames.specs.Reader.{to_come, without_next, with_bytes, without_count};
 ghost use Rattle.dist_core.specs.Step.{step};
 ghost use Rattle.dist_script_lines.specs.Lines.{refused_line, reply_line, table_text};
-ghost use Rattle.dist_script_play.specs.Played.{at_first, step_text, reply_in, after_step, open_readers, is_end, then_after, then_on, reader_on, heard, hearing, hearing_text, after_hearing, packets_text, line_text, after_line};
+ghost use Rattle.dist_script_play.specs.Played.{at_first, step_text, reply_in, after_step, open_readers, is_end, then_after, then_on, reader_on};
+ghost use Rattle.dist_script_play.specs.Played.{hearing_of_frames, hearing, hearing_text, after_hearing, packets_text, line_text, after_line};
 ghost use Rattle.dist_script_play.specs.Scenes.{Hears, HearsBytes};
 
 use crate::readers::Readers;
@@ -15,7 +16,7 @@ use dist_names::ByteString;
 use dist_peers::EndId;
 use dist_script::Line;
 use dist_script_lines::print;
-use dist_script_words::{ScriptFault, written};
+use dist_script_words::{ScriptFault, or_write_failed};
 use std::alloc::Global;
 use std::io::Write;
 use std::marker::Model;
@@ -84,14 +85,15 @@ fn print_refusal<W: Write>(error: StepError, out: &mut W) -> Result<(), ScriptFa
 {
     match error {
         StepError::NoMemory => Err(ScriptFault::NoMemory),
-        _ => written(print::refused(out, error)),
+        _ => or_write_failed(print::write_refused(out, error)),
     }
 }
 
 // The next whole body, moved out of the reader.
 #[tactic(auto, using(crate::proofs::Hearings::no_next))]
 fn next_body(reader: &mut Frames) -> Result<Option<ByteString>, ScriptFault>
-    ensures { IfOk result (λ body. MatchOption body ((to_come reader.old ≡ []) × (reader.new ≡ reader.old)) (λ b. (to_come reader.old ≡ b ∷ to_come reader.new) × (reader.new ≡ without_next reader.old))) }
+    ensures { IfOk result (λ body. MatchOption body ((to_come reader.old ≡ []) × (reader.new ≡ reader.old))
+        (λ b. (to_come reader.old ≡ b ∷ to_come reader.new) × (reader.new ≡ without_next reader.old))) }
 {
     match reader.next_short() {
         Ok(body) => Ok(body.map(ByteString::from_vec)),
@@ -116,11 +118,11 @@ fn print_packets<W: Write>(any: bool, skipped: usize, out: &mut W) -> Result<(),
     ensures { OnOk result (Appends (W.contents out.old) (W.contents out.new) (packets_text any skipped)) }
 {
     if skipped > 0 {
-        written(print::skipped(out, skipped))
+        or_write_failed(print::write_skipped(out, skipped))
     } else if any {
         Ok(())
     } else {
-        written(out.write_all(b"waiting\n"))
+        or_write_failed(out.write_all(b"waiting\n"))
     }
 }
 
@@ -162,7 +164,7 @@ impl Scene {
     pub fn print_table<W: Write>(&self, out: &mut W) -> Result<(), ScriptFault>
         ensures { OnOk result (Appends (W.contents out.old) (W.contents out.new) (table_text self.now.node)) }
     {
-        written(print::table(out, &self.node))
+        or_write_failed(print::table(out, &self.node))
     }
 
     // Makes a step and prints what comes of it. Returns its reply, and `None` where it was refused.
@@ -196,7 +198,7 @@ impl Scene {
         ensures node { self.new.node ≡ self.old.node }
         ensures readers { OnOk result (self.new.readers ≡ open_readers self.old.readers reply.now.closed) }
     {
-        written(print::reply(out, reply))?;
+        or_write_failed(print::reply(out, reply))?;
         if let Some((closed, _)) = reply.closed {
             self.readers.forget(closed);
         }
@@ -232,7 +234,8 @@ impl Scene {
         fresh: u32,
         out: &mut W,
     ) -> Result<(), ScriptFault>
-        ensures { OnOk result (HearsBytes (heard end_ fresh (to_come (fed reader.old bytes.now)) self.old (fed reader.old bytes.now)) (W.contents out.old) (W.contents out.new) self.new reader.new) }
+        ensures { OnOk result (HearsBytes (hearing_of_frames end_ fresh (to_come (with_bytes reader.old bytes.now)) self.old (with_bytes reader.old bytes.now))
+            (W.contents out.old) (W.contents out.new) self.new reader.new) }
     {
         reader.feed(bytes.as_slice())?;
         let any = self.hear_frames(alloc, end_, reader, fresh, out)?;
@@ -250,7 +253,8 @@ impl Scene {
         fresh: u32,
         out: &mut W,
     ) -> Result<bool, ScriptFault>
-        ensures { IfOk result (λ any. Hears (heard end_ fresh (to_come reader.old) self.old reader.old) any (W.contents out.old) (W.contents out.new) self.new reader.new) }
+        ensures { IfOk result (λ any. Hears (hearing_of_frames end_ fresh (to_come reader.old) self.old reader.old) any
+            (W.contents out.old) (W.contents out.new) self.new reader.new) }
     {
         let mut any = false;
         while let Some(body) = next_body(reader)? {

@@ -1,18 +1,18 @@
 //! A world of nodes in which a script says what happens.
 
-ghost use Rattle.std.specs.Prelude.{◌≡◌, ◌⊎◌, true, false, length, IfOk, IfErr, OnOk};
-ghost use Rattle.std.specs.Io.KnownBytes.{Appends, append_known};
+ghost use Rattle.std.specs.Prelude.{◌≡◌, true, false, length, IfOk, IfErr, OnOk};
+ghost use Rattle.std.specs.Io.KnownBytes.{Appends};
 ghost use Rattle.dist_world_model.specs.World.{empty};
 ghost use Rattle.dist_world_model.specs.Run.{run, count_applied};
 ghost use Rattle.dist_world.specs.Setups.{names_repeat};
-ghost use Rattle.dist_script_words.specs.Fault.{status_of};
 ghost use Rattle.dist_script_play.specs.Played.{closed_now, happenings_text};
-ghost use Rattle.dist_script_play.specs.Scenes.{closed_after, PutsEnd, PutsFrom};
+ghost use Rattle.dist_script_play.specs.Pages.{Puts, PutsPart};
+ghost use Rattle.dist_script_play.specs.Scenes.{closed_after, PutsEnd, PutsEndOn, PutsEndPart, PutsFrom, PutsFromPart};
 
-use crate::page::{on_page, turn};
+use crate::page::{Page, on_page};
 use dist_core::Setup;
 use dist_script_lines::{print, print_agreements, print_nodes};
-use dist_script_words::{ScriptFault, written};
+use dist_script_words::{ScriptFault, or_write_failed};
 use dist_world::{Happening, World, WorldError};
 use std::alloc::Global;
 use std::io::Write;
@@ -21,7 +21,7 @@ use std::io::Write;
 pub fn world_of(alloc: Global, nodes: Vec<Setup>) -> Result<World, ScriptFault>
     ensures ok { IfOk result (λ w. w ≡ empty nodes.items) }
     ensures names { OnOk result (names_repeat nodes.items ≡ false) }
-    ensures err { IfErr result (λ fault. (fault ≡ ScriptFault.NoMemory) ⊎ ((fault ≡ ScriptFault.SameName) × (names_repeat nodes.items ≡ true))) }
+    ensures err { IfErr result (λ fault. (fault ≡ ScriptFault.SameName) × (names_repeat nodes.items ≡ true)) }
 {
     match World::new(alloc, nodes) {
         Ok(world) => Ok(world),
@@ -45,7 +45,7 @@ fn print_last<W: Write>(world: &World, out: &mut W) -> Result<(), ScriptFault>
     ensures { OnOk result (Appends (W.contents out.old) (W.contents out.new) (closed_now world.now.last_closed)) }
 {
     match world.last_closed() {
-        Some((node, end_, why)) => written(print::closed_end(out, node, end_, why)),
+        Some((node, end_, why)) => or_write_failed(print::closed_end(out, node, end_, why)),
         None => Ok(()),
     }
 }
@@ -70,30 +70,52 @@ fn happen<W: Write>(
     Ok(applied)
 }
 
-// Lets all this happen, this many happenings, one after the other. Returns how many applied.
-#[tactic(auto, using(crate::proofs::Stages::none_happened, crate::proofs::Stages::happened_text, crate::proofs::Stages::happened_after, crate::proofs::Stages::happened_count))]
+// Lets one thing happen, and puts what that prints on the page. Returns how many applied.
+#[tactic(auto, using(crate::proofs::Pages::text_put))]
+fn happen_once<W: Write>(
+    alloc: Global,
+    world: &mut World,
+    happening: &[Happening],
+    page: &mut Page,
+    out: &mut W,
+) -> Result<usize, ScriptFault>
+    requires { length happening.now ≡ 1 }
+    ensures text { OnOk result (Puts (happenings_text world.old happening.now)
+        (W.contents out.old) (W.contents out.new) page.old.text.items page.new.text.items) }
+    ensures after { OnOk result (world.new ≡ run happening.now world.old) }
+    ensures count { IfOk result (λ n. n ≡ count_applied happening.now world.old) }
+    ensures cut { IfErr result (λ fault. PutsPart (happenings_text world.old happening.now)
+        (W.contents out.old) (W.contents out.new) page.old.text.items page.new.text.items fault) }
+{
+    page.line.clear();
+    let Ok(applied) = happen(alloc, world, happening, &mut page.line) else {
+        return Err(ScriptFault::NoMemory);
+    };
+    page.put_line(out)?;
+    Ok(applied)
+}
+
+// Lets all this happen, one after the other. Returns how many applied.
+#[tactic(auto, using(crate::proofs::Stages::happenings_in_turn))]
 fn happen_all<W: Write>(
     alloc: Global,
     world: &mut World,
     happenings: &[Happening],
-    all: usize,
-    page: &mut Vec<u8>,
+    page: &mut Page,
     out: &mut W,
 ) -> Result<usize, ScriptFault>
-    requires { all ≡ length happenings.now }
-    ensures text { OnOk result (Appends (append_known (W.contents out.old) page.old.items) (append_known (W.contents out.new) page.new.items) (happenings_text world.old happenings.now)) }
+    ensures text { OnOk result (Puts (happenings_text world.old happenings.now)
+        (W.contents out.old) (W.contents out.new) page.old.text.items page.new.text.items) }
     ensures after { OnOk result (world.new ≡ run happenings.now world.old) }
     ensures count { IfOk result (λ n. n ≡ count_applied happenings.now world.old) }
-    ensures fault { IfErr result (λ fault. status_of fault ≡ 1) }
+    ensures cut { IfErr result (λ fault. PutsPart (happenings_text world.old happenings.now)
+        (W.contents out.old) (W.contents out.new) page.old.text.items page.new.text.items fault) }
 {
     let mut applied = 0usize;
     let mut rest = happenings;
     while !rest.is_empty() {
         let (happening, others) = rest.split_at(1);
-        let Ok(more) = happen(alloc, world, happening, page) else {
-            return Err(ScriptFault::NoMemory);
-        };
-        turn(page, out)?;
+        let more = happen_once(alloc, world, happening, page, out)?;
         applied += more;
         rest = others;
     }
@@ -111,9 +133,28 @@ fn print_end<W: Write>(
 ) -> Result<(), ScriptFault>
     ensures { OnOk result (PutsEnd world.now applied all (W.contents out.old) (W.contents out.new)) }
 {
-    written(print::applied(out, applied, all))?;
+    or_write_failed(print::write_applied(out, applied, all))?;
     print_nodes(world, out)?;
     print_agreements(alloc, world, out)?;
+    Ok(())
+}
+
+// The same, on the page.
+#[tactic(auto, using(crate::proofs::Worlds::end_put, crate::proofs::Worlds::end_cut, crate::proofs::Worlds::end_lost))]
+fn put_end<W: Write>(
+    alloc: Global,
+    world: &World,
+    applied: usize,
+    all: usize,
+    page: &mut Page,
+    out: &mut W,
+) -> Result<(), ScriptFault>
+    ensures text { OnOk result (PutsEndOn world.now applied all (W.contents out.old) (W.contents out.new) page.old.text.items page.new.text.items) }
+    ensures cut { IfErr result (PutsEndPart world.now applied all (W.contents out.old) (W.contents out.new) page.old.text.items page.new.text.items) }
+{
+    page.line.clear();
+    on_page(print_end(alloc, world, applied, all, &mut page.line))?;
+    page.put_line(out)?;
     Ok(())
 }
 
@@ -121,18 +162,18 @@ fn print_end<W: Write>(
 /// applied, how each node stands, and what each two that are up with one another have in common.
 ///
 /// One happening is one run of the world, so that nothing of it stands where memory runs out.
+#[tactic(auto, using(crate::proofs::Worlds::plays, crate::proofs::Worlds::cut_early, crate::proofs::Worlds::cut_at_end))]
 pub fn play<W: Write>(
     alloc: Global,
     world: &mut World,
     happenings: &[Happening],
-    page: &mut Vec<u8>,
+    page: &mut Page,
     out: &mut W,
 ) -> Result<(), ScriptFault>
-    ensures text { OnOk result (PutsFrom world.old happenings.now (append_known (W.contents out.old) page.old.items) (append_known (W.contents out.new) page.new.items)) }
-    ensures fault { IfErr result (λ fault. status_of fault ≡ 1) }
+    ensures text { OnOk result (PutsFrom world.old happenings.now (W.contents out.old) (W.contents out.new) page.old.text.items page.new.text.items) }
+    ensures cut { IfErr result (PutsFromPart world.old happenings.now (W.contents out.old) (W.contents out.new) page.old.text.items page.new.text.items) }
 {
-    let all = happenings.len();
-    let applied = happen_all(alloc, world, happenings, all, page, out)?;
-    on_page(print_end(alloc, world, applied, all, page))?;
+    let applied = happen_all(alloc, world, happenings, page, out)?;
+    put_end(alloc, world, applied, happenings.len(), page, out)?;
     Ok(())
 }

@@ -104,7 +104,7 @@ impl From<AllocError> for ScriptFault {
 }
 
 /// A write that failed, as a fault.
-pub fn written(outcome: io::Result<()>) -> Result<(), ScriptFault>
+pub fn or_write_failed(outcome: io::Result<()>) -> Result<(), ScriptFault>
     ensures ok { OnOk result (IsOk outcome) }
     ensures fault { IfErr result (λ fault. fault ≡ WriteFailed) }
 {

@@ -18,7 +18,8 @@ const PIECE: usize = 16384;
 #[tactic(auto, using(crate::proofs::Inputs::none_read))]
 fn read_piece<R: Read>(input: &mut R, text: &mut Vec<u8>) -> Result<usize, ScriptFault>
     ensures grows { IfOk result (λ count. length text.new.items ≡ length text.old.items + count) }
-    ensures piece { IfOk result (λ count. (piece : List ℕ) × (text.new.items ≡ text.old.items ++ piece) × Consumes (R.remaining input.old) (R.remaining input.new) piece) }
+    ensures piece { IfOk result (λ count. (piece : List ℕ) × (text.new.items ≡ text.old.items ++ piece)
+        × Consumes (R.remaining input.old) (R.remaining input.new) piece) }
     ensures end { IfOk result (λ count. count ≡ 0 → IsAtEnd (R.remaining input.new)) }
     ensures stopped { OnErr result ((piece : List ℕ) × Consumes (R.remaining input.old) (R.remaining input.new) piece) }
     ensures fault { IfErr result (λ fault. (fault ≡ ReadFailed) ⊎ (fault ≡ NoMemory)) }

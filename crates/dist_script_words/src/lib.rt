@@ -12,7 +12,7 @@ mod pieces;
 mod words;
 
 pub use digits::{bytes_of, write_digits};
-pub use fault::{ScriptFault, written};
+pub use fault::{ScriptFault, or_write_failed};
 pub use input::read_text;
 pub use lines::{first_line, is_skipped};
 pub use pieces::{Piece, put, put_bytes};

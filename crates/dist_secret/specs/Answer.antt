@@ -5,13 +5,13 @@ use Rattle.dist_secret.specs.declared.cookie_error.CookieError.{CookieError}
 use Rattle.dist_secret.specs.declared.cookie_error.CookieError.TheVariants.{Empty, BadByte, TooLong, ReadFailed, NoMemory}
 
 -- memory ran out
-abbrev pub is_want : CookieError → Bool
-is_want NoMemory = true
-is_want _ = false
+abbrev pub is_cookie_memory_error : CookieError → Bool
+is_cookie_memory_error NoMemory = true
+is_cookie_memory_error _ = false
 
 -- The answer is the one expected, or out of memory.
-abbrev pub Answers : {Y : Type 0} → Result Y CookieError → Result Y CookieError → Type 0
-Answers result expected = AnswersBut is_want (λ value. value) result expected
+abbrev pub AnswersCookie : {Y : Type 0} → Result Y CookieError → Result Y CookieError → Type 0
+AnswersCookie result expected = AnswersBut is_cookie_memory_error (λ value. value) result expected
 
 -- the word that a program prints for a refusal
 abbrev pub error_name : CookieError → List ℕ

@@ -35,17 +35,17 @@ pub record IsCookieOf (text cookie : List ℕ) : Type 0 where
 -- ---- the same, computed
 
 -- the longest front of bytes of a cookie
-abbrev pub front : List ℕ → List ℕ
-front text = before_first is_other text
+abbrev pub cookie_front : List ℕ → List ℕ
+cookie_front text = before_first is_other text
 
 -- what stands behind that front
-abbrev pub behind : List ℕ → List ℕ
-behind text = drop (position_or_len is_other text) text
+abbrev pub behind_cookie : List ℕ → List ℕ
+behind_cookie text = drop (position_or_len is_other text) text
 
 -- the cookie of a text, or the first reason why it has none
 abbrev pub cookie_of : List ℕ → Result (List ℕ) CookieError
 cookie_of text =
     if nat_lt 4096 (length text) then Err TooLong else (
-    if length (front text) == 0 then Err Empty else (
-    if nat_lt 255 (length (front text)) then Err TooLong else (
-    if not (list_all may_follow (behind text)) then Err BadByte else Ok (front text))))
+    if length (cookie_front text) == 0 then Err Empty else (
+    if nat_lt 255 (length (cookie_front text)) then Err TooLong else (
+    if not (list_all may_follow (behind_cookie text)) then Err BadByte else Ok (cookie_front text))))

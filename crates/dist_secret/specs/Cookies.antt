@@ -12,12 +12,12 @@ pub record CookieTable : Type 0 where
   pub own : List (Name × List ℕ)
 
 -- the cookie that a name has of its own, where there is one
-abbrev pub held : CookieTable → Name → Option (List ℕ)
-held table name = lookup (is_at (name_cmp name)) table.own
+abbrev pub own_cookie : CookieTable → Name → Option (List ℕ)
+own_cookie table name = lookup (is_at (name_cmp name)) table.own
 
 -- THE COOKIE FOR A PEER: its own, and the usual one where it has none
 abbrev pub cookie_for : CookieTable → Name → List ℕ
-cookie_for table name = unwrap_or (held table name) table.usual
+cookie_for table name = unwrap_or (own_cookie table name) table.usual
 
 -- the cookies in which this name has this one, and every other name has what it had
 abbrev pub with_cookie : CookieTable → Name → List ℕ → CookieTable
@@ -25,7 +25,7 @@ with_cookie table name cookie = record table { own = insert_entry name_cmp table
 
 -- the name has a cookie of its own
 abbrev pub owns : CookieTable → Name → Bool
-owns table name = is_some (held table name)
+owns table name = is_some (own_cookie table name)
 
 -- the cookies in which every name has this one that has none of its own
 abbrev pub with_usual : CookieTable → List ℕ → CookieTable
@@ -33,7 +33,7 @@ with_usual table cookie = record table { usual = cookie }
 
 -- a further name finds no room: 1,024 have cookies of their own (our own limit), and this one is none of them
 abbrev pub is_full_for : CookieTable → Name → Bool
-is_full_for table name = is_none (held table name) && nat_le 1024 (length table.own)
+is_full_for table name = is_none (own_cookie table name) && nat_le 1024 (length table.own)
 
 -- every other name has the cookie that it had
 abbrev pub OthersKeep : Name → CookieTable → CookieTable → Type 0

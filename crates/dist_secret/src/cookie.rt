@@ -5,7 +5,7 @@ ghost use Rattle.std.specs.Cmp.Rules.{comparing};
 ghost use Rattle.std.specs.List.{list_all, position, position_or_len};
 ghost use Rattle.dist_names.specs.Bytes.{is_printable};
 ghost use Rattle.dist_secret.specs.Cookie.{is_other, may_follow, cookie_of, IsCookie, IsCookieOf};
-ghost use Rattle.dist_secret.specs.Answer.{Answers};
+ghost use Rattle.dist_secret.specs.Answer.{AnswersCookie};
 
 use crate::cookie_error::CookieError;
 use dist_names::is_printable;
@@ -62,7 +62,7 @@ fn all_may_follow(rest: &[u8]) -> bool
 }
 
 fn read_text(alloc: Global, text: &[u8]) -> Result<Cookie, CookieError>
-    ensures { Answers result (cookie_of text.now) }
+    ensures { AnswersCookie result (cookie_of text.now) }
 {
     if text.len() > MOST_OF_TEXT {
         return Err(CookieError::TooLong);
@@ -94,11 +94,11 @@ impl Cookie {
     /// Spaces straight behind the cookie's last other byte belong to it. Refusals, the first that holds: TooLong (the text),
     /// Empty, TooLong (the cookie), BadByte, NoMemory. All of this is our own choice.
     pub fn from_bytes(alloc: Global, text: &[u8]) -> Result<Cookie, CookieError>
-        ensures exact { Answers result (cookie_of text.now) }
+        ensures exact { AnswersCookie result (cookie_of text.now) }
 
         // What is answered is the cookie of the text, and it is answered unless memory runs out.
         ensures found { IfOk result (λ cookie. IsCookieOf text.now cookie) }
-        ensures only { (cookie : List ℕ) → IsCookieOf text.now cookie → Answers result (Ok cookie) }
+        ensures only { (cookie : List ℕ) → IsCookieOf text.now cookie → AnswersCookie result (Ok cookie) }
     {
         read_text(alloc, text)
     }

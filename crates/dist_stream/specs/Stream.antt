@@ -22,8 +22,8 @@ pub record StreamState : Type 0 where
   pub write_failed : Bool
 
 -- a stream that was not used yet
-abbrev pub unused : Option (List ℕ) → Option (List ℕ) → StreamState
-unused unread written = record { unread = unread; written = written; calls = 0; ended = false; read_failed = false; write_failed = false }
+abbrev pub new_stream : Option (List ℕ) → Option (List ℕ) → StreamState
+new_stream unread written = record { unread = unread; written = written; calls = 0; ended = false; read_failed = false; write_failed = false }
 
 -- one call more
 abbrev pub one_more : ℕ → ℕ

@@ -28,10 +28,10 @@ reports_failed_write (Some fault.WriteFailed) = true
 reports_failed_write error = false
 
 -- `Ended` is returned where no byte is left, and `Limit` where no turn is left.
-abbrev pub HasCause : Option TurnError → StreamState → ℕ → Type 0
-HasCause (Some fault.Ended) new left = IsAtEnd new.unread
-HasCause (Some fault.Limit) new left = left ≡ 0
-HasCause error new left = Unit {0}
+abbrev pub HasTurnCause : Option TurnError → StreamState → ℕ → Type 0
+HasTurnCause (Some fault.Ended) new left = IsAtEnd new.unread
+HasTurnCause (Some fault.Limit) new left = left ≡ 0
+HasTurnCause error new left = Unit {0}
 
 -- the faults that reads can return
 abbrev pub IsReadFault : Option TurnError → Type 0
@@ -58,7 +58,7 @@ pub record Spends (old new : StreamState) (turns left : ℕ) (error : Option Tur
   pub ended : new.ended ≡ (reports_end error || old.ended)
   pub read_failed : new.read_failed ≡ (reports_failed_read error || old.read_failed)
   pub write_failed : new.write_failed ≡ (reports_failed_write error || old.write_failed)
-  pub cause : HasCause error new left
+  pub cause : HasTurnCause error new left
 
 -- Bytes were written, and none were read.
 pub record Says (old new : StreamState) (turns left : ℕ) (error : Option TurnError) (said : List ℕ) : Type 0 where

@@ -7,7 +7,7 @@ ghost use Rattle.std.specs.Prelude.{◌≡◌, ◌+◌, ◌<◌, ◌≤◌, ◌�
 ghost use Rattle.std.specs.Duration.{as_nanos};
 ghost use Rattle.std.specs.IoError.{error_kind};
 ghost use Rattle.std.specs.Time.{instant_nanos, FitsClock};
-ghost use Rattle.dist_stream.specs.Stream.{Reads, Writes, unused};
+ghost use Rattle.dist_stream.specs.Stream.{Reads, Writes, new_stream};
 ghost use Rattle.dist_stream.specs.Deadline.{nanos_until, wait_of};
 
 use crate::socket::SocketStream;
@@ -198,7 +198,7 @@ pub fn connect_by<'a, R: Net<Listener = TcpListener, Stream = TcpStream> + Clock
     address: &SocketAddr,
     deadline: Instant,
 ) -> io::Result<DeadlineStream<&'a R>>
-    ensures fresh { IfOk result (λ s. ⟦<DeadlineStream<&'a R> as Stream>⟧.meaning s ≡ unused None None) }
+    ensures fresh { IfOk result (λ s. ⟦<DeadlineStream<&'a R> as Stream>⟧.meaning s ≡ new_stream None None) }
 {
     let left = time_to_connect(time_left(rt, deadline))?;
     let socket = TcpStream::connect_timeout(rt, address, left)?;

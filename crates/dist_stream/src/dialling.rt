@@ -2,7 +2,7 @@
 
 ghost use Rattle.std.specs.Prelude.{◌≡◌, None, IfOk, IsErr};
 ghost use Rattle.std.specs.Duration.{as_nanos};
-ghost use Rattle.dist_stream.specs.Stream.{unused};
+ghost use Rattle.dist_stream.specs.Stream.{new_stream};
 
 use crate::socket::SocketStream;
 use crate::stream::Stream;
@@ -21,9 +21,9 @@ pub fn connect<R: Net<Listener = TcpListener, Stream = TcpStream>>(
     limit: Duration,
     turn: Duration,
 ) -> io::Result<SocketStream>
-    ensures fresh { IfOk result (λ s. ⟦<SocketStream as Stream>⟧.meaning s ≡ unused None None) }
+    ensures fresh { IfOk result (λ s. ⟦<SocketStream as Stream>⟧.meaning s ≡ new_stream None None) }
     ensures zero { as_nanos turn ≡ 0 → IsErr result }
 {
     let socket = TcpStream::connect_timeout(rt, address, limit)?;
-    SocketStream::timed(socket, turn)
+    SocketStream::with_turn(socket, turn)
 }

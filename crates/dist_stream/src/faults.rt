@@ -1,7 +1,7 @@
 //! A stream over memory, for tests.
 
 ghost use Rattle.std.specs.Prelude.{◌≡◌, ◌<◌, ◌≤◌, ◌++◌, [], length, take, Some, IsTrue, false};
-ghost use Rattle.dist_stream.specs.Stream.{heard_count, is_end, is_failed_read, took_count, unused};
+ghost use Rattle.dist_stream.specs.Stream.{heard_count, is_end, is_failed_read, took_count, new_stream};
 
 use crate::marks::{is_end, is_failed_read, is_failed_write};
 use crate::stream::{Heard, Stream, Took};
@@ -43,7 +43,7 @@ fn size_at(sizes: &[usize], call: u64) -> usize {
 impl FaultStream {
     /// A stream that gives these bytes in one piece, takes all bytes, and doesn't fail. It takes no memory.
     pub fn new(alloc: Global, input: Vec<u8>) -> FaultStream
-        ensures { ⟦<FaultStream as Stream>⟧.meaning result ≡ unused (Some input.items) (Some []) }
+        ensures { ⟦<FaultStream as Stream>⟧.meaning result ≡ new_stream (Some input.items) (Some []) }
     {
         FaultStream {
             read_sizes: Vec::new(alloc),
@@ -62,7 +62,7 @@ impl FaultStream {
     }
 
     /// All bytes that were written.
-    pub fn written(&self) -> &[u8]
+    pub fn output(&self) -> &[u8]
         ensures { (⟦<FaultStream as Stream>⟧.meaning self.now).written ≡ Some result.now }
     {
         &self.output

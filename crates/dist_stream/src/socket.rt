@@ -3,7 +3,7 @@
 ghost use Rattle.std.specs.Prelude.{◌≡◌, ℕ, ◌≤◌, None, List, length, IfOk, IsErrAnd};
 ghost use Rattle.std.specs.Duration.{as_nanos};
 ghost use Rattle.std.specs.IoError.{error_kind};
-ghost use Rattle.dist_stream.specs.Stream.{Reads, Writes, heard_count, took_count, unused};
+ghost use Rattle.dist_stream.specs.Stream.{Reads, Writes, heard_count, took_count, new_stream};
 ghost use Rattle.dist_stream.specs.Socket.{is_quiet, read_outcome, write_outcome};
 
 use crate::marks::{is_end, is_failed_read, is_failed_write};
@@ -28,7 +28,7 @@ pub struct SocketStream {
 impl SocketStream {
     /// The stream over this socket, without marks.
     pub fn new(socket: TcpStream) -> SocketStream
-        ensures fresh { ⟦<SocketStream as Stream>⟧.meaning result ≡ unused None None }
+        ensures fresh { ⟦<SocketStream as Stream>⟧.meaning result ≡ new_stream None None }
         ensures socket { result.socket ≡ socket }
     {
         SocketStream {
@@ -42,8 +42,8 @@ impl SocketStream {
 
     /// The stream over this socket, each read and write of which waits for `turn` at most. InvalidInput where `turn` is
     /// zero; any other error is the system's. Then the socket is closed.
-    pub fn timed(socket: TcpStream, turn: Duration) -> io::Result<SocketStream>
-        ensures fresh { IfOk result (λ s. ⟦<SocketStream as Stream>⟧.meaning s ≡ unused None None) }
+    pub fn with_turn(socket: TcpStream, turn: Duration) -> io::Result<SocketStream>
+        ensures fresh { IfOk result (λ s. ⟦<SocketStream as Stream>⟧.meaning s ≡ new_stream None None) }
         ensures socket { IfOk result (λ s. s.socket ≡ socket) }
         ensures zero { as_nanos turn ≡ 0 → IsErrAnd result (λ e. error_kind e ≡ ErrorKind.InvalidInput) }
     {

@@ -18,13 +18,13 @@ abbrev pub node_of : World → ℕ → Option NodeState
 node_of w i = option_map (λ l. l.node) (running_life w i)
 
 -- what was sent to this side of a connection and is undelivered
-abbrev pub undelivered : World → Option (Side × ℕ) → Option (List ℕ)
-undelivered w None = None
-undelivered w (Some x) = option_map (λ c. (let t = text_to x.0 c in t.said)) (slice_get w.conns x.1)
+abbrev pub undelivered_text : World → Option (Side × ℕ) → Option (List ℕ)
+undelivered_text w None = None
+undelivered_text w (Some x) = option_map (λ c. (let t = text_to x.0 c in t.said)) (slice_get w.conns x.1)
 
 -- the text that is on its way to an end of the running incarnation of a node, where it has a connection
 abbrev pub said_to : World → ℕ → EndId → Option (List ℕ)
-said_to w i id = option_and_then (λ place. undelivered w (wire_of (row_at w place id.0))) (running w i)
+said_to w i id = option_and_then (λ place. undelivered_text w (wire_of (row_at w place id.0))) (running w i)
 
 -- the answer is whether there is a text that begins with these bytes
 abbrev pub SaidNext : Bool → Option (List ℕ) → List ℕ → Type 0

@@ -35,7 +35,7 @@ impl Scene {
         let mut count = 0;
         for i in 0..happenings.len() {
             let happening = &happenings[i];
-            happening.known();
+            happening.recall_ranges();
             let Ok(applies) = self.happen(alloc, happening) else {
                 return Err(Stopped { done: i });
             };

@@ -112,7 +112,7 @@ impl Scene {
         let Some((side, conn)) = self.lives.wire(place, id) else {
             return false;
         };
-        match self.conns.undelivered(conn, side) {
+        match self.conns.undelivered_text(conn, side) {
             Some(text) => begins_with(text, bytes),
             None => false,
         }

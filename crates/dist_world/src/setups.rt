@@ -25,7 +25,7 @@ fn is_named(setups: &[Setup], name: &NodeName) -> bool
 }
 
 // What the types of its parts say of a setup.
-fn known(setup: &Setup)
+fn recall_ranges(setup: &Setup)
     ensures { IsSetup setup.now }
 {
     let _name = setup.name.bytes();
@@ -37,7 +37,7 @@ fn all_known(setups: &[Setup])
     ensures { (i : ℕ) (s : Setup) → slice_get setups.now i ≡ Some s → IsSetup s }
 {
     for i in 0..setups.len() {
-        known(&setups[i]);
+        recall_ranges(&setups[i]);
     }
 }
 

@@ -9,7 +9,7 @@ use Rattle.dist_world_lives.specs.Telling.{HasTold, Declines}
 use Rattle.std.specs.Option.{option_map}
 use Rattle.dist_world_model.specs.Lists.{at_place, first_where}
 use Rattle.dist_world_model.specs.World.{Life, Conn, runs_for}
-use Rattle.dist_world_model.specs.Happenings.{ended, lived}
+use Rattle.dist_world_model.specs.Happenings.{life_after_end, life_after}
 use Rattle.dist_world_lives.specs.Index.{flat, index_at, passes, IsIndexed}
 use Rattle.dist_world_lives.proofs.Edits.{changed_if, get_at}
 
@@ -150,7 +150,7 @@ pushed lives index node l idle few whose runs k = record {
     by i p q (inr a) (inl b) = absurd (other i p b.1 a)
     by i p q (inr a) (inr b) = k.alone i p q a b
 
-pub finished : (lives : List Life) (index : List (Option ℕ)) (node p t : ℕ) → first_where (runs_for node) lives ≡ Some p → IsIndexed lives index → IsIndexed (at_place p (ended t) lives) (at_place node (λ _. None) index)
+pub finished : (lives : List Life) (index : List (Option ℕ)) (node p t : ℕ) → first_where (runs_for node) lives ≡ Some p → IsIndexed lives index → IsIndexed (at_place p (life_after_end t) lives) (at_place node (λ _. None) index)
 finished lives index node p t is k = record {
   found = λ i. found i (node == i) refl;
   alone = λ i a b h g. k.alone i a b (before i a h) (before i b g);
@@ -163,20 +163,20 @@ finished lives index node p t is k = record {
     own : passes (runs_for node) (slice_get lives p) ≡ true
     own = first_passes (runs_for node) lives p is
 
-    after_in : (i : ℕ) (b : Bool) (o : Option Life) → passes (runs_for i) (option_map (changed_if b (ended t)) o) ≡ cond b false (passes (runs_for i) o)
+    after_in : (i : ℕ) (b : Bool) (o : Option Life) → passes (runs_for i) (option_map (changed_if b (life_after_end t)) o) ≡ cond b false (passes (runs_for i) o)
     after_in i true None = refl
     after_in i false None = refl
     after_in i true (Some l) = off (l.who == i)
     after_in i false (Some l) = refl
 
-    after : (i q : ℕ) → passes (runs_for i) (slice_get (at_place p (ended t) lives) q) ≡ cond (p == q) false (passes (runs_for i) (slice_get lives q))
-    after i q = ap (passes (runs_for i)) (get_at (ended t) lives p q) ∙ after_in i (p == q) (slice_get lives q)
+    after : (i q : ℕ) → passes (runs_for i) (slice_get (at_place p (life_after_end t) lives) q) ≡ cond (p == q) false (passes (runs_for i) (slice_get lives q))
+    after i q = ap (passes (runs_for i)) (get_at (life_after_end t) lives p q) ∙ after_in i (p == q) (slice_get lives q)
 
     was : (b c : Bool) → cond b false c ≡ true → c ≡ true
     was true c e = absurd cc
     was false c e = e
 
-    before : (i q : ℕ) → passes (runs_for i) (slice_get (at_place p (ended t) lives) q) ≡ true → passes (runs_for i) (slice_get lives q) ≡ true
+    before : (i q : ℕ) → passes (runs_for i) (slice_get (at_place p (life_after_end t) lives) q) ≡ true → passes (runs_for i) (slice_get lives q) ≡ true
     before i q h = was (p == q) _ (sym (after i q) ∙ h)
 
     -- no other incarnation of the node ran
@@ -202,14 +202,14 @@ finished lives index node p t is k = record {
         let yes : (node == i) ≡ true = eq-eqb node i one in absurd cc
     same_pass i q false c away e h = refl
 
-    found : (i : ℕ) (b : Bool) → (node == i) ≡ b → index_at (at_place node (λ _. None) index) i ≡ first_where (runs_for i) (at_place p (ended t) lives)
+    found : (i : ℕ) (b : Bool) → (node == i) ≡ b → index_at (at_place node (λ _. None) index) i ≡ first_where (runs_for i) (at_place p (life_after_end t) lives)
     found i true e =
         let same : node ≡ i = eqb-true node i e in
-        let none : first_where (runs_for node) (at_place p (ended t) lives) ≡ None = none_first (runs_for node) _ (λ q. after node q ∙ none_left q (p == q) _ refl refl) in
-        put_index index node i None true e ∙ (gone_in (slice_get index i) ∙ sym (ap (λ n. first_where (runs_for n) (at_place p (ended t) lives)) (sym same) ∙ none))
+        let none : first_where (runs_for node) (at_place p (life_after_end t) lives) ≡ None = none_first (runs_for node) _ (λ q. after node q ∙ none_left q (p == q) _ refl refl) in
+        put_index index node i None true e ∙ (gone_in (slice_get index i) ∙ sym (ap (λ n. first_where (runs_for n) (at_place p (life_after_end t) lives)) (sym same) ∙ none))
     found i false e =
         put_index index node i None false e ∙ (away_in None (slice_get index i) ∙ (k.found i
-        ∙ first_by (runs_for i) lives (at_place p (ended t) lives) (λ q. sym (after i q ∙ same_pass i q (p == q) _ e refl refl))))
+        ∙ first_by (runs_for i) lives (at_place p (life_after_end t) lives) (λ q. sym (after i q ∙ same_pass i q (p == q) _ e refl refl))))
 
 -- ---- for the code
 
@@ -228,5 +228,5 @@ pub tell_keeps : (r : Result (Option (ℕ × LifeStep)) AllocError) (lives new :
 tell_keeps (Ok None) lives new index conns said place t fresh v ok err k = let P : List Life → Type 0 = λ ls. IsIndexed ls index in subst P (sym ok.1) k
 tell_keeps (Ok (Some x)) lives new index conns said place t fresh v ok err k =
     let P : List Life → Type 0 = λ ls. IsIndexed ls index in
-    subst P (sym ok.lived_) (changed lives index place (λ old. lived t v ok.reply ok.node ok.life) (λ l at i. (let same : Some ok.life ≡ Some l = sym ok.there ∙ at in let one : ok.life ≡ l = cc in ap (runs_for i) one)) k)
+    subst P (sym ok.lived_) (changed lives index place (λ old. life_after t v ok.reply ok.node ok.life) (λ l at i. (let same : Some ok.life ≡ Some l = sym ok.there ∙ at in let one : ok.life ≡ l = cc in ap (runs_for i) one)) k)
 tell_keeps (Err e) lives new index conns said place t fresh v ok err k = let P : List Life → Type 0 = λ ls. IsIndexed ls index in subst P (sym err.0) k

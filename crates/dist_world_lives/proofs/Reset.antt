@@ -11,7 +11,7 @@ use Rattle.dist_world_model.specs.World.{Life, running}
 use Rattle.dist_world_model.specs.Happenings.{with_node}
 use Rattle.dist_world_model.proofs.Conditions.{there, not_there, is_refused}
 use Rattle.dist_world_lives.specs.Index.{IsIndexed}
-use Rattle.dist_world_lives.specs.Resetting.{Forbids, HasReset, Resets, is_out_of_memory}
+use Rattle.dist_world_lives.specs.Resetting.{Forbids, HasReset, Resets, is_reset_memory_error}
 use Rattle.dist_world_lives.proofs.Edits.{at_set}
 use Rattle.dist_world_lives.proofs.Indexes.{changed}
 use Rattle.dist_world_lives.proofs.Told.{get_none, of_world, put_back, stands}
@@ -23,7 +23,7 @@ stays error.InUse s old new h = h.1
 stays error.Full s old new h = h.1
 stays error.NoMemory s old new h = h.1
 
-refused : (e : ChangeError) (s : Result NodeState ChangeError) (old new : NodeState) → is_out_of_memory e ≡ false → IsChange {T = Unit {0}} (Err e) s old new → s ≡ Err e
+refused : (e : ChangeError) (s : Result NodeState ChangeError) (old new : NodeState) → is_reset_memory_error e ≡ false → IsChange {T = Unit {0}} (Err e) s old new → s ≡ Err e
 refused error.InUse s old new n h = h.0
 refused error.Full s old new n h = h.0
 refused error.NoMemory s old new n h = absurd cc
@@ -34,7 +34,7 @@ pub forbids_past : (lives : List Life) (i : ℕ) (v : Change) → length lives �
 forbids_past lives i v past = λ w node same place. there (running w node) i _ place ∙ not_there (slice_get w.lives i) _ (of_world lives w i None same (get_none lives i past))
 
 module _ (lives : List Life) (i : ℕ) (l : Life) (few : i < length lives) (is : l ≡ get_or lives i l) (v : Change) where
-  pub forbids_refused : (e : ChangeError) (m : Life) → is_out_of_memory e ≡ false → IsChange {T = Unit {0}} (Err e) (change l.node v) l.node m.node → Forbids lives i v
+  pub forbids_refused : (e : ChangeError) (m : Life) → is_reset_memory_error e ≡ false → IsChange {T = Unit {0}} (Err e) (change l.node v) l.node m.node → Forbids lives i v
   forbids_refused e m short h = λ w node same place.
       there (running w node) i _ place
       ∙ (there (slice_get w.lives i) l _ (of_world lives w i (Some l) same (stands lives i l few is)) ∙ is_refused (change l.node v) e _ (refused e (change l.node v) l.node m.node short h))

@@ -3,19 +3,19 @@ use Rattle.std.proofs.Common.{◌≡◌, ℕ, ◌-◌, min, List, ◌++◌, leng
 use Rattle.std.proofs.lemmas.List.{take_min, take_at}
 use Rattle.std.specs.Int.{w16}
 use Rattle.dist_frames.specs.Stream.{first_body, after_first}
-use Rattle.dist_frames.specs.Reader.{Reader, Short, Linked, fed, next_body, without_next}
+use Rattle.dist_frames.specs.Reader.{Reader, Short, Linked, with_bytes, next_body, without_next}
 use Rattle.dist_world_model.specs.World.{Text}
-use Rattle.dist_world_model.specs.Delivery.{more_said, delivered, body_taken}
+use Rattle.dist_world_model.specs.Delivery.{more_said, after_delivery, body_taken}
 use Rattle.dist_world_lives.specs.Wires.{without_last}
 use Rattle.dist_world_lives.specs.Reading.{come_of, IsShort}
 
 -- ---- the reader
 
-pub short_fed : (r : Reader) (piece : List ℕ) → IsShort r → IsShort (fed r piece)
+pub short_fed : (r : Reader) (piece : List ℕ) → IsShort r → IsShort (with_bytes r piece)
 short_fed (Short pending) piece k = k
 short_fed (Linked ended rest) piece k = absurd k
 
-come_fed : (r : Reader) (piece : List ℕ) → IsShort r → come_of (fed r piece) ≡ come_of r ++ piece
+come_fed : (r : Reader) (piece : List ℕ) → IsShort r → come_of (with_bytes r piece) ≡ come_of r ++ piece
 come_fed (Short pending) piece k = refl
 come_fed (Linked ended rest) piece k = absurd k
 
@@ -36,10 +36,10 @@ come_taken (Linked ended rest) k = absurd k
 text_of : List ℕ → Reader → Text
 text_of said r = record { said = said; come = come_of r }
 
-pub as_delivered : (said : List ℕ) (r : Reader) (count n : ℕ) → n ≡ min count (length said) → IsShort r → (let t : Text = record { said = drop count said; come = come_of (fed r (take n said)) } in t) ≡ delivered count (record { said = said; come = come_of r })
+pub as_delivered : (said : List ℕ) (r : Reader) (count n : ℕ) → n ≡ min count (length said) → IsShort r → (let t : Text = record { said = drop count said; come = come_of (with_bytes r (take n said)) } in t) ≡ after_delivery count (record { said = said; come = come_of r })
 as_delivered said r count n is k =
     let piece : take n said ≡ take count said = ap (λ m. take m said) is ∙ take_min count said in
-    let come : come_of (fed r (take n said)) ≡ come_of r ++ take count said = come_fed r (take n said) k ∙ ap (λ xs. come_of r ++ xs) piece in
+    let come : come_of (with_bytes r (take n said)) ≡ come_of r ++ take count said = come_fed r (take n said) k ∙ ap (λ xs. come_of r ++ xs) piece in
     λ i. record { said = drop count said; come = come i }
 
 pub as_taken : (said : List ℕ) (r : Reader) → IsShort r → (let t : Text = record { said = said; come = come_of (without_next r) } in t) ≡ body_taken (record { said = said; come = come_of r })

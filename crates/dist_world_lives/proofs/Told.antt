@@ -11,7 +11,7 @@ use Rattle.dist_core.specs.Node.{NodeState}
 use Rattle.dist_core.specs.Step.{step}
 use Rattle.dist_core.specs.Answers.{Refuses}
 use Rattle.dist_world_model.specs.World.{World, Life, Conn, runs}
-use Rattle.dist_world_model.specs.Happenings.{lived}
+use Rattle.dist_world_model.specs.Happenings.{life_after}
 use Rattle.dist_world_model.proofs.Conditions.{there, not_there, not_held, is_refused, nothing_behind}
 use Rattle.dist_world_lives.specs.Stepping.{IsLifeStep, conns_after}
 use Rattle.dist_world_lives.specs.Telling.{event_wire, HasTold, Declines, is_out_of_memory}
@@ -74,6 +74,6 @@ module _ (lives : List Life) (i : ℕ) (l : Life) (few : i < length lives) (is :
         stepped = k.2;
         whose = whose ∙ ap (λ (x : Life). x.who) k.4;
         made = k.3;
-        lived_ = ap (set lives i) k.4 ∙ at_set (λ old. lived t v k.0 k.1 l) lives i l few is;
+        lived_ = ap (set lives i) k.4 ∙ at_set (λ old. life_after t v k.0 k.1 l) lives i l few is;
         spoken_ = k.5 ∙ (ap (λ o. conns_after conns o r.say) placed ∙ sym (as_wired t k.0 l.rows conns are l.node v fresh k.1 k.2));
       }

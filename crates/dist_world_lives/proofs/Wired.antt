@@ -14,7 +14,7 @@ use Rattle.dist_core.specs.Step.{step}
 use Rattle.dist_world_model.specs.Lists.{at_place}
 use Rattle.dist_world_model.specs.Rows.{EndRow, rows_after, mark}
 use Rattle.dist_world_model.specs.World.{Conn}
-use Rattle.dist_world_model.specs.Delivery.{says, spoken, spoken_on}
+use Rattle.dist_world_model.specs.Delivery.{says, conns_after_saying, spoken_on}
 use Rattle.dist_world_lives.specs.Stepping.{wire_of, conns_after}
 use Rattle.dist_world_lives.specs.Telling.{event_wire}
 use Rattle.dist_world_lives.proofs.Edits.{get_each}
@@ -38,7 +38,7 @@ silent_on : (cs : List Conn) (o : Option ℕ) (side : Side) → spoken_on cs o s
 silent_on cs None side = refl
 silent_on cs (Some c) side = nothing_said cs side c
 
-silent : (cs : List Conn) (o : Option EndRow) → spoken cs o [] ≡ cs
+silent : (cs : List Conn) (o : Option EndRow) → conns_after_saying cs o [] ≡ cs
 silent cs None = refl
 silent cs (Some row) = silent_on cs row.conn row.side
 
@@ -47,17 +47,17 @@ module _ (t : ℕ) (r : Reply) (rows : List EndRow) (cs : List Conn) where
   on None side = refl
   on (Some c) side = refl
 
-  marked : (i : ℕ) (o : Option EndRow) → spoken cs (option_map (mark t r i) o) r.say ≡ conns_after cs (wire_of o) r.say
+  marked : (i : ℕ) (o : Option EndRow) → conns_after_saying cs (option_map (mark t r i) o) r.say ≡ conns_after cs (wire_of o) r.say
   marked i None = refl
   marked i (Some row) = on row.conn row.side
 
-  own : (id : EndId) → r.end_ ≡ id → spoken cs (slice_get (rows_after t (event.Tick id) r rows) r.end_.0) r.say ≡ conns_after cs (wire_of (slice_get rows id.0)) r.say
-  own id is = ap (λ (o : Option EndRow). spoken cs o r.say) (get_each (mark t r) rows 0 r.end_.0) ∙ (marked (0 + r.end_.0) (slice_get rows r.end_.0) ∙ ap (λ (x : EndId). conns_after cs (wire_of (slice_get rows x.0)) r.say) is)
+  own : (id : EndId) → r.end_ ≡ id → conns_after_saying cs (slice_get (rows_after t (event.Tick id) r rows) r.end_.0) r.say ≡ conns_after cs (wire_of (slice_get rows id.0)) r.say
+  own id is = ap (λ (o : Option EndRow). conns_after_saying cs o r.say) (get_each (mark t r) rows 0 r.end_.0) ∙ (marked (0 + r.end_.0) (slice_get rows r.end_.0) ∙ ap (λ (x : EndId). conns_after cs (wire_of (slice_get rows x.0)) r.say) is)
 
-  mute : (o : Option EndRow) → r.say ≡ [] → spoken cs o r.say ≡ cs
-  mute o is = ap (spoken cs o) is ∙ silent cs o
+  mute : (o : Option EndRow) → r.say ≡ [] → conns_after_saying cs o r.say ≡ cs
+  mute o is = ap (conns_after_saying cs o) is ∙ silent cs o
 
-  wired : (n : NodeState) (v : Event) → IsOfItsEnd n v r → spoken cs (slice_get (rows_after t v r rows) r.end_.0) r.say ≡ conns_after cs (event_wire rows v) r.say
+  wired : (n : NodeState) (v : Event) → IsOfItsEnd n v r → conns_after_saying cs (slice_get (rows_after t v r rows) r.end_.0) r.say ≡ conns_after cs (event_wire rows v) r.say
   wired n (event.Dial p o) k = mute _ k.1
   wired n (event.Incoming link) k = mute _ k.1 ∙ sym (ap (λ s. conns_after cs (Some (Acceptor, link)) s) k.1 ∙ nothing_said cs Acceptor link)
   wired n (event.Opened id link) k = own id k
@@ -66,5 +66,5 @@ module _ (t : ℕ) (r : Reply) (rows : List EndRow) (cs : List Conn) where
   wired n (event.Tick id) k = own id k
 
   -- the bytes of a reply go to the connection of the event's end
-  pub as_wired : AreOwn → (n : NodeState) (v : Event) (fresh : ℕ) (m : NodeState) → step n v fresh ≡ Ok (r, m) → spoken cs (slice_get (rows_after t v r rows) r.end_.0) r.say ≡ conns_after cs (event_wire rows v) r.say
+  pub as_wired : AreOwn → (n : NodeState) (v : Event) (fresh : ℕ) (m : NodeState) → step n v fresh ≡ Ok (r, m) → conns_after_saying cs (slice_get (rows_after t v r rows) r.end_.0) r.say ≡ conns_after cs (event_wire rows v) r.say
   as_wired are n v fresh m is = wired n v (are n v fresh r m is)

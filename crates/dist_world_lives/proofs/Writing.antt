@@ -8,7 +8,7 @@ use Rattle.dist_core.specs.declared.reply.Note.{Note}
 use Rattle.dist_core.specs.declared.reply.Note.TheVariants as note
 use Rattle.dist_core_ends.specs.declared.why.Why.{Why}
 use Rattle.dist_world_model.specs.Lists.{at_place, at_each, add_some}
-use Rattle.dist_world_model.specs.Rows.{EndRow, once, takes_name, says_reply, peer_by, rises, dooms, is_end, shuts_end, written, mark}
+use Rattle.dist_world_model.specs.Rows.{EndRow, once, takes_name, says_reply, peer_by, rises, dooms, is_end, shuts_end, row_after, mark}
 use Rattle.dist_world_model.specs.Happenings.{shut_row}
 use Rattle.dist_world_lives.specs.Stepping.{own_row, doomed_row, rows_shut, rows_doomed, doomed_end}
 use Rattle.dist_world_lives.proofs.Edits.{changed_if, get_at, get_each, unchanged, same_places}
@@ -40,12 +40,12 @@ module _ (t : ℕ) (r : Reply) where
   shut_part true row = refl
   shut_part false row = λ i. record row { closed = stays t row.closed i }
 
-  all_parts : (own doomed closed : Bool) (row : EndRow) → changed_if own (own_row t r.note (rises r.up)) (changed_if doomed (doomed_row t) (changed_if closed (shut_row t) row)) ≡ written t own doomed closed r row
+  all_parts : (own doomed closed : Bool) (row : EndRow) → changed_if own (own_row t r.note (rises r.up)) (changed_if doomed (doomed_row t) (changed_if closed (shut_row t) row)) ≡ row_after t own doomed closed r row
   all_parts own doomed closed row =
       ap (λ x. changed_if own (own_row t r.note (rises r.up)) (changed_if doomed (doomed_row t) x)) (shut_part closed row)
       ∙ (ap (changed_if own (own_row t r.note (rises r.up))) (doomed_part doomed _) ∙ own_part own _)
 
-  in_option : (own doomed closed : Bool) (o : Option EndRow) → option_map (changed_if own (own_row t r.note (rises r.up))) (option_map (changed_if doomed (doomed_row t)) (option_map (changed_if closed (shut_row t)) o)) ≡ option_map (written t own doomed closed r) o
+  in_option : (own doomed closed : Bool) (o : Option EndRow) → option_map (changed_if own (own_row t r.note (rises r.up))) (option_map (changed_if doomed (doomed_row t)) (option_map (changed_if closed (shut_row t)) o)) ≡ option_map (row_after t own doomed closed r) o
   in_option own doomed closed None = refl
   in_option own doomed closed (Some row) = ap (λ x. Some x) (all_parts own doomed closed row)
 

@@ -23,10 +23,10 @@ abbrev pub Forbids : List Life → ℕ → Change → Type 0
 Forbids lives i v = (w : World) (node : ℕ) → w.lives ≡ lives → running w node ≡ Some i → reset w node v ≡ None
 
 -- out of memory, and no refusal of the change
-abbrev pub is_out_of_memory : ChangeError → Bool
-is_out_of_memory error.InUse = false
-is_out_of_memory error.Full = false
-is_out_of_memory error.NoMemory = true
+abbrev pub is_reset_memory_error : ChangeError → Bool
+is_reset_memory_error error.InUse = false
+is_reset_memory_error error.Full = false
+is_reset_memory_error error.NoMemory = true
 
 -- THE CHANGE was made, was refused, or memory ran out, and then nothing changed
 abbrev pub Resets : Result Bool AllocError → ℕ → Change → List Life → List Life → Type 0

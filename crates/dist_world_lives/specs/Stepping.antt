@@ -15,7 +15,7 @@ use Rattle.dist_world_model.specs.Lists.{at_place}
 use Rattle.dist_world_model.specs.Rows.{EndRow, peer_by, once, takes_name, says_reply, rows_after}
 use Rattle.dist_world_model.specs.World.{Life, Conn}
 use Rattle.dist_world_model.specs.Delivery.{says}
-use Rattle.dist_world_model.specs.Happenings.{lived, shut_row}
+use Rattle.dist_world_model.specs.Happenings.{life_after, shut_row}
 use Rattle.dist_world_lives.specs.Wires.{is_conn_quiet}
 use Rattle.dist_world_lives.specs.declared.stepping.LifeStep.{LifeStep}
 
@@ -90,5 +90,5 @@ HasMadeStep h s t v n rows new wire x y = (r : Reply) × (s ≡ Ok (r, n)) × (h
 abbrev pub IsLifeStep : Result LifeStep StepError → Result (Reply × NodeState) StepError → ℕ → Event → Life → Life
     → Option (Side × ℕ) → List Conn → List Conn → Type 0
 IsLifeStep (Ok h) s t v l m wire x y =
-    (r : Reply) × (n : NodeState) × (s ≡ Ok (r, n)) × (h ≡ life_step_of r) × (m ≡ lived t v r n l) × (y ≡ conns_after x wire r.say)
+    (r : Reply) × (n : NodeState) × (s ≡ Ok (r, n)) × (h ≡ life_step_of r) × (m ≡ life_after t v r n l) × (y ≡ conns_after x wire r.say)
 IsLifeStep (Err e) s t v l m wire x y = Refuses e s × (m ≡ l) × (y ≡ x)

@@ -12,8 +12,8 @@ use Rattle.dist_core.specs.Step.{step}
 use Rattle.dist_world_model.specs.Lists.{at_place}
 use Rattle.dist_world_model.specs.Rows.{EndRow, rows_after}
 use Rattle.dist_world_model.specs.World.{World, Life, Conn, runs}
-use Rattle.dist_world_model.specs.Delivery.{spoken}
-use Rattle.dist_world_model.specs.Happenings.{lived, tell}
+use Rattle.dist_world_model.specs.Delivery.{conns_after_saying}
+use Rattle.dist_world_model.specs.Happenings.{life_after, tell}
 use Rattle.dist_world_lives.specs.Stepping.{life_step_of, wire_of}
 use Rattle.dist_world_lives.specs.declared.stepping.LifeStep.{LifeStep}
 
@@ -36,8 +36,8 @@ pub record HasTold (who : ℕ) (h : LifeStep) (i t : ℕ) (v : Event) (fresh : �
   pub stepped : step life.node v fresh ≡ Ok (reply, node)
   pub whose : who ≡ life.who
   pub made : h ≡ life_step_of reply
-  pub lived_ : new ≡ at_place i (λ old. lived t v reply node life) lives
-  pub spoken_ : said ≡ spoken conns (slice_get (rows_after t v reply life.rows) reply.end_.0) reply.say
+  pub lived_ : new ≡ at_place i (λ old. life_after t v reply node life) lives
+  pub spoken_ : said ≡ conns_after_saying conns (slice_get (rows_after t v reply life.rows) reply.end_.0) reply.say
 
 -- no world in which these incarnations are lets incarnation i get the event
 abbrev pub Declines : List Life → ℕ → Event → ℕ → Type 0

@@ -10,9 +10,9 @@ use Rattle.dist_world_model.specs.Delivery.{text_to}
 use Rattle.dist_world_model.specs.Happenings.{is_nonempty}
 
 -- where a connection leads to that was not accepted yet
-abbrev pub unaccepted : Option Conn → Option ℕ
-unaccepted None = None
-unaccepted (Some x) = if is_some x.accepted then None else Some x.target
+abbrev pub unaccepted_target : Option Conn → Option ℕ
+unaccepted_target None = None
+unaccepted_target (Some x) = if is_some x.accepted then None else Some x.target
 
 -- what was sent to this side of a connection and is undelivered
 abbrev pub undelivered_to : Side → Option Conn → Option (List ℕ)

@@ -1,6 +1,6 @@
 //! One connection.
 ghost use Rattle.std.specs.Prelude.{◌≡◌, is_some, OnOk, OnErr, true};
-ghost use Rattle.dist_world_model.specs.Delivery.{says, text_to, change_to, delivered, body_taken};
+ghost use Rattle.dist_world_model.specs.Delivery.{says, text_to, change_to, after_delivery, body_taken};
 ghost use Rattle.dist_world_model.specs.Happenings.{new_conn, accepted_by};
 ghost use Rattle.dist_world_lives.specs.Wires.{unsays, is_quiet};
 
@@ -106,8 +106,8 @@ impl Connection {
         ensures { result ≡ is_quiet side self.now }
     {
         match side {
-            Side::Dialler => self.there.said().is_empty(),
-            Side::Acceptor => self.back.said().is_empty(),
+            Side::Dialler => self.there.undelivered_bytes().is_empty(),
+            Side::Acceptor => self.back.undelivered_bytes().is_empty(),
         }
     }
 
@@ -134,7 +134,7 @@ impl Connection {
 
     /// `count` bytes come to this side, or what is left. An `Err` changes nothing.
     pub fn deliver(&mut self, side: Side, count: usize) -> Result<(), AllocError>
-        ensures ok { OnOk result (self.new ≡ change_to side (delivered count) self.old) }
+        ensures ok { OnOk result (self.new ≡ change_to side (after_delivery count) self.old) }
         ensures err { OnErr result (self.new ≡ self.old) }
     {
         match side {

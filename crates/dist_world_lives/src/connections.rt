@@ -3,8 +3,8 @@ ghost use Rattle.std.specs.Prelude.{◌≡◌, ◌==◌, ◌++◌, ◌∷◌, �
 ghost use Rattle.dist_world_model.specs.Lists.{at_place};
 ghost use Rattle.dist_world_model.specs.World.{Conn};
 ghost use Rattle.dist_world_model.specs.Happenings.{new_conn, accepted_by};
-ghost use Rattle.dist_world_model.specs.Delivery.{says, change_to, delivered, body_taken};
-ghost use Rattle.dist_world_lives.specs.Wires.{unaccepted, undelivered_to, can_come, front_at, unsays, is_conn_quiet};
+ghost use Rattle.dist_world_model.specs.Delivery.{says, change_to, after_delivery, body_taken};
+ghost use Rattle.dist_world_lives.specs.Wires.{unaccepted_target, undelivered_to, can_come, front_at, unsays, is_conn_quiet};
 
 use crate::connection::Connection;
 use dist_messages::Side;
@@ -69,8 +69,8 @@ impl Connections {
     }
 
     /// The incarnation that a connection leads to which was not accepted yet.
-    pub fn unaccepted(&self, place: usize) -> Option<usize>
-        ensures { result ≡ unaccepted (slice_get self.now place) }
+    pub fn unaccepted_target(&self, place: usize) -> Option<usize>
+        ensures { result ≡ unaccepted_target (slice_get self.now place) }
     {
         let conn = self.all.get(place)?;
         if conn.is_accepted() {
@@ -80,11 +80,11 @@ impl Connections {
     }
 
     /// What was sent to this side of a connection and is undelivered.
-    pub fn undelivered(&self, place: usize, side: Side) -> Option<&[u8]>
+    pub fn undelivered_text(&self, place: usize, side: Side) -> Option<&[u8]>
         ensures { option_copied result ≡ undelivered_to side (slice_get self.now place) }
     {
         let conn = self.all.get(place)?;
-        Some(conn.text_to(side).said())
+        Some(conn.text_to(side).undelivered_bytes())
     }
 
     /// The first body that came to this side of a connection and was not taken.
@@ -138,7 +138,7 @@ impl Connections {
     /// `count` bytes come to this side of a connection, or what is left: whether there were any. An `Err` changes nothing.
     pub fn deliver(&mut self, place: usize, side: Side, count: usize) -> Result<bool, AllocError>
         ensures comes { IfOk result (λ came. came ≡ can_come (slice_get self.old place) side count) }
-        ensures ok { IfOk result (λ came. self.new ≡ (if came then at_place place (change_to side (delivered count)) self.old else self.old)) }
+        ensures ok { IfOk result (λ came. self.new ≡ (if came then at_place place (change_to side (after_delivery count)) self.old else self.old)) }
         ensures err { OnErr result (self.new ≡ self.old) }
     {
         move_bytes(&mut self.all, place, side, count)
@@ -206,14 +206,15 @@ fn move_bytes(
     count: usize,
 ) -> Result<bool, AllocError>
     ensures comes { IfOk result (λ came. came ≡ can_come (slice_get conns.old.items place) side count) }
-    ensures ok { IfOk result (λ came. conns.new.items ≡ (if came then at_place place (change_to side (delivered count)) conns.old.items else conns.old.items)) }
+    ensures ok { IfOk result (λ came. conns.new.items
+        ≡ (if came then at_place place (change_to side (after_delivery count)) conns.old.items else conns.old.items)) }
     ensures err { OnErr result (conns.new.items ≡ conns.old.items) }
 {
     if place >= conns.len() || count == 0 {
         return Ok(false);
     }
     let conn = &mut conns[place];
-    if conn.text_to(side).said().is_empty() {
+    if conn.text_to(side).undelivered_bytes().is_empty() {
         return Ok(false);
     }
     conn.deliver(side, count)?;

@@ -2,7 +2,7 @@
 ghost use Rattle.std.specs.Prelude.{◌≡◌, [], option_copied, OnOk, OnErr};
 ghost use Rattle.std.specs.Int.{w16};
 ghost use Rattle.dist_frames.specs.Stream.{first_body};
-ghost use Rattle.dist_world_model.specs.Delivery.{empty_text, more_said, delivered, body_taken};
+ghost use Rattle.dist_world_model.specs.Delivery.{empty_text, more_said, after_delivery, body_taken};
 ghost use Rattle.dist_world_lives.specs.Wires.{without_last};
 
 use dist_frames::{ByteQueue, Frames};
@@ -42,7 +42,7 @@ impl Direction {
     }
 
     /// What was sent and is undelivered.
-    pub fn said(&self) -> &[u8]
+    pub fn undelivered_bytes(&self) -> &[u8]
         ensures { result.now ≡ self.now.said }
     {
         self.said.as_slice()
@@ -74,7 +74,7 @@ impl Direction {
     /// `count` bytes are delivered, or what is left. An `Err` changes nothing.
     #[tactic(auto, using(crate::proofs::Texts::short_fed, crate::proofs::Texts::as_delivered))]
     pub fn deliver(&mut self, count: usize) -> Result<(), AllocError>
-        ensures ok { OnOk result (self.new ≡ delivered count self.old) }
+        ensures ok { OnOk result (self.new ≡ after_delivery count self.old) }
         ensures err { OnErr result (self.new ≡ self.old) }
     {
         let said = self.said.as_slice();

@@ -3,12 +3,12 @@ ghost use Rattle.std.specs.Prelude.{◌≡◌, ◌<◌, ◌++◌, ◌∷◌, [],
 ghost use Rattle.dist_world_model.specs.Lists.{at_place, first_where};
 ghost use Rattle.std.specs.Option.{option_map};
 ghost use Rattle.dist_world_model.specs.World.{runs_for, row_of_life, end_of_life};
-ghost use Rattle.dist_world_model.specs.Happenings.{ended, new_life, reached_life, is_open_end};
+ghost use Rattle.dist_world_model.specs.Happenings.{life_after_end, new_life, reached_life, is_open_end};
 ghost use Rattle.dist_world_lives.specs.Stepping.{wire_of};
 ghost use Rattle.dist_world_lives.specs.Links.{is_unreached};
 ghost use Rattle.dist_world_lives.specs.Index.{index_at};
 ghost use Rattle.dist_world_lives.specs.Telling.{HasTold, Declines};
-ghost use Rattle.dist_world_lives.specs.Resetting.{Resets, is_out_of_memory};
+ghost use Rattle.dist_world_lives.specs.Resetting.{Resets, is_reset_memory_error};
 
 use crate::Connections;
 use crate::events::tell;
@@ -156,7 +156,7 @@ impl Lives {
     pub fn end(&mut self, node: usize, clock: u64) -> bool
         ensures { MatchOption (first_where (runs_for node) self.old)
             ((result ≡ false) × (self.new ≡ self.old))
-            (λ place. (result ≡ true) × (self.new ≡ at_place place (ended clock) self.old)) }
+            (λ place. (result ≡ true) × (self.new ≡ at_place place (life_after_end clock) self.old)) }
     {
         let Some(place) = place_of_node(&self.index, node) else {
             return false;
@@ -208,7 +208,7 @@ fn push(lives: &mut Vec<Life>, life: Life) -> Result<(), AllocError>
 }
 
 fn end_life(lives: &mut Vec<Life>, place: usize, clock: u64)
-    ensures { lives.new.items ≡ at_place place (ended clock) lives.old.items }
+    ensures { lives.new.items ≡ at_place place (life_after_end clock) lives.old.items }
 {
     if place < lives.len() {
         let life = &mut lives[place];
@@ -236,7 +236,7 @@ fn reset_life(lives: &mut Vec<Life>, place: usize, wanted: Change) -> Result<boo
 
 // Out of memory, and no refusal of the change.
 fn is_out_of_memory(refusal: ChangeError) -> bool
-    ensures { result ≡ is_out_of_memory refusal }
+    ensures { result ≡ is_reset_memory_error refusal }
 {
     matches!(refusal, ChangeError::NoMemory)
 }

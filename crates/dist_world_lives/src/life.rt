@@ -3,7 +3,7 @@ ghost use Rattle.std.specs.Prelude.{◌≡◌, ℕ, ◌<◌, IfOk, Some, slice_g
 ghost use Rattle.dist_core.specs.Changing.{IsChange, change};
 ghost use Rattle.dist_core.specs.Step.{step};
 ghost use Rattle.dist_world_model.specs.World.{runs, runs_for};
-ghost use Rattle.dist_world_model.specs.Happenings.{ended, with_node, reached_life, is_open_end, shut_all, new_life};
+ghost use Rattle.dist_world_model.specs.Happenings.{life_after_end, with_node, reached_life, is_open_end, shut_all, new_life};
 ghost use Rattle.dist_world_model.specs.Lists.{at_place};
 ghost use Rattle.dist_world_lives.specs.Stepping.{IsLifeStep, wire_of};
 ghost use Rattle.dist_world_model.specs.Happenings.{reached_row, conn_of};
@@ -139,7 +139,7 @@ impl Life {
 
     /// It is over, and all its ends are closed.
     pub fn end(&mut self, clock: u64)
-        ensures { self.new ≡ ended clock self.old }
+        ensures { self.new ≡ life_after_end clock self.old }
     {
         shut_all(&mut self.rows, clock);
         self.over = Some(clock);

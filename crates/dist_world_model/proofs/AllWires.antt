@@ -6,10 +6,10 @@ use Rattle.dist_world_model.specs.Lists.{at_place}
 use Rattle.dist_world_model.specs.Rows.{EndRow}
 use Rattle.dist_world_model.specs.World.{Life, Conn}
 use Rattle.dist_world_model.specs.Agreement.{bare}
-use Rattle.dist_world_model.proofs.Ways.{on_way}
+use Rattle.dist_world_model.proofs.WholeFrames.{on_way}
 use Rattle.dist_world_model.proofs.Wires.{IsWire, Quiet, Hushed, quiet-refl, wire-quiet}
 use Rattle.dist_world_model.proofs.Lookups.{row_in, end_in, setup_in, setup_of, far, at-other, placed, unplaced, life-there, decide}
-use Rattle.dist_world_model.proofs.Linking.{Linked, Stays, Was, SetupStays, SameEnds, linked-keeps}
+use Rattle.dist_world_model.proofs.ConnectionRows.{Linked, Stays, Was, SetupStays, SameEnds, linked-keeps}
 
 -- the connection k is one wire
 abbrev pub WireAt : List Life → Conn → Type 0

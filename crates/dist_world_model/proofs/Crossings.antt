@@ -17,20 +17,20 @@ use Rattle.dist_core.specs.declared.reply.Note.TheVariants as note
 use Rattle.dist_core_ends.specs.declared.phase.Kind.TheVariants.{Out}
 use Rattle.dist_core_ends.specs.Ends.{names, holds_at, is_held, entry_in, is_claim}
 use Rattle.dist_world_model.specs.Lists.{add_some}
-use Rattle.dist_world_model.specs.Rows.{EndRow, mark, rows_after, given_by, dooms, shuts_end, takes_name, new_row, peer_by, claim_before, claim_when, past, once, rises, entered}
-use Rattle.dist_world_model.proofs.Deeds.{Deed, Dials, Comes_in, Shuts, Goes, Says, Rises, Takes, Takes_over, Refuses, Dooms, Drops}
+use Rattle.dist_world_model.specs.Rows.{EndRow, mark, rows_after, given_by, dooms, shuts_end, takes_name, new_row, peer_by, claim_before, claim_when, past, once, rises, holds_peer}
+use Rattle.dist_world_model.proofs.StepEffects.{Deed, Dials, Comes_in, Shuts, Goes, Says, Rises, Takes, Takes_over, Refuses, Dooms, Drops}
 use Rattle.dist_world_model.proofs.Places.{get-more, both-true, eqb-self}
 use Rattle.std.proofs.lemmas.Bool.Decides.{nat_tests}
-use Rattle.dist_world_model.proofs.Stands.{Beside, Below}
-use Rattle.dist_world_model.proofs.Marks.{fits-claim}
-use Rattle.dist_world_model.proofs.Unmarked.{get-row, not-given}
+use Rattle.dist_world_model.proofs.EndStates.{Beside, Below}
+use Rattle.dist_world_model.proofs.RowMarks.{fits-claim}
+use Rattle.dist_world_model.proofs.UnchangedRows.{get-row, not-given}
 use Rattle.dist_world_model.specs.World.{Life, runs}
 use Rattle.dist_world_model.specs.Holders.{claim_in}
 use Rattle.dist_world_model.specs.Crossing.{lesser, lesser_if}
 use Rattle.dist_world_model.specs.NodeLaws.{NodeLaws}
-use Rattle.dist_world_model.proofs.Doers.{none-of, taker}
-use Rattle.dist_world_model.proofs.Lives.{AreGone, IsGone, IsLife}
-use Rattle.dist_world_model.proofs.Told.{agree, free, gone-doom, gone-mark, gone-shut, marked}
+use Rattle.dist_world_model.proofs.EventEnds.{none-of, taker}
+use Rattle.dist_world_model.proofs.IncarnationFacts.{AreGone, IsGone, IsLife}
+use Rattle.dist_world_model.proofs.WithEvent.{agree, free, gone-doom, gone-mark, gone-shut, marked}
 
 module _ (laws : NodeLaws) where
   module _ (t : ℕ) (l : Life) (live : runs l ≡ true) (h : IsLife t l) (v : Event) (f : Effect) (deed : Deed l.node v f) where
@@ -88,7 +88,7 @@ module _ (laws : NodeLaws) where
 
     -- an end that held p as dialled had not risen
     out-unrisen : (u : ℕ) (p : Name) (row : EndRow) → is_claim p Out (claim_before u row) ≡ true → past u row.rose ≡ false
-    out-unrisen u p row e = by row.side row.peer (entered row.side (ltb row.given u) (past u row.named)) (past u row.doomed || past u row.closed) (past u row.rose) e
+    out-unrisen u p row e = by row.side row.peer (holds_peer row.side (ltb row.given u) (past u row.named)) (past u row.doomed || past u row.closed) (past u row.rose) e
       where
         by : (side : Side) (q : Option Name) (there left risen : Bool) → is_claim p Out (claim_when side q there left risen) ≡ true → risen ≡ false
         by side q there left false e = refl

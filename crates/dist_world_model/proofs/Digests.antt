@@ -1,8 +1,8 @@
 -- Each end that is up holds the digest of the own cookie and its own challenge.
 use Rattle.std.proofs.Common.{◌≡◌, ℕ, true, ◌&&◌, List, [], ◌∷◌, refl, ap, ◌∙◌, subst}
 use Rattle.dist_core.specs.Acts.{changed_or}
-use Rattle.dist_core.specs.Runs.{settled}
-use Rattle.dist_core.specs.Step.{stepped}
+use Rattle.dist_core.specs.Runs.{node_after}
+use Rattle.dist_core.specs.Step.{step_result}
 use Rattle.dist_core_setup.specs.Rules.{own_digest, same_bytes}
 use Rattle.dist_core_setup.specs.declared.setup.Setup.{Setup}
 use Rattle.dist_core_laws.specs.Records.{AreRight}
@@ -12,9 +12,9 @@ use Rattle.dist_world_model.specs.Run.{run}
 use Rattle.dist_world_model.specs.Laws.{AllLives, OwnDigests}
 use Rattle.dist_world_model.specs.NodeLaws.{NodeLaws}
 use Rattle.dist_world_model.proofs.Places.{eqb-self}
-use Rattle.dist_world_model.proofs.Turns.{Keeps, always}
-use Rattle.dist_world_model.proofs.Lives.{IsLife}
-use Rattle.dist_world_model.proofs.Lifelong.{life_keeps}
+use Rattle.dist_world_model.proofs.IncarnationEffects.{Keeps, always}
+use Rattle.dist_world_model.proofs.IncarnationFacts.{IsLife}
+use Rattle.dist_world_model.proofs.LastingFacts.{life_keeps}
 
 pub record IsRight (t : ℕ) (l : Life) : Type 0 where
   pub life : IsLife t l
@@ -31,7 +31,7 @@ module _ (laws : NodeLaws) where
     begins = λ t who s c. record { life = (life_keeps laws).begins t who s c; rights = laws.right_opening (record s { creation = c }) };
     ends = λ t l live h. record { life = (life_keeps laws).ends t l live h.life; rights = h.rights };
     reaches = λ t l id c live h. record { life = (life_keeps laws).reaches t l id c live h.life; rights = h.rights };
-    lives = λ t l v fresh f live is h. record { life = (life_keeps laws).lives t l v fresh f live is h.life; rights = subst (λ o. AreRight (settled l.node (stepped l.node v o))) is (laws.right_step l.node v fresh h.life.legal h.rights) };
+    lives = λ t l v fresh f live is h. record { life = (life_keeps laws).lives t l v fresh f live is h.life; rights = subst (λ o. AreRight (node_after l.node (step_result l.node v o))) is (laws.right_step l.node v fresh h.life.legal h.rights) };
     resets = λ t l v live ok h. record { life = (life_keeps laws).resets t l v live ok h.life; rights = subst (λ o. AreRight (changed_or l.node o)) ok (laws.right_change l.node v h.life.legal h.rights) };
   }
 

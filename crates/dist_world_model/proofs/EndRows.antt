@@ -12,8 +12,8 @@ use Rattle.dist_core_ends.specs.declared.known.End.{End}
 use Rattle.dist_core_ends.specs.declared.known.End.TheVariants as ends
 use Rattle.dist_core.specs.Node.{NodeState}
 use Rattle.dist_world_model.specs.Rows.{EndRow, past, once}
-use Rattle.dist_world_model.proofs.Stands.{Stand, stand_in, row_stand, Fits}
-use Rattle.dist_world_model.proofs.Besides.{attempt-side, side-in, row-side}
+use Rattle.dist_world_model.proofs.EndStates.{Stand, stand_in, row_stand, Fits}
+use Rattle.dist_world_model.proofs.RowsBesideEnds.{attempt-side, side-in, row-side}
 use Rattle.dist_world_model.proofs.Wires.{Before}
 use Rattle.std.proofs.lemmas.Bool.{false≢true}
 

@@ -10,26 +10,26 @@ use Rattle.dist_core_ends.specs.declared.known.End.{End}
 use Rattle.dist_core.specs.declared.event.Event.{Event}
 use Rattle.dist_core.specs.declared.event.Event.TheVariants as event
 use Rattle.dist_world_model.specs.Lists.{at_place}
-use Rattle.dist_world_model.specs.Rows.{EndRow, written, dooms, shuts_end}
+use Rattle.dist_world_model.specs.Rows.{EndRow, row_after, dooms, shuts_end}
 use Rattle.dist_world_model.specs.World.{Conn, Text, row_of_life, end_of_life}
 use Rattle.dist_world_model.specs.Delivery.{more_said, body_taken, says, text_to, change_to}
 use Rattle.dist_world_model.specs.Agreement.{bare}
-use Rattle.dist_world_model.proofs.Stands.{Fits}
-use Rattle.dist_world_model.proofs.Acts.{IsPlain}
-use Rattle.dist_world_model.proofs.Deeds.{is_given}
-use Rattle.dist_world_model.proofs.Ways.{Whole, on_way, whole-map, way-said, way-taken}
+use Rattle.dist_world_model.proofs.EndStates.{Fits}
+use Rattle.dist_world_model.proofs.HappeningEffects.{IsPlain}
+use Rattle.dist_world_model.proofs.StepEffects.{is_given}
+use Rattle.dist_world_model.proofs.WholeFrames.{Whole, on_way, whole-map, way-said, way-taken}
 use Rattle.dist_world_model.proofs.Wires.{MaySay, MayAnswer, Said, IsWire, Quiet, Hushed, quiet-refl, wire-quiet, named_of, replied_of, rose_of}
-use Rattle.dist_world_model.proofs.DialledActs.{DidDial, did-dial}
-use Rattle.dist_world_model.proofs.AcceptedActs.{DidAccept, did-accept}
+use Rattle.dist_world_model.proofs.DialledSide.{DidDial, did-dial}
+use Rattle.dist_world_model.proofs.AcceptedSide.{DidAccept, did-accept}
 use Rattle.dist_world_model.proofs.EndRows.{once-past}
-use Rattle.dist_world_model.proofs.Hushing.{own-after, given-not}
+use Rattle.dist_world_model.proofs.OtherRows.{own-after, given-not}
 use Rattle.dist_world_model.proofs.Lookups.{row_in, end_in, setup_in, setup_of, far, at-other}
-use Rattle.dist_world_model.proofs.Linking.{RowOf, IsEndOf, SameEnds}
+use Rattle.dist_world_model.proofs.ConnectionRows.{RowOf, IsEndOf, SameEnds}
 use Rattle.dist_world_model.proofs.AllWires.{WireAt, alike-refl, setups-were, conns-at, linked-same, same-conn}
 use Rattle.dist_world_model.specs.NodeLaws.{NodeLaws}
-use Rattle.dist_world_model.proofs.Growing.{answer-more, once-keeps, say-more, wire-by}
-use Rattle.dist_world_model.proofs.Sames.{bare-same, same-bare, same-refl, wire-same}
-use Rattle.dist_world_model.proofs.Telling.{Kept, all-stay, all-were, below-at, beside, far-below, get-now, life, loc, ls', me, other-wire, own-row, rows', tell-setups, the-row, Telling}
+use Rattle.dist_world_model.proofs.GrowingRows.{answer-more, once-keeps, say-more, wire-by}
+use Rattle.dist_world_model.proofs.AlikeSetups.{bare-same, same-bare, same-refl, wire-same}
+use Rattle.dist_world_model.proofs.SilentWires.{Kept, all-stay, all-were, below-at, beside, far-below, get-now, life, loc, ls', me, other-wire, own-row, rows', tell-setups, the-row, Telling}
 
 module _ (laws : NodeLaws) (telling : Telling) where
   open telling use {w, lives, fit, linked, wires, i, old, v, fresh, f, small, at, live, ok}
@@ -40,10 +40,10 @@ module _ (laws : NodeLaws) (telling : Telling) where
   abbrev pub Taken_of : Text → Text → Type 1
   Taken_of x y = (P : List ℕ → Type 0) → Whole P (on_way x) → Whole P (on_way y) × ((id : EndId) (body : List ℕ) → v ≡ event.Frame id body → P body)
 
-  module _ (x0 : EndRow) (e0 : End) (at-x : slice_get old.rows (me laws telling) ≡ Some x0) (at-e : (let n = old.node in slice_get n.ends (me laws telling)) ≡ Some e0) (fits : Fits e0 x0) (row-is : slice_get (rows' laws telling) (me laws telling) ≡ Some (written w.clock true (dooms f.reply.note (me laws telling)) (shuts_end f.reply.closed (me laws telling)) f.reply x0))
+  module _ (x0 : EndRow) (e0 : End) (at-x : slice_get old.rows (me laws telling) ≡ Some x0) (at-e : (let n = old.node in slice_get n.ends (me laws telling)) ≡ Some e0) (fits : Fits e0 x0) (row-is : slice_get (rows' laws telling) (me laws telling) ≡ Some (row_after w.clock true (dooms f.reply.note (me laws telling)) (shuts_end f.reply.closed (me laws telling)) f.reply x0))
       (c : ℕ) (on : x0.conn ≡ Some c) (k : Conn) (ak : slice_get w.conns c ≡ Some k) where
     abbrev pub x1 : EndRow
-    x1 = written w.clock true (dooms f.reply.note (me laws telling)) (shuts_end f.reply.closed (me laws telling)) f.reply x0
+    x1 = row_after w.clock true (dooms f.reply.note (me laws telling)) (shuts_end f.reply.closed (me laws telling)) f.reply x0
 
     setup-now : setup_in w.lives i ≡ Some (let n = old.node in bare n.setup)
     setup-now = ap setup_of at

@@ -10,16 +10,16 @@ use Rattle.dist_core_setup.specs.Rules.{announced_in, announced_by}
 use Rattle.dist_world_model.specs.Rows.{EndRow, past, is_dialler}
 use Rattle.dist_world_model.specs.World.{World, Life, Conn, runs, row_of_life, end_of_life}
 use Rattle.dist_world_model.specs.Agreement.{bare, IsUp}
-use Rattle.dist_world_model.proofs.Acts.{is-running}
-use Rattle.dist_world_model.proofs.Stands.{Stand, Fits, Beside}
-use Rattle.dist_world_model.proofs.Ways.{on_way}
+use Rattle.dist_world_model.proofs.HappeningEffects.{is-running}
+use Rattle.dist_world_model.proofs.EndStates.{Stand, Fits, Beside}
+use Rattle.dist_world_model.proofs.WholeFrames.{on_way}
 use Rattle.dist_world_model.proofs.Wires.{IsWire, named_of, replied_of, rose_of, peer_of}
-use Rattle.dist_world_model.proofs.Doers.{open-row}
-use Rattle.dist_world_model.proofs.Spanning.{up-open}
-use Rattle.dist_world_model.proofs.Keeping.{IsKept}
+use Rattle.dist_world_model.proofs.EventEnds.{open-row}
+use Rattle.dist_world_model.proofs.IncarnationSpans.{up-open}
+use Rattle.dist_world_model.proofs.WorldFacts.{IsKept}
 use Rattle.dist_world_model.proofs.Lookups.{row_in, end_in, setup_in, setup_of, far, life-there, setup-there}
-use Rattle.dist_world_model.proofs.Linking.{RowOf, ConnOf, IsEndOf}
-use Rattle.dist_world_model.proofs.Seats.{Seat, Line, IsOpen}
+use Rattle.dist_world_model.proofs.ConnectionRows.{RowOf, ConnOf, IsEndOf}
+use Rattle.dist_world_model.proofs.EndPairs.{Seat, Line, IsOpen}
 use Rattle.dist_world_model.specs.NodeLaws.{NodeLaws}
 
 pub announced-is : (s : Setup) → announced_by s ≡ announced_in s.version s.flags.0
@@ -84,8 +84,8 @@ module _ (laws : NodeLaws) where
                 replied = r;
                 named_is = nm.1;
                 replied_is = ap replied_of (sym near) ∙ e;
-                first = Rattle.dist_world_model.proofs.Pasts.past-is r nm.0 (ap (past r) (sym nm.1) ∙ p');
-                rises = λ u ro. Rattle.dist_world_model.proofs.Pasts.past-is u r (ap (past u) (sym e) ∙ wi.rises u (ap rose_of far-is ∙ ro));
+                first = Rattle.dist_world_model.proofs.PastMoments.past-is r nm.0 (ap (past r) (sym nm.1) ∙ p');
+                rises = λ u ro. Rattle.dist_world_model.proofs.PastMoments.past-is u r (ap (past u) (sym e) ∙ wi.rises u (ap rose_of far-is ∙ ro));
                 peer_back = ap peer_of (sym near) ∙ wi.peer_back (ap is_some e);
                 peer_there = ap peer_of (sym far-is) ∙ wi.peer_there (ap (λ o. is_some (named_of o)) far-is ∙ ap is_some nm.1);
               };

@@ -10,15 +10,15 @@ use Rattle.dist_core.specs.Changing.{after_change, setup_after}
 use Rattle.dist_world_model.specs.Lists.{at_place}
 use Rattle.dist_world_model.specs.Rows.{EndRow}
 use Rattle.dist_world_model.specs.World.{Life, Conn, row_of_life, end_of_life}
-use Rattle.dist_world_model.specs.Delivery.{delivered, change_to}
-use Rattle.dist_world_model.specs.Happenings.{ended, shut_row, with_node}
+use Rattle.dist_world_model.specs.Delivery.{after_delivery, change_to}
+use Rattle.dist_world_model.specs.Happenings.{life_after_end, shut_row, with_node}
 use Rattle.dist_world_model.specs.Agreement.{bare}
-use Rattle.dist_world_model.proofs.Ways.{way-delivered}
+use Rattle.dist_world_model.proofs.WholeFrames.{way-delivered}
 use Rattle.dist_world_model.proofs.Wires.{Quiet, Hushed, quiet-refl}
-use Rattle.dist_world_model.proofs.Untold.{get-shut}
-use Rattle.dist_world_model.proofs.Lives.{before-map}
+use Rattle.dist_world_model.proofs.WithoutEvent.{get-shut}
+use Rattle.dist_world_model.proofs.IncarnationFacts.{before-map}
 use Rattle.dist_world_model.proofs.Lookups.{row_in, end_in, setup_in, setup_of, changed-at, more-at, at-other}
-use Rattle.dist_world_model.proofs.Linking.{Linked, Stays, Was, SetupStays, SameEnds}
+use Rattle.dist_world_model.proofs.ConnectionRows.{Linked, Stays, Was, SetupStays, SameEnds}
 use Rattle.dist_world_model.proofs.AllWires.{Alike, Wires, alike-refl, all-were, conns-at, conns-same, hush-refl, linked-same, setup-refl, stays-refl, was-refl, wires-quiet}
 
 -- ---- a node begins
@@ -58,18 +58,18 @@ shut-quiet t None = quiet-refl None
 shut-quiet t (Some row) = record { named = refl; replied = refl; rose = refl; peer_named = λ h. refl; peer_replied = λ h. refl }
 
 module _ (t i : ℕ) (ls : List Life) (old : Life) (at : slice_get ls i ≡ Some old) where
-  shut-rel : (R : Option EndRow → Option EndRow → Type 0) → ((o : Option EndRow) → R o o) → ((o : Option EndRow) → R o (option_map (shut_row t) o)) → (j p : ℕ) → R (row_in ls j p) (row_in (at_place i (ended t) ls) j p)
-  shut-rel R same map j p = changed-at (λ o. row_of_life o p) R same i (ended t) ls old at j (λ e. subst (R (slice_get old.rows p)) (sym (get-shut t old.rows p)) (map (slice_get old.rows p)))
+  shut-rel : (R : Option EndRow → Option EndRow → Type 0) → ((o : Option EndRow) → R o o) → ((o : Option EndRow) → R o (option_map (shut_row t) o)) → (j p : ℕ) → R (row_in ls j p) (row_in (at_place i (life_after_end t) ls) j p)
+  shut-rel R same map j p = changed-at (λ o. row_of_life o p) R same i (life_after_end t) ls old at j (λ e. subst (R (slice_get old.rows p)) (sym (get-shut t old.rows p)) (map (slice_get old.rows p)))
 
-  shut-setups : (j : ℕ) → SetupStays (setup_in ls j) (setup_in (at_place i (ended t) ls) j)
-  shut-setups j = changed-at setup_of SetupStays setup-refl i (ended t) ls old at j (λ e s h. h)
+  shut-setups : (j : ℕ) → SetupStays (setup_in ls j) (setup_in (at_place i (life_after_end t) ls) j)
+  shut-setups j = changed-at setup_of SetupStays setup-refl i (life_after_end t) ls old at j (λ e s h. h)
 
-  pub ended-linked : (cs : List Conn) → Linked ls cs → Linked (at_place i (ended t) ls) cs
-  ended-linked cs = linked-same ls (at_place i (ended t) ls) cs cs (shut-rel Stays stays-refl (shut-stays t)) (shut-rel Was was-refl (shut-was t)) shut-setups (conns-same cs)
+  pub ended-linked : (cs : List Conn) → Linked ls cs → Linked (at_place i (life_after_end t) ls) cs
+  ended-linked cs = linked-same ls (at_place i (life_after_end t) ls) cs cs (shut-rel Stays stays-refl (shut-stays t)) (shut-rel Was was-refl (shut-was t)) shut-setups (conns-same cs)
 
-  pub ended-wires : (cs : List Conn) → Linked ls cs → Wires ls cs → Wires (at_place i (ended t) ls) cs
-  ended-wires cs = wires-quiet ls (at_place i (ended t) ls) cs cs shut-setups (shut-rel Quiet quiet-refl (shut-quiet t))
-      (λ j p. changed-at (λ o. end_of_life o p) Hushed hush-refl i (ended t) ls old at j (λ e a b h. h)) (all-were ls cs)
+  pub ended-wires : (cs : List Conn) → Linked ls cs → Wires ls cs → Wires (at_place i (life_after_end t) ls) cs
+  ended-wires cs = wires-quiet ls (at_place i (life_after_end t) ls) cs cs shut-setups (shut-rel Quiet quiet-refl (shut-quiet t))
+      (λ j p. changed-at (λ o. end_of_life o p) Hushed hush-refl i (life_after_end t) ls old at j (λ e a b h. h)) (all-were ls cs)
 
 -- ---- a node changes its setup
 
@@ -98,17 +98,17 @@ module _ (i : ℕ) (v : Change) (ls : List Life) (old : Life) (at : slice_get ls
 -- ---- bytes come
 
 module _ (side : Side) (c n : ℕ) (ls : List Life) (cs : List Conn) where
-  same-ends : (s : Side) (k : Conn) → SameEnds k (change_to s (delivered n) k) × ((let h = change_to s (delivered n) k in h.accepted) ≡ k.accepted)
+  same-ends : (s : Side) (k : Conn) → SameEnds k (change_to s (after_delivery n) k) × ((let h = change_to s (after_delivery n) k in h.accepted) ≡ k.accepted)
   same-ends Dialler k = (record { life = refl; dialler = refl; target = refl }, refl)
   same-ends Acceptor k = (record { life = refl; dialler = refl; target = refl }, refl)
 
-  alike : (s : Side) (k : Conn) → Alike ls k (change_to s (delivered n) k)
+  alike : (s : Side) (k : Conn) → Alike ls k (change_to s (after_delivery n) k)
   alike Dialler k = record { same = record { life = refl; dialler = refl; target = refl }; there = refl; back = way-delivered n k.back; accepted = inl refl }
   alike Acceptor k = record { same = record { life = refl; dialler = refl; target = refl }; there = way-delivered n k.there; back = refl; accepted = inl refl }
 
-  pub come-linked : Linked ls cs → Linked ls (at_place c (change_to side (delivered n)) cs)
-  come-linked = linked-same ls ls cs (at_place c (change_to side (delivered n)) cs) (λ i p. stays-refl (row_in ls i p)) (λ i p. was-refl (row_in ls i p)) (λ i. setup-refl (setup_in ls i)) (conns-at c (change_to side (delivered n)) cs (same-ends side))
+  pub come-linked : Linked ls cs → Linked ls (at_place c (change_to side (after_delivery n)) cs)
+  come-linked = linked-same ls ls cs (at_place c (change_to side (after_delivery n)) cs) (λ i p. stays-refl (row_in ls i p)) (λ i p. was-refl (row_in ls i p)) (λ i. setup-refl (setup_in ls i)) (conns-at c (change_to side (after_delivery n)) cs (same-ends side))
 
-  pub come-wires : Linked ls cs → Wires ls cs → Wires ls (at_place c (change_to side (delivered n)) cs)
-  come-wires = wires-quiet ls ls cs (at_place c (change_to side (delivered n)) cs) (λ i. setup-refl (setup_in ls i)) (λ i p. quiet-refl (row_in ls i p)) (λ i p. hush-refl (end_in ls i p))
-      (at-other (λ d h. (k : Conn) × (slice_get cs d ≡ Some k) × Alike ls k h) c (change_to side (delivered n)) cs (λ k at. (k, at, alike side k)) (λ d k n at. (k, at, alike-refl ls k)))
+  pub come-wires : Linked ls cs → Wires ls cs → Wires ls (at_place c (change_to side (after_delivery n)) cs)
+  come-wires = wires-quiet ls ls cs (at_place c (change_to side (after_delivery n)) cs) (λ i. setup-refl (setup_in ls i)) (λ i p. quiet-refl (row_in ls i p)) (λ i p. hush-refl (end_in ls i p))
+      (at-other (λ d h. (k : Conn) × (slice_get cs d ≡ Some k) × Alike ls k h) c (change_to side (after_delivery n)) cs (λ k at. (k, at, alike side k)) (λ d k n at. (k, at, alike-refl ls k)))

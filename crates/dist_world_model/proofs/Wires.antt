@@ -19,7 +19,7 @@ use Rattle.dist_core_ends.specs.declared.known.End.TheVariants as ends
 use Rattle.dist_core_setup.specs.Rules.{announced_by, knows_six}
 use Rattle.dist_world_model.specs.Agreement.{both_six, known_creation}
 use Rattle.dist_world_model.specs.Rows.{EndRow, past}
-use Rattle.dist_world_model.proofs.Ways.{Whole}
+use Rattle.dist_world_model.proofs.WholeFrames.{Whole}
 
 -- ---- what may be on the way
 

@@ -17,8 +17,8 @@ abbrev pub more_said : List ℕ → Text → Text
 more_said s x = record x { said = x.said ++ s }
 
 -- the next k bytes come, or those that are left
-abbrev pub delivered : ℕ → Text → Text
-delivered k x = record { said = drop k x.said; come = x.come ++ take k x.said }
+abbrev pub after_delivery : ℕ → Text → Text
+after_delivery k x = record { said = drop k x.said; come = x.come ++ take k x.said }
 
 -- the first frame that came is taken
 abbrev pub body_taken : Text → Text
@@ -45,6 +45,6 @@ spoken_on cs None side s = cs
 spoken_on cs (Some c) side s = at_place c (says side s) cs
 
 -- the connections once the end of this row has sent s
-abbrev pub spoken : List Conn → Option EndRow → List ℕ → List Conn
-spoken cs None s = cs
-spoken cs (Some row) s = spoken_on cs row.conn row.side s
+abbrev pub conns_after_saying : List Conn → Option EndRow → List ℕ → List Conn
+conns_after_saying cs None s = cs
+conns_after_saying cs (Some row) s = spoken_on cs row.conn row.side s

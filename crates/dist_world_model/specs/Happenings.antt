@@ -23,7 +23,7 @@ use Rattle.dist_world_model.specs.declared.happening.Happening.TheVariants as ha
 use Rattle.dist_world_model.specs.Lists.{at_place}
 use Rattle.dist_world_model.specs.Rows.{EndRow, rows_after, once}
 use Rattle.dist_world_model.specs.World.{World, Life, Conn, runs, running, row_at, end_at}
-use Rattle.dist_world_model.specs.Delivery.{empty_text, delivered, body_taken, text_to, change_to, spoken}
+use Rattle.dist_world_model.specs.Delivery.{empty_text, after_delivery, body_taken, text_to, change_to, conns_after_saying}
 
 -- Each happening is one `do` block. A line with an arrow names a thing that must be there; a line that is a test must hold;
 -- the last one is the world afterwards. Where a thing is not there or a test does not hold, the happening does not apply.
@@ -55,8 +55,8 @@ most_applied = 4611686018427387904
 -- ---- an event of a node
 
 -- an incarnation after an event at number t
-abbrev pub lived : ℕ → Event → Reply → NodeState → Life → Life
-lived t v r n l = record l { node = n; rows = rows_after t v r l.rows }
+abbrev pub life_after : ℕ → Event → Reply → NodeState → Life → Life
+life_after t v r n l = record l { node = n; rows = rows_after t v r l.rows }
 
 -- INCARNATION i IS TOLD AN EVENT: it runs and its step succeeds; what the reply says is appended to the connection of the
 -- end that it names
@@ -65,10 +65,10 @@ tell w i v fresh = do
   life ← slice_get w.lives i
   runs life
   (reply, node) ← result_ok (step life.node v fresh)
-  let after = lived w.clock v reply node life
+  let after = life_after w.clock v reply node life
   Some (record w {
     lives = at_place i (λ old. after) w.lives;
-    conns = spoken w.conns (slice_get after.rows reply.end_.0) reply.say;
+    conns = conns_after_saying w.conns (slice_get after.rows reply.end_.0) reply.say;
     last_closed = option_map (λ closed. (life.who, closed)) reply.closed;
   })
 
@@ -102,14 +102,14 @@ shut_all t [] = []
 shut_all t (row ∷ rows) = shut_row t row ∷ shut_all t rows
 
 -- all its ends are closed, and the incarnation is over
-abbrev pub ended : ℕ → Life → Life
-ended t l = record l { over = Some t; rows = shut_all t l.rows }
+abbrev pub life_after_end : ℕ → Life → Life
+life_after_end t l = record l { over = Some t; rows = shut_all t l.rows }
 
 -- HALT: a running node ends
 abbrev pub halt : World → ℕ → Option World
 halt w node = do
   i ← running w node
-  Some (record w { lives = at_place i (ended w.clock) w.lives })
+  Some (record w { lives = at_place i (life_after_end w.clock) w.lives })
 
 -- ---- a change of setup
 
@@ -202,7 +202,7 @@ deliver w node id k = do
   conn ← slice_get w.conns c
   let text = text_to row.side conn
   nat_lt 0 k && is_nonempty text.said
-  Some (record w { conns = at_place c (change_to row.side (delivered k)) w.conns })
+  Some (record w { conns = at_place c (change_to row.side (after_delivery k)) w.conns })
 
 -- TAKE: an end takes the first whole frame of what came, and is told its body, with the challenge that was drawn for it
 abbrev pub take_frame : World → ℕ → EndId → ℕ → Option World
@@ -218,22 +218,22 @@ take_frame w node id fresh = do
 -- ---- THE HAPPENINGS
 
 -- the world after one that applies, but for the clock
-abbrev pub applied : World → Happening → Option World
-applied w (happening.Begin node creation) = begin w node creation
-applied w (happening.Halt node) = halt w node
-applied w (happening.Dial node peer opening) = tell_node w node (event.Dial peer opening)
-applied w (happening.Tick node id) = tell_node w node (event.Tick id)
-applied w (happening.Reach node id target) = reach w node id target
-applied w (happening.Opened node id) = tell_opened w node id
-applied w (happening.Accept c) = accept w c
-applied w (happening.Deliver node id k) = deliver w node id k
-applied w (happening.Take node id fresh) = take_frame w node id fresh
-applied w (happening.Lose node id why) = tell_node w node (event.Lost id why)
-applied w (happening.Reset node v) = reset w node v
+abbrev pub world_after : World → Happening → Option World
+world_after w (happening.Begin node creation) = begin w node creation
+world_after w (happening.Halt node) = halt w node
+world_after w (happening.Dial node peer opening) = tell_node w node (event.Dial peer opening)
+world_after w (happening.Tick node id) = tell_node w node (event.Tick id)
+world_after w (happening.Reach node id target) = reach w node id target
+world_after w (happening.Opened node id) = tell_opened w node id
+world_after w (happening.Accept c) = accept w c
+world_after w (happening.Deliver node id k) = deliver w node id k
+world_after w (happening.Take node id fresh) = take_frame w node id fresh
+world_after w (happening.Lose node id why) = tell_node w node (event.Lost id why)
+world_after w (happening.Reset node v) = reset w node v
 
 -- nothing is known of the last step
-abbrev pub unclosed : World → World
-unclosed w = record w { last_closed = None }
+abbrev pub without_closing : World → World
+without_closing w = record w { last_closed = None }
 
 -- the world once a happening did this, or did not apply
 abbrev pub ticked_on : World → Option World → World
@@ -242,7 +242,7 @@ ticked_on w (Some x) = record x { clock = w.clock + 1 }
 
 -- the world after a happening, where there is room for one more
 abbrev pub applied_at : World → Happening → Option World
-applied_at w h = if nat_lt w.clock most_applied then applied (unclosed w) h else None
+applied_at w h = if nat_lt w.clock most_applied then world_after (without_closing w) h else None
 
 -- ONE HAPPENING; one that does not apply changes nothing
 abbrev pub happens : World → Happening → World

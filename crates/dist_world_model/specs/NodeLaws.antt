@@ -29,8 +29,8 @@ use Rattle.dist_core.specs.declared.effect.Effect.{Effect}
 use Rattle.dist_core_laws.specs.Laws.{IsOther}
 use Rattle.dist_core_laws.specs.Records.{AreRight}
 use Rattle.dist_core.specs.Node.{NodeState, ends_after}
-use Rattle.dist_core.specs.Rows.{Row, Heard}
-use Rattle.dist_core.specs.Runs.{opening, settled}
+use Rattle.dist_core.specs.Rows.{StepRow, Heard}
+use Rattle.dist_core.specs.Runs.{opening, node_after}
 use Rattle.dist_core.specs.Step.{effect_of, step}
 
 -- names that compare as equal are one name, and a name is one with itself
@@ -62,9 +62,9 @@ pub record SayingLaws : Type 0 where
 pub record NodeLaws : Type 0 where
   pub names : NameLaws
   pub sayings : SayingLaws
-  pub row : (n : NodeState) (v : Event) (fresh : ℕ) (f : Effect) → effect_of n v fresh ≡ Ok f → Row n v fresh f
+  pub row : (n : NodeState) (v : Event) (fresh : ℕ) (f : Effect) → effect_of n v fresh ≡ Ok f → StepRow n v fresh f
   pub opening_legal : (s : Setup) → AreLegal (opening s).ends
-  pub step_legal : (n : NodeState) (v : Event) (fresh : ℕ) → AreLegal n.ends → AreLegal (settled n (step n v fresh)).ends
+  pub step_legal : (n : NodeState) (v : Event) (fresh : ℕ) → AreLegal n.ends → AreLegal (node_after n (step n v fresh)).ends
   pub own_end : (n : NodeState) (id : EndId) (fresh : ℕ) (e : End) (m : Message) (f : Effect) → Heard n id fresh e m f → f.reply.end_ ≡ id
   pub other : (n : NodeState) (v : Event) (fresh : ℕ) (f : Effect) (x : EndId) (s : End) → AreLegal n.ends → effect_of n v fresh ≡ Ok f
       → f.other ≡ Some (x, s) → IsOther n f.reply.end_ x
@@ -73,5 +73,5 @@ pub record NodeLaws : Type 0 where
   pub after : (es : List End) (f : Effect) (i : ℕ) → f.reply.end_.0 ≤ length es → IsThere es f.other
       → slice_get (ends_after es f) i ≡ view_after es f.reply.end_ f.this f.other i
   pub right_opening : (s : Setup) → AreRight (opening s)
-  pub right_step : (n : NodeState) (v : Event) (fresh : ℕ) → AreLegal n.ends → AreRight n → AreRight (settled n (step n v fresh))
+  pub right_step : (n : NodeState) (v : Event) (fresh : ℕ) → AreLegal n.ends → AreRight n → AreRight (node_after n (step n v fresh))
   pub right_change : (n : NodeState) (v : Change) → AreLegal n.ends → AreRight n → AreRight (changed_or n (change n v))

@@ -87,8 +87,8 @@ once b t (Some n) = Some n
 once b t None = if b then Some t else None
 
 -- a row after a reply at number t, by whether it is the event's own end, is doomed, is closed
-abbrev pub written : ℕ → Bool → Bool → Bool → Reply → EndRow → EndRow
-written t own doomed closed r row = record {
+abbrev pub row_after : ℕ → Bool → Bool → Bool → Reply → EndRow → EndRow
+row_after t own doomed closed r row = record {
   side = row.side;
   peer = if own && takes_name r.note then peer_by r.note row.peer else row.peer;
   conn = row.conn;
@@ -102,7 +102,7 @@ written t own doomed closed r row = record {
 
 -- what the reply r at number t writes in row i
 abbrev pub mark : ℕ → Reply → ℕ → EndRow → EndRow
-mark t r i row = written t (r.end_.0 == i) (dooms r.note i) (shuts_end r.closed i) r row
+mark t r i row = row_after t (r.end_.0 == i) (dooms r.note i) (shuts_end r.closed i) r row
 
 -- the rows after an event at number t whose reply is r
 abbrev pub rows_after : ℕ → Event → Reply → List EndRow → List EndRow
@@ -127,9 +127,9 @@ kind_by Dialler false = Out
 kind_by Acceptor false = In
 
 -- an end of this side holds its peer from when it was given out or took the name
-abbrev pub entered : Side → Bool → Bool → Bool
-entered Dialler given named = given
-entered Acceptor given named = named
+abbrev pub holds_peer : Side → Bool → Bool → Bool
+holds_peer Dialler given named = given
+holds_peer Acceptor given named = named
 
 -- whether it had entered, and left, and risen
 abbrev pub claim_when : Side → Option Name → Bool → Bool → Bool → Option Claim
@@ -139,4 +139,4 @@ claim_when side p there left risen = if there && not left then option_map (λ q.
 -- the name, and each until it is doomed or closed
 abbrev pub claim_before : ℕ → EndRow → Option Claim
 claim_before t row =
-    claim_when row.side row.peer (entered row.side (nat_lt row.given t) (past t row.named)) (past t row.doomed || past t row.closed) (past t row.rose)
+    claim_when row.side row.peer (holds_peer row.side (nat_lt row.given t) (past t row.named)) (past t row.doomed || past t row.closed) (past t row.rose)

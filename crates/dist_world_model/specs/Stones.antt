@@ -3,12 +3,12 @@ use Rattle.std.specs.Prelude.{◌≡◌, ◌≢◌, ℕ, ◌<◌, nat_lt, Bool, 
 use Rattle.dist_names.specs.Order.{Name}
 use Rattle.dist_messages.specs.declared.message.Side.TheVariants.{Dialler, Acceptor}
 use Rattle.dist_core_ends.specs.declared.phase.Kind.{Kind}
-use Rattle.dist_world_model.specs.Rows.{EndRow, past, entered}
+use Rattle.dist_world_model.specs.Rows.{EndRow, past, holds_peer}
 use Rattle.dist_world_model.specs.Holders.{held_before}
 
 -- it had entered before number t
 abbrev pub entered_before : ℕ → EndRow → Bool
-entered_before t row = entered row.side (nat_lt row.given t) (past t row.named)
+entered_before t row = holds_peer row.side (nat_lt row.given t) (past t row.named)
 
 -- it had left before number t
 abbrev pub left_before : ℕ → EndRow → Bool

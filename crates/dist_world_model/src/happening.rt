@@ -89,7 +89,7 @@ fn fits(number: u32)
 
 impl Happening {
     /// What the types of its numbers say: a creation and a challenge are below 2^32. It does nothing.
-    pub fn known(&self)
+    pub fn recall_ranges(&self)
         ensures { Fits self.now }
     {
         match self {

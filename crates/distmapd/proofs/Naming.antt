@@ -32,11 +32,16 @@ unfolding key_named
 own key.Port = refl
 own key.Mapper = refl
 own key.Address = refl
+own key.LongAddress = refl
 own key.Timeout = refl
 own key.Clients = refl
 own key.Systemd = refl
 own key.Names = refl
+own key.Quiet = refl
+own key.Log = refl
+own key.Metrics = refl
 own key.Help = refl
+own key.ShortHelp = refl
 own key.Version = refl
 own key.Daemon = refl
 own key.Kill = refl

@@ -1,3 +1,7 @@
 pub mod Answers
+pub mod Json
+pub mod Lines
 pub mod Listing
+pub mod Metrics
+pub mod Rates
 pub mod Words

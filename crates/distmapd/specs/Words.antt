@@ -12,7 +12,11 @@ use Rattle.distmapd.specs.declared.reading.Awaits.{Awaits}
 use Rattle.distmapd.specs.declared.reading.Awaits.TheVariants as awaits
 use Rattle.distmapd.specs.declared.reading.Reading.{Reading}
 use Rattle.distmapd.specs.declared.refusal.Refusal.{Refusal}
-use Rattle.distmapd.specs.declared.refusal.Refusal.TheVariants.{UnknownWord, NotDone, NoValue, BadPort, BadTimeout, BadClients}
+use Rattle.distmapd.specs.declared.refusal.Refusal.TheVariants.{UnknownWord, NotDone, BadPort, BadTimeout, BadClients, BadLog, BadMetrics}
+use Rattle.distmapd.specs.declared.refusal.BadWords.{BadWords}
+use Rattle.distmapd.specs.declared.refusal.BadWords.TheVariants.{At, NoValue}
+use Rattle.distmapd.specs.declared.form.Form.{Form}
+use Rattle.distmapd.specs.declared.form.Form.TheVariants as form
 use Rattle.distmapd.specs.declared.settings.Settings.{Settings}
 use Rattle.distmapd.specs.declared.settings.Task.TheVariants as task
 
@@ -22,11 +26,16 @@ abbrev pub name_of : Key → List ℕ
 name_of key.Port = codes "-port"
 name_of key.Mapper = codes "--epmd-port"
 name_of key.Address = codes "-address"
+name_of key.LongAddress = codes "--address"
 name_of key.Timeout = codes "-packet_timeout"
 name_of key.Clients = codes "-max_clients"
 name_of key.Systemd = codes "-systemd"
 name_of key.Names = codes "-names"
+name_of key.Quiet = codes "-quiet"
+name_of key.Log = codes "-log"
+name_of key.Metrics = codes "-metrics"
 name_of key.Help = codes "--help"
+name_of key.ShortHelp = codes "-help"
 name_of key.Version = codes "--version"
 name_of key.Daemon = codes "-daemon"
 name_of key.Kill = codes "-kill"
@@ -39,8 +48,8 @@ has_name word k = pointwise ◌==◌ (name_of k) word
 
 abbrev pub all_keys : List Key
 all_keys =
-    key.Port ∷ key.Mapper ∷ key.Address ∷ key.Timeout ∷ key.Clients ∷ key.Systemd ∷ key.Names ∷ key.Help ∷ key.Version ∷ key.Daemon ∷ key.Kill ∷ key.Stop
-    ∷ key.Debug ∷ key.Relaxed ∷ []
+    key.Port ∷ key.Mapper ∷ key.Address ∷ key.LongAddress ∷ key.Timeout ∷ key.Clients ∷ key.Systemd ∷ key.Names ∷ key.Quiet ∷ key.Log ∷ key.Metrics
+    ∷ key.Help ∷ key.ShortHelp ∷ key.Version ∷ key.Daemon ∷ key.Kill ∷ key.Stop ∷ key.Debug ∷ key.Relaxed ∷ []
 
 unfoldable pub key_named : List ℕ → Option Key
 key_named word = find (has_name word) all_keys
@@ -53,6 +62,11 @@ is_number most word = nat_lt 0 (length word) && (all_ascii_digits word && (nat_l
 
 unfoldable pub number_of : ℕ → List ℕ → Option ℕ
 number_of most word = if is_number most word then Some (digits_value 10 word) else None
+
+-- ---- forms of the log
+
+unfoldable pub form_named : List ℕ → Option Form
+form_named word = if pointwise ◌==◌ word (codes "text") then Some form.Text else (if pointwise ◌==◌ word (codes "json") then Some form.Json else None)
 
 -- ---- one word
 
@@ -69,11 +83,16 @@ after_key s None = Err UnknownWord
 after_key s (Some key.Port) = reading_of s awaits.Port
 after_key s (Some key.Mapper) = reading_of s awaits.Port
 after_key s (Some key.Address) = reading_of s awaits.Address
+after_key s (Some key.LongAddress) = reading_of s awaits.Address
 after_key s (Some key.Timeout) = reading_of s awaits.Timeout
 after_key s (Some key.Clients) = reading_of s awaits.Clients
 after_key s (Some key.Systemd) = reading_of (record s { systemd = true }) awaits.Key
 after_key s (Some key.Names) = reading_of (record s { task = task.Names }) awaits.Key
+after_key s (Some key.Quiet) = reading_of (record s { log = None }) awaits.Key
+after_key s (Some key.Log) = reading_of s awaits.Log
+after_key s (Some key.Metrics) = reading_of s awaits.Metrics
 after_key s (Some key.Help) = reading_of (record s { task = task.Help }) awaits.Key
+after_key s (Some key.ShortHelp) = reading_of (record s { task = task.Help }) awaits.Key
 after_key s (Some key.Version) = reading_of (record s { task = task.Version }) awaits.Key
 after_key s (Some key.Daemon) = Err NotDone
 after_key s (Some key.Kill) = Err NotDone
@@ -86,6 +105,11 @@ abbrev pub with_number : Option ℕ → Refusal → (ℕ → Settings) → Read
 with_number None refusal with = Err refusal
 with_number (Some n) refusal with = reading_of (with n) awaits.Key
 
+-- the form that -log awaited, or why there is none
+abbrev pub with_form : Option Form → Settings → Read
+with_form None s = Err BadLog
+with_form (Some f) s = reading_of (record s { log = Some f }) awaits.Key
+
 -- a word as it was handed over
 abbrev pub Word : Type 0
 Word = Bor (List ℕ)
@@ -97,31 +121,45 @@ after_word s awaits.Port word = with_number (number_of 65535 word.now) BadPort (
 after_word s awaits.Address word = reading_of (record s { addresses = Some word }) awaits.Key
 after_word s awaits.Timeout word = with_number (number_of 4294967295 word.now) BadTimeout (λ n. record s { seconds = n })
 after_word s awaits.Clients word = with_number (number_of 4294967295 word.now) BadClients (λ n. record s { clients = n })
+after_word s awaits.Log word = with_form (form_named word.now) s
+after_word s awaits.Metrics word = with_number (number_of 65535 word.now) BadMetrics (λ n. record s { metrics = Some n })
 
 -- ---- all words
 
+-- what was read of all words so far, or the first that is bad
+abbrev pub ReadAll : Type 0
+ReadAll = Result Reading BadWords
+
+-- what was made of a word, with the word where it is bad
+abbrev pub at_word : Word → Read → ReadAll
+at_word word (Ok r) = Ok r
+at_word word (Err refusal) = Err (At word refusal)
+
 -- Each word counts in turn: a later one stands for an earlier one, and the first that is bad is refused.
-abbrev pub after_words : Read → List Word → Read
-after_words (Err refusal) words = Err refusal
+abbrev pub after_words : ReadAll → List Word → ReadAll
+after_words (Err bad) words = Err bad
 after_words (Ok r) [] = Ok r
-after_words (Ok r) (word ∷ words) = after_words (after_word r.settings r.awaits word) words
+after_words (Ok r) (word ∷ words) = after_words (at_word word (after_word r.settings r.awaits word)) words
 
 -- what is asked for without any word, at this port, with the addresses of ERL_EPMD_ADDRESS
 abbrev pub usual_settings : ℕ → Option Word → Settings
-usual_settings port address = record { task = task.Serve; port = port; addresses = address; seconds = 60; clients = 4096; systemd = false }
+usual_settings port address =
+    record { task = task.Serve; port = port; addresses = address; seconds = 60; clients = 4096; systemd = false; log = Some form.Text; metrics = None }
 
 -- behind the last word none is awaited that is a value
-abbrev pub final_settings : Settings → Awaits → Result Settings Refusal
+abbrev pub final_settings : Settings → Awaits → Result Settings BadWords
 final_settings s awaits.Key = Ok s
 final_settings s awaits.Port = Err NoValue
 final_settings s awaits.Address = Err NoValue
 final_settings s awaits.Timeout = Err NoValue
 final_settings s awaits.Clients = Err NoValue
+final_settings s awaits.Log = Err NoValue
+final_settings s awaits.Metrics = Err NoValue
 
-abbrev pub settings_after : Read → Result Settings Refusal
+abbrev pub settings_after : ReadAll → Result Settings BadWords
 settings_after (Ok r) = final_settings r.settings r.awaits
-settings_after (Err refusal) = Err refusal
+settings_after (Err bad) = Err bad
 
 -- WHAT THE WORDS ASK FOR, with the port and the addresses that the environment says
-abbrev pub settings_of : ℕ → Option Word → List Word → Result Settings Refusal
-settings_of port address words = settings_after (after_words (reading_of (usual_settings port address) awaits.Key) words)
+abbrev pub settings_of : ℕ → Option Word → List Word → Result Settings BadWords
+settings_of port address words = settings_after (after_words (Ok (record { settings = usual_settings port address; awaits = awaits.Key })) words)

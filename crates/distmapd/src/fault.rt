@@ -3,7 +3,6 @@
 ghost use Rattle.std.specs.Prelude.{◌≡◌};
 ghost use Rattle.distmapd.specs.declared.fault.Fault.TheVariants.{NoMemory};
 
-use crate::refusal::Refusal;
 use dist_program::{PortError, TextError};
 use std::alloc::AllocError;
 use thiserror::Error;
@@ -13,7 +12,7 @@ use thiserror::Error;
 pub enum Fault {
     /// The words of the command line or the environment ask for nothing. Whoever started it is to blame.
     #[error("{0}")]
-    BadWords(Refusal),
+    BadWords(String),
     /// A word is no UTF-8. Whoever started it is to blame.
     #[error("a word of the command line or the environment is no UTF-8")]
     NoText,
@@ -26,6 +25,9 @@ pub enum Fault {
     /// It can't listen: the port is taken, an address is not this host's, or no socket was handed over.
     #[error("ListenFailed: the port is taken, an address is not of this host, or no socket was handed over")]
     ListenFailed,
+    /// It can't listen at the port of the figures.
+    #[error("MetricsFailed: it can't listen at that port of 127.0.0.1")]
+    MetricsFailed,
     /// The system doesn't report what is ready.
     #[error("ServeFailed")]
     ServeFailed,

@@ -14,6 +14,8 @@ pub enum Key {
     Mapper,
     /// The addresses come next.
     Address,
+    /// The same, by the form of the words of the other programs.
+    LongAddress,
     /// The seconds come next.
     Timeout,
     /// The most clients come next.
@@ -22,8 +24,16 @@ pub enum Key {
     Systemd,
     /// The names are asked for.
     Names,
+    /// Nothing is logged.
+    Quiet,
+    /// The form of the log comes next.
+    Log,
+    /// The port comes next at which the figures are told.
+    Metrics,
     /// The help is asked for.
     Help,
+    /// The same, by the form of the words of `epmd`.
+    ShortHelp,
     /// The version is asked for.
     Version,
     /// `epmd` goes into the background.
@@ -38,15 +48,20 @@ pub enum Key {
     Relaxed,
 }
 
-const ALL: [Key; 14] = [
+const ALL: [Key; 19] = [
     Key::Port,
     Key::Mapper,
     Key::Address,
+    Key::LongAddress,
     Key::Timeout,
     Key::Clients,
     Key::Systemd,
     Key::Names,
+    Key::Quiet,
+    Key::Log,
+    Key::Metrics,
     Key::Help,
+    Key::ShortHelp,
     Key::Version,
     Key::Daemon,
     Key::Kill,
@@ -64,11 +79,16 @@ impl Key {
             Key::Port => "-port",
             Key::Mapper => "--epmd-port",
             Key::Address => "-address",
+            Key::LongAddress => "--address",
             Key::Timeout => "-packet_timeout",
             Key::Clients => "-max_clients",
             Key::Systemd => "-systemd",
             Key::Names => "-names",
+            Key::Quiet => "-quiet",
+            Key::Log => "-log",
+            Key::Metrics => "-metrics",
             Key::Help => "--help",
+            Key::ShortHelp => "-help",
             Key::Version => "--version",
             Key::Daemon => "-daemon",
             Key::Kill => "-kill",

@@ -3,34 +3,51 @@
 
 mod answer;
 mod fault;
+mod form;
+mod json;
+mod json_line;
 mod key;
 mod listing;
+mod log;
+mod metrics;
+mod monitor;
 mod names;
+mod notice;
 mod output;
+mod page;
+mod rate;
 mod reading;
 mod refusal;
+mod serving;
 mod settings;
 mod sockets;
+mod text_line;
 
 use crate::fault::Fault;
+use crate::log::Log;
+use crate::monitor::Monitor;
 use crate::names::print_names;
+use crate::notice::say_ready;
 use crate::output::print;
 use crate::reading::settings_of;
+use crate::refusal::BadWords;
+use crate::serving::{Beside, serve};
 use crate::settings::{Settings, Task};
-use crate::sockets::{listeners, port_of};
-use dist_epmd_server::{Limits, Server, serve};
+use crate::sockets::{handed_over, listeners, port_of};
+use dist_epmd_server::{Limits, Server};
+use dist_names::quote;
 use dist_program::{mapper_port, report, texts, variable, words_of};
-use std::alloc::Global;
+use std::alloc::{AllocError, Global};
 use std::io::{self, Write};
 use std::net::Net;
 use std::process::ExitCode;
 use std::sync::Wait;
-use std::sync::atomic::AtomicBool;
-use std::time::{Clock, Duration, SystemTime, UNIX_EPOCH};
+use std::time::{Clock, SystemTime, UNIX_EPOCH};
 
 /// How the program is called.
 const HELP: &str =
     "usage: distmapd [-port N] [-address A,B] [-packet_timeout S] [-max_clients N] [-systemd]
+                [-log text|json] [-quiet] [-metrics PORT]
        distmapd -names [-port N]
        distmapd --help | --version
 
@@ -38,12 +55,17 @@ A port mapper for Erlang nodes, in place of epmd. It stays in the foreground.
 
   -port N            the port of the port mapper (ERL_EPMD_PORT, else 4369)
   --epmd-port N      the same, by the word that the other programs have for it
-  -address A,B       the IP addresses at which it listens, beside 127.0.0.1 (ERL_EPMD_ADDRESS, else all)
+  -address A,B       the IP addresses at which it listens, beside 127.0.0.1 and ::1 (ERL_EPMD_ADDRESS, else all)
+  --address A,B      the same, by the word that the other programs have for it
   -packet_timeout S  after how many seconds a client is closed that has not asked (60)
   -max_clients N     the most clients at once (4096)
-  -systemd           the socket is handed over as descriptor 3
+  -systemd           the sockets are handed over, LISTEN_FDS of them from descriptor 3 on
+  -log text|json     in which form it says on standard error what happens (text)
+  -quiet             it says nothing of that
+  -metrics PORT      tells its figures to Prometheus at this port of 127.0.0.1
   -names             prints the names that the port mapper of this host knows
-  --help, --version
+  --help, -help      prints this
+  --version          prints the version
 
 Status: 0 done, 1 a fault here, 2 a bad command line.
 ";
@@ -53,9 +75,6 @@ const VERSION: &str = "distmapd 0.2.0\n";
 
 // The least creation: below it stand those that nodes without one use. Source: OTP, erl_epmd.
 const LEAST_CREATION: u32 = 4;
-
-// How long is waited where nothing happens: once a second it is looked for clients that are late.
-const SECONDS: u64 = 1;
 
 fn main(rt: HostRuntime) -> ExitCode {
     match perform(&rt, &rt, &mut rt.stdout()) {
@@ -78,13 +97,27 @@ fn perform<R: Net + Wait + Clock, W: Write>(
     let address = address.as_ref().map(|word| word.as_str());
     let settings = match settings_of(&words, port, address) {
         Ok(settings) => settings,
-        Err(refusal) => return Err(Fault::BadWords(refusal)),
+        Err(bad) => return Err(Fault::BadWords(sentence(alloc, &words, bad)?)),
     };
     match settings.task {
         Task::Help => print(out, HELP),
         Task::Version => print(out, VERSION),
         Task::Names => print_names(rt, alloc, settings.port, out),
-        Task::Serve => run(host, alloc, &settings),
+        Task::Serve => run(rt, host, &settings),
+    }
+}
+
+// The sentence that refuses words, with the one that is bad.
+fn sentence(alloc: Global, words: &[&str], bad: BadWords<'_>) -> Result<String, AllocError> {
+    match bad {
+        BadWords::At(word, refusal) => {
+            let quoted = quote(alloc, word.as_bytes())?;
+            format!(in alloc; "{quoted}: {refusal}")
+        }
+        BadWords::NoValue => {
+            let quoted = quote(alloc, words.last().copied().unwrap_or("").as_bytes())?;
+            format!(in alloc; "{quoted}: the last word wants a value behind it")
+        }
     }
 }
 
@@ -103,38 +136,74 @@ fn first_creation<R: Clock>(rt: &R) -> u32 {
     }
 }
 
+// How many sockets were handed over: none where they are not asked for.
+fn sockets_handed_over(rt: &HostRuntime, settings: &Settings<'_>) -> Result<u16, Fault> {
+    if !settings.systemd {
+        return Ok(0);
+    }
+    let said = variable(rt, "LISTEN_FDS")?;
+    handed_over(said.as_ref().map(|word| word.as_str())).ok_or(Fault::ListenFailed)
+}
+
+// What runs beside the port mapper.
+fn beside<R: Net>(net: &R, alloc: Global, settings: &Settings<'_>) -> Result<Beside, Fault> {
+    let monitor = match settings.metrics {
+        Some(port) => match Monitor::new(net, alloc, port) {
+            Ok(monitor) => Some(monitor),
+            Err(_) => return Err(Fault::MetricsFailed),
+        },
+        None => None,
+    };
+    Ok(Beside {
+        log: settings.log.map(|form| Log::new(form)),
+        monitor,
+    })
+}
+
+// Tells whoever started the program that it listens, where it wants to be told.
+fn tell_ready(rt: &HostRuntime) -> Result<(), Fault> {
+    if let Some(name) = variable(rt, "NOTIFY_SOCKET")? {
+        let _ = say_ready(name.as_bytes());
+    }
+    Ok(())
+}
+
 // Listens, and serves for ever.
-fn run<R: Net + Wait + Clock>(rt: &R, alloc: Global, settings: &Settings<'_>) -> Result<(), Fault> {
-    let sockets = listeners(rt, alloc, settings)?;
+fn run<R: Net + Wait + Clock>(
+    rt: &HostRuntime,
+    host: &R,
+    settings: &Settings<'_>,
+) -> Result<(), Fault> {
+    let alloc = rt.alloc();
+    let sockets = listeners(host, alloc, settings, sockets_handed_over(rt, settings)?)?;
     let Ok(port) = port_of(&sockets) else {
         return Err(Fault::ListenFailed);
     };
+    let mut beside = beside(host, alloc, settings)?;
     let limits = Limits {
         clients: settings.clients as usize,
         seconds: settings.seconds as u64,
     };
-    match serve_at(rt, alloc, sockets, port, limits) {
+    let Ok(mut server) = server_at(host, alloc, sockets, port, limits) else {
+        return Err(Fault::ServeFailed);
+    };
+    tell_ready(rt)?;
+    match serve(host, alloc, &mut server, &mut beside) {
         Ok(()) => Ok(()),
         Err(_) => Err(Fault::ServeFailed),
     }
 }
 
-fn serve_at<R: Net + Wait + Clock>(
+fn server_at<R: Net + Clock>(
     rt: &R,
     alloc: Global,
     sockets: Vec<mio::net::TcpListener>,
     port: u16,
     limits: Limits,
-) -> io::Result<()> {
+) -> io::Result<Server> {
     let mut server = Server::new(rt, alloc, port, first_creation(rt), limits)?;
     for socket in sockets {
         server.add_listener(socket)?;
     }
-    serve(
-        rt,
-        alloc,
-        &mut server,
-        Duration::from_secs(SECONDS),
-        &AtomicBool::new(false),
-    )
+    Ok(server)
 }

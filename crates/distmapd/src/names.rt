@@ -3,13 +3,35 @@
 use crate::answer::ask;
 use crate::fault::Fault;
 use crate::listing::print_answer;
-use dist_program::talk_here;
+use dist_program::{ANSWER_SECONDS, CONNECT_SECONDS, connect, talk_here, talk_over};
+use dist_stream::DeadlineStream;
 use std::alloc::Global;
-use std::io::Write;
-use std::net::{Net, TcpListener, TcpStream};
+use std::io::{self, ErrorKind, Write};
+use std::net::{Ipv6Addr, Net, SocketAddr, TcpListener, TcpStream};
 use std::time::Clock;
 
-/// Asks the port mapper at this port of the loopback, and prints its own port and the names.
+// A connection to this port of the loopback of IPv6, with the limits of `talk_here`.
+fn talk_over_ipv6<'a, R: Net<Listener = TcpListener, Stream = TcpStream> + Clock>(
+    rt: &'a R,
+    port: u16,
+) -> io::Result<DeadlineStream<&'a R>> {
+    let address = SocketAddr::from((Ipv6Addr::LOCALHOST, port));
+    let stream = connect(rt, &address, CONNECT_SECONDS)?;
+    talk_over(rt, stream, ANSWER_SECONDS)
+}
+
+// A connection to this port of the loopback: of IPv4, and of IPv6 where nobody listens there.
+fn talk_with<'a, R: Net<Listener = TcpListener, Stream = TcpStream> + Clock>(
+    rt: &'a R,
+    port: u16,
+) -> io::Result<DeadlineStream<&'a R>> {
+    match talk_here(rt, port) {
+        Err(error) if error.kind() == ErrorKind::ConnectionRefused => talk_over_ipv6(rt, port),
+        first => first,
+    }
+}
+
+/// Asks the port mapper at this port of the loopback, of IPv4 or else of IPv6, and prints its own port and the names.
 ///
 /// ConnectFailed where nobody takes the connection within 8 seconds. What has not come 5 seconds later is not waited for: see
 /// [`print_answer`] for what is said then.
@@ -19,7 +41,7 @@ pub fn print_names<R: Net<Listener = TcpListener, Stream = TcpStream> + Clock, W
     port: u16,
     out: &mut W,
 ) -> Result<(), Fault> {
-    let Ok(mut stream) = talk_here(rt, port) else {
+    let Ok(mut stream) = talk_with(rt, port) else {
         return Err(Fault::ConnectFailed);
     };
     let answer = ask(alloc, &mut stream)?;

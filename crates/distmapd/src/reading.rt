@@ -3,10 +3,12 @@
 //! It reads no environment, and it knows no address: words come in as texts, and the addresses stay a text.
 
 ghost use Rattle.std.specs.Prelude.{◌≡◌, ◌≤◌, IfSome};
-ghost use Rattle.distmapd.specs.Words.{number_of, after_word, after_key, key_named, reading_of, final_settings, settings_of, usual_settings};
+ghost use Rattle.distmapd.specs.Words.{number_of, form_named, at_word, after_word, after_key};
+ghost use Rattle.distmapd.specs.Words.{key_named, reading_of, final_settings, settings_of, usual_settings};
 
+use crate::form::Form;
 use crate::key::Key;
-use crate::refusal::Refusal;
+use crate::refusal::{BadWords, Refusal};
 use crate::settings::{Settings, Task};
 use dist_names::number_32;
 
@@ -29,6 +31,10 @@ pub enum Awaits {
     Timeout,
     /// The most clients.
     Clients,
+    /// The form of the log.
+    Log,
+    /// The port of the figures.
+    Metrics,
 }
 
 /// What was read so far.
@@ -59,6 +65,20 @@ fn number_of(word: &str, most: u32) -> Option<u32>
     Some(number)
 }
 
+// The form of the log of this name.
+#[tactic(auto, unfolding(crate::specs::Words::form_named))]
+fn form_of(word: &str) -> Option<Form>
+    ensures { result ≡ form_named word.now }
+{
+    if word.as_bytes() == "text".as_bytes() {
+        Some(Form::Text)
+    } else if word.as_bytes() == "json".as_bytes() {
+        Some(Form::Json)
+    } else {
+        None
+    }
+}
+
 impl<'a> Settings<'a> {
     // What is asked for without any word, at this port, with these addresses.
     fn usual(port: u16, addresses: Option<&'a str>) -> Settings<'a>
@@ -71,6 +91,8 @@ impl<'a> Settings<'a> {
             seconds: SECONDS,
             clients: CLIENTS,
             systemd: false,
+            log: Some(Form::Text),
+            metrics: None,
         }
     }
 
@@ -81,12 +103,15 @@ impl<'a> Settings<'a> {
         match Key::of_word(word) {
             None => return Err(Refusal::UnknownWord),
             Some(Key::Port | Key::Mapper) => return reading_of(self, Awaits::Port),
-            Some(Key::Address) => return reading_of(self, Awaits::Address),
+            Some(Key::Address | Key::LongAddress) => return reading_of(self, Awaits::Address),
             Some(Key::Timeout) => return reading_of(self, Awaits::Timeout),
             Some(Key::Clients) => return reading_of(self, Awaits::Clients),
             Some(Key::Systemd) => self.systemd = true,
             Some(Key::Names) => self.task = Task::Names,
-            Some(Key::Help) => self.task = Task::Help,
+            Some(Key::Quiet) => self.log = None,
+            Some(Key::Log) => return reading_of(self, Awaits::Log),
+            Some(Key::Metrics) => return reading_of(self, Awaits::Metrics),
+            Some(Key::Help | Key::ShortHelp) => self.task = Task::Help,
             Some(Key::Version) => self.task = Task::Version,
             Some(_) => return Err(Refusal::NotDone),
         }
@@ -109,8 +134,22 @@ impl<'a> Settings<'a> {
             Awaits::Clients => {
                 self.clients = number_of(word, u32::MAX).ok_or(Refusal::BadClients)?;
             }
+            Awaits::Log => self.log = Some(form_of(word).ok_or(Refusal::BadLog)?),
+            Awaits::Metrics => {
+                self.metrics = Some(number_of(word, 65535).ok_or(Refusal::BadMetrics)? as u16);
+            }
         }
         reading_of(self, Awaits::Key)
+    }
+}
+
+// Takes the next word.
+fn take_word<'a>(reading: Reading<'a>, word: &'a str) -> Result<Reading<'a>, BadWords<'a>>
+    ensures { result ≡ at_word word.entry (after_word reading.entry.settings reading.entry.awaits word.entry) }
+{
+    match reading.settings.after_word(reading.awaits, word) {
+        Ok(next) => Ok(next),
+        Err(refusal) => Err(BadWords::At(word, refusal)),
     }
 }
 
@@ -120,16 +159,19 @@ pub fn settings_of<'a>(
     words: &[&'a str],
     port: u16,
     address: Option<&'a str>,
-) -> Result<Settings<'a>, Refusal>
+) -> Result<Settings<'a>, BadWords<'a>>
     ensures { result ≡ settings_of port address.entry words.now }
 {
     let settings = Settings::usual(port, address);
-    let mut reading = reading_of(settings, Awaits::Key)?;
+    let mut reading = Reading {
+        settings,
+        awaits: Awaits::Key,
+    };
     for word in words {
-        reading = reading.settings.after_word(reading.awaits, word)?;
+        reading = take_word(reading, word)?;
     }
     match reading.awaits {
         Awaits::Key => Ok(reading.settings),
-        _ => Err(Refusal::NoValue),
+        _ => Err(BadWords::NoValue),
     }
 }

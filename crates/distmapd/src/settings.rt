@@ -1,5 +1,7 @@
 //! What is asked for.
 
+use crate::form::Form;
+
 /// What the program is to do.
 #[derive(Clone, Copy, PartialEq, Eq)]
 pub enum Task {
@@ -26,6 +28,10 @@ pub struct Settings<'a> {
     pub seconds: u32,
     /// The most clients at once.
     pub clients: u32,
-    /// Whether the socket is handed over by the one that started the program.
+    /// Whether the sockets are handed over by the one that started the program.
     pub systemd: bool,
+    /// In which form it is logged what happens. `None`: not at all.
+    pub log: Option<Form>,
+    /// At which port of the loopback the figures are told. `None`: at none.
+    pub metrics: Option<u16>,
 }

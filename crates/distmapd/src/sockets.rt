@@ -2,11 +2,15 @@
 
 use crate::fault::Fault;
 use crate::settings::Settings;
+use dist_names::number_16;
 use mio::net::TcpListener;
 use os::FromRawFd;
 use std::alloc::Global;
 use std::io::{self, ErrorKind};
 use std::net::{IpAddr, Ipv4Addr, Ipv6Addr, Net, SocketAddr};
+
+// The most sockets that are handed over.
+const MOST_HANDED_OVER: u16 = 16;
 
 // The first descriptor that is handed over. Source: systemd, sd_listen_fds(3).
 const HANDED_OVER: i32 = 3;
@@ -14,6 +18,19 @@ const HANDED_OVER: i32 = 3;
 // Listens at an address.
 fn listen_at(net: &impl Net, address: IpAddr, port: u16) -> io::Result<TcpListener> {
     TcpListener::bind(net, SocketAddr::new(address, port))
+}
+
+// Listens at an address that the host may lack.
+fn listen_where_there(
+    net: &impl Net,
+    found: &mut Vec<TcpListener>,
+    address: IpAddr,
+    port: u16,
+) -> io::Result<()> {
+    if let Ok(listener) = listen_at(net, address, port) {
+        found.push(listener)?;
+    }
+    Ok(())
 }
 
 // All addresses of both kinds where the system has both, else those of IPv4.
@@ -24,11 +41,21 @@ fn listen_at_all(net: &impl Net, port: u16) -> io::Result<TcpListener> {
     }
 }
 
-// The socket that the one who started the program handed over.
-fn inherited_socket() -> io::Result<TcpListener> {
-    let listener = unsafe { std::net::TcpListener::from_raw_fd(HANDED_OVER) };
+// A socket that the one who started the program handed over.
+fn inherited_socket(place: u16) -> io::Result<TcpListener> {
+    let fd = HANDED_OVER + i32::from(place);
+    let listener = unsafe { std::net::TcpListener::from_raw_fd(fd) };
     listener.set_nonblocking(true)?;
     Ok(TcpListener::from_std(listener))
+}
+
+// So many of them.
+fn inherited_sockets(alloc: Global, count: u16) -> io::Result<Vec<TcpListener>> {
+    let mut found = Vec::new(alloc);
+    for place in 0..count {
+        found.push(inherited_socket(place)?)?;
+    }
+    Ok(found)
 }
 
 // The addresses between commas and spaces, as `epmd` reads them.
@@ -54,20 +81,51 @@ fn add(addresses: &mut Vec<IpAddr>, address: IpAddr) -> Result<(), Fault> {
     }
 }
 
-// Listens at the loopback and at these addresses.
+const ALL_4: IpAddr = IpAddr::V4(Ipv4Addr::UNSPECIFIED);
+
+const ALL_6: IpAddr = IpAddr::V6(Ipv6Addr::UNSPECIFIED);
+
+const HERE_4: IpAddr = IpAddr::V4(Ipv4Addr::LOCALHOST);
+
+const HERE_6: IpAddr = IpAddr::V6(Ipv6Addr::LOCALHOST);
+
+// Whether one is listened at that has these already: those of one kind are among all of it, and those of both among all of IPv6.
+fn is_within(address: IpAddr, all: &[IpAddr]) -> bool {
+    all.iter().any(|one| {
+        *one == address || *one == ALL_6 || (*one == ALL_4 && address.is_ipv4())
+    })
+}
+
+// Whether another of these addresses has this one: an equal one before it, or all of its kind.
+fn is_taken(address: IpAddr, addresses: &[IpAddr], place: usize) -> bool {
+    match addresses.get(..place) {
+        Some(before) if before.contains(&address) => true,
+        _ => address != ALL_4 && address.is_ipv4() && addresses.contains(&ALL_4),
+    }
+}
+
+// Listens at these addresses, each once, and at the loopback of both kinds where none of them has it. All of a kind comes first.
 fn listen_at_each(
     net: &impl Net,
     alloc: Global,
     addresses: &[IpAddr],
     port: u16,
 ) -> io::Result<Vec<TcpListener>> {
-    let loopback = IpAddr::V4(Ipv4Addr::LOCALHOST);
     let mut found = Vec::new(alloc);
-    found.push(listen_at(net, loopback, port)?)?;
-    for address in addresses.iter() {
-        if *address != loopback {
+    if is_within(ALL_6, addresses) {
+        found.push(listen_at_all(net, port)?)?;
+        return Ok(found);
+    }
+    if !is_within(HERE_4, addresses) {
+        found.push(listen_at(net, HERE_4, port)?)?;
+    }
+    for (place, address) in addresses.iter().enumerate() {
+        if !is_taken(*address, addresses, place) {
             found.push(listen_at(net, *address, port)?)?;
         }
+    }
+    if !is_within(HERE_6, addresses) {
+        listen_where_there(net, &mut found, HERE_6, port)?;
     }
     Ok(found)
 }
@@ -78,15 +136,29 @@ fn list_of(alloc: Global, listener: TcpListener) -> io::Result<Vec<TcpListener>>
     Ok(found)
 }
 
-/// The listeners that the settings ask for.
+/// How many sockets were handed over, by LISTEN_FDS: from 1 to 16, and one where it is not set. `None` where it says another
+/// number.
+pub fn handed_over(said: Option<&str>) -> Option<u16> {
+    let Some(word) = said else {
+        return Some(1);
+    };
+    let count = number_16(word.as_bytes())?;
+    if count == 0 || count > MOST_HANDED_OVER {
+        return None;
+    }
+    Some(count)
+}
+
+/// The listeners that the settings ask for. So many sockets were handed over.
 pub fn listeners(
     net: &impl Net,
     alloc: Global,
     settings: &Settings<'_>,
+    handed_over: u16,
 ) -> Result<Vec<TcpListener>, Fault> {
     let addresses = addresses_in(alloc, settings.addresses.unwrap_or(""))?;
     let found = if settings.systemd {
-        inherited_socket().and_then(|listener| list_of(alloc, listener))
+        inherited_sockets(alloc, handed_over)
     } else if addresses.is_empty() {
         listen_at_all(net, settings.port).and_then(|listener| list_of(alloc, listener))
     } else {

@@ -35,7 +35,7 @@ fault_text WriteFailed = codes "WriteFailed"
 fault_text OpenFailed = codes "OpenFailed"
 fault_text (NoCookie error) = cookies.error_name error
 fault_text ConnectFailed = codes "ConnectFailed"
-fault_text (NoAnswer error) = lookups.error_name error
+fault_text (NoAnswer error) = lookups.lookup_error_name error
 fault_text NoMemory = codes "NoMemory"
 
 -- THE LINE ON STANDARD ERROR: these words behind the program's name

@@ -13,8 +13,10 @@ PrintsAnswer false talk old new = (left : StreamState) × PrintsNames talk left 
 
 -- AN ORDER, DONE: what its command prints of the script on standard input, of the file at the path that it names, or of the port
 -- mapper at the port that it names
-abbrev pub Follows : (List ℕ → Option (List ℕ)) → (ℕ → StreamState) → Bool → Option (List ℕ) → Option (List ℕ) → Order → Option (List ℕ) → Option (List ℕ) → Type 0
+abbrev pub Follows : (List ℕ → Option (List ℕ)) → (ℕ → StreamState) → Bool → Option (List ℕ) → Option (List ℕ) → Order
+    → Option (List ℕ) → Option (List ℕ) → Type 0
 Follows files talks terminal before after order.Enact old new = Plays before after old new
-Follows files talks terminal before after (order.Cookie file challenge) old new = (left : Option (List ℕ)) × PrintsCookie (files file.now) left challenge old new
+Follows files talks terminal before after (order.Cookie file challenge) old new =
+    (left : Option (List ℕ)) × PrintsCookie (files file.now) left challenge old new
 Follows files talks terminal before after (order.Names port) old new = PrintsAnswer terminal (talks port) old new
 Follows files talks terminal before after (order.Run file) old new = (left : Option (List ℕ)) × PrintsRunOf (files file.now) left 0 old new

@@ -84,7 +84,9 @@ pub fn cookie<R: Read, W: Write, E: Write>(
 
     // With status 1 a fault ended it, whose line stands on `err`: the file has no cookie, for the first reason, and nothing was
     // printed; or its line could not be printed, and just a beginning of it was.
-    ensures fault { result ≡ 1 → EndsByFault (StopsCookie (R.remaining file.old) (R.remaining file.new) challenge (W.contents out.old) (W.contents out.new)) 1 (E.contents err.old) (E.contents err.new) }
+    ensures fault { result ≡ 1 → EndsByFault
+        (StopsCookie (R.remaining file.old) (R.remaining file.new) challenge (W.contents out.old) (W.contents out.new))
+        1 (E.contents err.old) (E.contents err.new) }
 {
     match perform(alloc, file, challenge, out) {
         Ok(()) => 0,

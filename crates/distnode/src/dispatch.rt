@@ -31,7 +31,8 @@ fn follow_cookie<S: System, W: Write, E: Write>(
     err: &mut E,
 ) -> u8
     ensures status { result ≤ 1 }
-    ensures done { result ≡ 0 → (left : Option (List ℕ)) × PrintsCookie (S.bytes_at system.now path.now) left challenge (W.contents out.old) (W.contents out.new) }
+    ensures done { result ≡ 0 → (left : Option (List ℕ))
+        × PrintsCookie (S.bytes_at system.now path.now) left challenge (W.contents out.old) (W.contents out.new) }
     ensures silent { result ≡ 0 → E.contents err.new ≡ E.contents err.old }
 {
     match system.open(path) {
@@ -129,7 +130,8 @@ where
     ensures status { result ≤ 2 }
 
     // With status 0 the order's command was done, of what the order names: just what it prints was printed.
-    ensures done { result ≡ 0 → Follows (S.bytes_at system.now) (S.talk_at system.now) (S.has_terminal system.now) (I.remaining input.old) (I.remaining input.new) order.entry (W.contents out.old) (W.contents out.new) }
+    ensures done { result ≡ 0 → Follows (S.bytes_at system.now) (S.talk_at system.now) (S.has_terminal system.now)
+        (I.remaining input.old) (I.remaining input.new) order.entry (W.contents out.old) (W.contents out.new) }
     ensures silent { result ≡ 0 → Keeps (E.contents err.old) (E.contents err.new) }
 {
     match order {

@@ -1,7 +1,7 @@
 //! The process as a command sees it: its files, its connections, and its terminal.
 
 ghost use Rattle.std.specs.Prelude.{None};
-ghost use Rattle.dist_stream.specs.Stream.{unused};
+ghost use Rattle.dist_stream.specs.Stream.{new_stream};
 
 use crate::system::System;
 use dist_program::talk_here;
@@ -34,7 +34,7 @@ impl<'a> System for HostSystem<'a> {
 
     ghost bytes_at = { λ _ _. None };
 
-    ghost talk_at = { λ _ _. unused None None };
+    ghost talk_at = { λ _ _. new_stream None None };
 
     ghost has_terminal = { λ s. s.is_terminal };
 

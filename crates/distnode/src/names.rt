@@ -49,7 +49,9 @@ pub fn names<S: Stream, W: Write, E: Write>(
 
     // With status 1 a fault ended it, whose line stands on `err`: the question has no answer, for the first reason, and nothing was
     // printed; or just a beginning of the answer was.
-    ensures fault { result ≡ 1 → EndsByFault (StopsNames (S.meaning stream.old) (S.meaning stream.new) MOST_TURNS (W.contents out.old) (W.contents out.new)) 1 (E.contents err.old) (E.contents err.new) }
+    ensures fault { result ≡ 1 → EndsByFault
+        (StopsNames (S.meaning stream.old) (S.meaning stream.new) MOST_TURNS (W.contents out.old) (W.contents out.new))
+        1 (E.contents err.old) (E.contents err.new) }
 {
     match perform(alloc, stream, out) {
         Ok(()) => 0,
@@ -94,7 +96,9 @@ pub fn names_on_terminal<S: Stream, W: Write, E: Write>(
     ensures silent { result ≡ 0 → E.contents err.new ≡ E.contents err.old }
 
     // The same, where memory may run out for the escape of the answer.
-    ensures fault { result ≡ 1 → EndsByFault (StopsEscapedNames (S.meaning stream.old) (S.meaning stream.new) MOST_TURNS (W.contents out.old) (W.contents out.new)) 1 (E.contents err.old) (E.contents err.new) }
+    ensures fault { result ≡ 1 → EndsByFault
+        (StopsEscapedNames (S.meaning stream.old) (S.meaning stream.new) MOST_TURNS (W.contents out.old) (W.contents out.new))
+        1 (E.contents err.old) (E.contents err.new) }
 {
     match perform_on_terminal(alloc, stream, out) {
         Ok(()) => 0,

@@ -262,7 +262,8 @@ where
     ensures silent { result ≡ 0 → E.contents err.new ≡ E.contents err.old }
     ensures ended { result ≡ 1 → (PrintsRunOf (F.remaining file.old) (F.remaining file.new) 1 (W.contents out.old) (W.contents out.new)
         × (E.contents err.new ≡ E.contents err.old))
-        ⊎ EndsByFault (StopsRunOf (F.remaining file.old) (F.remaining file.new) (W.contents out.old) (W.contents out.new)) 1 (E.contents err.old) (E.contents err.new) }
+        ⊎ EndsByFault (StopsRunOf (F.remaining file.old) (F.remaining file.new) (W.contents out.old) (W.contents out.new))
+        1 (E.contents err.old) (E.contents err.new) }
     ensures bad { result ≡ 2 → IsNoNodesFile (F.remaining file.old) (F.remaining file.new) }
     ensures bad_out { result ≡ 2 → W.contents out.new ≡ W.contents out.old }
     ensures bad_line { result ≡ 2 → PutsFront (codes "distnode: bad nodes file\n") (E.contents err.old) (E.contents err.new) }

@@ -7,8 +7,8 @@ use Rattle.dist_core.specs.declared.changing.Change.TheVariants.{Cookie, UsualCo
 use Rattle.dist_core.specs.Changing.{change}
 use Rattle.dist_core.specs.Node.{NodeState}
 use Rattle.dist_c_guest.specs.declared.guest.Guest.{Guest}
-use Rattle.dist_names.specs.NodeName.{named}
-use Rattle.dist_c_guest.specs.Forms.{formed, has_form}
+use Rattle.dist_names.specs.NodeName.{name_of_bytes}
+use Rattle.dist_c_guest.specs.Forms.{form_of_text, has_form}
 use Rattle.dist_c_guest.specs.Planning.{lets_in, shuts_out, with_form, without_form}
 use Rattle.distnode_c.specs.Codes.{name_code, cookie_code, change_code}
 
@@ -44,12 +44,12 @@ Disallows (Err e) code old new = Stays (name_code e) code old new
 
 -- a text that has a form lets in all of it, and any other is a peer's name
 abbrev pub AllowsText : Bool → List ℕ → ℕ → Guest → Guest → Type 0
-AllowsText true text code old new = AllowsForm (formed text) code old new
-AllowsText false text code old new = Allows (named text) code old new
+AllowsText true text code old new = AllowsForm (form_of_text text) code old new
+AllowsText false text code old new = Allows (name_of_bytes text) code old new
 
 abbrev pub DisallowsText : Bool → List ℕ → ℕ → Guest → Guest → Type 0
-DisallowsText true text code old new = DisallowsForm (formed text) code old new
-DisallowsText false text code old new = Disallows (named text) code old new
+DisallowsText true text code old new = DisallowsForm (form_of_text text) code old new
+DisallowsText false text code old new = Disallows (name_of_bytes text) code old new
 
 -- a peer has this cookie, or the first reason why not; memory may run out for both, whatever the change
 abbrev pub Keys : Result (List ℕ) NameError → Result (List ℕ) CookieError → ℕ → Guest → Guest → Type 0

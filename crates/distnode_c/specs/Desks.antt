@@ -38,9 +38,9 @@ IsReceivedIn (Err desk.Awaits) conn taken read old new = ⊥
 IsReceivedIn (Err (desk.Request e)) conn taken read old new = RefusedBut (is_want e) e read × (new ≡ old)
 
 -- the same of the frame at the front of bytes, or none has come whole
-abbrev pub IsReceived : Result ℕ DeskError → ℕ → Option (List ℕ) → Desk → Desk → Type 0
-IsReceived result conn None old new = (result ≡ Err desk.Awaits) × (new ≡ old)
-IsReceived result conn (Some body) old new = IsReceivedIn result conn (2 + length body) (read_request body) old new
+abbrev pub IsReceivedByDesk : Result ℕ DeskError → ℕ → Option (List ℕ) → Desk → Desk → Type 0
+IsReceivedByDesk result conn None old new = (result ≡ Err desk.Awaits) × (new ≡ old)
+IsReceivedByDesk result conn (Some body) old new = IsReceivedIn result conn (2 + length body) (read_request body) old new
 
 -- ---- the exports
 

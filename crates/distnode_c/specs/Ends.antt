@@ -7,7 +7,7 @@ use Rattle.dist_core_ends.specs.declared.phase.Phase.TheVariants as phase
 use Rattle.dist_core_ends.specs.declared.known.End.{End}
 use Rattle.dist_core_ends.specs.declared.known.End.TheVariants as ends
 use Rattle.dist_core_ends.specs.Ends.{is_open, oldest_pending}
-use Rattle.dist_core_ends.specs.Forgetting.{forgotten}
+use Rattle.dist_core_ends.specs.Forgetting.{without_causes_below}
 use Rattle.dist_c_guest.specs.Calls.{restarted_guest}
 use Rattle.dist_c_guest.specs.declared.guest.Guest.{Guest}
 use Rattle.distnode_c.specs.declared.ends.DnEnd.{DnEnd}
@@ -70,7 +70,7 @@ TellsOldest (Some s) code was is = TellsId (oldest_pending s.node.ends) code was
 
 -- the guest, once its node has forgotten why the ends below a number were closed
 abbrev pub forgetful : ℕ → Guest → Guest
-forgetful below s = record s { node = record s.node { ends = forgotten below s.node.ends } }
+forgetful below s = record s { node = record s.node { ends = without_causes_below below s.node.ends } }
 
 -- a guest begins anew, or is left as it is while ends are open (16), of which there are this many
 abbrev pub RenewsWith : ℕ → ℕ → Guest → Option Guest → Type 0

@@ -1,7 +1,7 @@
 -- The contracts of the exports that write and read the port mapper's messages, and of the one that makes a digest.
 use Rattle.std.specs.Prelude.{◌≡◌, ℕ, ◌^◌, ◌≤◌, ◌⊎◌, List, [], length, Result, Ok, Err}
 use Rattle.std.specs.Int.{w16}
-use Rattle.dist_frames.specs.Stream.{framed}
+use Rattle.dist_frames.specs.Stream.{body_frame}
 use Rattle.dist_secret.specs.declared.cookie_error.CookieError.{CookieError}
 use Rattle.dist_secret.specs.Digest.{digest_of}
 use Rattle.dist_epmd.specs.declared.epmd_error.EpmdError.{EpmdError}
@@ -20,7 +20,7 @@ Leaves wanted code had len old new = (code ≡ wanted) × (len ≡ had) × (new 
 -- the frame of what is written is copied, or the reason why nothing is
 abbrev pub Asks : Result (List ℕ) EpmdError → ℕ → ℕ → ℕ → List ℕ → List ℕ → Type 0
 Asks (Ok body) code had len old new =
-    Copies (framed w16 body) code len old new ⊎ (Leaves 3 code had len old new ⊎ ((2 ^ 16 ≤ length body) × Leaves 40 code had len old new))
+    Copies (body_frame w16 body) code len old new ⊎ (Leaves 3 code had len old new ⊎ ((2 ^ 16 ≤ length body) × Leaves 40 code had len old new))
 Asks (Err e) code had len old new = Leaves (epmd_code e) code had len old new
 
 -- the request of a registration

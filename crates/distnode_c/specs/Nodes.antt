@@ -17,15 +17,15 @@ use Rattle.distnode_c.specs.declared.nodes.DnSetup.{DnSetup}
 use Rattle.distnode_c.specs.declared.nodes.DnPeer.{DnPeer}
 use Rattle.distnode_c.specs.Codes.{name_code, cookie_code}
 use Rattle.distnode_c.specs.Replies.{creation_number, is_known}
-use Rattle.distnode_c.specs.Steps.{Copies, CopiesIf, said}
+use Rattle.distnode_c.specs.Steps.{Copies, CopiesIf, sent_bytes}
 
 -- a guest of a node without ends, to which DFLAG_MANDATORY_25_DIGEST stands for these flags
 abbrev pub first_reader : Setup → ℕ → Guest
 first_reader setup mandatory = record (first_guest setup) { reading = record plain { mandatory = record { 0 = mandatory } } }
 
 -- there is such a guest, or memory ran out and there is none
-abbrev pub Makes : Setup → ℕ → ℕ → Option Guest → Type 0
-Makes setup mandatory code new = ((code ≡ 0) × (new ≡ Some (first_reader setup mandatory))) ⊎ ((code ≡ 3) × (new ≡ None))
+abbrev pub MakesGuest : Setup → ℕ → ℕ → Option Guest → Type 0
+MakesGuest setup mandatory code new = ((code ≡ 0) × (new ≡ Some (first_reader setup mandatory))) ⊎ ((code ≡ 3) × (new ≡ None))
 
 -- the version of a number: 0 stands for 6
 abbrev pub version_of : ℕ → Option Version
@@ -77,7 +77,7 @@ News version name cookie u code (Some s) new = (code ≡ 2) × (new ≡ Some s)
 News None name cookie u code None new = (code ≡ 6) × (new ≡ None)
 News (Some v) (Err e) cookie u code None new = (code ≡ name_code e) × (new ≡ None)
 News (Some v) (Ok name) (Err e) u code None new = (code ≡ cookie_code e) × (new ≡ None)
-News (Some v) (Ok name) (Ok cookie) u code None new = Makes (setup_of name cookie v u) u.mandatory_25 code new
+News (Some v) (Ok name) (Ok cookie) u code None new = MakesGuest (setup_of name cookie v u) u.mandatory_25 code new
 
 -- none is left
 abbrev pub Frees : {X : Type 0} → ℕ → Option X → Option X → Type 0
@@ -87,7 +87,7 @@ Frees code (Some s) new = (code ≡ 0) × (new ≡ None)
 -- what the newest reply sends is copied, where there is a guest
 abbrev pub Says : Option Guest → ℕ → ℕ → ℕ → List ℕ → List ℕ → Type 0
 Says None code had len old new = (code ≡ 1) × (len ≡ had) × (new ≡ old)
-Says (Some s) code had len old new = Copies (said s.last) code len old new
+Says (Some s) code had len old new = Copies (sent_bytes s.last) code len old new
 
 -- what is reported of a record
 abbrev pub peer_of : EndId → UpRecord → DnPeer

@@ -58,9 +58,9 @@ abbrev pub Copies : List ℕ → ℕ → ℕ → List ℕ → List ℕ → Type 
 Copies text code len old new = (len ≡ length text) × CopiesIf (nat_le (length text) (length old)) text code old new
 
 -- the bytes that the newest reply sends
-abbrev pub said : Option Reply → List ℕ
-said None = []
-said (Some r) = r.say
+abbrev pub sent_bytes : Option Reply → List ℕ
+sent_bytes None = []
+sent_bytes (Some r) = r.say
 
 -- the opening of a number
 abbrev pub opening_of : ℕ → Opening

@@ -1,7 +1,7 @@
 //! Bodies without their lengths, for a caller whose sockets take them off and put them before.
 ghost use Rattle.std.specs.Prelude.{◌≡◌, Some, true, slice_get};
 ghost use Rattle.distnode_c.specs.Bodies.{ReceivesBody, TakesBody, CopiesAt, SaysBody, is_short};
-ghost use Rattle.distnode_c.specs.Steps.{said};
+ghost use Rattle.distnode_c.specs.Steps.{sent_bytes};
 ghost use Rattle.dist_frames.specs.Stream.{bodies};
 
 use crate::codes::{NO_SUCH, NOT_A_NODE, OK, TOO_LONG, step_code};
@@ -79,7 +79,7 @@ pub extern "C" fn dn_node_body(
 }
 
 fn copy_body(guest: &Guest, place: usize, room: &mut [u8], len: &mut usize) -> u32
-    ensures { CopiesAt (slice_get (bodies (said guest.now.last)) place) result len.old len.new room.old room.new }
+    ensures { CopiesAt (slice_get (bodies (sent_bytes guest.now.last)) place) result len.old len.new room.old room.new }
 {
     let said = match &guest.last {
         Some(reply) => body_at(reply.say.as_slice(), place),

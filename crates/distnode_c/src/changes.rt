@@ -1,11 +1,11 @@
 //! Which peers may connect, and under which cookie: changes of a node's setup, at any time between two steps.
 ghost use Rattle.std.specs.Prelude.{◌≡◌};
-ghost use Rattle.dist_names.specs.NodeName.{named};
+ghost use Rattle.dist_names.specs.NodeName.{name_of_bytes};
 ghost use Rattle.dist_secret.specs.Cookie.{cookie_of};
 ghost use Rattle.dist_core.specs.declared.changing.Change.{Change};
 ghost use Rattle.dist_core.specs.declared.changing.Change.TheVariants.{UsualCookie};
 ghost use Rattle.dist_core.specs.Changing.{change};
-ghost use Rattle.dist_c_guest.specs.Forms.{formed, has_form};
+ghost use Rattle.dist_c_guest.specs.Forms.{form_of_text, has_form};
 ghost use Rattle.dist_c_guest.specs.Planning.{Changes};
 ghost use Rattle.dist_c_guest.specs.declared.guest.Guest.{Guest};
 ghost use Rattle.distnode_c.specs.Changes.{Allows, AllowsForm, AllowsText, Amends, AtGuest, Disallows, DisallowsForm, DisallowsText, Keys, KeysUsually};
@@ -30,7 +30,7 @@ fn code_of_change(answer: Result<(), ChangeError>) -> u32
 }
 
 fn allow(guest: &mut Guest, alloc: Global, peer: &[u8]) -> u32
-    ensures { Allows (named peer.now) result guest.old guest.new }
+    ensures { Allows (name_of_bytes peer.now) result guest.old guest.new }
 {
     match NodeName::new(alloc, peer) {
         Ok(peer) => code_of_change(guest.allow(alloc, peer)),
@@ -39,7 +39,7 @@ fn allow(guest: &mut Guest, alloc: Global, peer: &[u8]) -> u32
 }
 
 fn allow_form(guest: &mut Guest, alloc: Global, text: &[u8]) -> u32
-    ensures { AllowsForm (formed text.now) result guest.old guest.new }
+    ensures { AllowsForm (form_of_text text.now) result guest.old guest.new }
 {
     match form_of(alloc, text) {
         Ok(form) => match guest.allow_form(alloc, form) {
@@ -75,7 +75,7 @@ pub extern "C" fn dn_node_allow(node: &mut DnNode, alloc: Global, peer: &[u8]) -
 }
 
 fn disallow(guest: &mut Guest, alloc: Global, peer: &[u8]) -> u32
-    ensures { Disallows (named peer.now) result guest.old guest.new }
+    ensures { Disallows (name_of_bytes peer.now) result guest.old guest.new }
 {
     match NodeName::new(alloc, peer) {
         Ok(peer) => {
@@ -87,7 +87,7 @@ fn disallow(guest: &mut Guest, alloc: Global, peer: &[u8]) -> u32
 }
 
 fn disallow_form(guest: &mut Guest, alloc: Global, text: &[u8]) -> u32
-    ensures { DisallowsForm (formed text.now) result guest.old guest.new }
+    ensures { DisallowsForm (form_of_text text.now) result guest.old guest.new }
 {
     match form_of(alloc, text) {
         Ok(form) => {
@@ -122,7 +122,7 @@ pub extern "C" fn dn_node_disallow(node: &mut DnNode, alloc: Global, peer: &[u8]
 }
 
 fn set_cookie(guest: &mut Guest, alloc: Global, peer: &[u8], cookie: &[u8]) -> u32
-    ensures { Keys (named peer.now) (cookie_of cookie.now) result guest.old guest.new }
+    ensures { Keys (name_of_bytes peer.now) (cookie_of cookie.now) result guest.old guest.new }
 {
     match read_both(alloc, peer, cookie) {
         Ok((peer, cookie)) => code_of_change(guest.set_cookie(peer, cookie)),
@@ -138,7 +138,7 @@ pub extern "C" fn dn_node_cookie(
     peer: &[u8],
     cookie: &[u8],
 ) -> u32
-    ensures { AtGuest (Keys (named peer.now) (cookie_of cookie.now) result) result node.old.slot.guest node.new.slot.guest }
+    ensures { AtGuest (Keys (name_of_bytes peer.now) (cookie_of cookie.now) result) result node.old.slot.guest node.new.slot.guest }
 {
     let Some(mut guest) = node.open(alloc) else {
         return NOT_A_NODE;

@@ -3,7 +3,7 @@ ghost use Rattle.std.specs.Prelude.{◌≡◌, None};
 ghost use Rattle.std.specs.Int.{w16};
 ghost use Rattle.dist_epmd.specs.Registrations.{opening, after_closed};
 ghost use Rattle.dist_frames.specs.Stream.{first_body};
-ghost use Rattle.distnode_c.specs.Desks.{IsAnswered, IsReceived, registered_number};
+ghost use Rattle.distnode_c.specs.Desks.{IsAnswered, IsReceivedByDesk, registered_number};
 
 use dist_epmd::{Answer, EpmdError, Registry, Request, decode_request};
 use dist_epmd_calls::Mapper;
@@ -64,7 +64,7 @@ impl Desk {
 
     /// Answers the request in the frame at the front of these bytes, and returns how many bytes it has with its length.
     pub fn receive(&mut self, alloc: Global, conn: u64, bytes: &[u8]) -> Result<usize, DeskError>
-        ensures { IsReceived result conn (first_body w16 bytes.now) self.old self.new }
+        ensures { IsReceivedByDesk result conn (first_body w16 bytes.now) self.old self.new }
     {
         let Some(body) = first_body(bytes) else {
             return Err(DeskError::Awaits);

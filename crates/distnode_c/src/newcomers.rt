@@ -1,6 +1,6 @@
 //! A connection that came, and a dial: the oldest end that is not up makes room for them.
 ghost use Rattle.std.specs.Prelude.{◌≡◌, Some};
-ghost use Rattle.dist_names.specs.NodeName.{named};
+ghost use Rattle.dist_names.specs.NodeName.{name_of_bytes};
 ghost use Rattle.dist_c_guest.specs.Room.{room_for};
 ghost use Rattle.distnode_c.specs.Steps.{Steps, opening_of};
 ghost use Rattle.distnode_c.specs.Newcomers.{ComesAt, Comes, Dials, with_room};
@@ -80,7 +80,7 @@ pub extern "C" fn dn_node_dial(
     opening: u32,
     reply: &mut DnReply,
 ) -> u32
-    ensures { Dials (named peer.now) (opening_of opening) result node.old.slot.guest node.new.slot.guest reply.old reply.new }
+    ensures { Dials (name_of_bytes peer.now) (opening_of opening) result node.old.slot.guest node.new.slot.guest reply.old reply.new }
 {
     match NodeName::new(alloc, peer) {
         Ok(peer) => {

@@ -3,11 +3,11 @@ ghost use Rattle.std.specs.Prelude.{◌≡◌, Some, None, Ok};
 ghost use Rattle.std.specs.Option.{option_map};
 ghost use Rattle.std.specs.FinMap as map;
 ghost use Rattle.std.specs.Prelude.{slice_get};
-ghost use Rattle.dist_names.specs.NodeName.{named};
+ghost use Rattle.dist_names.specs.NodeName.{name_of_bytes};
 ghost use Rattle.dist_secret.specs.Cookie.{cookie_of};
 ghost use Rattle.dist_core_ends.specs.Ends.{up_from, up_ids, table_of, record_in};
-ghost use Rattle.distnode_c.specs.Steps.{Copies, said};
-ghost use Rattle.distnode_c.specs.Nodes.{Makes, News, ReadsBoth, version_of, limit_of, limits_in, number_or, Frees, Says, Tells, TellsAt};
+ghost use Rattle.distnode_c.specs.Steps.{Copies, sent_bytes};
+ghost use Rattle.distnode_c.specs.Nodes.{MakesGuest, News, ReadsBoth, version_of, limit_of, limits_in, number_or, Frees, Says, Tells, TellsAt};
 
 use crate::codes::{IN_USE, NO_MEMORY, NO_SUCH, NOT_A_NODE, OK, cookie_code, name_code};
 use crate::copies::copy_out;
@@ -69,7 +69,7 @@ pub struct DnPeer {
 // Puts a new guest in where there is none.
 fn put_new_guest(node: &mut DnNode, alloc: Global, setup: Setup, mandatory: Flags) -> u32
     requires { node.old.slot.guest ≡ None }
-    ensures { Makes setup mandatory.0 result node.new.slot.guest }
+    ensures { MakesGuest setup mandatory.0 result node.new.slot.guest }
 {
     let mut guest = Guest::new(alloc, setup);
     guest.reading.mandatory = mandatory;
@@ -130,7 +130,7 @@ fn limits_in(setup: &DnSetup) -> Limits
 
 /// A name and a cookie. `NO_MEMORY` for the name is returned only where the text has a cookie.
 pub fn read_both(alloc: Global, name: &[u8], cookie: &[u8]) -> Result<(NodeName, Cookie), u32>
-    ensures { ReadsBoth result (named name.now) (cookie_of cookie.now) }
+    ensures { ReadsBoth result (name_of_bytes name.now) (cookie_of cookie.now) }
 {
     let name = match NodeName::new(alloc, name) {
         Ok(name) => Some(name),
@@ -155,7 +155,7 @@ pub extern "C" fn dn_node_new(
     cookie: &[u8],
     setup: &DnSetup,
 ) -> u32
-    ensures { News (version_of setup.now.version) (named name.now) (cookie_of cookie.now) setup.now result node.old.slot.guest node.new.slot.guest }
+    ensures { News (version_of setup.now.version) (name_of_bytes name.now) (cookie_of cookie.now) setup.now result node.old.slot.guest node.new.slot.guest }
 {
     if node.mark == MARK {
         return IN_USE;
@@ -197,7 +197,7 @@ pub extern "C" fn dn_node_free(node: &mut DnNode, alloc: Global) -> u32
 }
 
 fn copy_say(guest: &Guest, room: &mut [u8], len: &mut usize) -> u32
-    ensures { Copies (said guest.now.last) result len.new room.old room.new }
+    ensures { Copies (sent_bytes guest.now.last) result len.new room.old room.new }
 {
     match &guest.last {
         Some(reply) => copy_out(reply.say.as_slice(), room, len),

@@ -24,7 +24,7 @@ use Rattle.dist_core.specs.Accepted.{named_attempt}
 use Rattle.dist_core.specs.Effects.{closes, comes_up, goes_on, record_of, shuts}
 use Rattle.dist_core.specs.Node.{NodeState, is_crowded, is_full_for, is_given_out, is_spent, new_id}
 use Rattle.dist_core.specs.Runs.{opening}
-use Rattle.dist_core.specs.Step.{after, effect_of, heard, step, stepped}
+use Rattle.dist_core.specs.Step.{after, effect_of, message_effect, step, step_result}
 use Rattle.dist_core.specs.declared.effect.Effect.{Effect}
 use Rattle.dist_core.specs.declared.event.Event.{Event}
 use Rattle.dist_core.specs.declared.event.Event.TheVariants as event
@@ -35,18 +35,18 @@ use Rattle.dist_core.specs.declared.step_error.StepError.TheVariants as error
 use Rattle.distping.specs.Accepting.{AwaitsName, alone, only_end}
 
 -- the node after a step that had this effect
-node-after : (n : NodeState) (v : Event) (f : Effect) (r : Reply) (m : NodeState) → stepped n v (Ok f) ≡ Ok (r, m) → m ≡ after n v f
+node-after : (n : NodeState) (v : Event) (f : Effect) (r : Reply) (m : NodeState) → step_result n v (Ok f) ≡ Ok (r, m) → m ≡ after n v f
 node-after n v f r m e =
     let told : ◌≡◌ {A = Reply × NodeState} (f.reply, after n v f) (r, m) = cc in
     sym (ap (λ (x : Reply × NodeState). x.1) told)
 
 -- a refusal is no step
-refused : (n : NodeState) (v : Event) (x : StepError) (r : Reply) (m : NodeState) → stepped n v (Err x) ≡ Ok (r, m) → ⊥
+refused : (n : NodeState) (v : Event) (x : StepError) (r : Reply) (m : NodeState) → step_result n v (Err x) ≡ Ok (r, m) → ⊥
 refused n v x r m e = absurd cc
 
 -- ---- a connection
 
-opens-by : (s : Setup) (r : Reply) (m : NodeState) (a b : Bool) → stepped (opening s) (event.Incoming 0) (cond a (Err error.Spent) (cond b (Err error.Full) (Ok (goes_on (new_id (opening s)) [] ends.Unnamed note.Nothing)))) ≡ Ok (r, m) → AwaitsName s m
+opens-by : (s : Setup) (r : Reply) (m : NodeState) (a b : Bool) → step_result (opening s) (event.Incoming 0) (cond a (Err error.Spent) (cond b (Err error.Full) (Ok (goes_on (new_id (opening s)) [] ends.Unnamed note.Nothing)))) ≡ Ok (r, m) → AwaitsName s m
 opens-by s r m true b e = absurd (refused (opening s) (event.Incoming 0) error.Spent r m e)
 opens-by s r m false true e = absurd (refused (opening s) (event.Incoming 0) error.Full r m e)
 opens-by s r m false false e = (1, node-after (opening s) (event.Incoming 0) (goes_on (new_id (opening s)) [] ends.Unnamed note.Nothing) r m e)
@@ -78,7 +78,7 @@ module _ (s : Setup) (steps fresh : ℕ) (body : List ℕ) (r : Reply) (m : Node
   abbrev frame : Event
   frame = event.Frame only_end body
 
-  shut-first : (w : Why) (a : Bool) → stepped unnamed frame (cond a (Err error.Spent) (Ok (closes only_end w))) ≡ Ok (r, m) → IsShut s steps m
+  shut-first : (w : Why) (a : Bool) → step_result unnamed frame (cond a (Err error.Spent) (Ok (closes only_end w))) ≡ Ok (r, m) → IsShut s steps m
   shut-first w true e = absurd (refused unnamed frame error.Spent r m e)
   shut-first w false e = (w, node-after unnamed frame (closes only_end w) r m e)
 
@@ -86,14 +86,14 @@ module _ (s : Setup) (steps fresh : ℕ) (body : List ℕ) (r : Reply) (m : Node
   named f c p = goes_on only_end (greeting_text s status.Ok form.New fresh) (named_end fresh f c p) (note.NameTaken p None)
 
   named-first : (f : Flags) (c : Creation) (p : Name) (a b d : Bool)
-      → stepped unnamed frame (cond a (Err error.Spent) (Ok (cond b (cond d (shuts only_end (status_text status.NotAllowed) why.Refused note.Nothing) (named f c p)) (closes only_end why.Unexpected)))) ≡ Ok (r, m)
+      → step_result unnamed frame (cond a (Err error.Spent) (Ok (cond b (cond d (shuts only_end (status_text status.NotAllowed) why.Refused note.Nothing) (named f c p)) (closes only_end why.Unexpected)))) ≡ Ok (r, m)
       → IsFirst s steps fresh (Ok (message.NewName f c p)) m
   named-first f c p true b d e = absurd (refused unnamed frame error.Spent r m e)
   named-first f c p false true true e = inr (why.Refused, node-after unnamed frame (shuts only_end (status_text status.NotAllowed) why.Refused note.Nothing) r m e)
   named-first f c p false true false e = inl (node-after unnamed frame (named f c p) r m e)
   named-first f c p false false d e = inr (why.Unexpected, node-after unnamed frame (closes only_end why.Unexpected) r m e)
 
-  first-by : (res : Result Message MessageError) → stepped unnamed frame (cond (is_spent unnamed) (Err error.Spent) (Ok (heard unnamed only_end fresh ends.Unnamed res))) ≡ Ok (r, m) → IsFirst s steps fresh res m
+  first-by : (res : Result Message MessageError) → step_result unnamed frame (cond (is_spent unnamed) (Err error.Spent) (Ok (message_effect unnamed only_end fresh ends.Unnamed res))) ≡ Ok (r, m) → IsFirst s steps fresh res m
   first-by (Err x) e = shut-first why.Malformed (is_spent unnamed) e
   first-by (Ok (message.NewName f c p)) e = named-first f c p (is_spent unnamed) (knows_six s) (is_refused s (required_of s form.New) (is_full_for unnamed None) f p) e
   first-by (Ok (message.OldName f p)) e = tt
@@ -125,7 +125,7 @@ module _ (s : Setup) (steps fresh old_fresh : ℕ) (f : Flags) (c : Creation) (p
   abbrev reply : Event
   reply = event.Frame only_end body
 
-  shut-second : (w : Why) (a : Bool) → stepped awaiting reply (cond a (Err error.Spent) (Ok (closes only_end w))) ≡ Ok (r, m) → IsShut s steps m
+  shut-second : (w : Why) (a : Bool) → step_result awaiting reply (cond a (Err error.Spent) (Ok (closes only_end w))) ≡ Ok (r, m) → IsShut s steps m
   shut-second w true e = absurd (refused awaiting reply error.Spent r m e)
   shut-second w false e = (w, node-after awaiting reply (closes only_end w) r m e)
 
@@ -133,14 +133,14 @@ module _ (s : Setup) (steps fresh old_fresh : ℕ) (f : Flags) (c : Creation) (p
   risen challenge digest x = comes_up only_end (ack_text s p challenge) (record_of s attempt digest) (replaced_by (entry_from None (cond x (Some 0) None) None))
 
   replied : (challenge : ℕ) (digest : List ℕ) (a d x : Bool) → same_bytes digest (own_digest s p old_fresh) ≡ d
-      → stepped awaiting reply (cond a (Err error.Spent) (Ok (cond d (risen challenge digest x) (closes only_end why.WrongDigest)))) ≡ Ok (r, m)
+      → step_result awaiting reply (cond a (Err error.Spent) (Ok (cond d (risen challenge digest x) (closes only_end why.WrongDigest)))) ≡ Ok (r, m)
       → IsSecond s steps attempt (Ok (message.Reply challenge digest)) m
   replied challenge digest true d x is e = absurd (refused awaiting reply error.Spent r m e)
   replied challenge digest false true true is e = inl (node-after awaiting reply (risen challenge digest true) r m e, is)
   replied challenge digest false true false is e = inl (node-after awaiting reply (risen challenge digest false) r m e, is)
   replied challenge digest false false x is e = inr (why.WrongDigest, node-after awaiting reply (closes only_end why.WrongDigest) r m e)
 
-  second-by : (res : Result Message MessageError) → stepped awaiting reply (cond (is_spent awaiting) (Err error.Spent) (Ok (heard awaiting only_end fresh (ends.Attempt attempt) res))) ≡ Ok (r, m) → IsSecond s steps attempt res m
+  second-by : (res : Result Message MessageError) → step_result awaiting reply (cond (is_spent awaiting) (Err error.Spent) (Ok (message_effect awaiting only_end fresh (ends.Attempt attempt) res))) ≡ Ok (r, m) → IsSecond s steps attempt res m
   second-by (Err x) e = shut-second why.Malformed (is_spent awaiting) e
   second-by (Ok (message.NewName x y z)) e = shut-second why.Unexpected (is_spent awaiting) e
   second-by (Ok (message.OldName x y)) e = shut-second why.Unexpected (is_spent awaiting) e

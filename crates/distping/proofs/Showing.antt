@@ -114,6 +114,9 @@ put s fresh compares says m up taken.Silent h = tt
 put s fresh compares says m up taken.Unexpected h = tt
 put s fresh compares says m up (taken.Foreign service) h = tt
 put s fresh compares says m up taken.NoMemory h = tt
+put s fresh compares says m up taken.Stopped h = tt
+put s fresh compares says m up taken.WantsName h = tt
+put s fresh compares says m up taken.NoCaller h = tt
 
 step-shows : (s : Setup) (fresh : ℕ) (compares : Bool) (says : Content) (m : NodeState) (x : StepError) → Shows s fresh compares says (step_verdict x) m
 step-shows s fresh compares says m error.NoSuchEnd = tt

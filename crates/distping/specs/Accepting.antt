@@ -126,7 +126,8 @@ module _ (fresh : ℕ) (body : List ℕ) (n m : NodeState) (old new : StreamStat
 
 -- WHAT BECOMES OF A BODY that says this
 abbrev pub Takes : ℕ → Bool → List ℕ → Content → NodeState → NodeState → StreamState → StreamState → ℕ → ℕ → Option Taken → Type 0
-Takes fresh compares body says n m old new turns left verdict = TakesUnless fresh body n m old new turns left verdict (own_verdict compares (awaited_of (only n)) says)
+Takes fresh compares body says n m old new turns left verdict =
+    TakesUnless fresh body n m old new turns left verdict (own_verdict compares (awaited_of (only n)) says)
 
 -- ---- the talk, from its end
 
@@ -161,7 +162,8 @@ GoesOn None fresh compares n m old new turns left t = TalksOn fresh compares n m
 
 -- THE TALK behind the first body, which says this: the node is told each body that came, in order, but for those that the listener
 -- judges itself; what it says is written before the next body is read; and the verdict is upon how its end stands.
-pub record Talks (fresh : ℕ) (compares : Bool) (body : List ℕ) (says : Content) (n m : NodeState) (old new : StreamState) (turns left : ℕ) (t : Taken) : Type 0 where
+pub record Talks (fresh : ℕ) (compares : Bool) (body : List ℕ) (says : Content) (n m : NodeState)
+    (old new : StreamState) (turns left : ℕ) (t : Taken) : Type 0 where
   pub verdict : Option Taken
   pub after : NodeState
   pub mid : StreamState

@@ -7,19 +7,21 @@ use Rattle.distping.specs.declared.refusal.Refusal.{Refusal}
 use Rattle.distping.specs.declared.refusal.Refusal.TheVariants as refusal
 
 -- 2 where the command line is at fault, else 1
-abbrev pub status_of : Fault → ℕ
-status_of fault.BadCommandLine = 2
-status_of fault.BadName = 2
-status_of fault.BadFlags = 2
-status_of fault.OneNodeAlone = 2
-status_of fault.ListenAlone = 2
-status_of other = 1
+abbrev pub fault_status : Fault → ℕ
+fault_status fault.BadCommandLine = 2
+fault_status fault.BadName = 2
+fault_status fault.NoNode = 2
+fault_status fault.TwoCookies = 2
+fault_status fault.OneNodeAlone = 2
+fault_status fault.ListenAlone = 2
+fault_status other = 1
 
 -- the same of all that ends the program
 abbrev pub refusal_status : Refusal → ℕ
 refusal_status (refusal.BadMapperPort error) = port_error_status error
 refusal_status (refusal.NotPrivate file) = 1
-refusal_status (refusal.Fault fault) = status_of fault
+refusal_status (refusal.BadWord sentence) = 2
+refusal_status (refusal.Fault fault) = fault_status fault
 
 -- the first of two statuses, unless it is 0
 abbrev pub first_of : ℕ → ℕ → ℕ

@@ -4,3 +4,4 @@ pub mod Texts
 pub mod Pairs
 pub mod Listening
 pub mod Accepting
+pub mod Budgets

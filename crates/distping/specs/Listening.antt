@@ -1,5 +1,7 @@
 -- What came of a connection that was taken: the tables of its verdicts.
-use Rattle.std.specs.Prelude.{ℕ, Bool, false, Option, Some, None}
+use Rattle.std.specs.Prelude.{ℕ, Bool, false, ◌==◌, codes, Option, Some, None, if◌then◌else◌}
+use Rattle.std.specs.List.{starts_with}
+use Rattle.dist_names.specs.Flags.{has_all, name_me}
 use Rattle.dist_core_ends.specs.declared.phase.Awaited.{Awaited}
 use Rattle.dist_core_ends.specs.declared.phase.Awaited.TheVariants as awaited
 use Rattle.dist_core_ends.specs.declared.phase.Still.{Still}
@@ -70,6 +72,25 @@ own_verdict compares waits content.Reply = reply_verdict compares waits
 own_verdict compares waits (content.Name peer) = None
 own_verdict compares waits content.Other = None
 
+-- the node asks for a name, in place of saying its own
+abbrev pub wants_name : Content → Bool
+wants_name (content.Name peer) = has_all (let f = peer.flags in f.0) name_me
+wants_name content.OldName = false
+wants_name content.Reply = false
+wants_name content.Other = false
+
+-- the name is the one that a probe gives itself, where it is not told another
+abbrev pub is_probe : Content → Bool
+is_probe (content.Name peer) = starts_with ◌==◌ peer.name (codes "distping@")
+is_probe content.OldName = false
+is_probe content.Reply = false
+is_probe content.Other = false
+
+-- who left upon the challenge under the name of a probe may be one that tries no cookie
+abbrev pub behind_left : Taken → Content → Taken
+behind_left taken.Left says = if is_probe says then taken.Stopped else taken.Left
+behind_left other says = other
+
 -- the exit status: the place to look at
 abbrev pub taken_status : Taken → ℕ
 taken_status taken.Up = 0
@@ -77,6 +98,9 @@ taken_status taken.Answered = 0
 taken_status taken.WrongCookie = 10
 taken_status taken.NoName = 7
 taken_status taken.Left = 9
+taken_status taken.Stopped = 0
+taken_status taken.WantsName = 9
+taken_status taken.NoCaller = 6
 taken_status taken.Silent = 7
 taken_status taken.Unexpected = 7
 taken_status (taken.Foreign service) = 7

@@ -25,7 +25,8 @@ behind_cookies first second = pairing.Unsure
 
 -- what the flags show, and behind them the cookies
 abbrev pub behind_flags : Option Flags → Option Flags → Pairing → Pairing
-behind_flags (Some first) (Some second) cookies = if ((lacks first second).0 == 0) && ((lacks second first).0 == 0) then cookies else pairing.LacksFlags (lacks first second) (lacks second first)
+behind_flags (Some first) (Some second) cookies = if ((lacks first second).0 == 0) && ((lacks second first).0 == 0) then cookies
+    else pairing.LacksFlags (lacks first second) (lacks second first)
 behind_flags first second cookies = pairing.NotReached
 
 abbrev pub same_style : NameStyle → NameStyle → Bool
@@ -37,7 +38,8 @@ same_style first second = false
 abbrev pub pairing_of : Half → Half → Pairing
 pairing_of first second =
     if same_name first.node.now second.node.now then pairing.SameName else
-    if same_style (style_of first.node.now) (style_of second.node.now) then behind_flags first.flags second.flags (behind_cookies first.verdict second.verdict) else pairing.LongAndShort
+    if same_style (style_of first.node.now) (style_of second.node.now)
+    then behind_flags first.flags second.flags (behind_cookies first.verdict second.verdict) else pairing.LongAndShort
 
 -- the exit status: the place to look at
 abbrev pub pair_status : Pairing → ℕ

@@ -1,20 +1,18 @@
--- What it means that a place was not reached, and that a lookup went wrong.
+-- What it means that a host's name gave no address, and that a lookup went wrong.
 use Rattle.dist_epmd_calls.specs.declared.lookup_error.LookupError.{LookupError}
 use Rattle.dist_epmd_calls.specs.declared.lookup_error.LookupError.TheVariants as lookup
+use Rattle.dist_probe.specs.declared.verdict.Unresolved.TheVariants as unresolved
 use Rattle.dist_probe.specs.declared.verdict.Verdict.{Verdict}
 use Rattle.dist_probe.specs.declared.verdict.Verdict.TheVariants as verdict
-use Rattle.distping.specs.declared.dialling.Place.{Place}
-use Rattle.distping.specs.declared.dialling.Place.TheVariants as place
+use Rattle.dist_program.specs.declared.host_error.HostError.{HostError}
+use Rattle.dist_program.specs.declared.host_error.HostError.TheVariants as host
 
--- the port mapper's port was not reached
-abbrev pub mapper_verdict : Place → Verdict
-mapper_verdict place.Refused = verdict.MapperRefused
-mapper_verdict place.Unreachable = verdict.MapperUnreachable
-
--- the node's port was not reached
-abbrev pub port_verdict : Place → Verdict
-port_verdict place.Refused = verdict.PortRefused
-port_verdict place.Unreachable = verdict.PortUnreachable
+-- the host's name gave no address
+abbrev pub host_verdict : HostError → Verdict
+host_verdict host.NoName = verdict.NoHost unresolved.NoName
+host_verdict host.Failed = verdict.NoHost unresolved.Failed
+host_verdict host.Silent = verdict.ResolverSilent
+host_verdict host.NoMemory = verdict.NoMemory
 
 -- the port mapper was reached, and gave no registration
 abbrev pub lookup_verdict : LookupError → Verdict

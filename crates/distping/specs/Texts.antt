@@ -1,6 +1,6 @@
 -- What is printed: the pieces of a line, and the lines of a verdict.
 use Rattle.std.specs.Prelude.{◌≡◌, ℕ, ◌++◌, List, ⊤}
-use Rattle.dist_names.specs.Escaped.{escaped, quoted}
+use Rattle.dist_names.specs.Escaped.{escapes_of, in_double_quotes}
 use Rattle.distping.specs.declared.lines.Piece.{Piece}
 use Rattle.distping.specs.declared.lines.Piece.TheVariants as piece
 use Rattle.dist_probe.specs.declared.verdict.Verdict.{Verdict}
@@ -14,9 +14,9 @@ pub record TellsVerdict (v : Verdict) (text : List ℕ) : Type 0 where
 
 -- WHAT A PIECE PUTS behind a text. Bytes that somebody else gave, as another machine, come there escaped, and a name between
 -- double quotes. Of numbers, flags and addresses this says nothing: they are written from values, and not from bytes.
-abbrev pub Puts : Piece → List ℕ → List ℕ → Type 0
-Puts (piece.Text own) old new = new ≡ old ++ own.now
-Puts (piece.Name bytes) old new = new ≡ old ++ quoted bytes.now
-Puts (piece.Foreign bytes) old new = new ≡ old ++ escaped bytes.now
-Puts (piece.Escaped text) old new = new ≡ old ++ text.now
-Puts value old new = ⊤
+abbrev pub PutsPiece : Piece → List ℕ → List ℕ → Type 0
+PutsPiece (piece.Text own) old new = new ≡ old ++ own.now
+PutsPiece (piece.Name bytes) old new = new ≡ old ++ in_double_quotes bytes.now
+PutsPiece (piece.Foreign bytes) old new = new ≡ old ++ escapes_of bytes.now
+PutsPiece (piece.Escaped text) old new = new ≡ old ++ text.now
+PutsPiece value old new = ⊤

@@ -197,7 +197,8 @@ pub fn hear<S: Stream>(
 
 // Writes what the node says, and answers how its end then stands. None where its handshake goes on.
 fn write_text<S: Stream>(limited: &mut Limited<'_, S>, node: &Node, text: &[u8]) -> Option<Taken>
-    ensures writes { Writes text.now (only node.now) (S.meaning limited.old.stream.now) (S.meaning limited.new.stream.now) limited.old.left limited.new.left result }
+    ensures writes { Writes text.now (only node.now)
+        (S.meaning limited.old.stream.now) (S.meaning limited.new.stream.now) limited.old.left limited.new.left result }
     ensures loan { limited.new.stream.ghost_name ≡ limited.old.stream.ghost_name }
 {
     match limited.write_all(text) {
@@ -214,7 +215,8 @@ fn hand_on<S: Stream>(
     fresh: u32,
     body: ByteString,
 ) -> Option<Taken>
-    ensures hands { HandsOn fresh body node.old node.new (S.meaning limited.old.stream.now) (S.meaning limited.new.stream.now) limited.old.left limited.new.left result }
+    ensures hands { HandsOn fresh body node.old node.new
+        (S.meaning limited.old.stream.now) (S.meaning limited.new.stream.now) limited.old.left limited.new.left result }
     ensures loan { limited.new.stream.ghost_name ≡ limited.old.stream.ghost_name }
 {
     match node.step(alloc, &Event::Frame { end_: END, body }, fresh) {
@@ -232,7 +234,8 @@ fn take<S: Stream>(
     body: ByteString,
     content: &Content,
 ) -> Option<Taken>
-    ensures takes { Takes listen.now.fresh listen.now.compares body content.now node.old node.new (S.meaning limited.old.stream.now) (S.meaning limited.new.stream.now) limited.old.left limited.new.left result }
+    ensures takes { Takes listen.now.fresh listen.now.compares body content.now node.old node.new
+        (S.meaning limited.old.stream.now) (S.meaning limited.new.stream.now) limited.old.left limited.new.left result }
     ensures loan { limited.new.stream.ghost_name ≡ limited.old.stream.ghost_name }
 {
     match own_verdict(listen.compares, node.awaits(END), content) {
@@ -269,7 +272,8 @@ fn talk_on<S: Stream>(
     node: &mut Node,
     listen: &Listen<'_>,
 ) -> Taken
-    ensures talks { TalksOn listen.now.fresh listen.now.compares node.old node.new (S.meaning limited.old.stream.now) (S.meaning limited.new.stream.now) limited.old.left limited.new.left result }
+    ensures talks { TalksOn listen.now.fresh listen.now.compares node.old node.new
+        (S.meaning limited.old.stream.now) (S.meaning limited.new.stream.now) limited.old.left limited.new.left result }
     ensures loan { limited.new.stream.ghost_name ≡ limited.old.stream.ghost_name }
 {
     match hear(alloc, limited, node.awaits(END)) {
@@ -295,7 +299,8 @@ pub fn talk<S: Stream>(
 
     // `hear` gave both.
     requires content { content.now ≡ content_as (read Dialler body) }
-    ensures talks { Talks listen.now.fresh listen.now.compares body content.now node.old node.new (S.meaning limited.old.stream.now) (S.meaning limited.new.stream.now) limited.old.left limited.new.left result }
+    ensures talks { Talks listen.now.fresh listen.now.compares body content.now node.old node.new
+        (S.meaning limited.old.stream.now) (S.meaning limited.new.stream.now) limited.old.left limited.new.left result }
     ensures shows { Shows listen.now.setup.now listen.now.fresh listen.now.compares content.now result node.new }
     ensures loan { limited.new.stream.ghost_name ≡ limited.old.stream.ghost_name }
 {

@@ -1,37 +1,40 @@
 //! What the command line asks for.
 
 use crate::fault::Fault;
+use crate::refusal::Refusal;
+use crate::refusing::{bad_flags, bad_name, bad_number, bad_words};
 use clap::error::ErrorKind;
-use clap::{Arg, ArgAction, ArgMatches, Command};
+use clap::{Arg, ArgAction, ArgMatches, Command, Error};
 use dist_flags::{Dflag, Release};
 use dist_names::{Flags, NameError, NodeName, number_16, number_in};
 use dist_program::CONNECT_SECONDS;
 use std::alloc::{AllocError, Global};
+use std::time::Duration;
 
 // The turns of a talk beside those that pass in quiet seconds. A port mapper writes each line of its names by itself, so as
 // many reads may be needed as it knows nodes. Our own choice.
 const TURNS_IN_PLENTY: usize = 4096;
 
 /// What is done in place of dialling.
-#[derive(Clone, Copy)]
+#[derive(Drop)]
 pub enum Instead {
     /// How the program is called is printed.
     Help,
     /// Which version it is is printed.
     Version,
     /// The words ask for nothing.
-    Fault(Fault),
+    Refusal(Refusal),
 }
 
-impl From<Fault> for Instead {
-    fn from(fault: Fault) -> Instead {
-        Instead::Fault(fault)
+impl From<Refusal> for Instead {
+    fn from(refusal: Refusal) -> Instead {
+        Instead::Refusal(refusal)
     }
 }
 
 impl From<AllocError> for Instead {
     fn from(_error: AllocError) -> Instead {
-        Instead::Fault(Fault::NoMemory)
+        Instead::Refusal(Refusal::Fault(Fault::NoMemory))
     }
 }
 
@@ -70,8 +73,10 @@ pub struct Choices<'a> {
     pub port: Option<u16>,
     /// The host to connect to, where it is not that of the node's name.
     pub address: Option<&'a str>,
-    /// How many seconds a connect, a lookup and a talk may take each.
+    /// How many seconds a connect, a lookup and a talk may take each, one at least.
     pub seconds: u16,
+    /// The command line says so, and a connection is waited for as long.
+    pub has_limit: bool,
     /// The port at which one connection is taken, in place of dialling.
     pub listen: Option<u16>,
     /// An object of JSON is printed for each node, in place of the lines.
@@ -86,6 +91,20 @@ impl<'a> Choices<'a> {
         match self.address {
             Some(host) => host,
             None => std::str::from_utf8(node.host()).unwrap_or(""),
+        }
+    }
+
+    /// How long the resolver may take.
+    pub fn limit(&self) -> Duration {
+        Duration::from_secs(u64::from(self.seconds))
+    }
+
+    /// How many seconds a connection is waited for, where the command line says so.
+    pub fn patience(&self) -> Option<u16> {
+        if self.has_limit {
+            Some(self.seconds)
+        } else {
+            None
         }
     }
 
@@ -163,33 +182,49 @@ fn flags_of(text: &str) -> Option<Flags> {
     Some(flags)
 }
 
+// The flags of a text, which are none of a node that asks for a name: the probe has one.
+fn own_flags_of(alloc: Global, text: &str) -> Result<Flags, Refusal> {
+    match flags_of(text) {
+        Some(flags) if !flags.has(Flags::NAME_ME) => Ok(flags),
+        _ => Err(bad_flags(alloc, text)),
+    }
+}
+
 // What the probe announces: what OTP 23 to 29 take, unless the command line says otherwise.
-fn flags_in(matches: &ArgMatches<'_>) -> Result<Flags, Fault> {
+fn flags_in(alloc: Global, matches: &ArgMatches<'_>) -> Result<Flags, Refusal> {
     match matches.get_str("flags") {
         None => Ok(Release::Otp28.required()),
-        Some(text) => flags_of(text).ok_or(Fault::BadFlags),
+        Some(text) => own_flags_of(alloc, text),
     }
 }
 
 // The program's words whose value is a number.
 const NUMBERS: [&str; 4] = ["epmd-port", "port", "listen", "seconds"];
 
-// A port, or another number of 16 bits, where one is given.
-fn number_of(matches: &ArgMatches<'_>, id: &str) -> Result<Option<u16>, Fault> {
-    match matches.get_str(id) {
-        None => Ok(None),
-        Some(word) => match number_16(word.as_bytes()) {
-            Some(number) => Ok(Some(number)),
-            None => Err(Fault::BadCommandLine),
-        },
+// A number of 16 bits that is not 0.
+fn number_named(word: &str) -> Option<u16> {
+    match number_16(word.as_bytes()) {
+        Some(0) | None => None,
+        number => number,
+    }
+}
+
+// A port, or another number from 1 to 65,535, where one is given.
+fn number_of(alloc: Global, matches: &ArgMatches<'_>, id: &str) -> Result<Option<u16>, Refusal> {
+    let Some(word) = matches.get_str(id) else {
+        return Ok(None);
+    };
+    match number_named(word) {
+        Some(number) => Ok(Some(number)),
+        None => Err(bad_number(alloc, id, word)),
     }
 }
 
 // The numbers, each where it is given.
-fn numbers_in(matches: &ArgMatches<'_>) -> Result<[Option<u16>; 4], Fault> {
+fn numbers_in(alloc: Global, matches: &ArgMatches<'_>) -> Result<[Option<u16>; 4], Refusal> {
     let mut numbers = [None; 4];
     for at in 0..4 {
-        numbers[at] = number_of(matches, NUMBERS[at])?;
+        numbers[at] = number_of(alloc, matches, NUMBERS[at])?;
     }
     Ok(numbers)
 }
@@ -203,14 +238,26 @@ pub fn name_of(alloc: Global, bytes: &[u8]) -> Result<NodeName, Fault> {
     }
 }
 
+// The name that a word of the command line is.
+fn name_in(alloc: Global, word: &str) -> Result<NodeName, Refusal> {
+    match name_of(alloc, word.as_bytes()) {
+        Ok(name) => Ok(name),
+        Err(Fault::BadName) => Err(bad_name(alloc, word)),
+        Err(fault) => Err(Refusal::Fault(fault)),
+    }
+}
+
 // One more name of a node.
-fn push_node(alloc: Global, nodes: &mut Vec<NodeName>, word: &str) -> Result<(), Fault> {
-    let name = name_of(alloc, word.as_bytes())?;
-    Ok(nodes.push(name)?)
+fn push_node(alloc: Global, nodes: &mut Vec<NodeName>, word: &str) -> Result<(), Refusal> {
+    let name = name_in(alloc, word)?;
+    match nodes.push(name) {
+        Ok(()) => Ok(()),
+        Err(_) => Err(Refusal::Fault(Fault::NoMemory)),
+    }
 }
 
 // The names of the nodes.
-fn nodes_in(alloc: Global, matches: &ArgMatches<'_>) -> Result<Vec<NodeName>, Fault> {
+fn nodes_in(alloc: Global, matches: &ArgMatches<'_>) -> Result<Vec<NodeName>, Refusal> {
     let mut nodes = Vec::new(alloc);
     for word in matches.get_strs("node").unwrap_or(&[]) {
         push_node(alloc, &mut nodes, word)?;
@@ -219,16 +266,16 @@ fn nodes_in(alloc: Global, matches: &ArgMatches<'_>) -> Result<Vec<NodeName>, Fa
 }
 
 // The own name that is given.
-fn own_name_in(alloc: Global, matches: &ArgMatches<'_>) -> Result<Option<NodeName>, Fault> {
+fn own_name_in(alloc: Global, matches: &ArgMatches<'_>) -> Result<Option<NodeName>, Refusal> {
     match matches.get_str("name") {
         None => Ok(None),
-        Some(word) => Ok(Some(name_of(alloc, word.as_bytes())?)),
+        Some(word) => Ok(Some(name_in(alloc, word)?)),
     }
 }
 
 fn cookie_in<'a>(matches: &ArgMatches<'a>) -> Result<CookieSource<'a>, Fault> {
     match (matches.get_flag("no-cookie"), matches.get_str("cookie")) {
-        (true, Some(_)) => Err(Fault::BadCommandLine),
+        (true, Some(_)) => Err(Fault::TwoCookies),
         (true, None) => Ok(CookieSource::Nowhere),
         (false, Some(file)) => Ok(CookieSource::File(file)),
         (false, None) => Ok(CookieSource::Home),
@@ -236,10 +283,14 @@ fn cookie_in<'a>(matches: &ArgMatches<'a>) -> Result<CookieSource<'a>, Fault> {
 }
 
 // What the parser matched beside names.
-fn choices_in<'a>(matches: &ArgMatches<'a>, usual_port: u16) -> Result<Choices<'a>, Fault> {
+fn choices_in<'a>(
+    alloc: Global,
+    matches: &ArgMatches<'a>,
+    usual_port: u16,
+) -> Result<Choices<'a>, Refusal> {
     let cookie = cookie_in(matches)?;
-    let flags = flags_in(matches)?;
-    let [mapper_port, port, listen, seconds] = numbers_in(matches)?;
+    let flags = flags_in(alloc, matches)?;
+    let [mapper_port, port, listen, seconds] = numbers_in(alloc, matches)?;
     Ok(Choices {
         cookie,
         flags,
@@ -247,6 +298,7 @@ fn choices_in<'a>(matches: &ArgMatches<'a>, usual_port: u16) -> Result<Choices<'
         port,
         address: matches.get_str("address"),
         seconds: seconds.unwrap_or(CONNECT_SECONDS),
+        has_limit: seconds.is_some(),
         listen,
         json: matches.get_flag("json"),
         takes_any_file: matches.get_flag("cookie-unsafe"),
@@ -258,8 +310,8 @@ fn read_in<'a>(
     alloc: Global,
     matches: &ArgMatches<'a>,
     usual_port: u16,
-) -> Result<Wanted<'a>, Fault> {
-    let choices = choices_in(matches, usual_port)?;
+) -> Result<Wanted<'a>, Refusal> {
+    let choices = choices_in(alloc, matches, usual_port)?;
     let name = own_name_in(alloc, matches)?;
     Ok(Wanted {
         nodes: nodes_in(alloc, matches)?,
@@ -277,7 +329,7 @@ fn fault_in(choices: Choices<'_>, nodes: usize, is_named: bool) -> Option<Fault>
             Some(Fault::ListenAlone)
         }
     } else if nodes == 0 {
-        Some(Fault::BadCommandLine)
+        Some(Fault::NoNode)
     } else if nodes > 1 && (choices.port.is_some() || choices.address.is_some()) {
         Some(Fault::OneNodeAlone)
     } else {
@@ -293,18 +345,18 @@ fn wanted_in<'a>(
 ) -> Result<Wanted<'a>, Instead> {
     let wanted = read_in(alloc, matches, usual_port)?;
     match fault_in(wanted.choices, wanted.nodes.len(), wanted.name.is_some()) {
-        Some(fault) => Err(Instead::Fault(fault)),
+        Some(fault) => Err(Instead::Refusal(Refusal::Fault(fault))),
         None => Ok(wanted),
     }
 }
 
 // What is done where the parser matched nothing.
-fn instead_of(kind: ErrorKind) -> Instead {
-    match kind {
+fn instead_of(alloc: Global, error: &Error) -> Instead {
+    match error.kind() {
         ErrorKind::DisplayHelp => Instead::Help,
         ErrorKind::DisplayVersion => Instead::Version,
-        ErrorKind::OutOfMemory => Instead::Fault(Fault::NoMemory),
-        _ => Instead::Fault(Fault::BadCommandLine),
+        ErrorKind::OutOfMemory => Instead::Refusal(Refusal::Fault(Fault::NoMemory)),
+        _ => Instead::Refusal(bad_words(alloc, error)),
     }
 }
 
@@ -316,6 +368,6 @@ pub fn wanted_of<'a>(
 ) -> Result<Wanted<'a>, Instead> {
     match program(alloc)?.try_get_matches_from(words) {
         Ok(matches) => wanted_in(alloc, &matches, usual_port),
-        Err(error) => Err(instead_of(error.kind())),
+        Err(error) => Err(instead_of(alloc, &error)),
     }
 }

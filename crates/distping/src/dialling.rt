@@ -1,28 +1,23 @@
 //! Connections, and what it means where one is not made.
 
-use dist_program::{at_port, connect, deadline_in};
-use dist_stream::{DeadlineStream, SocketStream, connect_by};
-use std::io::{self, ErrorKind};
+use crate::budget::{Budget, Step};
+use dist_probe::{Unreached, unreached_of};
+use dist_program::{at_port, deadline_in};
+use dist_stream::{DeadlineStream, SocketStream, connect_by, deadline_after, time_left};
+use std::io;
 use std::net::SocketAddr;
-use std::time::Instant;
+use std::time::{Duration, Instant};
 
 /// A connection that is quiet once its time is over.
 pub type Connection = DeadlineStream<HostRuntime>;
 
-/// Why a place was not reached.
-#[derive(Clone, Copy)]
-pub enum Place {
-    /// Its host answered that nobody listens.
-    Refused,
-    /// No answer came in time, or there is no way to it.
-    Unreachable,
-}
-
-fn place_of(error: &io::Error) -> Place {
-    match error.kind() {
-        ErrorKind::ConnectionRefused => Place::Refused,
-        _ => Place::Unreachable,
-    }
+/// How a connect ended that this error tells of.
+pub fn unreached_by(error: &io::Error) -> Unreached {
+    let number = match error.raw_os_error() {
+        Some(code) => u32::try_from(code).unwrap_or(0),
+        None => 0,
+    };
+    unreached_of(error.kind(), number)
 }
 
 /// The stream for a talk of so many seconds, one at least. An error is the clock's.
@@ -30,23 +25,56 @@ pub fn talk_over(rt: &HostRuntime, stream: SocketStream, seconds: u16) -> io::Re
     dist_program::talk_over(*rt, stream, seconds)
 }
 
-// A connection to this place, made within this many seconds, and as many for what is sent on it.
-fn connect_within(rt: &HostRuntime, place: &SocketAddr, seconds: u16) -> io::Result<Connection> {
-    let stream = connect(rt, place, seconds)?;
-    talk_over(rt, stream, seconds)
+// How much of a share is spent where so much of it is left.
+fn spent_of(share: Duration, left: Duration) -> Duration {
+    share.saturating_sub(left)
 }
 
-/// A connection to a port of an address, made within so many seconds, one at least. What is said on it has as many again.
-pub fn connected(
+// A connection to this place, made within the share of this step.
+fn connect_step(
+    rt: &HostRuntime,
+    place: &SocketAddr,
+    step: Step,
+    budget: &mut Budget,
+) -> io::Result<SocketStream> {
+    let share = budget.share(step);
+    let until = deadline_after(rt, share)?;
+    let made = connect_by(rt, place, until);
+    budget.spend(step, spent_of(share, time_left(rt, until)));
+    Ok(made?.into_inner())
+}
+
+/// A connection to a port of an address, made within the share of this step.
+pub fn connect_to(
     rt: &HostRuntime,
     address: &SocketAddr,
     port: u16,
-    seconds: u16,
-) -> Result<Connection, Place> {
-    match connect_within(rt, &at_port(address, port), seconds) {
-        Ok(connection) => Ok(connection),
-        Err(error) => Err(place_of(&error)),
+    step: Step,
+    budget: &mut Budget,
+) -> Result<SocketStream, Unreached> {
+    match connect_step(rt, &at_port(address, port), step, budget) {
+        Ok(stream) => Ok(stream),
+        Err(error) => Err(unreached_by(&error)),
     }
+}
+
+/// What is said on this connection has the share of this step.
+pub fn limit_step(
+    rt: &HostRuntime,
+    stream: SocketStream,
+    step: Step,
+    budget: &Budget,
+) -> Result<Connection, Unreached> {
+    match deadline_after(rt, budget.share(step)) {
+        Ok(until) => Ok(DeadlineStream::new(stream, *rt, until)),
+        Err(error) => Err(unreached_by(&error)),
+    }
+}
+
+/// What was said on this connection is over: its time is spent.
+pub fn settle_step(stream: &Connection, step: Step, budget: &mut Budget) {
+    let spent = spent_of(budget.share(step), stream.time_left());
+    budget.spend(step, spent)
 }
 
 /// A further connection to a port of an address, which ends at this time together with what is sent on it.

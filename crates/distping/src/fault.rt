@@ -1,7 +1,7 @@
 //! What stops the program before a verdict, and how that is reported.
 
 ghost use Rattle.std.specs.Prelude.{◌≡◌};
-ghost use Rattle.distping.specs.Faults.{status_of};
+ghost use Rattle.distping.specs.Faults.{fault_status};
 
 use dist_secret::CookieError;
 use std::alloc::{AllocError, AllocFailed};
@@ -12,20 +12,24 @@ use std::{fmt, io};
 /// error.
 #[derive(Clone, Copy)]
 pub enum Fault {
-    /// The words of the command line ask for nothing.
+    /// One of the words of the command line is no UTF-8.
     BadCommandLine,
-    /// One of the words that should be a node's name is none.
+    /// No node is named.
+    NoNode,
+    /// `--cookie` and `--no-cookie` stand side by side.
+    TwoCookies,
+    /// A text that should be a node's name is none.
     BadName,
-    /// `--flags` has a word that is no flag, and no hexadecimal digits.
-    BadFlags,
     /// `--port` or `--address` stand beside several nodes.
     OneNodeAlone,
     /// The cookie's file could not be opened.
     OpenFailed,
     /// The cookie's file has no cookie.
     NoCookie(CookieError),
-    /// The port could not be listened at, or no connection be taken.
-    ListenFailed,
+    /// The port could not be listened at, or no connection be taken, for this cause.
+    ListenFailed(ErrorKind),
+    /// The host of `--address` gives no address to listen at.
+    NoListenAddress,
     /// `--listen` wants a name to listen under, and no other node.
     ListenAlone,
     /// The output could not be written.
@@ -40,6 +44,7 @@ impl fmt::Display for Fault {
     fn fmt<W: fmt::Write>(&self, f: &mut fmt::Formatter<W>) -> fmt::Result {
         match self {
             Fault::NoCookie(error) => write!(f, "{}: {error}", error.name()),
+            Fault::ListenFailed(kind) => write!(f, "ListenFailed: {kind}"),
             other => f.write_str(other.text()),
         }
     }
@@ -70,15 +75,17 @@ impl Fault {
     // What is printed of it, in a word or a sentence.
     fn text(self) -> &'static str {
         match self {
-            Fault::BadCommandLine => "bad command line (distping --help)",
+            Fault::BadCommandLine => "bad command line: a word is no UTF-8 (distping --help)",
+            Fault::NoNode => "bad command line: no NODE is named (distping --help)",
+            Fault::TwoCookies =>
+                "bad command line: --cookie and --no-cookie exclude each other (distping --help)",
             Fault::BadName =>
                 "a node's name has one @, something on both sides, and 3 to 255 bytes",
-            Fault::BadFlags =>
-                "--flags takes names of flags, joined by commas, or hexadecimal digits",
             Fault::OneNodeAlone => "--port and --address go with one NODE alone",
             Fault::OpenFailed => "OpenFailed: the cookie's file",
             Fault::NoCookie(error) => error.name(),
-            Fault::ListenFailed => "ListenFailed",
+            Fault::ListenFailed(_) => "ListenFailed",
+            Fault::NoListenAddress => "ListenFailed: the host of --address has no address",
             Fault::ListenAlone => "--listen goes with --name, and with no NODE",
             Fault::WriteFailed => "WriteFailed",
             Fault::NoRandomBytes => "ReadFailed: no random bytes",
@@ -88,12 +95,13 @@ impl Fault {
 
     /// The exit status: 2 where the command line is at fault, else 1.
     pub fn status(self) -> u8
-        ensures { result ≡ status_of self }
+        ensures { result ≡ fault_status self }
     {
         match self {
             Fault::BadCommandLine
+            | Fault::NoNode
+            | Fault::TwoCookies
             | Fault::BadName
-            | Fault::BadFlags
             | Fault::OneNodeAlone
             | Fault::ListenAlone => 2,
             _ => 1,

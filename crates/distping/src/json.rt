@@ -4,10 +4,10 @@
 use crate::lines::{Piece, push_flags, push_piece, release_texts, text_of};
 use crate::listening::{Caller, Listen, Taken};
 use crate::pairs::Pairing;
-use crate::probing::{Dial, Found, Registration};
+use crate::probing::{Dial, Found, Outcome, Registration};
 use dist_flags::{Dflag, Release, missing, release_of};
 use dist_names::{Flags, NodeName, escape};
-use dist_probe::{Peer, Verdict};
+use dist_probe::{Peer, Unreached, Verdict};
 use serde_json::Value;
 use std::alloc::{AllocError, Global};
 use std::net::SocketAddr;
@@ -212,9 +212,56 @@ fn push_verdict(
         (",\"cause\":", Member::Text(verdict.cause())),
         (",\"remedy\":", Member::Text(verdict.remedy())),
         (",\"exit\":", number(u16::from(verdict.status()))),
-        ("}\n", NOTHING),
     ];
     push_members(alloc, line, &members)
+}
+
+// How a connect ended, where that is what the verdict is of.
+fn answer_member(verdict: Verdict) -> Member<'static> {
+    match verdict {
+        Verdict::MapperRefused | Verdict::PortRefused => Member::Text(Unreached::Refused.name()),
+        Verdict::MapperUnreachable(unreached) | Verdict::PortUnreachable(unreached) => {
+            Member::Text(unreached.name())
+        }
+        _ => NULL,
+    }
+}
+
+// Puts what one address gave behind a text: the verdict upon it, and how the connect ended where it made no connection.
+fn push_try(
+    alloc: Global,
+    line: &mut String,
+    before: &'static str,
+    address: &SocketAddr,
+    verdict: Verdict,
+) -> Result<(), AllocError> {
+    let members = [
+        (before, Member::Plain(Piece::Host(address.ip()))),
+        ("\",\"verdict\":", Member::Text(verdict.name())),
+        (",\"answer\":", answer_member(verdict)),
+        ("}", NOTHING),
+    ];
+    push_members(alloc, line, &members)
+}
+
+// What stands before what one address gave, in their list.
+fn before_try(is_first: bool) -> &'static str {
+    if is_first {
+        "{\"address\":\""
+    } else {
+        ",{\"address\":\""
+    }
+}
+
+// Puts what each address gave that was tried behind a text, and the end of the object.
+fn push_tries(alloc: Global, line: &mut String, outcome: &Outcome) -> Result<(), AllocError> {
+    line.push_str(",\"addresses\":[")?;
+    let mut is_first = true;
+    for (address, verdict) in outcome.addresses.iter().zip(outcome.verdicts.iter()) {
+        push_try(alloc, line, before_try(is_first), address, *verdict)?;
+        is_first = false;
+    }
+    line.push_str("]}\n")
 }
 
 // Puts the own name, and where a caller came from and to, behind a text.
@@ -290,14 +337,15 @@ fn push_object(
     alloc: Global,
     line: &mut String,
     dial: &Dial<'_>,
-    found: &Found,
-    verdict: Verdict,
+    outcome: &Outcome,
 ) -> Result<(), AllocError> {
+    let (found, verdict) = (&outcome.found, outcome.verdict);
     push_names_of(alloc, line, dial, found)?;
     push_registration(alloc, line, found.registration)?;
     push_answer(alloc, line, found)?;
     push_found_peer(alloc, line, &found.peer)?;
-    push_verdict(alloc, line, lacking_of(verdict, &found.peer), verdict)
+    push_verdict(alloc, line, lacking_of(verdict, &found.peer), verdict)?;
+    push_tries(alloc, line, outcome)
 }
 
 /// What can be said of two nodes, as one line.
@@ -325,13 +373,8 @@ pub fn caller_object(
 }
 
 /// What was found of a node, and what it comes to, as one line.
-pub fn object_of(
-    alloc: Global,
-    dial: &Dial<'_>,
-    found: &Found,
-    verdict: Verdict,
-) -> Result<String, AllocError> {
+pub fn object_of(alloc: Global, dial: &Dial<'_>, outcome: &Outcome) -> Result<String, AllocError> {
     let mut line = String::new(alloc);
-    push_object(alloc, &mut line, dial, found, verdict)?;
+    push_object(alloc, &mut line, dial, outcome)?;
     Ok(line)
 }

@@ -1,10 +1,9 @@
 //! What is printed: a line for each step, each flushed at once, so that one sees where the program waits.
 
 ghost use Rattle.std.specs.Prelude.{◌≡◌, ◌++◌, IfOk, OnOk, string_bytes};
-ghost use Rattle.dist_names.specs.Escaped.{escaped, quoted};
-ghost use Rattle.distping.specs.Texts.{Puts, TellsVerdict};
+ghost use Rattle.dist_names.specs.Escaped.{escapes_of, in_double_quotes};
+ghost use Rattle.distping.specs.Texts.{PutsPiece, TellsVerdict};
 
-use crate::dialling::Place;
 use crate::fault::Fault;
 use crate::listening::Taken;
 use crate::pairs::Pairing;
@@ -13,7 +12,7 @@ use dist_epmd_calls::LookupError;
 use dist_flags::{Dflag, Release, Told, missing, told_by};
 use dist_messages::Status;
 use dist_names::{Flags, NodeName, escape, escape_lines, quote};
-use dist_probe::{Peer, Verdict, style_of};
+use dist_probe::{Peer, Unreached, Verdict, style_of};
 use std::alloc::{AllocError, Global};
 use std::io::{Stdout, Write};
 use std::net::{IpAddr, SocketAddr};
@@ -79,14 +78,14 @@ pub fn push_flags<'x>(
 
 // Puts a name that somebody gave behind a text.
 fn push_name(alloc: Global, text: &mut String, name: &[u8]) -> Result<(), AllocError>
-    ensures { OnOk result (string_bytes text.new ≡ string_bytes text.old ++ quoted name.now) }
+    ensures { OnOk result (string_bytes text.new ≡ string_bytes text.old ++ in_double_quotes name.now) }
 {
     text.push_str(&quote(alloc, name)?)
 }
 
 // Puts other bytes that somebody gave behind a text.
 fn push_foreign(alloc: Global, text: &mut String, bytes: &[u8]) -> Result<(), AllocError>
-    ensures { OnOk result (string_bytes text.new ≡ string_bytes text.old ++ escaped bytes.now) }
+    ensures { OnOk result (string_bytes text.new ≡ string_bytes text.old ++ escapes_of bytes.now) }
 {
     text.push_str(&escape(alloc, bytes)?)
 }
@@ -105,7 +104,7 @@ fn push_within(
 
 /// Puts a piece behind a text.
 pub fn push_piece(alloc: Global, text: &mut String, piece: Piece<'_>) -> Result<(), AllocError>
-    ensures { OnOk result (Puts piece.entry (string_bytes text.old) (string_bytes text.new)) }
+    ensures { OnOk result (PutsPiece piece.entry (string_bytes text.old) (string_bytes text.new)) }
 {
     match piece {
         Piece::Text(part) => text.push_str(part),
@@ -121,7 +120,7 @@ pub fn push_piece(alloc: Global, text: &mut String, piece: Piece<'_>) -> Result<
 }
 
 // The pieces, one behind the other.
-fn joined(alloc: Global, pieces: &[Piece<'_>]) -> Result<String, AllocError> {
+fn join_pieces(alloc: Global, pieces: &[Piece<'_>]) -> Result<String, AllocError> {
     let mut line = String::new(alloc);
     for piece in pieces {
         push_piece(alloc, &mut line, *piece)?;
@@ -188,7 +187,7 @@ fn mark_of(status: Status) -> &'static str {
 }
 
 // A mark, a word and sentences.
-fn marked(alloc: Global, mark: &str, word: &str, sentences: &str) -> Result<String, AllocError>
+fn with_mark(alloc: Global, mark: &str, word: &str, sentences: &str) -> Result<String, AllocError>
     ensures { IfOk result (λ text. string_bytes text ≡ mark.now ++ word.now ++ sentences.now) }
 {
     let mut text = String::from_str(alloc, mark)?;
@@ -204,20 +203,29 @@ fn verdict_lines(alloc: Global, verdict: Verdict) -> Result<String, AllocError>
     let mark = if verdict.status() == 0 { "✓  " } else { "✗  " };
     let (cause, remedy) = (verdict.cause(), verdict.remedy());
     let sentences = format!(in alloc; ": {cause}\n   remedy    {remedy}\n")?;
-    marked(alloc, mark, verdict.name(), &sentences)
+    with_mark(alloc, mark, verdict.name(), &sentences)
+}
+
+// What stands before and behind an address of this kind of a host.
+fn address_texts(is_ipv4: bool, has_ipv4: bool) -> (&'static str, &'static str) {
+    if is_ipv4 {
+        ("✓  host      ", "\n")
+    } else if has_ipv4 {
+        (
+            "✓  host      ",
+            ": nodes dial it with -proto_dist inet6_tcp alone\n",
+        )
+    } else {
+        (
+            "!  host      ",
+            ", and has no IPv4 address: nodes dial it with -proto_dist inet6_tcp alone\n",
+        )
+    }
 }
 
 // The mark of a status of the program.
 fn mark_at(status: u8) -> &'static str {
     if status == 0 { "✓" } else { "✗" }
-}
-
-// Why a place was not reached.
-fn place_text(place: Place) -> &'static str {
-    match place {
-        Place::Refused => "the connection was refused",
-        Place::Unreachable => "no answer",
-    }
 }
 
 impl Lines {
@@ -241,7 +249,7 @@ impl Lines {
         if self.quiet {
             Ok(())
         } else {
-            self.write_made(joined(self.alloc, pieces))
+            self.write_made(join_pieces(self.alloc, pieces))
         }
     }
 
@@ -269,16 +277,14 @@ impl Lines {
         )])
     }
 
-    /// The host has this address.
-    pub fn put_address(self, host: &str, address: &SocketAddr) -> Result<(), Fault> {
-        let (front, hint) = if address.is_ipv4() {
-            ("✓  host      ", "\n")
-        } else {
-            (
-                "!  host      ",
-                ", and has no IPv4 address: nodes dial it with -proto_dist inet6_tcp alone\n",
-            )
-        };
+    /// The host has this address, and one of IPv4 at least or none.
+    pub fn put_address(
+        self,
+        host: &str,
+        address: &SocketAddr,
+        has_ipv4: bool,
+    ) -> Result<(), Fault> {
+        let (front, hint) = address_texts(address.is_ipv4(), has_ipv4);
         self.put(&[
             Piece::Text(front),
             Piece::Foreign(host.as_bytes()),
@@ -306,14 +312,19 @@ impl Lines {
     }
 
     /// A place was not reached.
-    pub fn put_unreached(self, step: &'static str, port: u16, place: Place) -> Result<(), Fault> {
+    pub fn put_unreached(
+        self,
+        step: &'static str,
+        port: u16,
+        place: Unreached,
+    ) -> Result<(), Fault> {
         self.put(&[
             Piece::Text("✗  "),
             Piece::Text(step),
             Piece::Text(" port "),
             Piece::Number(u32::from(port)),
             Piece::Text(": "),
-            Piece::Text(place_text(place)),
+            Piece::Text(place.text()),
             Piece::Text("\n"),
         ])
     }
@@ -483,6 +494,17 @@ impl Lines {
     fn put_lacks(self, of_first: Flags, of_second: Flags) -> Result<(), Fault> {
         self.put_flags("   lacking   the first:", of_first)?;
         self.put_flags("   lacking   the second:", of_second)
+    }
+
+    /// Which address of several got furthest.
+    pub fn put_furthest(self, address: &SocketAddr, count: u32) -> Result<(), Fault> {
+        self.put(&[
+            Piece::Text("   furthest  "),
+            Piece::Host(address.ip()),
+            Piece::Text(", of "),
+            Piece::Number(count),
+            Piece::Text(" addresses that were tried; nodes dial the first of a kind alone\n"),
+        ])
     }
 
     /// What it comes to.

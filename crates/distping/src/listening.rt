@@ -4,17 +4,19 @@ ghost use Rattle.std.specs.Prelude.{◌≡◌};
 ghost use Rattle.dist_messages.specs.Reading.{read};
 ghost use Rattle.dist_messages.specs.declared.message.Side.TheVariants.{Dialler};
 ghost use Rattle.distping.specs.Accepting.{AwaitsName, content_as};
-ghost use Rattle.distping.specs.Listening.{taken_status};
+ghost use Rattle.distping.specs.Listening.{behind_left, is_probe, taken_status, wants_name};
 
 use crate::accepting::{Content, END, Inbound, hear, open_node, refusal_verdict, talk};
 use crate::dialling::{Connection, talk_over};
 use crate::fault::Fault;
 use crate::lines::Lines;
+use crate::waiting::{Arrival, await_caller, bind_listener};
 use dist_core::Node;
 use dist_core_setup::Setup;
+use dist_names::Flags;
 use dist_probe::{Peer, Service};
 use dist_stream::{Limited, SocketStream};
-use std::net::{Ipv4Addr, SocketAddr, TcpListener, TcpStream};
+use std::net::{SocketAddr, TcpListener, TcpStream};
 
 /// What came of a connection that was taken.
 #[derive(Clone, Copy)]
@@ -29,6 +31,12 @@ pub enum Taken {
     NoName,
     /// The connection was closed, or broke, upon our challenge.
     Left,
+    /// The same, by who has the name of a probe.
+    Stopped,
+    /// The node asks for a name.
+    WantsName,
+    /// Nobody dialled in time.
+    NoCaller,
     /// Nothing whole came in time.
     Silent,
     /// A message came out of turn, an older form of the name among them, or a body that is none.
@@ -37,6 +45,16 @@ pub enum Taken {
     Foreign(Service),
     /// Memory ran out here.
     NoMemory,
+}
+
+// What dials, where it is no node.
+fn what_dials(service: Service) -> &'static str {
+    match service {
+        Service::Tls => {
+            "what dials speaks TLS: a node started with -proto_dist inet_tls, or another client; this listener speaks none"
+        }
+        _ => "what dials is no node",
+    }
 }
 
 impl Taken {
@@ -52,14 +70,23 @@ impl Taken {
             Taken::NoName => ("NoName", "the connection ended before a name was said"),
             Taken::Left => (
                 "Left",
-                "the node closed the connection upon our challenge: it dialled another name than --name",
+                "the node closed the connection upon our challenge: it dialled another name than --name, or is a probe without a cookie",
             ),
+            Taken::Stopped => (
+                "Stopped",
+                "a distping reaches us, and stopped at our challenge: it tries no cookie, or it dialled another name than --name",
+            ),
+            Taken::WantsName => (
+                "WantsName",
+                "the node reaches us, and asks for a name (a dynamic name, -name undefined), which this listener does not give",
+            ),
+            Taken::NoCaller => ("NoCaller", "nobody dialled in the time of --seconds"),
             Taken::Silent => ("Silent", "nothing whole came in time"),
             Taken::Unexpected => (
                 "Unexpected",
                 "what came is none that a node of OTP 23 or newer says at this place",
             ),
-            Taken::Foreign(_) => ("Foreign", "what dials is no node"),
+            Taken::Foreign(service) => ("Foreign", what_dials(service)),
             Taken::NoMemory => ("NoMemory", "memory ran out here"),
         }
     }
@@ -69,10 +96,11 @@ impl Taken {
         ensures { result ≡ taken_status self }
     {
         match self {
-            Taken::Up | Taken::Answered => 0,
+            Taken::Up | Taken::Answered | Taken::Stopped => 0,
             Taken::NoMemory => 1,
+            Taken::NoCaller => 6,
             Taken::NoName | Taken::Silent | Taken::Unexpected | Taken::Foreign(_) => 7,
-            Taken::Left => 9,
+            Taken::Left | Taken::WantsName => 9,
             Taken::WrongCookie => 10,
         }
     }
@@ -85,6 +113,10 @@ pub struct Listen<'a> {
     pub setup: &'a Setup,
     /// Its port.
     pub port: u16,
+    /// The address that it listens at, where it is not all of this host.
+    pub place: Option<SocketAddr>,
+    /// How many seconds a connection is waited for, where that has an end.
+    pub patience: Option<u16>,
     /// Its own challenge.
     pub fresh: u32,
     /// Its cookie is compared.
@@ -114,16 +146,16 @@ impl Caller {
     }
 }
 
-// Waits for one connection.
+// Listens, and waits for one connection. None where nobody dialled in time.
 fn accept(
     rt: &HostRuntime,
     listen: &Listen<'_>,
     lines: Lines,
     caller: &mut Caller,
-) -> Result<Connection, Fault> {
-    match TcpListener::bind(rt, (Ipv4Addr::UNSPECIFIED, listen.port)) {
+) -> Result<Option<Connection>, Fault> {
+    match bind_listener(rt, listen.place, listen.port) {
         Ok(listener) => accept_at(rt, &listener, listen, lines, caller),
-        Err(_) => Err(Fault::ListenFailed),
+        Err(error) => Err(Fault::ListenFailed(error.kind())),
     }
 }
 
@@ -134,23 +166,60 @@ fn accept_at(
     listen: &Listen<'_>,
     lines: Lines,
     caller: &mut Caller,
-) -> Result<Connection, Fault> {
+) -> Result<Option<Connection>, Fault> {
     lines.put_listening(listen.port, &listen.setup.name)?;
-    match listener.accept() {
-        Ok((socket, address)) => {
-            caller.address = Some(address);
-            lines.put_taken(&address)?;
-            limit_talk(rt, socket, listen.seconds)
+    match await_caller(rt, listener, listen.patience) {
+        Ok(Some(arrival)) => {
+            caller.address = Some(arrival.from);
+            lines.put_taken(&arrival.from)?;
+            Ok(Some(limit_arrival(rt, arrival, listen.seconds)?))
         }
-        Err(_) => Err(Fault::ListenFailed),
+        Ok(None) => Ok(None),
+        Err(error) => Err(Fault::ListenFailed(error.kind())),
     }
+}
+
+// The stream of who dialled, for a talk of so many seconds.
+fn limit_arrival(rt: &HostRuntime, arrival: Arrival, seconds: u16) -> Result<Connection, Fault> {
+    let Arrival { socket, from: _ } = arrival;
+    limit_talk(rt, socket, seconds)
 }
 
 // The stream over a socket, for a talk of so many seconds.
 fn limit_talk(rt: &HostRuntime, socket: TcpStream, seconds: u16) -> Result<Connection, Fault> {
     match talk_over(rt, SocketStream::new(socket), seconds) {
         Ok(stream) => Ok(stream),
-        Err(_) => Err(Fault::ListenFailed),
+        Err(error) => Err(Fault::ListenFailed(error.kind())),
+    }
+}
+
+// Whether a node asks for a name, in place of saying its own.
+fn wants_name(content: &Content) -> bool
+    ensures { result ≡ wants_name content.now }
+{
+    match content {
+        Content::Name(peer) => peer.flags.has(Flags::NAME_ME),
+        _ => false,
+    }
+}
+
+// Whether this is the name that a probe gives itself, where it is not told another.
+fn is_probe(content: &Content) -> bool
+    ensures { result ≡ is_probe content.now }
+{
+    match content {
+        Content::Name(peer) => peer.name.as_slice().starts_with(b"distping@"),
+        _ => false,
+    }
+}
+
+// What came of who left, where it may be a probe that tries no cookie.
+fn behind_left(taken: Taken, content: &Content) -> Taken
+    ensures { result ≡ behind_left taken content.now }
+{
+    match taken {
+        Taken::Left if is_probe(content) => Taken::Stopped,
+        other => other,
     }
 }
 
@@ -185,7 +254,12 @@ fn greet(
 {
     let Inbound { body, content } = inbound;
     put_content(lines, &content)?;
-    let taken = talk(lines.alloc, limited, node, listen, body, &content);
+    let taken = if wants_name(&content) {
+        Taken::WantsName
+    } else {
+        let taken = talk(lines.alloc, limited, node, listen, body, &content);
+        behind_left(taken, &content)
+    };
     caller.peer = peer_in(content);
     Ok(taken)
 }
@@ -207,6 +281,23 @@ fn attend(
     }
 }
 
+// Talks with who dialled, and returns what came of it.
+fn attend_caller(
+    stream: &mut Connection,
+    listen: &Listen<'_>,
+    lines: Lines,
+    caller: &mut Caller,
+) -> Result<Taken, Fault> {
+    let mut limited = Limited {
+        stream,
+        left: listen.turns,
+    };
+    match open_node(lines.alloc, listen.setup) {
+        Ok(mut node) => attend(&mut limited, &mut node, listen, lines, caller),
+        Err(error) => Ok(refusal_verdict(error)),
+    }
+}
+
 /// Takes one connection, prints what the other side sends, and returns what came of it. What was found stands in `caller`.
 pub fn take_connection(
     rt: &HostRuntime,
@@ -214,13 +305,8 @@ pub fn take_connection(
     lines: Lines,
     caller: &mut Caller,
 ) -> Result<Taken, Fault> {
-    let mut stream = accept(rt, listen, lines, caller)?;
-    let mut limited = Limited {
-        stream: &mut stream,
-        left: listen.turns,
-    };
-    match open_node(lines.alloc, listen.setup) {
-        Ok(mut node) => attend(&mut limited, &mut node, listen, lines, caller),
-        Err(error) => Ok(refusal_verdict(error)),
+    match accept(rt, listen, lines, caller)? {
+        Some(mut stream) => attend_caller(&mut stream, listen, lines, caller),
+        None => Ok(Taken::NoCaller),
     }
 }

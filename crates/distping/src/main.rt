@@ -8,6 +8,7 @@ ghost use Rattle.std.specs.Prelude.{◌≡◌};
 ghost use Rattle.distping.specs.Faults.{first_of};
 
 mod accepting;
+mod budget;
 mod command;
 mod cookie;
 mod dialling;
@@ -18,21 +19,24 @@ mod listening;
 mod pairs;
 mod probing;
 mod refusal;
+mod refusing;
+mod waiting;
 
 use command::{Instead, Wanted, name_of, wanted_of};
 use cookie::cookie_of;
 use dist_names::NodeName;
 use dist_probe::Verdict;
-use dist_program::{mapper_port, words_of};
+use dist_program::{Addresses, HostError, Resolving, lookup_host, mapper_port, words_of};
 use dist_secret::Cookie;
 use fault::Fault;
 use json::{caller_object, object_of, pair_object};
 use lines::Lines;
 use listening::{Caller, Listen, Taken, take_connection};
 use pairs::{Half, pairing_of};
-use probing::{Dial, Found, drawn, probe, setup_of};
+use probing::{Dial, Found, Outcome, draw_challenge, probe, setup_of};
 use refusal::Refusal;
 use std::alloc::Global;
+use std::net::SocketAddr;
 use std::process::ExitCode;
 
 /// How the program is called.
@@ -40,10 +44,10 @@ const HELP: &str =
     "usage: distping NODE.. [--name NAME] [--cookie FILE | --no-cookie] [--cookie-unsafe] [--flags FLAG,..|HEX]
                 [--epmd-port N] [--port N] [--address HOST] [--seconds N] [--json]
        distping --listen PORT --name NAME [--cookie FILE | --no-cookie] [--cookie-unsafe] [--flags FLAG,..|HEX]
-                [--seconds N] [--json]
+                [--address HOST] [--seconds N] [--json]
        distping --help | --version
 
-Dials a live Erlang node, tells what happens, step by step, and ends with one verdict, its cause and its remedy.
+Dials a live Erlang node at each address of its host until it is found, tells what happens, step by step, and ends with one verdict, its cause and its remedy.
 Of several nodes it also tells what can be told of each two of them.
 
   NODE            the node to dial, NAME@HOST
@@ -54,8 +58,9 @@ Of several nodes it also tells what can be told of each two of them.
   --flags         what is announced: names of flags, or hexadecimal digits (what OTP 23 to 29 take; hidden)
   --epmd-port N   the port of the port mapper (ERL_EPMD_PORT, else 4369)
   --port N        the node's port: the port mapper is not asked
-  --address HOST  the host to connect to, in place of the host part of NODE
-  --seconds N     the most that a connect, a lookup and the talk may take each (8)
+  --address HOST  the host to connect to, in place of the host part of NODE; with --listen the one to listen at (all of this host)
+  --seconds N     the most that the look-up of the host, a connect, a lookup of the node and the talk may take each (8), at all
+                  addresses of the host together; with --listen also the wait for a connection (without end)
   --listen PORT   takes one connection as the node NAME would, and tells what the other side says
   --json          an object of JSON for each node, each pair and each connection taken, in place of the lines
   --help, --version
@@ -69,25 +74,31 @@ const VERSION: &str = "distping 0.2.0, distribution handshake of version 6\n\
 Hosts are found by the C library; in a static program by /etc/hosts and the name servers of /etc/resolv.conf alone.\n";
 
 fn main(rt: HostRuntime) -> ExitCode {
-    match perform(&rt) {
+    match perform(&rt, &rt) {
         Ok(status) => ExitCode::from(status),
         Err(refusal) => ExitCode::from(refusal.tell(&mut rt.stderr())),
     }
 }
 
-fn perform(rt: &HostRuntime) -> Result<u8, Refusal> {
+// Does what the command line asks for. The second handle is the same: what may wait for a thread.
+fn perform<R: Resolving>(rt: &HostRuntime, resolver: &R) -> Result<u8, Refusal> {
     let words = words_of(rt)?;
     let mapper_port = mapper_port(rt)?;
-    obey(rt, &words, mapper_port)
+    obey(rt, resolver, &words, mapper_port)
 }
 
 // Does what these words ask for. `mapper_port` is the port mapper's port where they name none.
-fn obey(rt: &HostRuntime, words: &[String], mapper_port: u16) -> Result<u8, Refusal> {
+fn obey<R: Resolving>(
+    rt: &HostRuntime,
+    resolver: &R,
+    words: &[String],
+    mapper_port: u16,
+) -> Result<u8, Refusal> {
     match wanted_of(rt.alloc(), words, mapper_port) {
-        Ok(wanted) => follow(rt, &wanted),
+        Ok(wanted) => follow(rt, resolver, &wanted),
         Err(Instead::Help) => Ok(print(rt, HELP)?),
         Err(Instead::Version) => Ok(print(rt, VERSION)?),
-        Err(Instead::Fault(fault)) => Err(Refusal::Fault(fault)),
+        Err(Instead::Refusal(refusal)) => Err(refusal),
     }
 }
 
@@ -107,20 +118,37 @@ fn print(rt: &HostRuntime, text: &str) -> Result<u8, Fault> {
 }
 
 // Does what is asked for, with the cookie that is.
-fn follow(rt: &HostRuntime, wanted: &Wanted<'_>) -> Result<u8, Refusal> {
+fn follow<R: Resolving>(
+    rt: &HostRuntime,
+    resolver: &R,
+    wanted: &Wanted<'_>,
+) -> Result<u8, Refusal> {
     let cookie = cookie_of(rt, &wanted.choices)?;
-    Ok(follow_with(rt, wanted, cookie.as_ref())?)
+    Ok(follow_with(rt, resolver, wanted, cookie.as_ref())?)
 }
 
 // Does what is asked for, with this cookie.
-fn follow_with(
+fn follow_with<R: Resolving>(
     rt: &HostRuntime,
+    resolver: &R,
     wanted: &Wanted<'_>,
     cookie: Option<&Cookie>,
 ) -> Result<u8, Fault> {
     match (wanted.choices.listen, &wanted.name) {
-        (Some(port), Some(name)) => take_one(rt, wanted, name, port, cookie),
-        _ => dial_all(rt, wanted, cookie),
+        (Some(port), Some(name)) => {
+            let place = place_of(rt, resolver, wanted)?;
+            take_one(
+                rt,
+                wanted,
+                name,
+                Place {
+                    port,
+                    address: place,
+                },
+                cookie,
+            )
+        }
+        _ => dial_all(rt, resolver, wanted, cookie),
     }
 }
 
@@ -141,20 +169,45 @@ fn usual_name(alloc: Global, host: &[u8]) -> Result<NodeName, Fault> {
     }
 }
 
+/// Where one connection is taken.
+#[derive(Clone, Copy)]
+struct Place {
+    port: u16,
+    address: Option<SocketAddr>,
+}
+
+// The address to listen at, where one is named: the first of its host.
+fn place_of<R: Resolving>(
+    rt: &HostRuntime,
+    resolver: &R,
+    wanted: &Wanted<'_>,
+) -> Result<Option<SocketAddr>, Fault> {
+    let Some(host) = wanted.choices.address else {
+        return Ok(None);
+    };
+    match lookup_host(resolver, *rt, host, wanted.choices.limit()) {
+        Ok(addresses) => Ok(addresses.first().copied()),
+        Err(HostError::NoMemory) => Err(Fault::NoMemory),
+        Err(_) => Err(Fault::NoListenAddress),
+    }
+}
+
 // Takes one connection, and returns the status of what came of it.
 fn take_one(
     rt: &HostRuntime,
     wanted: &Wanted<'_>,
     name: &NodeName,
-    port: u16,
+    place: Place,
     cookie: Option<&Cookie>,
 ) -> Result<u8, Fault> {
     let choices = &wanted.choices;
-    let fresh = drawn(rt)?;
+    let fresh = draw_challenge(rt)?;
     let setup = setup_of(rt, name, choices.flags, cookie)?;
     let one = Listen {
         setup: &setup,
-        port,
+        port: place.port,
+        place: place.address,
+        patience: choices.patience(),
         fresh,
         compares: cookie.is_some(),
         seconds: choices.seconds,
@@ -186,27 +239,50 @@ fn tell_outcome(
 }
 
 // Prints what a probe came to.
-fn tell(dial: &Dial<'_>, found: &Found, verdict: Verdict) -> Result<(), Fault> {
+fn tell(dial: &Dial<'_>, outcome: &Outcome) -> Result<(), Fault> {
     let lines = dial.lines;
     if lines.quiet {
-        lines.write_made(object_of(lines.alloc, dial, found, verdict))
+        lines.write_made(object_of(lines.alloc, dial, outcome))
     } else {
-        lines.put_verdict(verdict)
+        tell_furthest(lines, outcome)?;
+        lines.put_verdict(outcome.verdict)
+    }
+}
+
+// Prints which address got furthest, where several were tried.
+fn tell_furthest(lines: Lines, outcome: &Outcome) -> Result<(), Fault> {
+    let count = u32::try_from(outcome.verdicts.len()).unwrap_or(u32::MAX);
+    match &outcome.found.address {
+        Some(address) if count > 1 => lines.put_furthest(address, count),
+        _ => Ok(()),
     }
 }
 
 /// What all nodes are dialled with.
 #[derive(Clone, Copy)]
-struct Round<'a> {
+struct Round<'a, R: Resolving> {
     rt: &'a HostRuntime,
+    resolver: &'a R,
     lines: Lines,
     wanted: &'a Wanted<'a>,
     cookie: Option<&'a Cookie>,
 }
 
+// The addresses of a node's host.
+fn addresses_of<R: Resolving>(round: &Round<'_, R>, node: &NodeName) -> Addresses {
+    let choices = &round.wanted.choices;
+    lookup_host(
+        round.resolver,
+        *round.rt,
+        choices.host(node),
+        choices.limit(),
+    )
+}
+
 // Dials one node, and returns what is left of it.
-fn dial_one<'n>(round: &Round<'_>, node: &'n NodeName) -> Result<Half<'n>, Fault> {
+fn dial_one<'n, R: Resolving>(round: &Round<'_, R>, node: &'n NodeName) -> Result<Half<'n>, Fault> {
     let own = own_name(round.lines.alloc, round.wanted, node)?;
+    let addresses = addresses_of(round, node);
     let dial = Dial {
         rt: round.rt,
         lines: round.lines,
@@ -215,23 +291,18 @@ fn dial_one<'n>(round: &Round<'_>, node: &'n NodeName) -> Result<Half<'n>, Fault
         cookie: round.cookie,
         choices: round.wanted.choices,
     };
-    probe_one(&dial, node)
+    probe_one(&dial, node, addresses)
 }
 
-// Probes a node, prints what it comes to, and returns what is left of it.
-fn probe_one<'n>(dial: &Dial<'_>, node: &'n NodeName) -> Result<Half<'n>, Fault> {
-    let mut found = Found::nothing();
-    match probed(dial, &mut found) {
-        Ok(verdict) => Ok(half_of(node, &found, verdict)),
-        Err(fault) => Err(fault),
-    }
-}
-
-// Probes a node, and prints what it comes to. What was found stands in `found`.
-fn probed(dial: &Dial<'_>, found: &mut Found) -> Result<Verdict, Fault> {
-    let verdict = probe(dial, found)?;
-    tell(dial, found, verdict)?;
-    Ok(verdict)
+// Probes a node at these addresses, prints what it comes to, and returns what is left of it.
+fn probe_one<'n>(
+    dial: &Dial<'_>,
+    node: &'n NodeName,
+    addresses: Addresses,
+) -> Result<Half<'n>, Fault> {
+    let outcome = probe(dial, addresses)?;
+    tell(dial, &outcome)?;
+    Ok(half_of(node, &outcome.found, outcome.verdict))
 }
 
 // What is left of a node. What another node said of itself is nothing of it.
@@ -293,8 +364,8 @@ fn behind_the_first<'h, 'n>(halves: &'h [Half<'n>]) -> &'h [Half<'n>] {
 }
 
 // Dials one node of several, keeps what is left of it, and returns its status.
-fn dial_next<'n>(
-    round: &Round<'_>,
+fn dial_next<'n, R: Resolving>(
+    round: &Round<'_, R>,
     node: &'n NodeName,
     halves: &mut Vec<Half<'n>>,
 ) -> Result<u8, Fault> {
@@ -307,8 +378,8 @@ fn dial_next<'n>(
 }
 
 // Dials all nodes, one behind the other, and returns the first status that is not 0, and what is left of them.
-fn dial_each<'n>(
-    round: &Round<'_>,
+fn dial_each<'n, R: Resolving>(
+    round: &Round<'_, R>,
     nodes: &'n [NodeName],
     halves: &mut Vec<Half<'n>>,
 ) -> Result<u8, Fault> {
@@ -320,8 +391,8 @@ fn dial_each<'n>(
 }
 
 // The same, and then prints what can be said of each two of them.
-fn dial_and_pair<'n>(
-    round: &Round<'_>,
+fn dial_and_pair<'n, R: Resolving>(
+    round: &Round<'_, R>,
     nodes: &'n [NodeName],
     halves: &mut Vec<Half<'n>>,
 ) -> Result<u8, Fault> {
@@ -330,9 +401,15 @@ fn dial_and_pair<'n>(
 }
 
 // Dials all nodes, and prints what can be said of each two of them.
-fn dial_all(rt: &HostRuntime, wanted: &Wanted<'_>, cookie: Option<&Cookie>) -> Result<u8, Fault> {
+fn dial_all<R: Resolving>(
+    rt: &HostRuntime,
+    resolver: &R,
+    wanted: &Wanted<'_>,
+    cookie: Option<&Cookie>,
+) -> Result<u8, Fault> {
     let round = Round {
         rt,
+        resolver,
         lines: lines_of(rt, wanted.choices.json),
         wanted,
         cookie,

@@ -1,10 +1,13 @@
 //! One node is dialled, and each step is printed.
 
 ghost use Rattle.std.specs.Prelude.{◌≡◌};
-ghost use Rattle.distping.specs.Places.{lookup_verdict, mapper_verdict, port_verdict};
+ghost use Rattle.distping.specs.Places.{host_verdict, lookup_verdict};
 
+use crate::budget::{Budget, Step};
 use crate::command::Choices;
-use crate::dialling::{Connection, Place, connected, connected_until, second_before};
+use crate::dialling::{
+    Connection, connect_to, connected_until, limit_step, second_before, settle_step,
+};
 use crate::fault::Fault;
 use crate::lines::Lines;
 use dist_core_setup::{Limits, Setup, Version};
@@ -12,8 +15,11 @@ use dist_epmd::PortInfo;
 use dist_epmd_calls::{LookupError, ask_names, lookup};
 use dist_messages::Status;
 use dist_names::{ByteString, Creation, Flags, NodeName};
-use dist_probe::{Awaited, Peer, Report, Service, Verdict, ask_node, speaks_tls};
-use dist_program::{draw, resolve};
+use dist_probe::{
+    Awaited, Peer, Report, Service, Unreached, Unresolved, Verdict, ask_node, furthest, is_found,
+    mapper_verdict, port_verdict, speaks_tls,
+};
+use dist_program::{Addresses, HostError, draw};
 use dist_secret::{Cookie, Cookies};
 use std::alloc::Global;
 use std::net::SocketAddr;
@@ -30,10 +36,10 @@ pub struct Registration {
     pub lowest: u16,
 }
 
-/// What was found of a node.
+/// What was found of a node at one address of its host.
 #[derive(Drop)]
 pub struct Found {
-    /// The address of its host.
+    /// The address.
     pub address: Option<SocketAddr>,
     /// What the port mapper knows of it.
     pub registration: Option<Registration>,
@@ -46,10 +52,10 @@ pub struct Found {
 }
 
 impl Found {
-    /// Nothing so far.
-    pub fn nothing() -> Found {
+    /// Nothing so far, at this address.
+    pub fn nothing(address: Option<SocketAddr>) -> Found {
         Found {
-            address: None,
+            address,
             registration: None,
             port: None,
             status: None,
@@ -58,11 +64,24 @@ impl Found {
     }
 }
 
+/// What a probe comes to.
+#[derive(Drop)]
+pub struct Outcome {
+    /// The verdict: that of the address that got furthest.
+    pub verdict: Verdict,
+    /// What was found at that address.
+    pub found: Found,
+    /// The addresses of the host, in the resolver's order.
+    pub addresses: Vec<SocketAddr>,
+    /// The verdict upon each of them that was tried.
+    pub verdicts: Vec<Verdict>,
+}
+
 /// Why the port mapper gave no registration.
 #[derive(Clone, Copy)]
 enum Unknown {
     /// It was not reached.
-    Place(Place),
+    Place(Unreached),
     /// The lookup went wrong, whose time ends then.
     Lookup(LookupError, Instant),
 }
@@ -106,7 +125,7 @@ pub struct Dial<'a> {
 }
 
 /// A random number of 32 bits.
-pub fn drawn(rt: &HostRuntime) -> Result<u32, Fault> {
+pub fn draw_challenge(rt: &HostRuntime) -> Result<u32, Fault> {
     match draw(rt) {
         Ok(number) => Ok(number),
         Err(_) => Err(Fault::NoRandomBytes),
@@ -131,7 +150,7 @@ pub fn setup_of(
     flags: Flags,
     cookie: Option<&Cookie>,
 ) -> Result<Setup, Fault> {
-    let (alloc, creation) = (rt.alloc(), drawn(rt)?);
+    let (alloc, creation) = (rt.alloc(), draw_challenge(rt)?);
     let cookies = Cookies::new(alloc, cookie_of(alloc, cookie)?);
     Ok(Setup {
         name: own.try_clone(alloc)?,
@@ -145,22 +164,31 @@ pub fn setup_of(
     })
 }
 
-// The host's address.
-fn address_of(dial: &Dial<'_>) -> Result<SocketAddr, Stop> {
-    let host = dial.choices.host(dial.node);
-    let address = resolve(dial.rt, host).ok_or(Verdict::NoHost)?;
-    dial.lines.put_address(host, &address)?;
-    Ok(address)
+// That a host's name gave no address, as a verdict.
+fn host_verdict(error: HostError) -> Verdict
+    ensures { result ≡ host_verdict error }
+{
+    match error {
+        HostError::NoName => Verdict::NoHost(Unresolved::NoName),
+        HostError::Failed => Verdict::NoHost(Unresolved::Failed),
+        HostError::Silent => Verdict::ResolverSilent,
+        HostError::NoMemory => Verdict::NoMemory,
+    }
 }
 
 // A connection to the port mapper.
-fn mapper_at(dial: &Dial<'_>, address: &SocketAddr) -> Result<Connection, Place> {
-    let choices = &dial.choices;
-    connected(dial.rt, address, choices.mapper_port, choices.seconds)
+fn mapper_at(
+    dial: &Dial<'_>,
+    address: &SocketAddr,
+    budget: &mut Budget,
+) -> Result<Connection, Unreached> {
+    let port = dial.choices.mapper_port;
+    let stream = connect_to(dial.rt, address, port, Step::Mapper, budget)?;
+    limit_step(dial.rt, stream, Step::Lookup, budget)
 }
 
 // The end of a probe by this verdict, unless printing it failed.
-fn ended(told: Result<(), Fault>, verdict: Verdict) -> Stop {
+fn stop_after(told: Result<(), Fault>, verdict: Verdict) -> Stop {
     match told {
         Ok(()) => Stop::Verdict(verdict),
         Err(fault) => Stop::Fault(fault),
@@ -168,31 +196,11 @@ fn ended(told: Result<(), Fault>, verdict: Verdict) -> Stop {
 }
 
 // Prints that the port mapper was not reached.
-fn no_mapper(dial: &Dial<'_>, place: Place) -> Stop {
+fn no_mapper(dial: &Dial<'_>, place: Unreached) -> Stop {
     let told = dial
         .lines
         .put_unreached("epmd     ", dial.choices.mapper_port, place);
-    ended(told, mapper_verdict(place))
-}
-
-// That the port mapper's port was not reached, as a verdict.
-fn mapper_verdict(place: Place) -> Verdict
-    ensures { result ≡ mapper_verdict place }
-{
-    match place {
-        Place::Refused => Verdict::MapperRefused,
-        Place::Unreachable => Verdict::MapperUnreachable,
-    }
-}
-
-// That the node's port was not reached, as a verdict.
-fn port_verdict(place: Place) -> Verdict
-    ensures { result ≡ port_verdict place }
-{
-    match place {
-        Place::Refused => Verdict::PortRefused,
-        Place::Unreachable => Verdict::PortUnreachable,
-    }
+    stop_after(told, mapper_verdict(place))
 }
 
 // A lookup that went wrong, as a verdict.
@@ -239,9 +247,17 @@ fn put_unregistered(
 }
 
 // Asks the port mapper for the node.
-fn looked_up(dial: &Dial<'_>, address: &SocketAddr) -> Result<PortInfo, Unknown> {
-    match mapper_at(dial, address) {
-        Ok(mut stream) => asked_for(dial, &mut stream),
+fn looked_up(
+    dial: &Dial<'_>,
+    address: &SocketAddr,
+    budget: &mut Budget,
+) -> Result<PortInfo, Unknown> {
+    match mapper_at(dial, address, budget) {
+        Ok(mut stream) => {
+            let answer = asked_for(dial, &mut stream);
+            settle_step(&stream, Step::Lookup, budget);
+            answer
+        }
         Err(place) => Err(Unknown::Place(place)),
     }
 }
@@ -266,31 +282,40 @@ fn told_registration(dial: &Dial<'_>, info: &PortInfo) -> Result<Registration, S
 }
 
 // What the port mapper knows of the node.
-fn registration_of(dial: &Dial<'_>, address: &SocketAddr) -> Result<Registration, Stop> {
-    match looked_up(dial, address) {
+fn registration_of(
+    dial: &Dial<'_>,
+    address: &SocketAddr,
+    budget: &mut Budget,
+) -> Result<Registration, Stop> {
+    match looked_up(dial, address, budget) {
         Ok(info) => told_registration(dial, &info),
         Err(Unknown::Place(place)) => Err(no_mapper(dial, place)),
         Err(Unknown::Lookup(error, until)) => {
             let told = put_unregistered(dial, address, error, until);
-            Err(ended(told, lookup_verdict(error)))
+            Err(stop_after(told, lookup_verdict(error)))
         }
     }
 }
 
 // The node's port: the one that is given, else that of its registration.
-fn port_of(dial: &Dial<'_>, address: &SocketAddr, found: &mut Found) -> Result<u16, Stop> {
+fn port_of(
+    dial: &Dial<'_>,
+    address: &SocketAddr,
+    budget: &mut Budget,
+    found: &mut Found,
+) -> Result<u16, Stop> {
     if let Some(port) = dial.choices.port {
         return Ok(port);
     }
-    let registration = registration_of(dial, address)?;
+    let registration = registration_of(dial, address, budget)?;
     found.registration = Some(registration);
     Ok(registration.port)
 }
 
 // Prints that the node was not reached.
-fn no_node(dial: &Dial<'_>, port: u16, place: Place) -> Stop {
+fn no_node(dial: &Dial<'_>, port: u16, place: Unreached) -> Stop {
     let told = dial.lines.put_unreached("connect  ", port, place);
-    ended(told, port_verdict(place))
+    stop_after(told, port_verdict(place))
 }
 
 // Whether TLS is spoken there, which a second connection finds out: some servers close without an answer to a name. It takes a
@@ -329,7 +354,7 @@ fn told_report(dial: &Dial<'_>, report: &Report) -> Result<Verdict, Stop> {
 
 // The talk with the node.
 fn talk(dial: &Dial<'_>, stream: &mut Connection) -> Result<Report, Stop> {
-    let fresh = drawn(dial.rt)?;
+    let fresh = draw_challenge(dial.rt)?;
     let setup = setup_of(dial.rt, dial.own, dial.choices.flags, dial.cookie)?;
     let report = ask_node(
         dial.lines.alloc,
@@ -356,25 +381,43 @@ fn talked_over(
     }
 }
 
+// A connection to the node.
+fn node_at(
+    dial: &Dial<'_>,
+    address: &SocketAddr,
+    port: u16,
+    budget: &mut Budget,
+) -> Result<Connection, Unreached> {
+    let stream = connect_to(dial.rt, address, port, Step::Port, budget)?;
+    limit_step(dial.rt, stream, Step::Talk, budget)
+}
+
 // Connects to the node, and talks with it. Beside what it sent stands when the time of the talk ends.
-fn talked(dial: &Dial<'_>, address: &SocketAddr, port: u16) -> Result<(Report, Instant), Stop> {
-    match connected(dial.rt, address, port, dial.choices.seconds) {
-        Ok(mut stream) => match talked_over(dial, address, port, &mut stream) {
-            Ok(report) => Ok((report, stream.deadline())),
-            Err(stop) => Err(stop),
-        },
+fn connect_and_talk(
+    dial: &Dial<'_>,
+    address: &SocketAddr,
+    port: u16,
+    budget: &mut Budget,
+) -> Result<(Report, Instant), Stop> {
+    match node_at(dial, address, port, budget) {
+        Ok(mut stream) => {
+            let report = talked_over(dial, address, port, &mut stream);
+            settle_step(&stream, Step::Talk, budget);
+            Ok((report?, stream.deadline()))
+        }
         Err(place) => Err(no_node(dial, port, place)),
     }
 }
 
 // Asks the node at this place, and prints what it sent.
-fn asked(
+fn probe_node(
     dial: &Dial<'_>,
     address: &SocketAddr,
     port: u16,
+    budget: &mut Budget,
     found: &mut Found,
 ) -> Result<Verdict, Stop> {
-    let (report, until) = talked(dial, address, port)?;
+    let (report, until) = connect_and_talk(dial, address, port, budget)?;
     let told = told_report(dial, &report);
     found.status = report.status;
     found.peer = report.peer;
@@ -390,27 +433,119 @@ fn behind_talk(
     until: Instant,
 ) -> Verdict {
     match verdict {
-        Verdict::Gone(Awaited::Status) if is_tls(dial, address, port, until) => {
-            Verdict::Foreign(Service::Tls)
-        }
+        Verdict::Gone(Awaited::Status) | Verdict::Reset(Awaited::Status)
+            if is_tls(dial, address, port, until) => { Verdict::Foreign(Service::Tls) }
         other => other,
     }
 }
 
-// Dials the node, and prints each step.
-fn steps(dial: &Dial<'_>, found: &mut Found) -> Result<Verdict, Stop> {
-    dial.lines.put_styles(dial.own, dial.node)?;
-    let address = address_of(dial)?;
-    found.address = Some(address);
-    let port = port_of(dial, &address, found)?;
+// Dials the node at this address, and prints each step.
+fn steps_at(
+    dial: &Dial<'_>,
+    address: &SocketAddr,
+    budget: &mut Budget,
+    found: &mut Found,
+) -> Result<Verdict, Stop> {
+    let port = port_of(dial, address, budget, found)?;
     found.port = Some(port);
-    asked(dial, &address, port, found)
+    probe_node(dial, address, port, budget, found)
 }
 
-/// Dials the node, prints each step, and returns what it comes to. What was found stands in `found`.
-pub fn probe(dial: &Dial<'_>, found: &mut Found) -> Result<Verdict, Fault> {
-    match steps(dial, found) {
+// Dials the node at this address, prints each step, and returns what it comes to.
+fn probe_at(
+    dial: &Dial<'_>,
+    address: &SocketAddr,
+    budget: &mut Budget,
+    found: &mut Found,
+) -> Result<Verdict, Fault> {
+    match steps_at(dial, address, budget, found) {
         Ok(verdict) | Err(Stop::Verdict(verdict)) => Ok(verdict),
         Err(Stop::Fault(fault)) => Err(fault),
+    }
+}
+
+// Tries one address more, and returns whether the node was found there.
+fn try_address(
+    dial: &Dial<'_>,
+    address: &SocketAddr,
+    budget: &mut Budget,
+    all: &mut Tries,
+) -> Result<bool, Fault> {
+    let mut found = Found::nothing(Some(*address));
+    let verdict = probe_at(dial, address, budget, &mut found)?;
+    all.found.push(found)?;
+    all.verdicts.push(verdict)?;
+    budget.go_on();
+    Ok(is_found(verdict))
+}
+
+// What was found at each address so far, and the verdict upon it.
+#[derive(Drop)]
+struct Tries {
+    found: Vec<Found>,
+    verdicts: Vec<Verdict>,
+}
+
+// Tries each address, until the node was found at one.
+fn try_each(dial: &Dial<'_>, addresses: &[SocketAddr], all: &mut Tries) -> Result<(), Fault> {
+    let count = u32::try_from(addresses.len()).unwrap_or(u32::MAX);
+    let mut budget = Budget::new(dial.choices.seconds, count);
+    let has_ipv4 = addresses.iter().any(|address| address.is_ipv4());
+    for address in addresses {
+        let host = dial.choices.host(dial.node);
+        dial.lines.put_address(host, address, has_ipv4)?;
+        if try_address(dial, address, &mut budget, all)? {
+            return Ok(());
+        }
+    }
+    Ok(())
+}
+
+// What the addresses come to: the verdict of the first of those that got furthest. There is no host where there is none.
+fn outcome_of(addresses: Vec<SocketAddr>, all: Tries) -> Outcome {
+    let Tries { found, verdicts } = all;
+    if verdicts.is_empty() {
+        return nowhere(addresses, verdicts, HostError::NoName);
+    }
+    let at = furthest(&verdicts);
+    match (verdicts.get(at).copied(), found.into_iter().nth(at)) {
+        (Some(verdict), Some(found)) => Outcome {
+            verdict,
+            found,
+            addresses,
+            verdicts,
+        },
+        _ => nowhere(addresses, verdicts, HostError::NoName),
+    }
+}
+
+// What it comes to where the host has no address.
+fn nowhere(addresses: Vec<SocketAddr>, verdicts: Vec<Verdict>, error: HostError) -> Outcome {
+    Outcome {
+        verdict: host_verdict(error),
+        found: Found::nothing(None),
+        addresses,
+        verdicts,
+    }
+}
+
+// Dials the node at each of these addresses, until it is found at one.
+fn probe_addresses(dial: &Dial<'_>, addresses: Vec<SocketAddr>) -> Result<Outcome, Fault> {
+    let alloc = dial.lines.alloc;
+    let mut all = Tries {
+        found: Vec::new(alloc),
+        verdicts: Vec::new(alloc),
+    };
+    try_each(dial, &addresses, &mut all)?;
+    Ok(outcome_of(addresses, all))
+}
+
+/// Dials the node at the addresses of its host, prints each step, and returns what it comes to.
+pub fn probe(dial: &Dial<'_>, addresses: Addresses) -> Result<Outcome, Fault> {
+    let alloc = dial.lines.alloc;
+    dial.lines.put_styles(dial.own, dial.node)?;
+    match addresses {
+        Ok(addresses) => probe_addresses(dial, addresses),
+        Err(error) => Ok(nowhere(Vec::new(alloc), Vec::new(alloc), error)),
     }
 }

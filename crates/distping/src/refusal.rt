@@ -16,6 +16,8 @@ pub enum Refusal {
     BadMapperPort(PortError),
     /// Others than its owner may use the file of this name, which stands between double quotes and is safe to print.
     NotPrivate(String),
+    /// A word of the command line is bad: the sentence that says so, safe to print.
+    BadWord(String),
     /// Another fault.
     Fault(Fault),
 }
@@ -28,6 +30,7 @@ impl fmt::Display for Refusal {
                 f,
                 "NotPrivate: cookie file {file} must be accessible by owner only: chmod 600 {file}, or --cookie-unsafe takes it"
             ),
+            Refusal::BadWord(sentence) => f.write_str(sentence.as_str()),
             Refusal::Fault(fault) => write!(f, "{fault}"),
         }
     }
@@ -41,6 +44,7 @@ impl Refusal {
         match self {
             Refusal::BadMapperPort(error) => error.status(),
             Refusal::NotPrivate(_) => 1,
+            Refusal::BadWord(_) => 2,
             Refusal::Fault(fault) => fault.status(),
         }
     }

@@ -65,7 +65,7 @@
 //!    side has another cookie. A program that reads its frames itself, by `Limited::read_exact` and `Node::step`, asks
 //!    `Node::awaits` before it reports the loss. `drive` does all of this for a node that only keeps its connections.
 //!
-//! 5. The stream is the program's. The link has no deadline: `SocketStream::timed` makes of the socket a stream each read and
+//! 5. The stream is the program's. The link has no deadline: `SocketStream::with_turn` makes of the socket a stream each read and
 //!    write of which waits for one turn. `Packets` parts what comes into packets; one of no bytes is a tick. `header` is what
 //!    stands before a packet that is written, and `tick` a whole one. `Ticker` says when a tick is due and when a silent peer is
 //!    given up; it is given the time, in milliseconds, whenever something was read or written.
@@ -76,10 +76,10 @@
 //! match ticker.due(now) {
 //!     Due::Nothing { .. } => match limited.read(&mut room) {
 //!         Ok(0) => {}                              // a turn went by
-//!         Ok(count) => { ticker.heard(now); packets.feed(&room[..count])? }
+//!         Ok(count) => { ticker.note_read(now); packets.feed(&room[..count])? }
 //!         Err(error) => ..                         // the link is lost
 //!     },
-//!     Due::Tick => { limited.write_all(&tick())?; ticker.said(now) }
+//!     Due::Tick => { limited.write_all(&tick())?; ticker.note_write(now) }
 //!     Due::GiveUp => ..                            // nothing came for net_ticktime
 //! }
 //! ```
@@ -97,7 +97,7 @@ pub use dist_core::{
 pub use dist_drive::{Desk, Draws, MemoryDesk, Outcome, Reached, drive, handshake, opening_for};
 pub use dist_epmd::{AliveReq, NodeInfo, PortInfo};
 pub use dist_epmd_calls::{LookupError, ask_names, lookup, register};
-pub use dist_flags::{Dflag, Release, Told, expanded, missing, told_by};
+pub use dist_flags::{Dflag, Release, Told, missing, told_by, with_mandatory};
 pub use dist_frames::Frames;
 pub use dist_link::{Due, PacketError, Packets, Ticker, header, tick, write_packet};
 pub use dist_names::{ByteString, Creation, Flags, NameError, NodeName};

@@ -107,7 +107,7 @@ fn dial(alloc: Global, node: &mut Node, peer: NodeName, opening: Opening) -> Res
 
 // The connection for the link: each read and write waits for one turn.
 fn with_turns(stream: Connection<'_>) -> Result<SocketStream, Fault> {
-    match SocketStream::timed(stream.into_inner().into_inner(), one_turn()) {
+    match SocketStream::with_turn(stream.into_inner().into_inner(), one_turn()) {
         Ok(stream) => Ok(stream),
         Err(_) => Err(Fault::SystemFailed),
     }

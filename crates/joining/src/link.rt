@@ -43,7 +43,7 @@ impl Link {
         match limited.read(&mut room) {
             Ok(0) => Ok(()),
             Ok(count) => {
-                ticker.heard(now);
+                ticker.note_read(now);
                 Ok(self.packets.feed(&room[..count])?)
             }
             Err(error) => Err(loss_fault(error)),
@@ -79,7 +79,7 @@ impl Link {
         };
         match limited.write_all(&tick()) {
             Ok(()) => {
-                ticker.said(now);
+                ticker.note_write(now);
                 Ok(())
             }
             Err(error) => Err(loss_fault(error)),

@@ -16,7 +16,7 @@ pub fn put_asked(alloc: Global, told: &mut String, case: &str, pieces: &str) -> 
 
 fn put_traffic(alloc: Global, told: &mut String, stream: &FaultStream) -> Option<()> {
     put_word(told, "said")?;
-    put_bytes(alloc, told, stream.written())?;
+    put_bytes(alloc, told, stream.output())?;
     put_word(told, "left")?;
     put_bytes(alloc, told, stream.unread())?;
     put_word(told, "calls")?;

@@ -45,13 +45,13 @@ fn answer_again(alloc: Global, asked: Asked, bytes: &[u8]) -> Result<Vec<u8>, Ep
 /// no node.
 pub fn put_length(alloc: Global, told: &mut String, case: &str) -> Option<()> {
     let node = node_of(alloc, word(case, 2), word(case, 3))?;
-    match written(alloc, word(case, 1), node) {
+    match encode_named(alloc, word(case, 1), node) {
         Ok(bytes) => put_number(told, bytes.len() as u64),
         Err(error) => put_word(told, error.name()),
     }
 }
 
-fn written(alloc: Global, message: &str, node: NodeInfo) -> Result<Vec<u8>, EpmdError> {
+fn encode_named(alloc: Global, message: &str, node: NodeInfo) -> Result<Vec<u8>, EpmdError> {
     match message {
         "registration" => encode_request(alloc, &Request::Alive(node)),
         "lookup" => encode_request(alloc, &Request::PortPlease(node.name)),

@@ -71,9 +71,9 @@ fn play_all<W: Write>(
 fn goes<W: Write>(alloc: Global, file: &str, named: &str, row: &str, out: &mut W) -> Option<bool> {
     let row = row.replace(alloc, ", ", "\n").ok()?;
     let (script, wanted) = row.as_str().split_once("---\n")?;
-    let script = expanded(alloc, named, script)?;
-    let wanted = expanded(alloc, named, wanted)?;
-    let came = played(alloc, file, &script)?;
+    let script = expand_braces(alloc, named, script)?;
+    let wanted = expand_braces(alloc, named, wanted)?;
+    let came = play_script(alloc, file, &script)?;
     let is_so = came.as_slice() == wanted.as_slice();
     if !is_so {
         out.write_all(&came).ok()?;
@@ -82,7 +82,7 @@ fn goes<W: Write>(alloc: Global, file: &str, named: &str, row: &str, out: &mut W
 }
 
 // What comes of a script of a file, as a row says it.
-fn played(alloc: Global, file: &str, script: &[u8]) -> Option<Vec<u8>> {
+fn play_script(alloc: Global, file: &str, script: &[u8]) -> Option<Vec<u8>> {
     let mut input = Source::new(script, file == "scripts/interrupted");
     let (mut out, mut told) = (
         Sink::new(alloc, file == "scripts/unflushed"),
@@ -99,7 +99,7 @@ fn played(alloc: Global, file: &str, script: &[u8]) -> Option<Vec<u8>> {
 }
 
 // A text in which what stands in braces is put in the place of each pair of them.
-fn expanded(alloc: Global, named: &str, text: &str) -> Option<Vec<u8>> {
+fn expand_braces(alloc: Global, named: &str, text: &str) -> Option<Vec<u8>> {
     let mut all = Vec::new(alloc);
     for part in text.split('{') {
         let (inner, behind) = part.split_once('}').unwrap_or(("", part));

@@ -37,7 +37,7 @@ fn put_traffic(
     registry: &Registry,
     stream: &FaultStream,
 ) -> Option<()> {
-    put_bytes(alloc, told, stream.written())?;
+    put_bytes(alloc, told, stream.output())?;
     put_word(told, "names")?;
     put_names(alloc, told, registry)?;
     put_word(told, "calls")?;

@@ -41,7 +41,7 @@ fn put_whole(alloc: Global, told: &mut String, talk: &str, pieces: &str) -> Opti
     let mut stream = FaultStream::new(alloc, bytes_in(alloc, word(talk, 5))?);
     set_pieces(&mut stream, pieces)?;
     let verdict = verdict_over(alloc, talk, &mut stream)?;
-    put_said(alloc, told, word(talk, 6), stream.written())?;
+    put_said(alloc, told, word(talk, 6), stream.output())?;
     Some(verdict)
 }
 
@@ -110,7 +110,7 @@ fn put_wrong(
     last: u64,
 ) -> Option<()> {
     for number in 0..=last {
-        if verdict_at(alloc, talk, fault, number)? != wanted(talk, whole, fault, number) {
+        if verdict_at(alloc, talk, fault, number)? != wanted_verdict(talk, whole, fault, number) {
             write!(told, "{fault} {number} ").ok()?;
         }
     }
@@ -127,7 +127,7 @@ fn verdict_at(alloc: Global, talk: &str, fault: &str, number: u64) -> Option<Ver
     verdict_over(alloc, talk, &mut stream)
 }
 
-fn wanted(talk: &str, whole: Verdict, fault: &str, number: u64) -> Verdict {
+fn wanted_verdict(talk: &str, whole: Verdict, fault: &str, number: u64) -> Verdict {
     match fault {
         "cut" => behind_cut(talk, whole, number),
         "read" => at_read(talk, whole, number),
@@ -170,17 +170,17 @@ fn at_read(talk: &str, whole: Verdict, read: u64) -> Verdict {
     match read {
         0 => whole,
         _ if read > reads(talk, whole) => whole,
-        1 | 2 => Verdict::Gone(Awaited::Status),
-        3 | 4 => Verdict::Gone(Awaited::Challenge),
-        _ => Verdict::Gone(Awaited::Ack),
+        1 | 2 => Verdict::Reset(Awaited::Status),
+        3 | 4 => Verdict::Reset(Awaited::Challenge),
+        _ => Verdict::Reset(Awaited::Ack),
     }
 }
 
 // Where this write fails, counted from 1: the name, or what is sent behind it. That `false` is not taken changes no verdict.
 fn at_write(whole: Verdict, write: u64) -> Verdict {
     match write {
-        1 => Verdict::Gone(Awaited::Status),
-        2 if matches!(whole, Verdict::Up | Verdict::WrongCookie) => Verdict::Gone(Awaited::Ack),
+        1 => Verdict::Reset(Awaited::Status),
+        2 if matches!(whole, Verdict::Up | Verdict::WrongCookie) => Verdict::Reset(Awaited::Ack),
         _ => whole,
     }
 }

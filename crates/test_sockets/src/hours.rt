@@ -22,7 +22,7 @@ fn say(ticker: &mut Ticker, limited: &mut Limited<'_, FaultStream>, now: u64) ->
         Due::Nothing { .. } => Some(()),
         Due::GiveUp => None,
         Due::Tick => {
-            ticker.said(now);
+            ticker.note_write(now);
             limited.write_all(&tick()).ok()
         }
     }
@@ -42,12 +42,12 @@ fn hour(alloc: Global, said: &[u8], size: usize, pace: u64) -> Option<(usize, us
     let mut stream = FaultStream::new(alloc, Vec::from_slice(alloc, said).ok()?);
     stream.read_sizes.push(size).ok()?;
     let mut packets = Packets::new(alloc, MOST);
-    let came = came(&mut stream, &mut packets, pace)?;
-    Some((stream.written().len() / 4, came))
+    let came = count_packets(&mut stream, &mut packets, pace)?;
+    Some((stream.output().len() / 4, came))
 }
 
 // How many packets came in the hour.
-fn came(stream: &mut FaultStream, packets: &mut Packets, pace: u64) -> Option<usize> {
+fn count_packets(stream: &mut FaultStream, packets: &mut Packets, pace: u64) -> Option<usize> {
     let mut limited = Limited { stream, left: 2000 };
     let mut ticker = Ticker::new(QUARTER, 0);
     let mut came = 0usize;
@@ -55,7 +55,7 @@ fn came(stream: &mut FaultStream, packets: &mut Packets, pace: u64) -> Option<us
         let now = step * STEP;
         say(&mut ticker, &mut limited, now)?;
         if step.checked_rem(pace) == Some(0) {
-            ticker.heard(now);
+            ticker.note_read(now);
             came = came.saturating_add(usize::from(hear(packets, &mut limited)?));
         }
     }

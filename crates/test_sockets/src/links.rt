@@ -47,7 +47,7 @@ fn node_of(alloc: Global, name: &str, cookie: &str, creation: u32) -> Option<Nod
 const END: EndId = EndId(0);
 
 // Node b, to which a connection came.
-fn accepted(alloc: Global, cookie: &str) -> Option<MemoryDesk> {
+fn accepting_desk(alloc: Global, cookie: &str) -> Option<MemoryDesk> {
     let mut node = node_of(alloc, "b@127.0.0.1", cookie, 7)?;
     said_at(alloc, &mut node, &Event::Incoming { link: 0 })?;
     MemoryDesk::new(alloc, node, END).ok()
@@ -56,7 +56,7 @@ fn accepted(alloc: Global, cookie: &str) -> Option<MemoryDesk> {
 // Node b takes the connection, and drives it to its end.
 fn take(alloc: Global, stream: SocketStream, cookie: &str) -> Option<Outcome> {
     let mut stream = stream;
-    let mut desk = accepted(alloc, cookie)?;
+    let mut desk = accepting_desk(alloc, cookie)?;
     let mut challenge = Challenge { number: 41 };
     let stream = &mut stream;
     Some(drive(alloc, stream, &mut desk, &mut challenge, END, b"", TURNS))
@@ -84,7 +84,7 @@ fn first_said(alloc: Global, node: &mut Node) -> Option<ByteString> {
 }
 
 // Node a that dials node b: a desk with its end, and what the end sends first.
-fn dialled(alloc: Global, cookie: &str) -> Option<(MemoryDesk, ByteString)> {
+fn dialling_desk(alloc: Global, cookie: &str) -> Option<(MemoryDesk, ByteString)> {
     let mut node = node_of(alloc, "a@127.0.0.1", cookie, 6)?;
     let first = first_said(alloc, &mut node)?;
     match MemoryDesk::new(alloc, node, END) {
@@ -95,7 +95,7 @@ fn dialled(alloc: Global, cookie: &str) -> Option<(MemoryDesk, ByteString)> {
 
 // Node a joins node b over the connection. The creation that it was given.
 fn join(alloc: Global, stream: &mut SocketStream, cookie: &str) -> Option<Creation> {
-    let (mut desk, first) = dialled(alloc, cookie)?;
+    let (mut desk, first) = dialling_desk(alloc, cookie)?;
     let mut challenge = Challenge { number: 42 };
     let first = first.as_slice();
     creation_in(handshake(alloc, stream, &mut desk, &mut challenge, END, first, TURNS))
@@ -129,7 +129,7 @@ const CASES: [(&str, &str, Option<Creation>, Why); 2] = [
 ];
 
 // How the end of node b ended, and the creation that node a was given, which have these cookies and this connection.
-fn joined<R: Threads>(
+fn join_ends<R: Threads>(
     rt: &R,
     alloc: Global,
     ends: (SocketStream, SocketStream),
@@ -150,7 +150,7 @@ fn a_node_is_joined_and_left(rt: HostRuntime) {
         let Some(ends) = both_ends(&rt) else {
             panic!(rt; "no connection");
         };
-        let told = joined(&rt, rt.alloc(), ends, ours, theirs);
+        let told = join_ends(&rt, rt.alloc(), ends, ours, theirs);
         assert!(rt; told == (Some(Outcome::Closed(why)), creation), "{told:?}");
     }
 }

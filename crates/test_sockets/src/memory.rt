@@ -41,7 +41,7 @@ fn is_served(
     let is_kept = registry.port_please(b"a").is_some();
     let is_so = match served {
         Ok(how) => how == wanted,
-        Err(error) => is_want_of_memory(error) && stream.written().is_empty(),
+        Err(error) => is_want_of_memory(error) && stream.output().is_empty(),
     };
     Some(if served == Ok(Served::Registered) {
         is_so && is_kept && !was_kept

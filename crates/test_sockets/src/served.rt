@@ -30,7 +30,7 @@ fn client_of(rt: &HostRuntime, listener: &TcpListener, said: &[u8]) -> Option<Tc
 }
 
 // What comes after quiet turns.
-fn heard(stream: &mut SocketStream, room: &mut [u8; 8]) -> Heard {
+fn read_after_quiet(stream: &mut SocketStream, room: &mut [u8; 8]) -> Heard {
     let mut heard = Heard::Quiet;
     for _ in 0..1000 {
         if heard == Heard::Quiet {
@@ -49,9 +49,12 @@ fn quiet_and_heard(rt: &HostRuntime) -> Option<([Heard; 3], [u8; 8])> {
     let mut room = [0u8; 8];
     let quiet = server.read(&mut room);
     let _ = client.write(b"abc");
-    let said = heard(&mut server, &mut room);
+    let said = read_after_quiet(&mut server, &mut room);
     drop(client);
-    Some(([quiet, said, heard(&mut server, &mut room)], room))
+    Some((
+        [quiet, said, read_after_quiet(&mut server, &mut room)],
+        room,
+    ))
 }
 
 #[test]
@@ -61,7 +64,7 @@ fn a_socket_is_quiet_until_something_comes(rt: HostRuntime) {
 }
 
 // Serves one request on connection 1, and returns whether `a` is registered then.
-fn served(rt: &HostRuntime, server: &mut SocketStream) -> (Result<Served, LookupError>, bool) {
+fn serve_one(rt: &HostRuntime, server: &mut SocketStream) -> (Result<Served, LookupError>, bool) {
     let mut registry = Registry::new(rt.alloc(), 4369, 1);
     let served = serve_registry(rt.alloc(), server, &mut registry, 1, 100);
     (served, registry.port_please(b"a").is_some())
@@ -76,7 +79,7 @@ fn after_reset(
     let (client, mut server) = connection(rt, said)?;
     let took = server.write(b"x");
     drop(client);
-    Some((took, served(rt, &mut server)))
+    Some((took, serve_one(rt, &mut server)))
 }
 
 #[test]
@@ -105,7 +108,7 @@ fn after_half_close(
 ) -> Option<((Result<Served, LookupError>, bool), Heard)> {
     let (mut client, mut server) = connection(rt, said)?;
     client.get_ref().shutdown(Shutdown::Write).ok()?;
-    let served = served(rt, &mut server);
+    let served = serve_one(rt, &mut server);
     drop(server.into_inner());
     Some((served, client.read(&mut [0u8; 8])))
 }

@@ -17,10 +17,10 @@ pub fn both_ends(rt: &HostRuntime) -> Option<(SocketStream, SocketStream)> {
     let listener = TcpListener::bind(rt, (Ipv4Addr::LOCALHOST, 0)).ok()?;
     let address = listener.local_addr().ok()?;
     let dialled = connect(rt, &address, Duration::from_secs(8), turn()).ok()?;
-    Some((dialled, accepted(&listener)?))
+    Some((dialled, accept_one(&listener)?))
 }
 
-fn accepted(listener: &TcpListener) -> Option<SocketStream> {
+fn accept_one(listener: &TcpListener) -> Option<SocketStream> {
     let (socket, _) = listener.accept().ok()?;
-    SocketStream::timed(socket, turn()).ok()
+    SocketStream::with_turn(socket, turn()).ok()
 }

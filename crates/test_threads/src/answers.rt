@@ -44,7 +44,7 @@ dial b@127.0.0.1 new
 ";
 
 // The event of a line, and its challenge.
-fn told(alloc: Global, line: &Line) -> Option<(Event, u32)> {
+fn event_of_line(alloc: Global, line: &Line) -> Option<(Event, u32)> {
     match line {
         Line::Event(event) => Some((event.try_clone(alloc).ok()?, 0)),
         Line::Bytes { end_, bytes, fresh } => {
@@ -64,7 +64,7 @@ fn is_same(one: &Result<Reply, StepError>, other: &Result<Reply, StepError>) -> 
 
 // Whether the node returns beforehand what it then does, and a node of the same setup does so for a copy of the event.
 fn is_foretold(alloc: Global, node: &mut Node, twin: &mut Node, line: &Line) -> Option<bool> {
-    let (event, fresh) = told(alloc, line)?;
+    let (event, fresh) = event_of_line(alloc, line)?;
     let copy = event.try_clone(alloc).ok()?;
     let answer = node.answer(alloc, &event, fresh);
     let reply = node.step(alloc, &event, fresh);
@@ -113,7 +113,7 @@ fn ticks(alloc: Global, node: &mut Node, count: u32) -> Option<u32> {
 }
 
 // Node b takes three steps and then ticks; what it says of one tick more, of the loss of its end, and of a connection that comes.
-fn spent(alloc: Global) -> Option<(u32, [&'static str; 3])> {
+fn spend_steps(alloc: Global) -> Option<(u32, [&'static str; 3])> {
     let mut node = Node::new(alloc, setup_of(alloc, false)?);
     for word in ["incoming", "name", "reply"] {
         let _ = answer_word(alloc, &mut node, word)?;
@@ -128,7 +128,7 @@ fn spent(alloc: Global) -> Option<(u32, [&'static str; 3])> {
 #[test]
 fn steps_spent(rt: HostRuntime) {
     let wanted = (1_048_573, ["Spent", "taken", "Spent"]);
-    assert_eq!(rt; spent(rt.alloc()), Some(wanted));
+    assert_eq!(rt; spend_steps(rt.alloc()), Some(wanted));
 }
 
 #[test]

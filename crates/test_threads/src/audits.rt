@@ -98,7 +98,7 @@ fn put_played(rt: &impl Wait, alloc: Global, all: &mut Vec<Closed>, text: &str) 
 }
 
 // The closed nodes a and b, after the steps of this text. `None`: memory was refused, or the text is wrong.
-fn played(rt: &impl Wait, alloc: Global, text: &str) -> Option<Vec<Closed>> {
+fn play_text(rt: &impl Wait, alloc: Global, text: &str) -> Option<Vec<Closed>> {
     let mut all = Vec::new(alloc);
     put_played(rt, alloc, &mut all, text)?;
     Some(all)
@@ -218,7 +218,7 @@ const ALTERED: &str = "\
 
 // What the histories of a handshake first do otherwise.
 fn wrong<R: Wait>(rt: &R, alloc: Global) -> Option<&'static str> {
-    match played(rt, alloc, HANDSHAKE) {
+    match play_text(rt, alloc, HANDSHAKE) {
         Some(mut all) => first_wrong(alloc, &mut all, ALTERED),
         None => Some("no history"),
     }
@@ -231,7 +231,7 @@ fn audited_handshake(rt: HostRuntime) {
 
 // What the audit returns for no history, and for one node alone, to which a connection came that nobody dialled.
 fn small(rt: &impl Wait, alloc: Global) -> Option<(&'static str, &'static str)> {
-    let all = played(rt, alloc, "b incoming")?;
+    let all = play_text(rt, alloc, "b incoming")?;
     Some((answer(alloc, &[]), answer(alloc, all.get(1..)?)))
 }
 
@@ -242,7 +242,7 @@ fn small_audits(rt: HostRuntime) {
 
 // Whether an audit returns that both agree, or runs out of memory and the next audit of the same histories returns so.
 fn is_agreed(rt: &impl Wait, alloc: Global) -> Option<bool> {
-    let all = played(rt, alloc, HANDSHAKE)?;
+    let all = play_text(rt, alloc, HANDSHAKE)?;
     let told = answer(alloc, &all);
     Some(told == "agreed" || told == "NoMemory" && answer(alloc, &all) == "agreed")
 }

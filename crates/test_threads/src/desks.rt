@@ -1,11 +1,11 @@
 //! A desk in memory and the desk of a seat answer alike; and what is done with an end that its driver left open.
 
 use crate::drives::desk_of;
-use crate::seats::{Closing, closing_with, seated, told};
+use crate::seats::{Closing, closing_with, make_steps, seated_node};
 use crate::setting::{CHALLENGE, Same, event, number, still_word, word};
 use dist_core::StepError;
 use dist_drive::{Desk, FaultStream};
-use dist_locked::{Driven, LockedNode, Seat, SeatDesk, drive_end, settled};
+use dist_locked::{Driven, LockedNode, Seat, SeatDesk, drive_end, settle};
 use dist_peers::EndId;
 use std::alloc::{AllocError, Global};
 use std::sync::Wait;
@@ -74,8 +74,8 @@ fn wrong_at<R: Wait>(
 
 // Of the desk of a seat, to whose node the other seat gave a connection that came; and what `close` says then.
 fn wrong_at_a_seat<R: Wait>(rt: &R, alloc: Global) -> Option<(Option<usize>, Closing)> {
-    let (node, mut seats) = seated(alloc)?;
-    let _ = told(rt, alloc, &node, &mut seats, 1);
+    let (node, mut seats) = seated_node(alloc)?;
+    let _ = make_steps(rt, alloc, &node, &mut seats, 1);
     let (wrong, seat) = wrong_at(rt, alloc, &node, seats.pop()?)?;
     Some((wrong, closing_with(node, seats, seat)?))
 }
@@ -90,7 +90,7 @@ fn desks_answer_alike(rt: HostRuntime) {
 }
 
 // Drives end 0, for which no turn is left.
-fn driven<R: Wait>(
+fn drive_without_turns<R: Wait>(
     rt: &R,
     alloc: Global,
     node: &LockedNode,
@@ -119,16 +119,16 @@ fn left_open<R: Wait>(
     steps: usize,
     is_driven: bool,
 ) -> Option<(&'static str, bool, usize)> {
-    let (node, mut seats) = seated(alloc)?;
-    let _ = told(rt, alloc, &node, &mut seats, steps);
+    let (node, mut seats) = seated_node(alloc)?;
+    let _ = make_steps(rt, alloc, &node, &mut seats, steps);
     let seat = seats.pop()?;
     let before = seat.receipts().len();
     let driven = if is_driven {
-        driven(rt, alloc, &node, seat)
+        drive_without_turns(rt, alloc, &node, seat)
     } else {
         Err((AllocError, seat))
     };
-    let (seat, is_over) = settled(rt, &node, EndId(0), driven);
+    let (seat, is_over) = settle(rt, &node, EndId(0), driven);
     let more = seat.receipts().len().saturating_sub(before);
     Some((still_word(node.still(rt, EndId(0))), is_over, more))
 }

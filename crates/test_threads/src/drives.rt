@@ -116,7 +116,7 @@ fn outcome_word(outcome: Outcome) -> &'static str {
 }
 
 // Which loss was reported at last, and how many frames were handed on.
-fn told(desk: &MemoryDesk) -> (&'static str, u64) {
+fn loss_and_frames(desk: &MemoryDesk) -> (&'static str, u64) {
     let steps = desk.list().len() as u64;
     match desk.list().last() {
         Some(step) => match step.0.lost_why() {
@@ -138,9 +138,9 @@ fn drive_and_see(
     let mut draws = Same(CHALLENGE);
     let limit = limit as usize;
     let outcome = drive(alloc, stream, desk, &mut draws, EndId(0), first, limit);
-    let (told, frames) = told(desk);
+    let (told, frames) = loss_and_frames(desk);
     let still = still_word(desk.still(EndId(0)));
-    let (written, entries) = (stream.written().len() as u64, desk.node().entries() as u64);
+    let (written, entries) = (stream.output().len() as u64, desk.node().entries() as u64);
     (
         [outcome_word(outcome), told, still],
         [frames, written, stream.calls(), entries],
@@ -148,7 +148,7 @@ fn drive_and_see(
 }
 
 // What is seen of the call of a row, with the row's number. A dialled end sent its name first.
-fn played(alloc: Global, row: &str, at: u64) -> Option<Seen> {
+fn play_row(alloc: Global, row: &str, at: u64) -> Option<Seen> {
     let side = word(row, 0);
     let first = if side == "dialled" { NAME_OF_A } else { b"" };
     let mut stream = stream_of(alloc, row, at)?;
@@ -207,7 +207,7 @@ accepted packets 999 at,100 - 0 0 100 1 70 Ended Ended Ended 2 56 any 0
 dialled packets 999 at,100 - 0 0 100 1 70 Ended Ended Ended 3 51 any 0";
 
 // What has to be seen, where any number of reads and writes will do that is not said.
-fn wanted(row: &'static str, calls: u64) -> Seen {
+fn wanted_row(row: &'static str, calls: u64) -> Seen {
     let frames = number(word(row, 13), 0);
     let written = number(word(row, 14), 0);
     let entries = number(word(row, 16), 0);
@@ -219,8 +219,8 @@ fn wanted(row: &'static str, calls: u64) -> Seen {
 
 // Whether what has to be seen of a row is seen.
 fn is_so(alloc: Global, row: &'static str, at: u64) -> bool {
-    match played(alloc, row, at) {
-        Some(seen) => seen == wanted(row, seen.1[2]),
+    match play_row(alloc, row, at) {
+        Some(seen) => seen == wanted_row(row, seen.1[2]),
         None => false,
     }
 }
@@ -248,7 +248,7 @@ fn driven_calls_go_as_their_rows_say(rt: HostRuntime) {
 #[test]
 fn memory_refused_in_a_call(rt: HostRuntime) {
     let row = "accepted packets 999 28,23 37,3 0 3 100";
-    if let Some(seen) = played(rt.alloc(), row, 0) {
+    if let Some(seen) = play_row(rt.alloc(), row, 0) {
         let words = seen.0;
         let is_lost = words == ["WriteFailed"; 3] || words == ["NoMemory"; 3];
         assert!(rt; is_lost && seen.1[0] <= 2 && seen.1[3] == 0, "{words:?}");

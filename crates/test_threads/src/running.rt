@@ -29,7 +29,7 @@ fn write_ups(text: &mut String, ran: &Ran) -> Option<()> {
     Some(())
 }
 
-fn told(alloc: Global, ran: &Ran) -> Option<String> {
+fn report_of(alloc: Global, ran: &Ran) -> Option<String> {
     let mut text = String::new(alloc);
     write_faults(&mut text, ran)?;
     write_ups(&mut text, ran)?;
@@ -56,7 +56,7 @@ where
     };
     let system = System::new(rt, wrong);
     match run_plan(&system, alloc, &plan, &system) {
-        Ok(ran) => told(alloc, &ran).ok_or(RunError::NoMemory),
+        Ok(ran) => report_of(alloc, &ran).ok_or(RunError::NoMemory),
         Err(error) => Err(error),
     }
 }

@@ -12,7 +12,7 @@ const GREETING_OF_B: &[u8] =
     b"\x00\x03sok\x00\x1eN\x00\x00\x00\x01\x01\x00\x01\x04\x07\x5b\xcd\x15\x00\x00\x00\x06\x00\x0bb@127.0.0.1";
 
 /// Node b under a lock, and its two seats.
-pub fn seated(alloc: Global) -> Option<(LockedNode, Vec<Seat>)> {
+pub fn seated_node(alloc: Global) -> Option<(LockedNode, Vec<Seat>)> {
     let tickets = Arc::new(alloc, Tickets::new()).ok()?;
     let made = LockedNode::new(alloc, setup_of(alloc, false)?, tickets, 2);
     made.ok()
@@ -40,7 +40,7 @@ const TOLD: [&str; 4] = ["incoming", "name", "reply", "incoming"];
 
 /// Makes this many steps, the seats in turn, until one runs out of memory. How many were made, unless one was refused for another
 /// reason, or memory was refused before a step.
-pub fn told<R: Wait>(
+pub fn make_steps<R: Wait>(
     rt: &R,
     alloc: Global,
     node: &LockedNode,
@@ -60,7 +60,7 @@ pub fn told<R: Wait>(
 /// open, or the refusal.
 pub type Closing = Result<[usize; 4], CloseError>;
 
-fn counted(closed: &Closed) -> [usize; 4] {
+fn counts_of(closed: &Closed) -> [usize; 4] {
     let node = &closed.node;
     let lines = closed.history.len();
     [lines, node.entries(), node.ups(), node.open_ends()]
@@ -69,7 +69,7 @@ fn counted(closed: &Closed) -> [usize; 4] {
 /// What `close` says of this node and these seats.
 pub fn closing(node: LockedNode, seats: Vec<Seat>) -> Closing {
     match close(node.into_book(), seats) {
-        Ok(closed) => Ok(counted(&closed)),
+        Ok(closed) => Ok(counts_of(&closed)),
         Err((error, _, _)) => Err(error),
     }
 }
@@ -90,8 +90,8 @@ fn is_greeting(seats: &[Seat]) -> Option<bool> {
 
 // Whether a locked node keeps its setup: the second seat gives it a name.
 fn is_kept<R: Wait>(rt: &R, alloc: Global) -> Option<bool> {
-    let (node, mut seats) = seated(alloc)?;
-    let _ = told(rt, alloc, &node, &mut seats, 2);
+    let (node, mut seats) = seated_node(alloc)?;
+    let _ = make_steps(rt, alloc, &node, &mut seats, 2);
     is_greeting(&seats)
 }
 
@@ -106,8 +106,8 @@ const CLOSINGS: [[usize; 4]; 5] = [
 
 // Whether `close` says of the steps that were made what it has to. `None`: memory was refused before a step.
 fn is_closed<R: Wait>(rt: &R, alloc: Global) -> Option<bool> {
-    let (node, mut seats) = seated(alloc)?;
-    let made = told(rt, alloc, &node, &mut seats, 4);
+    let (node, mut seats) = seated_node(alloc)?;
+    let made = make_steps(rt, alloc, &node, &mut seats, 4);
     let closing = closing(node, seats);
     let wanted = CLOSINGS.get(made?)?;
     Some(closing == Ok(*wanted))
@@ -121,7 +121,7 @@ fn memory_refused_in_a_step(rt: HostRuntime) {
 }
 
 // The order that came back, or 0.
-fn refused(answer: Result<(), DialOrder>) -> u32 {
+fn refused_order(answer: Result<(), DialOrder>) -> u32 {
     match answer {
         Ok(()) => 0,
         Err(order) => order.0,
@@ -129,7 +129,7 @@ fn refused(answer: Result<(), DialOrder>) -> u32 {
 }
 
 // The order that was taken, or 0.
-fn taken(answer: Option<DialOrder>) -> u32 {
+fn taken_order(answer: Option<DialOrder>) -> u32 {
     match answer {
         Some(order) => order.0,
         None => 0,
@@ -141,29 +141,29 @@ fn taken(answer: Option<DialOrder>) -> u32 {
 fn orders_in_turn<R: Wait>(rt: &R, alloc: Global) -> Option<([u32; 8], u64)> {
     let (orders, mut put, mut one, two) = Orders::new(alloc, 2).ok()?;
     let answers = [
-        refused(orders.put(rt, &mut put, DialOrder(4))),
-        refused(orders.put(rt, &mut put, DialOrder(5))),
-        refused(orders.put(rt, &mut put, DialOrder(6))),
-        taken(orders.take(rt, &mut one)),
-        taken(orders.take(rt, &mut one)),
-        taken(orders.take(rt, &mut one)),
-        refused(orders.put(rt, &mut put, DialOrder(7))),
-        taken(orders.take(rt, &mut one)),
+        refused_order(orders.put(rt, &mut put, DialOrder(4))),
+        refused_order(orders.put(rt, &mut put, DialOrder(5))),
+        refused_order(orders.put(rt, &mut put, DialOrder(6))),
+        taken_order(orders.take(rt, &mut one)),
+        taken_order(orders.take(rt, &mut one)),
+        taken_order(orders.take(rt, &mut one)),
+        refused_order(orders.put(rt, &mut put, DialOrder(7))),
+        taken_order(orders.take(rt, &mut one)),
     ];
     Some((answers, orders.settle(rt, put, one, two)))
 }
 
 // What `close` says after two steps where the second seat is missing.
 fn closing_with_one<R: Wait>(rt: &R, alloc: Global) -> Option<Closing> {
-    let (node, mut seats) = seated(alloc)?;
-    let _ = told(rt, alloc, &node, &mut seats, 2);
+    let (node, mut seats) = seated_node(alloc)?;
+    let _ = make_steps(rt, alloc, &node, &mut seats, 2);
     let _ = seats.pop();
     Some(closing(node, seats))
 }
 
 // The second seat of another node, which has made three steps there.
 fn seat_of_another<R: Wait>(rt: &R, alloc: Global) -> Option<Seat> {
-    let (node, mut seats) = seated(alloc)?;
+    let (node, mut seats) = seated_node(alloc)?;
     let mut seat = seats.pop()?;
     for _ in 0..3 {
         let _ = is_made(rt, alloc, &node, &mut seat, "incoming")?;
@@ -173,8 +173,8 @@ fn seat_of_another<R: Wait>(rt: &R, alloc: Global) -> Option<Seat> {
 
 // What `close` says after two steps where the second seat of another node stands in the place of the own one.
 fn closing_with_another<R: Wait>(rt: &R, alloc: Global) -> Option<Closing> {
-    let (node, mut seats) = seated(alloc)?;
-    let _ = told(rt, alloc, &node, &mut seats, 2);
+    let (node, mut seats) = seated_node(alloc)?;
+    let _ = make_steps(rt, alloc, &node, &mut seats, 2);
     let _ = seats.pop();
     closing_with(node, seats, seat_of_another(rt, alloc)?)
 }

@@ -87,14 +87,14 @@ fn short_event(word: &str) -> Event {
     match word {
         "opened" => Event::Opened { end_, link: 1 },
         "incoming" => Event::Incoming { link: 1 },
-        "ended" => lost(Why::Ended),
-        "replaced" => lost(Why::Replaced),
+        "ended" => loss_for(Why::Ended),
+        "replaced" => loss_for(Why::Replaced),
         "another" => Event::Tick { end_: EndId(1) },
         _ => Event::Tick { end_ },
     }
 }
 
-fn lost(why: Why) -> Event {
+fn loss_for(why: Why) -> Event {
     let end_ = EndId(0);
     Event::Lost { end_, why }
 }

@@ -73,7 +73,7 @@ fn next(count: &AtomicUsize) -> usize {
     count.fetch_add(1, Ordering::SeqCst)
 }
 
-fn refused<T>() -> io::Result<T> {
+fn connection_refusal<T>() -> io::Result<T> {
     Err(io::Error::from(ErrorKind::ConnectionRefused))
 }
 
@@ -107,14 +107,14 @@ impl<'a, R: Net<Listener = TcpListener, Stream = TcpStream> + Wait> System<'a, R
 
     fn to_mapper(&self, address: SocketAddr, limit: Duration) -> io::Result<TcpStream> {
         if self.wrong == Wrong::NoMapper(next(&self.to_mapper)) {
-            return refused();
+            return connection_refusal();
         }
         self.rt.connect_timeout(address, limit)
     }
 
     fn to_node(&self, address: SocketAddr, limit: Duration) -> io::Result<TcpStream> {
         if self.wrong == Wrong::NoPeer {
-            return refused();
+            return connection_refusal();
         }
         let socket = self.rt.connect_timeout(address, limit)?;
         if self.wrong == Wrong::Cuts {
@@ -137,7 +137,7 @@ impl<'a, R: Net<Listener = TcpListener, Stream = TcpStream> + Wait> Net for Syst
     fn bind(&self, address: SocketAddr) -> io::Result<TcpListener> {
         let number = next(&self.listeners);
         if self.wrong == Wrong::NoListener(number) {
-            return refused();
+            return connection_refusal();
         }
         let listener = self.rt.bind(address)?;
         let port = listener.local_addr()?.port();
@@ -152,7 +152,7 @@ impl<'a, R: Net<Listener = TcpListener, Stream = TcpStream> + Wait> Net for Syst
 
     // A run makes no connection without a limit of time.
     fn connect(&self, _address: SocketAddr) -> io::Result<TcpStream> {
-        refused()
+        connection_refusal()
     }
 
     fn connect_timeout(&self, address: SocketAddr, limit: Duration) -> io::Result<TcpStream> {
@@ -185,7 +185,7 @@ impl<'a, R: Clock> Clock for System<'a, R> {
 impl<'a, R: RandomSource> RandomSource for System<'a, R> {
     fn fill_bytes(&self, room: &mut [u8]) -> io::Result<()> {
         if self.wrong == Wrong::NoRandomBytes {
-            return refused();
+            return connection_refusal();
         }
         self.rt.fill_bytes(room)
     }

@@ -3,7 +3,7 @@
 //! A silent peer holds nobody up: no lock is held while a stream is read.
 
 use crate::drives::NAME_AND_REPLY;
-use crate::seats::{Closing, closing, seated};
+use crate::seats::{Closing, closing, seated_node};
 use crate::setting::{CHALLENGE, Same};
 use dist_core::{Event, Still};
 use dist_drive::{FaultStream, Heard, Stream, Took};
@@ -51,7 +51,7 @@ fn looks_until_up<R: Wait + Clock>(rt: &R, node: &LockedNode) -> u64 {
 }
 
 // Drives an end whose peer sends this. The seat, and whether the stream looked in vain.
-fn driven<R: Wait + Clock>(
+fn drive_patiently<R: Wait + Clock>(
     rt: &R,
     alloc: Global,
     node: &LockedNode,
@@ -102,7 +102,7 @@ enum Work {
     ShakesHands,
 }
 
-fn worked<R: Wait + Clock>(
+fn do_work<R: Wait + Clock>(
     rt: &R,
     alloc: Global,
     node: &LockedNode,
@@ -111,8 +111,8 @@ fn worked<R: Wait + Clock>(
 ) -> Option<(Seat, u64)> {
     match work {
         Work::Comes => Some(come(rt, node, seat, 100)),
-        Work::IsSilent => driven(rt, alloc, node, seat, 0, ""),
-        Work::ShakesHands => driven(rt, alloc, node, seat, 1, NAME_AND_REPLY),
+        Work::IsSilent => drive_patiently(rt, alloc, node, seat, 0, ""),
+        Work::ShakesHands => drive_patiently(rt, alloc, node, seat, 1, NAME_AND_REPLY),
     }
 }
 
@@ -123,7 +123,7 @@ fn by_two<R: Threads + Wait + Clock + Sync>(
     links: u64,
     works: (Work, Work),
 ) -> Option<(u64, u64, Closing)> {
-    let (node, mut seats) = seated(alloc)?;
+    let (node, mut seats) = seated_node(alloc)?;
     let (first, _) = come(rt, &node, seats.pop()?, links);
     let second = seats.pop()?;
     let (ones, twos) = work_at_once(rt, alloc, &node, (first, second), works, &mut seats)?;
@@ -142,8 +142,8 @@ fn work_at_once<R: Threads + Wait + Clock + Sync>(
     let (first, second) = free;
     let (one, two) = thread::join(
         rt,
-        move || worked(rt, alloc, node, first, works.0),
-        move || worked(rt, alloc, node, second, works.1),
+        move || do_work(rt, alloc, node, first, works.0),
+        move || do_work(rt, alloc, node, second, works.1),
     );
     Some((put_back(seats, one?)?, put_back(seats, two?)?))
 }

@@ -18,11 +18,21 @@ node c@127.0.0.1 ABCDEFGHIJKLMNOPQRSTUVWXYZabcdefghijklmnopqrstuvwxyz0 101000104
 // After how many of their fronts two nodes agree, and what happens: crossing_dials, dialled_name_reached_other_node,
 // restart_of_a_peer, stale_name_of_given_up_attempt, stale_crossing_name.
 const WORLDS: &str = "\
-1 begin 0 5, begin 1 6, dial 0 b@127.0.0.1 new, dial 1 a@127.0.0.1 new, reach 0 0 1, reach 1 0 0, opened 0 0, opened 1 0, accept 0, accept 1, deliver 1 1 999, take 1 1 1, deliver 0 1 999, take 0 1 7, deliver 0 0 999, take 0 0 0, deliver 1 0 999, take 1 0 0, take 1 0 8, deliver 0 1 999, take 0 1 0, deliver 1 0 999, take 1 0 0
-0 begin 0 5, begin 1 6, begin 2 8, dial 0 b@127.0.0.1 new, reach 0 0 2, opened 0 0, accept 0, deliver 2 0 999, take 2 0 9, deliver 0 0 999, take 0 0 0, take 0 0 0, deliver 0 0 999
-2 begin 0 5, begin 1 4, dial 1 a@127.0.0.1 new, reach 1 0 0, opened 1 0, accept 0, deliver 0 0 999, take 0 0 11, deliver 1 0 999, take 1 0 0, take 1 0 12, deliver 0 0 999, take 0 0 0, deliver 1 0 999, take 1 0 0, halt 1, begin 1 6, dial 1 a@127.0.0.1 new, reach 1 0 0, opened 1 0, accept 1, deliver 0 1 999, take 0 1 0, deliver 1 0 999, take 1 0 0, deliver 0 1 999, take 0 1 13, deliver 1 0 999, take 1 0 14, deliver 0 1 999, take 0 1 0, deliver 1 0 999, take 1 0 0
-5 begin 0 5, begin 1 6, dial 0 b@127.0.0.1 new, reach 0 0 1, opened 0 0, lose 0 0 GaveUp, dial 0 b@127.0.0.1 new, reach 0 1 1, opened 0 1, accept 1, deliver 1 0 999, take 1 0 11, deliver 0 1 999, take 0 1 0, take 0 1 12, deliver 1 0 999, take 1 0 0, deliver 0 1 999, take 0 1 0, accept 0, deliver 1 1 999, take 1 1 0, lose 1 1 Ended
-0 begin 0 5, begin 1 6, dial 1 a@127.0.0.1 new, reach 1 0 0, opened 1 0, lose 1 0 GaveUp, dial 0 b@127.0.0.1 new, reach 0 0 1, opened 0 0, accept 1, deliver 1 1 999, take 1 1 11, deliver 0 0 999, take 0 0 0, take 0 0 12, accept 0, deliver 0 1 999, take 0 1 13, deliver 1 1 999, take 1 1 0";
+1 begin 0 5, begin 1 6, dial 0 b@127.0.0.1 new, dial 1 a@127.0.0.1 new, reach 0 0 1, reach 1 0 0, opened 0 0, opened 1 0, accept 0, accept 1, \
+    deliver 1 1 999, take 1 1 1, deliver 0 1 999, take 0 1 7, deliver 0 0 999, take 0 0 0, deliver 1 0 999, take 1 0 0, take 1 0 8, \
+    deliver 0 1 999, take 0 1 0, deliver 1 0 999, take 1 0 0
+0 begin 0 5, begin 1 6, begin 2 8, dial 0 b@127.0.0.1 new, reach 0 0 2, opened 0 0, accept 0, deliver 2 0 999, take 2 0 9, deliver 0 0 999, \
+    take 0 0 0, take 0 0 0, deliver 0 0 999
+2 begin 0 5, begin 1 4, dial 1 a@127.0.0.1 new, reach 1 0 0, opened 1 0, accept 0, deliver 0 0 999, take 0 0 11, deliver 1 0 999, take 1 0 0, \
+    take 1 0 12, deliver 0 0 999, take 0 0 0, deliver 1 0 999, take 1 0 0, halt 1, begin 1 6, dial 1 a@127.0.0.1 new, reach 1 0 0, opened 1 0, \
+    accept 1, deliver 0 1 999, take 0 1 0, deliver 1 0 999, take 1 0 0, deliver 0 1 999, take 0 1 13, deliver 1 0 999, take 1 0 14, \
+    deliver 0 1 999, take 0 1 0, deliver 1 0 999, take 1 0 0
+5 begin 0 5, begin 1 6, dial 0 b@127.0.0.1 new, reach 0 0 1, opened 0 0, lose 0 0 GaveUp, dial 0 b@127.0.0.1 new, reach 0 1 1, opened 0 1, \
+    accept 1, deliver 1 0 999, take 1 0 11, deliver 0 1 999, take 0 1 0, take 0 1 12, deliver 1 0 999, take 1 0 0, deliver 0 1 999, take 0 1 0, \
+    accept 0, deliver 1 1 999, take 1 1 0, lose 1 1 Ended
+0 begin 0 5, begin 1 6, dial 1 a@127.0.0.1 new, reach 1 0 0, opened 1 0, lose 1 0 GaveUp, dial 0 b@127.0.0.1 new, reach 0 0 1, opened 0 0, \
+    accept 1, deliver 1 1 999, take 1 1 11, deliver 0 0 999, take 0 0 0, take 0 0 12, accept 0, deliver 0 1 999, take 0 1 13, deliver 1 1 999, \
+    take 1 1 0";
 
 // A world of three nodes in which nothing happened, and what is to happen in it.
 fn world_of(alloc: Global, text: &str) -> Option<(World, Vec<Happening>)> {
@@ -35,7 +45,7 @@ fn world_of(alloc: Global, text: &str) -> Option<(World, Vec<Happening>)> {
 }
 
 // What the second of two nodes has to report of what the first reports.
-fn turned(told: Agreement) -> Agreement {
+fn mirror_of(told: Agreement) -> Agreement {
     Agreement {
         conn: told.conn,
         common: told.common,
@@ -48,7 +58,7 @@ fn turned(told: Agreement) -> Agreement {
 fn agree(world: &World, a: usize, b: usize) -> Option<bool> {
     match (world.both_up(a, b), world.both_up(b, a)) {
         (None, None) => Some(false),
-        (Some(one), Some(other)) if other == turned(one) => Some(true),
+        (Some(one), Some(other)) if other == mirror_of(one) => Some(true),
         _ => None,
     }
 }
@@ -141,7 +151,7 @@ fn happening_of(alloc: Global, text: &str) -> Option<Happening> {
 }
 
 // How many of these happenings apply.
-fn applied(alloc: Global, world: &mut World, text: &str) -> Option<u64> {
+fn count_of_applied(alloc: Global, world: &mut World, text: &str) -> Option<u64> {
     let mut count = 0u64;
     for one in text.split(", ") {
         let happening = happening_of(alloc, one)?;
@@ -151,8 +161,8 @@ fn applied(alloc: Global, world: &mut World, text: &str) -> Option<u64> {
 }
 
 // What is seen once the happenings of a row are tried, as the row has it.
-fn seen(alloc: Global, world: &mut World, row: &str) -> Option<bool> {
-    let count = applied(alloc, world, row.splitn(4, ' ').nth(3)?)?;
+fn is_row_seen(alloc: Global, world: &mut World, row: &str) -> Option<bool> {
+    let count = count_of_applied(alloc, world, row.splitn(4, ' ').nth(3)?)?;
     let closed = match world.last_closed() {
         Some((_, _, why)) => why.name(),
         None => "-",
@@ -165,7 +175,7 @@ fn seen(alloc: Global, world: &mut World, row: &str) -> Option<bool> {
 fn first_wrong(alloc: Global) -> Option<Option<&'static str>> {
     let (mut world, _) = world_of(alloc, "")?;
     for row in CHANGES.lines() {
-        if seen(alloc, &mut world, row) != Some(true) {
+        if is_row_seen(alloc, &mut world, row) != Some(true) {
             return Some(Some(row));
         }
     }

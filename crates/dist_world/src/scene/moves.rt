@@ -2,8 +2,8 @@
 ghost use Rattle.std.specs.Prelude.{◌≡◌, Ok, slice_get, IfOk, OnErr, MatchOption};
 ghost use Rattle.std.specs.Option.{option_map};
 ghost use Rattle.dist_world_model.specs.World.{running};
-ghost use Rattle.dist_world_model.specs.Happenings.{tell, tell_node, unclosed, begin, halt, reset};
-ghost use Rattle.dist_world_model.specs.Happenings.{reach, tell_opened, accept, deliver, take_frame, applied, applied_at};
+ghost use Rattle.dist_world_model.specs.Happenings.{tell, tell_node, without_closing, begin, halt, reset};
+ghost use Rattle.dist_world_model.specs.Happenings.{reach, tell_opened, accept, deliver, take_frame, world_after, applied_at};
 ghost use Rattle.dist_world_lives.specs.Telling.{HasTold, Declines};
 ghost use Rattle.dist_world.specs.Doing.{Did, Happened};
 
@@ -35,26 +35,32 @@ fn closed_at(who: usize, closed: Option<(EndId, Why)>) -> Option<(usize, (EndId,
     }
 }
 
+// An event that comes to an incarnation: how many happenings applied before, and the number that was drawn for it.
+#[derive(Drop)]
+struct Arrival {
+    clock: u64,
+    event: Event,
+    fresh: u32,
+}
+
 // An incarnation gets an event, which is dropped then.
 fn tell_once(
     lives: &mut Lives,
     conns: &mut Connections,
-    place: usize,
     alloc: Global,
-    clock: u64,
-    event: Event,
-    fresh: u32,
+    place: usize,
+    arrival: Arrival,
 ) -> Result<Option<(usize, LifeStep)>, AllocError>
     ensures ok { IfOk result (λ made. MatchOption made
-        (Declines lives.old place event fresh × (lives.new ≡ lives.old) × (conns.new ≡ conns.old))
-        (λ x. HasTold x.0 x.1 place clock event fresh lives.old lives.new conns.old conns.new)) }
+        (Declines lives.old place arrival.event arrival.fresh × (lives.new ≡ lives.old) × (conns.new ≡ conns.old))
+        (λ x. HasTold x.0 x.1 place arrival.clock arrival.event arrival.fresh lives.old lives.new conns.old conns.new)) }
     ensures err { OnErr result ((lives.new ≡ lives.old) × (conns.new ≡ conns.old)) }
 {
     let occasion = Occasion {
         alloc,
-        clock,
-        event: &event,
-        fresh,
+        clock: arrival.clock,
+        event: &arrival.event,
+        fresh: arrival.fresh,
     };
     lives.tell(conns, place, &occasion)
 }
@@ -68,17 +74,14 @@ impl Scene {
         event: Event,
         fresh: u32,
     ) -> Result<bool, AllocError>
-        ensures { Did result (tell (unclosed self.old) place event fresh) self.old self.new }
+        ensures { Did result (tell (without_closing self.old) place event fresh) self.old self.new }
     {
-        match tell_once(
-            &mut self.lives,
-            &mut self.conns,
-            place,
-            alloc,
-            self.clock,
+        let arrival = Arrival {
+            clock: self.clock,
             event,
             fresh,
-        )? {
+        };
+        match tell_once(&mut self.lives, &mut self.conns, alloc, place, arrival)? {
             None => Ok(false),
             Some((who, made)) => {
                 self.last_closed = closed_at(who, made.closed);
@@ -89,7 +92,7 @@ impl Scene {
 
     // The running incarnation of a node gets an event.
     fn tell_node(&mut self, alloc: Global, node: usize, event: Event) -> Result<bool, AllocError>
-        ensures { Did result (tell_node (unclosed self.old) node event) self.old self.new }
+        ensures { Did result (tell_node (without_closing self.old) node event) self.old self.new }
     {
         match self.running(node) {
             Some(place) => self.tell(alloc, place, event, 0),
@@ -99,7 +102,7 @@ impl Scene {
 
     // A node that does not run begins.
     fn begin(&mut self, alloc: Global, node: usize, creation: Creation) -> Result<bool, AllocError>
-        ensures { Did result (begin (unclosed self.old) node creation) self.old self.new }
+        ensures { Did result (begin (without_closing self.old) node creation) self.old self.new }
     {
         if self.running(node).is_some() {
             return Ok(false);
@@ -117,7 +120,7 @@ impl Scene {
 
     // A running node stops.
     fn halt(&mut self, node: usize) -> bool
-        ensures { Did (Ok result) (halt (unclosed self.old) node) self.old self.new }
+        ensures { Did (Ok result) (halt (without_closing self.old) node) self.old self.new }
     {
         if !self.lives.end(node, self.clock) {
             return false;
@@ -128,7 +131,7 @@ impl Scene {
 
     // A running node changes its setup, by a copy of the change.
     fn reset(&mut self, alloc: Global, node: usize, wanted: &Change) -> Result<bool, AllocError>
-        ensures { Did result (reset (unclosed self.old) node wanted.now) self.old self.new }
+        ensures { Did result (reset (without_closing self.old) node wanted.now) self.old self.new }
     {
         let Some(place) = self.running(node) else {
             return Ok(false);
@@ -149,7 +152,7 @@ impl Scene {
         id: EndId,
         target: usize,
     ) -> Result<bool, AllocError>
-        ensures { Did result (reach (unclosed self.old) node id target) self.old self.new }
+        ensures { Did result (reach (without_closing self.old) node id target) self.old self.new }
     {
         let Some(place) = self.running(node) else {
             return Ok(false);
@@ -172,7 +175,7 @@ impl Scene {
 
     // An end that has a connection gets the event of it.
     fn open(&mut self, alloc: Global, node: usize, id: EndId) -> Result<bool, AllocError>
-        ensures { Did result (tell_opened (unclosed self.old) node id) self.old self.new }
+        ensures { Did result (tell_opened (without_closing self.old) node id) self.old self.new }
     {
         let Some(place) = self.running(node) else {
             return Ok(false);
@@ -191,22 +194,19 @@ impl Scene {
 
     // A connection comes to the incarnation that it leads to.
     fn accept(&mut self, alloc: Global, conn: usize) -> Result<bool, AllocError>
-        ensures { Did result (accept (unclosed self.old) conn) self.old self.new }
+        ensures { Did result (accept (without_closing self.old) conn) self.old self.new }
     {
         a_reply_is_of_its_end();
-        let Some(target) = self.conns.unaccepted(conn) else {
+        let Some(target) = self.conns.unaccepted_target(conn) else {
             return Ok(false);
         };
         let event = Event::Incoming { link: conn as u64 };
-        match tell_once(
-            &mut self.lives,
-            &mut self.conns,
-            target,
-            alloc,
-            self.clock,
+        let arrival = Arrival {
+            clock: self.clock,
             event,
-            0,
-        )? {
+            fresh: 0,
+        };
+        match tell_once(&mut self.lives, &mut self.conns, alloc, target, arrival)? {
             None => Ok(false),
             Some((who, made)) => {
                 self.conns.accept(conn, made.end_);
@@ -218,7 +218,7 @@ impl Scene {
 
     // Some of what the other side sent comes to an open end.
     fn deliver(&mut self, node: usize, id: EndId, count: usize) -> Result<bool, AllocError>
-        ensures { Did result (deliver (unclosed self.old) node id count) self.old self.new }
+        ensures { Did result (deliver (without_closing self.old) node id count) self.old self.new }
     {
         let Some(place) = self.running(node) else {
             return Ok(false);
@@ -244,7 +244,7 @@ impl Scene {
         id: EndId,
         fresh: u32,
     ) -> Result<bool, AllocError>
-        ensures { Did result (take_frame (unclosed self.old) node id fresh) self.old self.new }
+        ensures { Did result (take_frame (without_closing self.old) node id fresh) self.old self.new }
     {
         a_reply_is_of_its_end();
         let Some(place) = self.running(node) else {
@@ -258,15 +258,12 @@ impl Scene {
         };
         let body = ByteString::from_slice(alloc, front)?;
         let event = Event::Frame { end_: id, body };
-        match tell_once(
-            &mut self.lives,
-            &mut self.conns,
-            place,
-            alloc,
-            self.clock,
+        let arrival = Arrival {
+            clock: self.clock,
             event,
             fresh,
-        )? {
+        };
+        match tell_once(&mut self.lives, &mut self.conns, alloc, place, arrival)? {
             None => Ok(false),
             Some((who, made)) => {
                 self.conns.take(conn, side);
@@ -284,7 +281,7 @@ impl Scene {
         peer: &NodeName,
         opening: Opening,
     ) -> Result<bool, AllocError>
-        ensures { Did result (tell_node (unclosed self.old) node (Event.Dial peer.now opening)) self.old self.new }
+        ensures { Did result (tell_node (without_closing self.old) node (Event.Dial peer.now opening)) self.old self.new }
     {
         let event = Event::Dial {
             peer: peer.try_clone(alloc)?,
@@ -295,7 +292,7 @@ impl Scene {
 
     // One happening, but for the clock.
     fn apply(&mut self, alloc: Global, happening: &Happening) -> Result<bool, AllocError>
-        ensures { Did result (applied (unclosed self.old) happening.now) self.old self.new }
+        ensures { Did result (world_after (without_closing self.old) happening.now) self.old self.new }
     {
         match happening {
             Happening::Begin { node, creation } => self.begin(alloc, *node, *creation),

@@ -1,5 +1,5 @@
 use Rattle.std.proofs.Common.{◌∙◌, ap, Some}
-use Rattle.dist_core_ends.specs.Keeping.{shown}
+use Rattle.dist_core_ends.specs.Keeping.{ends_of_rows}
 use Rattle.dist_core_ends.proofs.slots.fill.Goals as goal
 use Rattle.dist_core_ends.proofs.Keeping.{has-slot, refilled-shown, refilled, finds-closed, stays-shut}
 
@@ -14,5 +14,5 @@ returns-in-Slot-clause-kept c = refilled c.args.rows.now.items c.args.slots.now.
 
 pub returns-in_default-clause-ends : goal.returns-in_default-clause-ends
 returns-in_default-clause-ends c =
-    let es = shown c.args.rows.now.items c.args.slots.now.slots in
+    let es = ends_of_rows c.args.rows.now.items c.args.slots.now.slots in
     absurd (stays-shut es c.args.i c.in_default.field-0 c.args.end (finds-closed c.args.rows.now.items c.args.slots.now.slots c.args.i c.in_default.field-0 c.at.result c.at.ensures c.in_default.is) c.requires.stays c.requires.open_)

@@ -2,7 +2,7 @@ use Rattle.std.proofs.Common.{◌≡◌, ◌∙◌, ◌++◌, ◌∷◌, [], Lis
 use Rattle.slab.specs.Slab.{Slab}
 use Rattle.dist_core_ends.specs.declared.known.End.{End}
 use Rattle.dist_core_ends.specs.Change.{IsThere, OtherStaysClosed, put_other}
-use Rattle.dist_core_ends.specs.Keeping.{shown}
+use Rattle.dist_core_ends.specs.Keeping.{ends_of_rows}
 use Rattle.dist_core_ends.proofs.Keeping.{behind, behind-shown, there-put}
 use Rattle.dist_core_ends.proofs.table.apply_new.Goals as goal
 
@@ -12,7 +12,7 @@ put_second-requires-clause-there c =
     let room : c.reserve-2.new.self.slots ≡ c.args.slots.now.slots = ap (λ (s : Slab End). s.slots) c.in_ok-reserve-2.ensures.rest_kept in
     let P : List End → Type 0 = λ es. IsThere es c.args.other in
     subst P (sym (behind-shown c.args.rows.now.items c.push.new.self.items c.args.slots.now.slots c.reserve-2.new.self.slots c.keep-row.new.slots.slots c.args.id.0 c.args.this c.keep-row.result c.requires.place more room c.requires.kept c.keep-row.ensures))
-    (there-put (shown c.args.rows.now.items c.args.slots.now.slots) c.args.id.0 c.args.this c.args.other c.requires.other)
+    (there-put (ends_of_rows c.args.rows.now.items c.args.slots.now.slots) c.args.id.0 c.args.this c.args.other c.requires.other)
 
 pub put_second-requires-clause-kept : goal.put_second-requires-clause-kept
 put_second-requires-clause-kept c =

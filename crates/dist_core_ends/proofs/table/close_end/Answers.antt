@@ -2,8 +2,8 @@ use Rattle.std.proofs.Common.{[], ◌∙◌, List, None, Option, Some, arith, ap
 use Rattle.dist_core_ends.specs.declared.slots.Row.{Row}
 use Rattle.dist_core_ends.specs.declared.known.End.{End}
 use Rattle.dist_core_ends.specs.declared.known.End.TheVariants as ends
-use Rattle.dist_core_ends.specs.Keeping.{shown, AreKept}
-use Rattle.dist_core_ends.specs.Change.{claim_at, shifted}
+use Rattle.dist_core_ends.specs.Keeping.{ends_of_rows, AreKept}
+use Rattle.dist_core_ends.specs.Change.{claim_at, table_after_shift}
 use Rattle.dist_core_ends.proofs.Keeping.{shown-length, has-slot, finds-slot, finds-closed, emptied-shown, emptied, same-cause, set-same, put-within}
 use Rattle.dist_core_ends.proofs.table.close_end.Goals as goal
 
@@ -16,12 +16,12 @@ empty-requires c = has-slot c.args.rows.now.items c.args.slots.now c.args.id.0 c
 pub returns-in-Slot-clause-peers : goal.returns-in-Slot-clause-peers
 returns-in-Slot-clause-peers c =
     let found = finds-slot c.args.rows.now.items c.args.slots.now.slots c.args.id.0 c.in-Slot.slot c.at.result c.index.result.now c.requires.kept c.at.ensures c.in-Slot.is c.index.ensures in
-    c.leave.ensures ∙ ap (λ (o : Option End). shifted c.args.peers.now [] c.args.id (claim_at o) None) (sym (found.0))
+    c.leave.ensures ∙ ap (λ (o : Option End). table_after_shift c.args.peers.now [] c.args.id (claim_at o) None) (sym (found.0))
 
 pub returns-in-Slot-clause-ends : goal.returns-in-Slot-clause-ends
 returns-in-Slot-clause-ends c =
-    let es = shown c.args.rows.now.items c.args.slots.now.slots in
-    ap (λ (rs : List Row). shown rs c.empty.new.slots.slots) c.close.ensures
+    let es = ends_of_rows c.args.rows.now.items c.args.slots.now.slots in
+    ap (λ (rs : List Row). ends_of_rows rs c.empty.new.slots.slots) c.close.ensures
     ∙ emptied-shown c.args.rows.now.items c.args.slots.now.slots c.empty.new.slots.slots c.requires.kept c.args.id.0 c.in-Slot.slot c.args.why (c.at.ensures ∙ ap Some c.in-Slot.is) (c.empty.ensures.0)
     ∙ put-within es c.args.id.0 (ends.Closed c.args.why) (omega (arith, c.requires.place, shown-length c.args.rows.now.items c.args.slots.now.slots))
 
@@ -33,11 +33,11 @@ returns-in-Slot-clause-kept c =
 pub returns-in_default-clause-peers : goal.returns-in_default-clause-peers
 returns-in_default-clause-peers c =
     let at = finds-closed c.args.rows.now.items c.args.slots.now.slots c.args.id.0 c.in_default.field-0 c.at.result c.at.ensures c.in_default.is in
-    sym (ap (λ (o : Option End). shifted c.args.peers.now [] c.args.id (claim_at o) None) at)
+    sym (ap (λ (o : Option End). table_after_shift c.args.peers.now [] c.args.id (claim_at o) None) at)
 
 pub returns-in_default-clause-ends : goal.returns-in_default-clause-ends
 returns-in_default-clause-ends c =
-    let es = shown c.args.rows.now.items c.args.slots.now.slots in
+    let es = ends_of_rows c.args.rows.now.items c.args.slots.now.slots in
     let i = c.args.id.0 in
     let w = c.in_default.field-0 in
     let at = finds-closed c.args.rows.now.items c.args.slots.now.slots i w c.at.result c.at.ensures c.in_default.is in

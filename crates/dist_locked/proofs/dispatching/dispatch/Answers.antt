@@ -1,6 +1,6 @@
 use Rattle.std.proofs.Common.{◌+◌, List, [], ◌∷◌, ◌++◌, sym, ap, ◌∙◌, add-one, rules}
 use Rattle.dist_locked.specs.declared.rule.DialOrder.{DialOrder}
-use Rattle.dist_locked.specs.Orders.{numbered}
+use Rattle.dist_locked.specs.Orders.{orders_below}
 use Rattle.dist_locked.proofs.dispatching.dispatch.Goals as goal
 
 pub loop-number-init : goal.loop-number-init
@@ -19,6 +19,6 @@ pub loop-number-preserved : goal.loop-number-preserved
 loop-number-preserved g c = (
   c.put_one.ensures.own ∙ c.loop-number.invariant.0,
   c.put_one.ensures.own ∙ c.loop-number.invariant.1,
-  c.put_one.ensures.put ∙ (ap (λ (orders : List DialOrder). orders ++ record { 0 = c.loop-number.number } ∷ []) c.loop-number.invariant.2 ∙ ap numbered (sym (add-one c.loop-number.number))),
+  c.put_one.ensures.put ∙ (ap (λ (orders : List DialOrder). orders ++ record { 0 = c.loop-number.number } ∷ []) c.loop-number.invariant.2 ∙ ap orders_below (sym (add-one c.loop-number.number))),
   c.put_one.ensures.longer ∙ ap (λ n. n + 1) c.loop-number.invariant.3,
 )

@@ -1,8 +1,8 @@
 -- What is written and the escapes of the bytes that are left are the escapes of all.
 use Rattle.std.proofs.Common.{◌≡◌, ◌++◌, drop}
 use Rattle.std.specs.String.{string_bytes}
-use Rattle.dist_names.specs.Escaped.{escaped}
+use Rattle.dist_names.specs.Escaped.{escapes_of}
 use Rattle.dist_names.proofs.escaping.escape.Given as goal
 
 abbrev pub invariant-loop-byte : goal.invariant-loop-byte
-invariant-loop-byte l = string_bytes l.text ++ escaped (drop l.byte-index l.bytes) ≡ escaped l.bytes
+invariant-loop-byte l = string_bytes l.text ++ escapes_of (drop l.byte-index l.bytes) ≡ escapes_of l.bytes

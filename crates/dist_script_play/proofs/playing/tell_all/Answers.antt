@@ -1,8 +1,20 @@
 use Rattle.std.proofs.Common.{arith}
-use Rattle.dist_script_play.proofs.Pages.{there, put}
-use Rattle.dist_script_play.proofs.Lines.{all_told}
+use Rattle.dist_script_play.specs.Played.{lines_text}
+use Rattle.dist_script_play.specs.Pages.{PutsPart}
+use Rattle.dist_script_play.proofs.Pages.{at_err}
+use Rattle.dist_script_play.proofs.Lines.{cut_item, all_told, cut_table}
 use Rattle.dist_script_play.proofs.playing.tell_all.Goals as goal
+
+pub returns-in_err-tell-clause-cut : goal.returns-in_err-tell-clause-cut
+returns-in_err-tell-clause-cut g c =
+    at_err (λ f. PutsPart (lines_text c.args.scene.now c.args.lines.now) (g.W.Write.contents c.args.out.now) (g.W.Write.contents c.tell.new.out) c.args.page.now.text.items c.tell.new.page.text.items f) c.from_residual.result c.in_err-tell.field-0.0 c.from_residual.ensures.1
+    (cut_item _ _ _ _ _ _ _ _ _ _ c.line-item.result _ c.loop-line.invariant c.loop-line-test.true c.line-item.is c.in_err-tell.ensures.cut)
+
+pub returns-in_err-tell_table-clause-cut : goal.returns-in_err-tell_table-clause-cut
+returns-in_err-tell_table-clause-cut g c =
+    at_err (λ f. PutsPart (lines_text c.args.scene.now c.args.lines.now) (g.W.Write.contents c.args.out.now) (g.W.Write.contents c.tell_table.new.out) c.args.page.now.text.items c.tell_table.new.page.text.items f) c.from_residual-in_err-tell_table.result c.in_err-tell_table.field-0.0 c.from_residual-in_err-tell_table.ensures.1
+    (cut_table _ _ _ _ _ _ _ _ _ _ _ c.loop-line.invariant (omega (arith, c.loop-line-test.false)) c.in_err-tell_table.ensures.cut)
 
 pub returns-clause-text : goal.returns-clause-text
 returns-clause-text g c =
-    all_told _ _ _ _ _ _ _ c.loop-line.invariant (omega (arith, c.loop-line-test.false)) (put _ _ _ _ (there c.print_table.result c.print_table.ensures c.in_ok-on_page-2.ensures.ok))
+    all_told _ _ _ _ _ _ _ _ _ _ c.loop-line.invariant (omega (arith, c.loop-line-test.false)) c.in_ok-tell_table.ensures.text

@@ -1,14 +1,21 @@
 use Rattle.std.proofs.Common.{arith}
-use Rattle.dist_script_play.proofs.Pages.{put_and_turned}
-use Rattle.dist_script_play.proofs.Stages.{fits_more, one_happened}
+use Rattle.dist_script_play.specs.Played.{happenings_text}
+use Rattle.dist_script_play.specs.Pages.{PutsPart}
+use Rattle.dist_script_play.proofs.Pages.{at_err}
+use Rattle.dist_script_play.proofs.Stages.{fits_more, one_happened, cut_happened}
 use Rattle.dist_script_play.proofs.stage.happen_all.Goals as goal
 
 -- no more apply than there are, whose count is a number of 64 bits
 pub overflow_add-applied : goal.overflow_add-applied
 overflow_add-applied g c =
-    let few = fits_more _ _ _ _ _ _ _ _ _ c.loop-rest.invariant (grind arith) c.split_at.ensures.front c.in-Ok.ensures.count in
-    omega (arith, few, c.requires, c.ranges.all.fits)
+    let few = fits_more _ _ _ _ _ _ _ _ _ _ _ c.loop-rest.invariant (grind arith) c.split_at.ensures.front c.in_ok-more.ensures.count in
+    omega (arith, few)
 
 pub loop-rest-preserved : goal.loop-rest-preserved
 loop-rest-preserved g c =
-    one_happened _ _ _ _ _ _ _ _ _ _ _ _ c.loop-rest.invariant (grind arith) c.split_at.ensures.front c.split_at.ensures.back (put_and_turned _ _ c.loop-rest.page.items c.happen.new.out.items c.turn.new.page.items _ c.in-Ok.ensures.text c.in_ok-turn.ensures.same) c.in-Ok.ensures.after c.in-Ok.ensures.count
+    one_happened _ _ _ _ _ _ _ _ _ _ _ _ _ _ _ c.loop-rest.invariant (grind arith) c.split_at.ensures.front c.split_at.ensures.back c.in_ok-more.ensures.text c.in_ok-more.ensures.after c.in_ok-more.ensures.count
+
+pub returns-in_err-more-clause-cut : goal.returns-in_err-more-clause-cut
+returns-in_err-more-clause-cut g c =
+    at_err (λ f. PutsPart (happenings_text c.args.world.now c.args.happenings.now) (g.W.Write.contents c.args.out.now) (g.W.Write.contents c.happen_once.new.out) c.args.page.now.text.items c.happen_once.new.page.text.items f) c.from_residual.result c.in_err-more.field-0.0 c.from_residual.ensures.1
+    (cut_happened _ _ _ _ _ _ _ _ _ _ _ _ _ c.loop-rest.invariant (grind arith) c.split_at.ensures.front c.in_err-more.ensures.cut)

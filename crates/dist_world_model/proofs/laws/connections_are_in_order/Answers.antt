@@ -1,4 +1,4 @@
-use Rattle.dist_world_model.proofs.Connections.{in_order_worlds}
+use Rattle.dist_world_model.proofs.ConnectionOrder.{in_order_worlds}
 use Rattle.dist_world_model.proofs.laws.connections_are_in_order.Goals as goal
 
 pub returns : goal.returns

@@ -1,4 +1,4 @@
-use Rattle.dist_world_model.proofs.Connections.{above_worlds, only_last_runs}
+use Rattle.dist_world_model.proofs.ConnectionOrder.{above_worlds, only_last_runs}
 use Rattle.dist_world_model.proofs.laws.incarnations_are_in_order.Goals as goal
 
 pub returns-clause-above : goal.returns-clause-above

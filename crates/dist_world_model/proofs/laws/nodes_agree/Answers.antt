@@ -1,5 +1,5 @@
-use Rattle.dist_world_model.proofs.Agreeing.{agreement_holds}
-use Rattle.dist_world_model.proofs.Reaching.{reached_agree}
+use Rattle.dist_world_model.proofs.AgreementOfWorlds.{agreement_holds}
+use Rattle.dist_world_model.proofs.ReachedWorlds.{reached_agree}
 use Rattle.dist_world_model.proofs.laws.nodes_agree.Goals as goal
 
 pub returns-clause-runs : goal.returns-clause-runs

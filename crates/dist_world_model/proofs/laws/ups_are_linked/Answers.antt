@@ -1,5 +1,5 @@
-use Rattle.dist_world_model.proofs.Conns.{linked_lives}
-use Rattle.dist_world_model.proofs.Reaching.{counted_on}
+use Rattle.dist_world_model.proofs.EndConnections.{linked_lives}
+use Rattle.dist_world_model.proofs.ReachedWorlds.{counted_on}
 use Rattle.dist_world_model.proofs.laws.ups_are_linked.Goals as goal
 
 pub returns-clause-runs : goal.returns-clause-runs

@@ -1,4 +1,4 @@
-use Rattle.dist_world_model.proofs.Reaching.{reached_new, reached_run}
+use Rattle.dist_world_model.proofs.ReachedWorlds.{reached_new, reached_run}
 use Rattle.dist_world_model.proofs.laws.worlds_are_reached.Goals as goal
 
 pub returns-clause-new : goal.returns-clause-new

@@ -6,7 +6,7 @@ use Rattle.dist_core.specs.Step.{cost_of}
 use Rattle.dist_core_ends.proofs.Legal.{table-legal}
 use Rattle.dist_core.proofs.Steps.{fits}
 use Rattle.dist_core.proofs.Counts.{counts, loses, of_ok, not_failed}
-use Rattle.dist_core.specs.Rows.{Row}
+use Rattle.dist_core.specs.Rows.{StepRow}
 use Rattle.dist_core.proofs.Rows.{row_of}
 use Rattle.dist_core.proofs.Numbers.{numbered}
 use Rattle.dist_core.proofs.node.Node.step_by_effect.Goals as goal
@@ -38,4 +38,4 @@ pub apply_effect-requires-clause-numbered : goal.apply_effect-requires-clause-nu
 apply_effect-requires-clause-numbered c =
     let n = c.args.self.now in
     let v = c.args.event.now in
-    numbered n v c.args.fresh c.in_ok-effect.effect (of_ok (Row n v c.args.fresh) _ _ c.in_ok-effect.ensures.effect (row_of n v c.args.fresh)) c.in_ok-effect.ensures.numbered
+    numbered n v c.args.fresh c.in_ok-effect.effect (of_ok (StepRow n v c.args.fresh) _ _ c.in_ok-effect.ensures.effect (row_of n v c.args.fresh)) c.in_ok-effect.ensures.numbered

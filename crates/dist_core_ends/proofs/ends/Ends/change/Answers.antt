@@ -4,10 +4,10 @@ use Rattle.dist_names.specs.Order.{Name}
 use Rattle.dist_peers.specs.Table.{Table}
 use Rattle.dist_peers.specs.declared.entry.EndId.{EndId}
 use Rattle.dist_core_ends.specs.declared.known.End.{End}
-use Rattle.dist_core_ends.specs.Keeping.{shown}
+use Rattle.dist_core_ends.specs.Keeping.{ends_of_rows}
 use Rattle.dist_core_ends.proofs.Keeping.{shown-length}
 use Rattle.dist_core_ends.specs.Ends.{Agree, AreLegal, table_of}
-use Rattle.dist_core_ends.specs.Change.{Fits, changed}
+use Rattle.dist_core_ends.specs.Change.{Fits, with_change}
 use Rattle.dist_core_ends.proofs.Settled.{changed-settled, changed-longer, either-settled, either-longer}
 use Rattle.dist_core_ends.proofs.Legal.{legal, agreed}
 use Rattle.dist_core_ends.proofs.Tables.{table-agreed}
@@ -70,10 +70,10 @@ invariant_of-self c =
     let h = fit c.args.me.now c.args.self.now _ c.self.inside.peers c.args.id c.args.this c.args.other c.self.view_is c.requires.fits c.self.invariant.agree in
     let rows = c.self.inside.rows.items in
     let slots = c.self.inside.slots.slots in
-    let es = shown rows slots in
+    let es = ends_of_rows rows slots in
     let n = c.self.inside.passed in
-    let fs = changed es c.args.id c.args.this c.args.other in
-    let stay = ends-stay c.apply.result c.self.inside.peers c.apply.new.peers es (shown c.apply.new.rows.items c.apply.new.slots.slots) c.apply.ensures.err in
+    let fs = with_change es c.args.id c.args.this c.args.other in
+    let stay = ends-stay c.apply.result c.self.inside.peers c.apply.new.peers es (ends_of_rows c.apply.new.rows.items c.apply.new.slots.slots) c.apply.ensures.err in
     let within : n ≤ length es = omega (arith, c.self.invariant.within, shown-length rows slots) in
     record {
       agree = agrees c.apply.result _ _ _ _ _ _ c.self.invariant.agree h.agree c.apply.ensures.peers c.apply.ensures.ends c.apply.ensures.err;

@@ -1,6 +1,6 @@
 use Rattle.std.proofs.Common.{[], List, None, length, arith, ap, sym, subst, refl, slice_get}
 use Rattle.dist_core_ends.specs.declared.known.End.TheVariants as ends
-use Rattle.dist_core_ends.specs.Keeping.{shown, AreSettled}
+use Rattle.dist_core_ends.specs.Keeping.{ends_of_rows, AreSettled}
 use Rattle.dist_core_ends.specs.Change.{claim_at, StaysClosed}
 use Rattle.dist_core_ends.proofs.Keeping.{shown-length}
 use Rattle.dist_core_ends.proofs.Fitting.{fit-closes}
@@ -21,7 +21,7 @@ close_end-requires-clause-stays c =
 
 pub invariant_of-self : goal.invariant_of-self
 invariant_of-self c =
-    let es = shown c.self.inside.rows.items c.self.inside.slots.slots in
+    let es = ends_of_rows c.self.inside.rows.items c.self.inside.slots.slots in
     let Q : List End → Type 0 = λ xs. StaysClosed (slice_get xs c.args.id.0) (ends.Closed c.args.why) in
     let h = fit-closes [] es c.self.inside.peers c.self.invariant.agree c.args.id c.args.why (claim_at (slice_get es c.args.id.0)) (subst Q (sym c.self.view_is) c.requires.stays) refl (omega (arith, ap length c.self.view_is, c.requires.there)) in
     let rows = c.close_end.new.rows.items in

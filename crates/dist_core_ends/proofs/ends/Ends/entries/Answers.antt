@@ -2,9 +2,9 @@ use Rattle.std.proofs.Common.{ap, ◌∙◌, List}
 use Rattle.std.specs.FinMap as map
 use Rattle.dist_core_ends.specs.Ends.{table_of}
 use Rattle.dist_core_ends.specs.declared.known.End.{End}
-use Rattle.dist_core_ends.specs.Keeping.{shown}
+use Rattle.dist_core_ends.specs.Keeping.{ends_of_rows}
 use Rattle.dist_core_ends.proofs.Tables.{table-agreed}
 use Rattle.dist_core_ends.proofs.ends.Ends.entries.Goals as goal
 
 pub returns : goal.returns
-returns c = c.len.ensures.count ∙ ap map.len (table-agreed c.self.inside.peers (shown c.self.inside.rows.items c.self.inside.slots.slots) c.self.invariant.agree) ∙ ap (λ (es : List End). map.len (table_of es)) c.self.view_is
+returns c = c.len.ensures.count ∙ ap map.len (table-agreed c.self.inside.peers (ends_of_rows c.self.inside.rows.items c.self.inside.slots.slots) c.self.invariant.agree) ∙ ap (λ (es : List End). map.len (table_of es)) c.self.view_is

@@ -3,8 +3,8 @@ use Rattle.std.specs.FinMap as map
 use Rattle.dist_core_ends.specs.declared.known.End.{End}
 use Rattle.dist_core_ends.specs.declared.slots.Row.{Row}
 use Rattle.dist_core_ends.specs.Ends.{Agree}
-use Rattle.dist_core_ends.specs.Forgetting.{forgotten}
-use Rattle.dist_core_ends.specs.Keeping.{shown, AreSettled, AreKept}
+use Rattle.dist_core_ends.specs.Forgetting.{without_causes_below}
+use Rattle.dist_core_ends.specs.Keeping.{ends_of_rows, AreSettled, AreKept}
 use Rattle.dist_core_ends.proofs.Forgotten.{kept-shown, kept-forgotten, agree-forgotten, rows-length}
 use Rattle.dist_core_ends.proofs.Settled.{forgotten-settled}
 use Rattle.dist_core_ends.proofs.ends.Ends.forget.Goals as goal
@@ -13,20 +13,20 @@ pub returns : goal.returns
 returns c =
     let rows = c.self.inside.rows.items in
     let slots = c.self.inside.slots.slots in
-    ap (λ (rs : List Row). shown rs slots) c.forget.ensures ∙ kept-shown c.args.below.0 rows slots c.self.invariant.kept ∙ ap (forgotten c.args.below.0) c.self.view_is
+    ap (λ (rs : List Row). ends_of_rows rs slots) c.forget.ensures ∙ kept-shown c.args.below.0 rows slots c.self.invariant.kept ∙ ap (without_causes_below c.args.below.0) c.self.view_is
 
 pub invariant_of-self : goal.invariant_of-self
 invariant_of-self c =
     let rows = c.self.inside.rows.items in
     let slots = c.self.inside.slots.slots in
     let b = c.args.below.0 in
-    let is : shown c.forget.new.self.items slots ≡ forgotten b (shown rows slots) = ap (λ (rs : List Row). shown rs slots) c.forget.ensures ∙ kept-shown b rows slots c.self.invariant.kept in
+    let is : ends_of_rows c.forget.new.self.items slots ≡ without_causes_below b (ends_of_rows rows slots) = ap (λ (rs : List Row). ends_of_rows rs slots) c.forget.ensures ∙ kept-shown b rows slots c.self.invariant.kept in
     let P : List Row → Type 0 = λ rs. AreKept rs slots in
     let Q : List End → Type 0 = λ es. Agree (map.get c.self.inside.peers) es in
     let R : List End → Type 0 = λ es. AreSettled es c.self.inside.passed in
     record {
-      agree = subst Q (sym is) (agree-forgotten c.self.inside.peers b (shown rows slots) c.self.invariant.agree);
+      agree = subst Q (sym is) (agree-forgotten c.self.inside.peers b (ends_of_rows rows slots) c.self.invariant.agree);
       kept = subst P (sym c.forget.ensures) (kept-forgotten b rows slots c.self.invariant.kept);
       within = omega (arith, c.self.invariant.within, ap length c.forget.ensures, rows-length b rows);
-      settled = subst R (sym is) (forgotten-settled b (shown rows slots) c.self.inside.passed c.self.invariant.settled);
+      settled = subst R (sym is) (forgotten-settled b (ends_of_rows rows slots) c.self.inside.passed c.self.invariant.settled);
     }

@@ -1,6 +1,6 @@
 use Rattle.std.proofs.Common.{◌∙◌, ◌≤◌, length, arith, ap, sym}
 use Rattle.dist_core_ends.specs.Ends.{oldest_pending}
-use Rattle.dist_core_ends.specs.Keeping.{shown}
+use Rattle.dist_core_ends.specs.Keeping.{ends_of_rows}
 use Rattle.dist_core_ends.proofs.Keeping.{shown-length}
 use Rattle.dist_core_ends.proofs.Oldest.{oldest-found, oldest-none}
 use Rattle.dist_core_ends.proofs.ends.Ends.oldest_pending.Goals as goal
@@ -9,7 +9,7 @@ use Rattle.dist_core_ends.proofs.ends.Ends.oldest_pending.Goals.{then-self-len, 
 pub returns-clause-oldest : goal.returns-clause-oldest
 returns-clause-oldest c =
     let rows = c.self.inside.rows.items in
-    let es = shown rows c.self.inside.slots.slots in
+    let es = ends_of_rows rows c.self.inside.slots.slots in
     let n = c.first_waiting-self-inside.result in
     let found = c.first_waiting-self-inside.ensures in
     let past : length rows ≤ n → length es ≤ n = λ h. omega (arith, h, shown-length rows c.self.inside.slots.slots) in

@@ -4,7 +4,7 @@ use Rattle.dist_epmd_clients.proofs.holding.Clients.reply.Goals as goal
 
 pub invariant_of-self-in-Registered-clause-stand : goal.invariant_of-self-in-Registered-clause-stand
 invariant_of-self-in-Registered-clause-stand g c =
-    stand_stays c.args.request.now c.args.self.now.registry c.reply_to.new.registry c.args.self.now.clients c.set_talk.new.clients c.args.conn
+    stand_stays c.name_in.result c.args.request c.args.self.now.registry c.reply_to.new.registry c.args.self.now.clients c.set_talk.new.clients c.args.conn
     c.in_ok-served.ensures.after (sym c.in_ok-served.ensures.served ∙ c.in-Registered.is) c.requires.there c.set_talk.ensures.changed c.args.self.now.stand
 
 pub invariant_of-self-in-Registered-clause-numbered : goal.invariant_of-self-in-Registered-clause-numbered
@@ -13,7 +13,7 @@ invariant_of-self-in-Registered-clause-numbered g c =
 
 pub invariant_of-self-2-clause-stand : goal.invariant_of-self-2-clause-stand
 invariant_of-self-2-clause-stand g c =
-    stand_leaves c.args.request.now c.args.self.now.registry c.reply_to.new.registry c.args.self.now.clients c.take_client.new.clients c.args.conn
+    stand_leaves c.args.request c.args.self.now.registry c.reply_to.new.registry c.args.self.now.clients c.take_client.new.clients c.args.conn
     c.in_ok-served.ensures.after (sym c.in_ok-served.ensures.served ∙ c.in_default.is) c.requires.asking c.take_client.ensures.changed c.args.self.now.stand
 
 pub invariant_of-self-2-clause-numbered : goal.invariant_of-self-2-clause-numbered

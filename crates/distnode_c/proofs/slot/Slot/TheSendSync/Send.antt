@@ -12,10 +12,10 @@ use Rattle.libc.specs.Heap.{chunk-Keyless}
 use Rattle.dist_c_guest.specs.declared.guest.Guest.{Guest}
 use Rattle.dist_c_guest.specs.contracts.guest.Guest as guest
 use Rattle.dist_c_guest.proofs.guest.Guest.TheSendSync.{the_send}
-use Rattle.distnode_c.specs.Kept.{kept}
+use Rattle.distnode_c.specs.Kept.{owns_guest}
 use Rattle.distnode_c.specs.contracts.slot.Slot.{the_row, the_type}
 
-kept_crosses : (p : Ptr) (held : Option Guest) → Keyless (kept p held)
+kept_crosses : (p : Ptr) (held : Option Guest) → Keyless (owns_guest p held)
 kept_crosses p None = tt
 kept_crosses p (Some x) = (lies guest.the_row the_send p x, chunk-Keyless (raw (lone guest.the_row.mir)) p)
 

@@ -1,0 +1,58 @@
+-- HOW FAR A PROBE GOT on its way to a node, by its verdict.
+use Rattle.std.specs.Prelude.{ℕ, ◌+◌, Bool, nat_le, nat_lt}
+use Rattle.dist_probe.specs.declared.unreached.Unreached.{Unreached}
+use Rattle.dist_probe.specs.declared.unreached.Unreached.TheVariants as unreached
+use Rattle.dist_probe.specs.declared.verdict.Awaited.{Awaited}
+use Rattle.dist_probe.specs.declared.verdict.Awaited.TheVariants as awaited
+use Rattle.dist_probe.specs.declared.verdict.Verdict.{Verdict}
+use Rattle.dist_probe.specs.declared.verdict.Verdict.TheVariants as verdict
+
+-- a connect that made no connection: nothing answered where this machine itself could not send
+abbrev pub unreached_reach : Unreached → ℕ
+unreached_reach unreached.NoRoute = 0
+unreached_reach unreached.NoMemory = 0
+unreached_reach unreached.Failed = 0
+unreached_reach other = 1
+
+-- a talk that ended where this was awaited
+abbrev pub awaited_reach : Awaited → ℕ
+awaited_reach awaited.Status = 0
+awaited_reach awaited.Challenge = 2
+awaited_reach awaited.Ack = 3
+
+-- the order of the way: the host's name, the port mapper, the registration, the node's port, its status, its challenge, its
+-- acknowledgement; a fault of this machine ends the way
+abbrev pub reach : Verdict → ℕ
+reach (verdict.NoHost unresolved) = 0
+reach verdict.ResolverSilent = 0
+reach (verdict.MapperUnreachable unreached) = 1 + unreached_reach unreached
+reach verdict.MapperRefused = 3
+reach (verdict.MapperFault error) = 4
+reach verdict.NotRegistered = 5
+reach (verdict.PortUnreachable unreached) = 6 + unreached_reach unreached
+reach verdict.PortRefused = 8
+reach (verdict.Foreign service) = 9
+reach (verdict.Silent awaited) = 9 + awaited_reach awaited
+reach (verdict.Gone awaited) = 9 + awaited_reach awaited
+reach (verdict.Reset awaited) = 9 + awaited_reach awaited
+reach (verdict.Unexpected awaited) = 9 + awaited_reach awaited
+reach verdict.OwnName = 10
+reach verdict.Busy = 10
+reach (verdict.LacksFlags flags) = 10
+reach verdict.NotOnList = 10
+reach verdict.AlreadyUp = 10
+reach verdict.OtherName = 11
+reach verdict.Version5 = 11
+reach verdict.WrongCookie = 12
+reach verdict.WrongAck = 12
+reach verdict.Reached = 13
+reach verdict.Up = 13
+reach verdict.NoMemory = 14
+
+-- the node itself was found, under its name, or a fault of this machine ended the way
+abbrev pub is_found : Verdict → Bool
+is_found v = nat_le 12 (reach v)
+
+-- the first of two got further
+abbrev pub is_further : Verdict → Verdict → Bool
+is_further first second = nat_lt (reach second) (reach first)

@@ -1,0 +1,66 @@
+-- HOW A CONNECT ENDED that made no connection, by what the system answered, and what that means.
+use Rattle.std.specs.Prelude.{ℕ, List, codes, ◌==◌, ◌||◌, if◌then◌else◌}
+use Rattle.std.specs.declared.io.ErrorKind.{ErrorKind}
+use Rattle.std.specs.declared.io.ErrorKind.TheVariants as kind
+use Rattle.dist_probe.specs.declared.unreached.Unreached.{Unreached}
+use Rattle.dist_probe.specs.declared.unreached.Unreached.TheVariants as unreached
+use Rattle.dist_probe.specs.declared.verdict.Verdict.{Verdict}
+use Rattle.dist_probe.specs.declared.verdict.Verdict.TheVariants as verdict
+
+-- by a number of the system's that has no kind of its own (Linux): ENONET 64, EHOSTDOWN 112, ENOPROTOOPT 92, EAFNOSUPPORT 97
+abbrev pub unreached_by_number : ℕ → Unreached
+unreached_by_number number =
+    if (number == 64) || (number == 112) then unreached.HostDown else
+    if number == 92 then unreached.Prohibited else
+    if number == 97 then unreached.NoRoute else unreached.Failed
+
+-- by the kind of the error, and behind that by its number
+abbrev pub unreached_of : ErrorKind → ℕ → Unreached
+unreached_of kind.ConnectionRefused number = unreached.Refused
+unreached_of kind.ConnectionReset number = unreached.Reset
+unreached_of kind.ConnectionAborted number = unreached.Reset
+unreached_of kind.BrokenPipe number = unreached.Reset
+unreached_of kind.NetworkUnreachable number = unreached.NoRoute
+unreached_of kind.NetworkDown number = unreached.NoRoute
+unreached_of kind.AddrNotAvailable number = unreached.NoRoute
+unreached_of kind.InvalidInput number = unreached.NoRoute
+unreached_of kind.HostUnreachable number = unreached.HostDown
+unreached_of kind.PermissionDenied number = unreached.Prohibited
+unreached_of kind.TimedOut number = unreached.NoAnswer
+unreached_of kind.WouldBlock number = unreached.NoAnswer
+unreached_of kind.OutOfMemory number = unreached.NoMemory
+unreached_of _ number = unreached_by_number number
+
+-- its word
+abbrev pub unreached_word : Unreached → List ℕ
+unreached_word unreached.Refused = codes "Refused"
+unreached_word unreached.Reset = codes "Reset"
+unreached_word unreached.NoRoute = codes "NoRoute"
+unreached_word unreached.HostDown = codes "HostDown"
+unreached_word unreached.Prohibited = codes "Prohibited"
+unreached_word unreached.NoAnswer = codes "NoAnswer"
+unreached_word unreached.NoMemory = codes "NoMemory"
+unreached_word unreached.Failed = codes "Failed"
+
+-- what was answered
+abbrev pub unreached_text : Unreached → List ℕ
+unreached_text unreached.Refused = codes "the connection was refused"
+unreached_text unreached.Reset = codes "the connection was reset"
+unreached_text unreached.NoRoute = codes "no route: this machine has no way to that address"
+unreached_text unreached.HostDown = codes "host unreachable: something on the way, or this machine, answers so"
+unreached_text unreached.Prohibited = codes "prohibited: something on the way, or this machine, does not allow it"
+unreached_text unreached.NoAnswer = codes "no answer"
+unreached_text unreached.NoMemory = codes "out of memory here"
+unreached_text unreached.Failed = codes "the system could not connect"
+
+-- the port mapper's port was not reached
+abbrev pub mapper_verdict : Unreached → Verdict
+mapper_verdict unreached.Refused = verdict.MapperRefused
+mapper_verdict unreached.NoMemory = verdict.NoMemory
+mapper_verdict other = verdict.MapperUnreachable other
+
+-- the node's port was not reached
+abbrev pub port_verdict : Unreached → Verdict
+port_verdict unreached.Refused = verdict.PortRefused
+port_verdict unreached.NoMemory = verdict.NoMemory
+port_verdict other = verdict.PortUnreachable other

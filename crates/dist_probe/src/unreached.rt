@@ -1,0 +1,122 @@
+//! How a connect ended that made no connection, and what that means.
+
+ghost use Rattle.std.specs.Prelude.{◌≡◌};
+ghost use Rattle.dist_probe.specs.Unreached.{mapper_verdict, port_verdict, unreached_by_number, unreached_of, unreached_text, unreached_word};
+
+use crate::verdict::Verdict;
+use std::io::ErrorKind;
+
+/// How a connect ended that made no connection, by what the system answered.
+#[derive(Clone, Copy, Debug, PartialEq, Eq)]
+pub enum Unreached {
+    /// The host answered that nobody listens there, or a firewall answered so in its place.
+    Refused,
+    /// The connection was reset or broken off while it was made.
+    Reset,
+    /// This machine has no route to the address, or no address of that kind itself.
+    NoRoute,
+    /// A router, a firewall or this machine answered that the host is not to be reached.
+    HostDown,
+    /// A firewall or a rule of this machine answered that it is not allowed.
+    Prohibited,
+    /// No answer came in time.
+    NoAnswer,
+    /// Memory ran out here.
+    NoMemory,
+    /// The system failed in another way, as for want of descriptors.
+    Failed,
+}
+
+// How a connect ended by a number of the system's that has no kind of its own. The numbers are those of Linux: ENONET and
+// EHOSTDOWN, as for an ICMP answer that the host is not known; ENOPROTOOPT, as for one that it refuses the protocol; EAFNOSUPPORT,
+// where the system has no addresses of that kind.
+fn unreached_by_number(number: u32) -> Unreached
+    ensures { result ≡ unreached_by_number number }
+{
+    match number {
+        64 | 112 => Unreached::HostDown,
+        92 => Unreached::Prohibited,
+        97 => Unreached::NoRoute,
+        _ => Unreached::Failed,
+    }
+}
+
+/// How a connect ended whose error has this kind, and this number of the system's, 0 where it has none. Linux maps answers of ICMP
+/// to its numbers: `tcp(7)`, `icmp(7)`. A route that drops all is an invalid input.
+pub fn unreached_of(kind: ErrorKind, number: u32) -> Unreached
+    ensures { result ≡ unreached_of kind number }
+{
+    match kind {
+        ErrorKind::ConnectionRefused => Unreached::Refused,
+        ErrorKind::ConnectionReset | ErrorKind::ConnectionAborted | ErrorKind::BrokenPipe => {
+            Unreached::Reset
+        }
+        ErrorKind::NetworkUnreachable
+        | ErrorKind::NetworkDown
+        | ErrorKind::AddrNotAvailable
+        | ErrorKind::InvalidInput => Unreached::NoRoute,
+        ErrorKind::HostUnreachable => Unreached::HostDown,
+        ErrorKind::PermissionDenied => Unreached::Prohibited,
+        ErrorKind::TimedOut | ErrorKind::WouldBlock => Unreached::NoAnswer,
+        ErrorKind::OutOfMemory => Unreached::NoMemory,
+        _ => unreached_by_number(number),
+    }
+}
+
+impl Unreached {
+    /// The variant's name, as a program prints it.
+    pub fn name(self) -> &'static str
+        ensures { result.now ≡ unreached_word self }
+    {
+        match self {
+            Unreached::Refused => "Refused",
+            Unreached::Reset => "Reset",
+            Unreached::NoRoute => "NoRoute",
+            Unreached::HostDown => "HostDown",
+            Unreached::Prohibited => "Prohibited",
+            Unreached::NoAnswer => "NoAnswer",
+            Unreached::NoMemory => "NoMemory",
+            Unreached::Failed => "Failed",
+        }
+    }
+
+    /// What was answered, for a line behind a port.
+    pub fn text(self) -> &'static str
+        ensures { result.now ≡ unreached_text self }
+    {
+        match self {
+            Unreached::Refused => "the connection was refused",
+            Unreached::Reset => "the connection was reset",
+            Unreached::NoRoute => "no route: this machine has no way to that address",
+            Unreached::HostDown =>
+                "host unreachable: something on the way, or this machine, answers so",
+            Unreached::Prohibited =>
+                "prohibited: something on the way, or this machine, does not allow it",
+            Unreached::NoAnswer => "no answer",
+            Unreached::NoMemory => "out of memory here",
+            Unreached::Failed => "the system could not connect",
+        }
+    }
+}
+
+/// What it means that a connect to the port mapper's port ended so.
+pub fn mapper_verdict(unreached: Unreached) -> Verdict
+    ensures { result ≡ mapper_verdict unreached }
+{
+    match unreached {
+        Unreached::Refused => Verdict::MapperRefused,
+        Unreached::NoMemory => Verdict::NoMemory,
+        other => Verdict::MapperUnreachable(other),
+    }
+}
+
+/// What it means that a connect to the node's port ended so.
+pub fn port_verdict(unreached: Unreached) -> Verdict
+    ensures { result ≡ port_verdict unreached }
+{
+    match unreached {
+        Unreached::Refused => Verdict::PortRefused,
+        Unreached::NoMemory => Verdict::NoMemory,
+        other => Verdict::PortUnreachable(other),
+    }
+}

@@ -1,0 +1,35 @@
+//! Why a host's name gave no address.
+
+ghost use Rattle.std.specs.Prelude.{◌≡◌};
+ghost use Rattle.dist_program.specs.declared.host_error.HostError.TheVariants.{NoMemory};
+
+use std::alloc::{AllocError, AllocFailed};
+
+/// Why a host's name gave no address.
+#[derive(Clone, Copy, Debug, PartialEq, Eq)]
+pub enum HostError {
+    /// No address has this name.
+    NoName,
+    /// The resolver answered that it could not look the name up, as where no name server answers it.
+    Failed,
+    /// The resolver gave no answer in time.
+    Silent,
+    /// No memory was left, or none for a thread.
+    NoMemory,
+}
+
+impl From<AllocError> for HostError {
+    ghost from_gives = { λ _ error. error ≡ NoMemory };
+
+    fn from(_error: AllocError) -> HostError {
+        HostError::NoMemory
+    }
+}
+
+impl<T: Drop> From<AllocFailed<T>> for HostError {
+    ghost from_gives = { λ _ error. error ≡ NoMemory };
+
+    fn from(_error: AllocFailed<T>) -> HostError {
+        HostError::NoMemory
+    }
+}

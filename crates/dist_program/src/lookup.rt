@@ -1,0 +1,174 @@
+//! All addresses of a host, from a resolver that may be silent.
+//!
+//! The C library's resolver takes no limit: it asks each name server for seconds. So a thread asks it, and is given up where the
+//! time is over. It goes on then until the resolver answers, or the program ends; it has a copy of the name, and no lock that
+//! another waits for.
+
+use crate::host_error::HostError;
+use dist_stream::{deadline_after, time_left};
+use std::alloc::{AllocError, Global};
+use std::io::{self, ErrorKind};
+use std::net::{IpAddr, Net, SocketAddr, ToSocketAddrs};
+use std::sync::{Arc, OnceLock, Wait};
+use std::thread::{self, Parker, Threads};
+use std::time::{Clock, Duration};
+
+/// What a lookup with a limit uses of the system beside the resolver: a thread, waiting and the clock.
+pub trait Resolving: Threads + Wait + Clock {}
+
+impl<T: Threads + Wait + Clock> Resolving for T {}
+
+/// What the resolver answered: addresses at port 0 in its order, one at least and each once, or why there are none.
+pub type Addresses = Result<Vec<SocketAddr>, HostError>;
+
+// Where the thread leaves the answer, and who waits for it sleeps.
+#[derive(Drop)]
+struct Desk {
+    answer: OnceLock<Addresses>,
+    parker: Parker,
+}
+
+// What the system says where it has no address for a name. Its resolver has no number for it.
+const NO_NAME: [&str; 2] = [
+    "Name or service not known",
+    "No address associated with hostname",
+];
+
+// Whether the system says that there is no address for a name.
+fn is_no_name(text: &str) -> bool {
+    NO_NAME.iter().any(|end| text.ends_with(*end))
+}
+
+// What an error of the resolver says.
+fn host_error(alloc: Global, error: &io::Error) -> HostError {
+    if error.kind() == ErrorKind::OutOfMemory {
+        return HostError::NoMemory;
+    }
+    match format!(in alloc; "{error}") {
+        Ok(text) if is_no_name(&text) => HostError::NoName,
+        Ok(_) => HostError::Failed,
+        Err(_) => HostError::NoMemory,
+    }
+}
+
+// One more address, unless it is there already.
+fn push_new(addresses: &mut Vec<SocketAddr>, address: SocketAddr) -> Result<(), HostError> {
+    if !addresses.contains(&address) {
+        addresses.push(address)?;
+    }
+    Ok(())
+}
+
+// The addresses that were found, of which there has to be one.
+fn one_at_least(addresses: Vec<SocketAddr>) -> Addresses {
+    if addresses.is_empty() {
+        return Err(HostError::NoName);
+    }
+    Ok(addresses)
+}
+
+// The resolver's answer, however long it takes: each address once, in its order.
+fn ask_resolver<R: Net>(rt: &R, alloc: Global, host: &str) -> Addresses {
+    let found = match (host, 0u16).to_socket_addrs(rt) {
+        Ok(found) => found,
+        Err(error) => return Err(host_error(alloc, &error)),
+    };
+    let mut addresses = Vec::new(alloc);
+    for address in found {
+        push_new(&mut addresses, address)?;
+    }
+    one_at_least(addresses)
+}
+
+// Leaves the answer where it is waited for.
+fn leave_answer(desk: &Desk, answer: Addresses) {
+    let _ = desk.answer.try_set(answer);
+    desk.parker.unpark();
+}
+
+// The same addresses once more.
+fn copy_of(alloc: Global, answer: &Addresses) -> Addresses {
+    match answer {
+        Ok(addresses) => Ok(Vec::from_slice(alloc, addresses.as_slice())?),
+        Err(error) => Err(*error),
+    }
+}
+
+// Waits for the answer, so long at most.
+fn await_answer<R: Resolving>(rt: &R, alloc: Global, desk: &Desk, limit: Duration) -> Addresses {
+    let Ok(until) = deadline_after(rt, limit) else {
+        return Err(HostError::Failed);
+    };
+    for _ in rt.forever() {
+        if let Some(answer) = desk.answer.get() {
+            return copy_of(alloc, answer);
+        }
+        let left = time_left(rt, until);
+        if left.is_zero() {
+            return Err(HostError::Silent);
+        }
+        desk.parker.park_timeout(rt, left);
+    }
+    unreachable!()
+}
+
+// Starts a thread that asks the resolver. None where the system has none.
+fn start_asking<R: Resolving>(
+    rt: &R,
+    own: HostRuntime,
+    theirs: Arc<Desk, Global>,
+    host: String,
+) -> Result<(), HostError> {
+    let asking = thread::spawn(rt, move || {
+        leave_answer(&theirs, ask_resolver(&own, own.alloc(), &host))
+    });
+    match asking {
+        Ok(_) => Ok(()),
+        Err(_) => Err(HostError::NoMemory),
+    }
+}
+
+// Asks the resolver in a thread, and waits for its answer, so long at most.
+fn ask_in_thread<R: Resolving>(
+    rt: &R,
+    own: HostRuntime,
+    host: String,
+    limit: Duration,
+) -> Addresses {
+    let alloc = own.alloc();
+    let desk = Arc::new(
+        alloc,
+        Desk {
+            answer: OnceLock::new(),
+            parker: Parker::new(),
+        },
+    )?;
+    let theirs = Arc::try_clone(&desk)?;
+    start_asking(rt, own, theirs, host)?;
+    await_answer(rt, alloc, &desk, limit)
+}
+
+/// The host without the square brackets that stand round an IPv6 address in a URL.
+pub fn without_brackets(host: &str) -> &str {
+    match host.strip_prefix('[') {
+        Some(rest) => rest.strip_suffix(']').unwrap_or(host),
+        None => host,
+    }
+}
+
+/// All addresses of a host at port 0, in the resolver's order, each once: those that it gives within this time. An address itself,
+/// also an IPv6 one in square brackets, is its own, and nobody is asked. The first handle is for the thread and the waiting; the
+/// second, the same, is what the thread asks.
+pub fn lookup_host<R: Resolving>(
+    rt: &R,
+    own: HostRuntime,
+    host: &str,
+    limit: Duration,
+) -> Addresses {
+    let alloc = own.alloc();
+    let host = without_brackets(host);
+    match host.parse::<IpAddr>() {
+        Ok(ip) => Ok(vec![in alloc; SocketAddr::new(ip, 0)]?),
+        Err(_) => ask_in_thread(rt, own, host.to_owned(alloc)?, limit),
+    }
+}

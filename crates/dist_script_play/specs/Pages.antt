@@ -1,0 +1,30 @@
+-- What is put on a page, and what is written of it.
+use Rattle.std.specs.Prelude.{◌≡◌, ◌⊎◌, ℕ, List, ◌++◌, Option}
+use Rattle.std.specs.Io.{StartsWith}
+use Rattle.std.specs.Io.KnownBytes.{Appends}
+use Rattle.dist_script_words.specs.Texts.{PutsFront}
+use Rattle.dist_script_words.specs.declared.fault.ScriptFault.{ScriptFault}
+use Rattle.dist_script_words.specs.declared.fault.ScriptFault.TheVariants.{WriteFailed, NoMemory}
+
+-- A TEXT WAS PUT ON A PAGE: what stood there and the text was written, but for what stands there now
+pub record Puts (text : List ℕ) (old new : Option (List ℕ)) (page left : List ℕ) : Type 0 where
+  pub written : List ℕ
+  pub put : Appends old new written
+  pub whole : written ++ left ≡ page ++ text
+
+-- a write failed, or memory ran out
+abbrev pub IsOfSystem : ScriptFault → Type 0
+IsOfSystem fault = (fault ≡ WriteFailed) ⊎ (fault ≡ NoMemory)
+
+-- A BEGINNING OF A TEXT WAS PUT ON A PAGE, until a write failed or memory ran out: what was written and what stands there now
+-- begin what stood there and the text
+pub record PutsPart (text : List ℕ) (old new : Option (List ℕ)) (page left : List ℕ) (fault : ScriptFault) : Type 0 where
+  pub written : List ℕ
+  pub put : Appends old new written
+  pub begins : StartsWith (page ++ text) (written ++ left)
+  pub cause : IsOfSystem fault
+
+-- A BEGINNING OF A TEXT WAS WRITTEN, until a write failed or memory ran out
+pub record BreaksOff (text : List ℕ) (old new : Option (List ℕ)) (fault : ScriptFault) : Type 0 where
+  pub front : PutsFront text old new
+  pub cause : IsOfSystem fault

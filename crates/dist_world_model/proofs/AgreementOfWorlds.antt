@@ -1,0 +1,191 @@
+-- THE AGREEMENT OF EVERY WORLD.
+use Rattle.std.proofs.Common.{◌≡◌, ◌≢◌, ℕ, true, List, Option, Some, inl, inr, refl, sym, ap, ◌∙◌, subst, slice_get}
+use Rattle.std.proofs.lemmas.Nat.{and_comm}
+use Rattle.std.specs.Cmp.Lexicographic.{same_text}
+use Rattle.dist_names.specs.Flags.{common}
+use Rattle.dist_messages.specs.declared.message.Side.{Side}
+use Rattle.dist_core_setup.specs.declared.setup.Setup.{Setup}
+use Rattle.dist_core_ends.specs.declared.known.UpRecord.{UpRecord}
+use Rattle.dist_core_ends.specs.declared.known.End.{End}
+use Rattle.dist_core_ends.specs.declared.known.End.TheVariants as ends
+use Rattle.dist_core_setup.specs.Rules.{announced_by, own_digest}
+use Rattle.dist_world_model.specs.declared.happening.Happening.{Happening}
+use Rattle.dist_world_model.specs.Rows.{EndRow}
+use Rattle.dist_world_model.specs.World.{World, Life, Conn, runs, row_of_life, empty}
+use Rattle.dist_world_model.specs.Run.{run}
+use Rattle.dist_world_model.specs.Laws.{AllLives, OwnDigests}
+use Rattle.dist_world_model.specs.Agreement.{bare, IsUp, IsAgreed, AreAgreed, Agreement, AreSetups, AllFit}
+use Rattle.dist_world_model.proofs.Wires.{NotedAt, Noted, rose_of}
+use Rattle.dist_world_model.proofs.WorldFacts.{IsKept, kept}
+use Rattle.dist_world_model.proofs.Lookups.{row_in, end_in, setup_in, setup_of, far, decide}
+use Rattle.dist_world_model.proofs.EndPairs.{Seat, IsOpen}
+use Rattle.dist_world_model.proofs.OneConnection.{both-dialled, each-dialled, each-accepted}
+use Rattle.dist_world_model.proofs.Digests.{digest_lives}
+use Rattle.dist_world_model.specs.NodeLaws.{NodeLaws}
+use Rattle.dist_world_model.proofs.UpEnds.{LineOf, On_accepted, On_dialled, Sits, Stands_on, announced-is, conn-is, end-is, is-open, past-some, peer-is, rose-is, running-is, setup-is, sits-life, sits-row, stands-on}
+
+module _ (laws : NodeLaws) where
+  module _ (w : World) (h : IsKept w) where
+    -- ---- who stands at the other side
+
+    name-of : (i j : ℕ) (l m : Life) → slice_get w.lives i ≡ Some l → slice_get w.lives j ≡ Some m → l.who ≡ m.who → l.node.setup.name ≡ m.node.setup.name
+    name-of i j l m al am e =
+        let o = h.owns i l al in let q = h.owns j m am in
+        let z : Some o.setup ≡ Some q.setup = sym o.there ∙ ap (slice_get w.setups) e ∙ q.there in
+        let s : o.setup ≡ q.setup = cc in
+        ap (λ (s : Setup). s.name) o.is ∙ ap (λ (s : Setup). s.name) s ∙ sym (ap (λ (s : Setup). s.name) q.is)
+
+    -- the incarnation whose name is that of node b is one of b
+    who-by : (i b : ℕ) (l : Life) (s : Setup) → slice_get w.lives i ≡ Some l → slice_get w.setups b ≡ Some s → l.node.setup.name ≡ s.name → l.who ≡ b
+    who-by i b l s al ab e = let o = h.owns i l al in let k = h.setups in k.distinct l.who b o.setup s o.there ab (sym (ap (λ (s : Setup). s.name) o.is) ∙ e)
+
+    -- an incarnation of node a has a's setup, but for the creation, the cookies and the allow list
+    setup-by : (i a : ℕ) (l : Life) (s : Setup) → slice_get w.lives i ≡ Some l → slice_get w.setups a ≡ Some s → l.who ≡ a → bare l.node.setup ≡ bare (record s { creation = l.node.setup.creation })
+    setup-by i a l s al aa e =
+        let o = h.owns i l al in
+        let z : Some o.setup ≡ Some s = sym o.there ∙ ap (slice_get w.setups) e ∙ aa in
+        let q : o.setup ≡ s = cc in
+        o.is ∙ ap (λ (r : Setup). bare (record r { creation = l.node.setup.creation })) q
+
+    module _ {a b c : ℕ} (x : IsUp w a b c) where
+      sits-who : {side : Side} {d : ℕ} (s : Seat w side d) → (Sits laws w h) x s → (let l = s.life in l.who) ≡ a
+      sits-who s g = ap (λ (l : Life). l.who) ((sits-life laws w h) x s g) ∙ (let r = (running-is laws w h) x in r.0)
+
+      sits-runs : {side : Side} {d : ℕ} (s : Seat w side d) → (Sits laws w h) x s → runs s.life ≡ true
+      sits-runs s g = ap runs ((sits-life laws w h) x s g) ∙ (let r = (running-is laws w h) x in r.1)
+
+      sits-open : {side : Side} {d : ℕ} (s : Seat w side d) → (Sits laws w h) x s → IsOpen s.row
+      sits-open s g = let o = (is-open laws w h) x in let e = (sits-row laws w h) x s g in record { doomed = ap (λ (r : EndRow). r.doomed) e ∙ o.doomed; closed = ap (λ (r : EndRow). r.closed) e ∙ o.closed }
+
+      sits-rose : {side : Side} {d : ℕ} (s : Seat w side d) → (Sits laws w h) x s → (u : ℕ) × ((let r = s.row in r.rose) ≡ Some u)
+      sits-rose s g = let u = (rose-is laws w h) x in (u.0, ap (λ (r : EndRow). r.rose) ((sits-row laws w h) x s g) ∙ u.1)
+
+      sits-peer : {side : Side} {d : ℕ} (s : Seat w side d) → (Sits laws w h) x s → (let r = s.row in r.peer) ≡ Some (let o = x.other in o.name)
+      sits-peer s g = ap (λ (r : EndRow). r.peer) ((sits-row laws w h) x s g) ∙ (peer-is laws w h) x ∙ ap Some x.peer
+
+      -- the other end belongs to node b
+      far-who : {sa sb : Side} {d : ℕ} (s : Seat w sa d) (t : Seat w sb d) → (Sits laws w h) x s → (let r = s.row in r.peer) ≡ Some (let l = t.life in l.node.setup.name) → (let l = t.life in l.who) ≡ b
+      far-who s t g e = let z : Some (let l = t.life in l.node.setup.name) ≡ Some (let o = x.other in o.name) = sym e ∙ sits-peer s g in who-by t.place b t.life x.other t.at_ x.named cc
+
+    seat-name : {sa sb : Side} {c d : ℕ} (s : Seat w sa c) (t : Seat w sb d) → (let l = s.life in l.who) ≡ (let l = t.life in l.who) → (let l = s.life in l.node.setup.name) ≡ (let l = t.life in l.node.setup.name)
+    seat-name s t e = name-of s.place t.place s.life t.life s.at_ t.at_ e
+
+    -- an end that is up on a line came up after the accepted one
+    dialled-rose : {c : ℕ} (k : Conn) (ak : slice_get w.conns c ≡ Some k) (g : (LineOf laws w h) c k) (u : ℕ) → (let l = g.line in let s = l.dialled in let r = s.row in r.rose) ≡ Some u → (v : ℕ) × ((let l = g.line in let s = l.accepted in let r = s.row in r.rose) ≡ Some v)
+    dialled-rose {c} k ak g u e =
+        let L = g.line in let X = L.dialled in let Y = L.accepted in
+        let wi = h.wires c k ak _ _ (ap (setup_in w.lives) (sym g.life_is) ∙ ap setup_of X.at_) (ap (setup_in w.lives) (sym g.target_is) ∙ ap setup_of Y.at_) in
+        let near : row_in w.lives k.life k.dialler ≡ Some X.row = (λ n. row_in w.lives (let i = g.life_is in sym i n) (let i = g.id_is in sym i n)) ∙ ap (λ o. row_of_life o X.id) X.at_ ∙ X.there in
+        let away : far (row_in w.lives k.target) k.accepted ≡ Some Y.row = ap (far (row_in w.lives k.target)) g.accepted_is ∙ ap (λ j. row_in w.lives j Y.id) (sym g.target_is) ∙ ap (λ o. row_of_life o Y.id) Y.at_ ∙ Y.there in
+        let p = wi.follows u (ap rose_of near ∙ e) in
+        let q = past-some u (rose_of (far (row_in w.lives k.target) k.accepted)) p in
+        (q.0, ap rose_of (sym away) ∙ q.1)
+
+    -- ---- ONE CONNECTION
+
+    module _ (a b c d : ℕ) (x : IsUp w a b c) (y : IsUp w b a d) where
+      one-conn : c ≢ d → (k m : Conn) → slice_get w.conns c ≡ Some k → slice_get w.conns d ≡ Some m → (Stands_on laws w h) x k → (Stands_on laws w h) y m → ⊥
+      one-conn n k m ak am (On_dialled p i g s) (On_accepted q j f t) =
+          let L = g.line in let M = f.line in
+          let X = L.dialled in let Y = L.accepted in let Z = M.dialled in let V = M.accepted in
+          let yb = far-who x X Y s L.peer_back in
+          let za = far-who y V Z t M.peer_there in
+          let u = sits-rose x X s in
+          let v = dialled-rose k ak g u.0 u.1 in
+          (both-dialled laws) w h n L M (za ∙ sym (sits-who x X s)) (yb ∙ sym (sits-who y V t)) _ _ L.peer_back (M.peer_back ∙ ap Some (seat-name V Y (sits-who y V t ∙ sym yb))) L.peer_there (M.peer_there ∙ ap Some (seat-name Z X (za ∙ sym (sits-who x X s))))
+          (sits-runs x X s) (sits-open x X s) (sits-runs y V t) (sits-open y V t) v.0 v.1
+      one-conn n k m ak am (On_accepted p i g s) (On_dialled q j f t) =
+          let L = g.line in let M = f.line in
+          let X = L.dialled in let Y = L.accepted in let Z = M.dialled in let V = M.accepted in
+          let xb = far-who x Y X s L.peer_there in
+          let va = far-who y Z V t M.peer_back in
+          let u = sits-rose y Z t in
+          let v = dialled-rose m am f u.0 u.1 in
+          (both-dialled laws) w h (λ e. n (sym e)) M L (xb ∙ sym (sits-who y Z t)) (va ∙ sym (sits-who x Y s)) _ _ M.peer_back (L.peer_back ∙ ap Some (seat-name Y V (sits-who x Y s ∙ sym va))) M.peer_there (L.peer_there ∙ ap Some (seat-name X Z (xb ∙ sym (sits-who y Z t))))
+          (sits-runs y Z t) (sits-open y Z t) (sits-runs x Y s) (sits-open x Y s) v.0 v.1
+      one-conn n k m ak am (On_dialled p i g s) (On_dialled q j f t) =
+          let L = g.line in let M = f.line in
+          let X = L.dialled in let Y = L.accepted in let Z = M.dialled in let V = M.accepted in
+          let yb = far-who x X Y s L.peer_back in
+          let va = far-who y Z V t M.peer_back in
+          let u = sits-rose x X s in let u' = dialled-rose k ak g u.0 u.1 in
+          let v = sits-rose y Z t in let v' = dialled-rose m am f v.0 v.1 in
+          (each-dialled laws) w h n L M (va ∙ sym (sits-who x X s)) (yb ∙ sym (sits-who y Z t)) _ _ L.peer_back (M.peer_there ∙ ap Some (seat-name Z Y (sits-who y Z t ∙ sym yb))) M.peer_back (L.peer_there ∙ ap Some (seat-name X V (sits-who x X s ∙ sym va)))
+          (sits-runs x X s) (sits-open x X s) (sits-runs y Z t) (sits-open y Z t) u'.0 v'.0 u'.1 v'.1
+      one-conn n k m ak am (On_accepted p i g s) (On_accepted q j f t) =
+          let L = g.line in let M = f.line in
+          let X = L.dialled in let Y = L.accepted in let Z = M.dialled in let V = M.accepted in
+          let xb = far-who x Y X s L.peer_there in
+          let za = far-who y V Z t M.peer_there in
+          (each-accepted laws) w h n L M (za ∙ sym (sits-who x Y s)) (xb ∙ sym (sits-who y V t)) _ _ L.peer_there (M.peer_back ∙ ap Some (seat-name V X (sits-who y V t ∙ sym xb))) M.peer_there (L.peer_back ∙ ap Some (seat-name Y Z (sits-who x Y s ∙ sym za)))
+          (sits-runs x Y s) (sits-open x Y s) (sits-runs y V t) (sits-open y V t)
+
+      same-place : x.place ≡ y.place → a ≡ b
+      same-place e =
+          let z : Some x.life ≡ Some y.life = sym x.lives ∙ ap (slice_get w.lives) e ∙ y.lives in
+          let l : x.life ≡ y.life = cc in
+          sym (let r = (running-is laws w h) x in r.0) ∙ ap (λ (l : Life). l.who) l ∙ (let r = (running-is laws w h) y in r.0)
+
+      module _ (digests : AllLives OwnDigests w) (other : a ≢ b) where
+        digest-x : x.kept.digest_received ≡ own_digest x.life.node.setup x.kept.peer x.kept.challenge
+        digest-x = same_text _ _ (sym (digests x.place x.life x.lives x.id x.kept x.is_up))
+
+        digest-y : y.kept.digest_received ≡ own_digest y.life.node.setup y.kept.peer y.kept.challenge
+        digest-y = same_text _ _ (sym (digests y.place y.life y.lives y.id y.kept y.is_up))
+
+        abbrev sx : Setup
+        sx = x.life.node.setup
+
+        abbrev sy : Setup
+        sy = y.life.node.setup
+
+        agreed-by : (own away : Setup) (kept : UpRecord) → Noted (bare own) (bare away) (ends.Up kept) → kept.digest_received ≡ own_digest own kept.peer kept.challenge → IsAgreed own away kept
+        agreed-by own away kept n e = record { flags = n.0 ∙ (λ i. common (announced-is (bare own) i) (announced-is (bare away) i)); creation = n.1; digest = e }
+
+        shared-by : Noted (bare sx) (bare sy) (ends.Up x.kept) → Noted (bare sy) (bare sx) (ends.Up y.kept) → x.kept.common.0 ≡ y.kept.common.0
+        shared-by n m = n.0 ∙ and_comm (announced_by (bare sx)) (announced_by (bare sy)) ∙ sym m.0
+
+        setup-x : bare x.life.node.setup ≡ bare (record y.other { creation = x.life.node.setup.creation })
+        setup-x = setup-by x.place a x.life y.other x.lives y.named (let r = (running-is laws w h) x in r.0)
+
+        setup-y : bare y.life.node.setup ≡ bare (record x.other { creation = y.life.node.setup.creation })
+        setup-y = setup-by y.place b y.life x.other y.lives x.named (let r = (running-is laws w h) y in r.0)
+
+        -- a dialled, and b accepted
+        forth : c ≡ d → (k : Conn) → slice_get w.conns c ≡ Some k → x.place ≡ k.life → x.id ≡ k.dialler → y.place ≡ k.target → k.accepted ≡ Some y.id → AreAgreed w a b c d x y
+        forth e k ak p i q j =
+            let wi = h.wires c k ak (bare sx) (bare sy) ((setup-is laws w h) x k.life p) ((setup-is laws w h) y k.target q) in
+            let nx : Noted (bare sx) (bare sy) (ends.Up x.kept) = (let P : Option End → Type 0 = λ o. NotedAt (bare sx) (bare sy) o in subst P ((end-is laws w h) x k.life k.dialler p i) wi.noted_back) in
+            let ny : Noted (bare sy) (bare sx) (ends.Up y.kept) = (let P : Option End → Type 0 = λ o. NotedAt (bare sy) (bare sx) o in subst P (ap (far (end_in w.lives k.target)) j ∙ (end-is laws w h) y k.target y.id q refl) wi.noted_there) in
+            record { same = e; conn = k; there = ak; joined = inl (record { life = sym p; dialler = sym i; target = sym q; accepted = j }); setup_a = setup-x; setup_b = setup-y; at_a = agreed-by sx sy x.kept nx digest-x; at_b = agreed-by sy sx y.kept ny digest-y; shared = shared-by nx ny }
+
+        -- b dialled, and a accepted
+        back : c ≡ d → (k : Conn) → slice_get w.conns c ≡ Some k → y.place ≡ k.life → y.id ≡ k.dialler → x.place ≡ k.target → k.accepted ≡ Some x.id → AreAgreed w a b c d x y
+        back e k ak p i q j =
+            let wi = h.wires c k ak (bare sy) (bare sx) ((setup-is laws w h) y k.life p) ((setup-is laws w h) x k.target q) in
+            let ny : Noted (bare sy) (bare sx) (ends.Up y.kept) = (let P : Option End → Type 0 = λ o. NotedAt (bare sy) (bare sx) o in subst P ((end-is laws w h) y k.life k.dialler p i) wi.noted_back) in
+            let nx : Noted (bare sx) (bare sy) (ends.Up x.kept) = (let P : Option End → Type 0 = λ o. NotedAt (bare sx) (bare sy) o in subst P (ap (far (end_in w.lives k.target)) j ∙ (end-is laws w h) x k.target x.id q refl) wi.noted_there) in
+            record { same = e; conn = k; there = ak; joined = inr (record { life = sym p; dialler = sym i; target = sym q; accepted = j }); setup_a = setup-x; setup_b = setup-y; at_a = agreed-by sx sy x.kept nx digest-x; at_b = agreed-by sy sx y.kept ny digest-y; shared = shared-by nx ny }
+
+        on-one : c ≡ d → (k m : Conn) → slice_get w.conns c ≡ Some k → slice_get w.conns d ≡ Some m → (Stands_on laws w h) x k → (Stands_on laws w h) y m → AreAgreed w a b c d x y
+        on-one e k m ak am s t = by (same k m (let z : Some k ≡ Some m = sym ak ∙ ap (slice_get w.conns) e ∙ am in cc)) s t
+          where
+            same : (k m : Conn) → k ≡ m → k ≡ m
+            same k m e = e
+
+            by : k ≡ m → (Stands_on laws w h) x k → (Stands_on laws w h) y m → AreAgreed w a b c d x y
+            by z (On_dialled p i g s) (On_accepted q j f t) = forth e k ak p i (q ∙ ap (λ (k : Conn). k.target) (sym z)) (ap (λ (k : Conn). k.accepted) z ∙ j)
+            by z (On_accepted p i g s) (On_dialled q j f t) = back e k ak (q ∙ ap (λ (k : Conn). k.life) (sym z)) (j ∙ ap (λ (k : Conn). k.dialler) (sym z)) p i
+            by z (On_dialled p i g s) (On_dialled q j f t) = absurd (other (same-place (p ∙ ap (λ (k : Conn). k.life) z ∙ sym q)))
+            by z (On_accepted p i g s) (On_accepted q j f t) = absurd (other (same-place (p ∙ ap (λ (k : Conn). k.target) z ∙ sym q)))
+
+        agree : AreAgreed w a b c d x y
+        agree =
+            let kx = (conn-is laws w h) x in let ky = (conn-is laws w h) y in
+            let sx' = (stands-on laws w h) x kx.conn kx.there kx.is_end in
+            let sy' = (stands-on laws w h) y ky.conn ky.there ky.is_end in
+            decide (AreAgreed w a b c d x y) c d (λ e. on-one e kx.conn ky.conn kx.there ky.there sx' sy') (λ n. absurd (one-conn n kx.conn ky.conn kx.there ky.there sx' sy'))
+
+  -- THE AGREEMENT
+  pub agreement_holds : (ss : List Setup) (hs : List Happening) → AreSetups ss → AllFit hs → Agreement (run hs (empty ss))
+  agreement_holds ss hs ok fit a b c d n x y = agree (run hs (empty ss)) (kept laws ss hs ok fit) a b c d x y (digest_lives laws ss hs) n

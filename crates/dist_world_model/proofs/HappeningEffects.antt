@@ -1,0 +1,185 @@
+-- What one happening does to the world: the incarnations and the connections after it.
+use Rattle.std.proofs.Common.{◌≡◌, ℕ, suc, ◌^◌, ◌<◌, Bool, true, false, cond, ltb, not, ◌&&◌, List, [], ◌∷◌, ◌++◌, length, Option, Some, None, Result, Ok, Err, IfSome, refl, sym, ap, ◌∙◌, arith, slice_get, is_none}
+use Rattle.std.specs.Option.{option_map}
+use Rattle.std.specs.Int.{w16}
+use Rattle.dist_names.specs.declared.creation.Creation.{Creation}
+use Rattle.dist_messages.specs.declared.message.Side.{Side}
+use Rattle.dist_frames.specs.Stream.{first_body}
+use Rattle.dist_peers.specs.declared.entry.EndId.{EndId}
+use Rattle.dist_core_setup.specs.declared.setup.Setup.{Setup}
+use Rattle.dist_core.specs.declared.changing.Change.{Change}
+use Rattle.dist_core.specs.declared.changing.ChangeError.TheVariants.{InUse, Full}
+use Rattle.dist_core.specs.Changing.{after_change, change, finds_no_room, is_in_use}
+use Rattle.dist_core.specs.declared.event.Event.{Event}
+use Rattle.dist_core.specs.declared.event.Event.TheVariants as event
+use Rattle.dist_core.specs.declared.effect.Effect.{Effect}
+use Rattle.dist_core.specs.declared.reply.Reply.{Reply}
+use Rattle.dist_core.specs.Node.{NodeState}
+use Rattle.dist_core.specs.declared.step_error.StepError.{StepError}
+use Rattle.dist_core.specs.Step.{effect_of, step, step_result, after}
+use Rattle.dist_world_model.specs.declared.happening.Happening.{Happening}
+use Rattle.dist_world_model.specs.declared.happening.Happening.TheVariants as happening
+use Rattle.dist_world_model.specs.Lists.{at_place, first_where}
+use Rattle.dist_world_model.specs.Rows.{EndRow, rows_after}
+use Rattle.dist_world_model.specs.World.{World, Life, Conn, runs, runs_for, running, row_at, end_at}
+use Rattle.dist_world_model.specs.Delivery.{after_delivery, body_taken, text_to, change_to, conns_after_saying}
+use Rattle.dist_core_ends.specs.Ends.{is_dialing}
+use Rattle.dist_world_model.specs.Happenings.{most_begins, most_connections, life_after, tell, tell_node, new_life, life_after_end, with_node, conn_of, reached_life, new_conn, next_end, accepted_by, is_open_end, is_nonempty, world_after}
+use Rattle.dist_world_model.specs.Agreement.{Fits}
+use Rattle.dist_world_model.proofs.Conditions.{if_there, if_ok, if_holds}
+use Rattle.dist_world_model.proofs.Places.{first-passes, both-true}
+
+-- an event that takes no body and accepts no connection
+abbrev pub IsPlain : Event → Type 0
+IsPlain (event.Frame id body) = ⊥
+IsPlain (event.Incoming link) = ⊥
+IsPlain v = Unit {0}
+
+-- how the connections stand when incarnation i gets v
+pub data Ready (w : World) (i : ℕ) (v : Event) (cs : List Conn) : Type 0 where
+  -- nothing was done to them
+  Plain : IsPlain v → ((id : EndId) (link : ℕ) → v ≡ event.Opened id link → conn_of (row_at w i id.0) ≡ Some link) → cs ≡ w.conns → Ready w i v cs
+  -- one was accepted
+  Accepts : (c : ℕ) → (k : Conn) → v ≡ event.Incoming c → slice_get w.conns c ≡ Some k → k.accepted ≡ None → k.target ≡ i → cs ≡ at_place c (accepted_by (next_end (slice_get w.lives i))) w.conns → Ready w i v cs
+  -- a body was taken from one
+  Takes : (id : EndId) → (row : EndRow) → (c : ℕ) → (k : Conn) → (body : List ℕ) → v ≡ event.Frame id body → row_at w i id.0 ≡ Some row → row.conn ≡ Some c → slice_get w.conns c ≡ Some k
+      → (let t = text_to row.side k in first_body w16 t.come) ≡ Some body → cs ≡ at_place c (change_to row.side body_taken) w.conns → Ready w i v cs
+
+-- WHAT A HAPPENING DOES: ls and cs are the incarnations and the connections after it; F is what is known of its numbers
+pub data Act (F : Type 0) (w : World) (ls : List Life) (cs : List Conn) : Type 0 where
+  Begins : (who : ℕ) → (s : Setup) → (c : Creation) → (F → c.0 < 2 ^ 32) → slice_get w.setups who ≡ Some s → running w who ≡ None → ls ≡ w.lives ++ new_life who w.clock s c ∷ [] → cs ≡ w.conns → Act F w ls cs
+  Ends : (i : ℕ) → (old : Life) → slice_get w.lives i ≡ Some old → runs old ≡ true → ls ≡ at_place i (life_after_end w.clock) w.lives → cs ≡ w.conns → Act F w ls cs
+  Reaches : (i id j : ℕ) → (old far : Life) → slice_get w.lives i ≡ Some old → runs old ≡ true → slice_get w.lives j ≡ Some far → runs far ≡ true → is_dialing (end_at w i id) ≡ true → conn_of (row_at w i id) ≡ None
+      → ls ≡ at_place i (reached_life id (length w.conns)) w.lives → cs ≡ w.conns ++ new_conn i id j ∷ [] → Act F w ls cs
+  Comes : (side : Side) → (c n : ℕ) → ls ≡ w.lives → cs ≡ at_place c (change_to side (after_delivery n)) w.conns → Act F w ls cs
+  Tells : (i : ℕ) → (old : Life) → (v : Event) → (fresh : ℕ) → (f : Effect) → (ds : List Conn) → (F → fresh < 2 ^ 32) → slice_get w.lives i ≡ Some old → runs old ≡ true → effect_of old.node v fresh ≡ Ok f → Ready w i v ds
+      → ls ≡ at_place i (λ l. life_after w.clock v f.reply (after old.node v f) old) w.lives → cs ≡ conns_after_saying ds (slice_get (rows_after w.clock v f.reply old.rows) f.reply.end_.0) f.reply.say → Act F w ls cs
+  Resets : (i : ℕ) → (old : Life) → (v : Change) → slice_get w.lives i ≡ Some old → runs old ≡ true → change old.node v ≡ Ok (after_change old.node v) → ls ≡ at_place i (with_node (after_change old.node v)) w.lives → cs ≡ w.conns → Act F w ls cs
+
+pub record Acted (F : Type 0) (w x : World) : Type 0 where
+  pub setups : x.setups ≡ w.setups
+  pub clock : x.clock ≡ w.clock
+  pub act : Act F w x.lives x.conns
+
+abbrev pub Acts : Type 0 → World → Option World → Type 0
+Acts F w o = IfSome o (Acted F w)
+
+-- what a step that succeeds answers
+step-ok : (n : NodeState) (v : Event) (fresh : ℕ) (x : Reply × NodeState) → step n v fresh ≡ Ok x → (f : Effect) × (effect_of n v fresh ≡ Ok f) × (x ≡ (f.reply, after n v f))
+step-ok n v fresh x e = by (effect_of n v fresh) refl e
+  where
+    by : (o : Result Effect StepError) → effect_of n v fresh ≡ o → step_result n v o ≡ Ok x → (f : Effect) × (effect_of n v fresh ≡ Ok f) × (x ≡ (f.reply, after n v f))
+    by (Err y) at e = absurd cc
+    by (Ok f) at e = (f, at, cc)
+
+-- what a change that is not refused answers
+change-ok : (n : NodeState) (v : Change) (m : NodeState) → change n v ≡ Ok m → m ≡ after_change n v
+change-ok n v m e = by (is_in_use n v) (finds_no_room n v) e
+  where
+    by : (b c : Bool) → cond b (Err InUse) (cond c (Err Full) (Ok (after_change n v))) ≡ Ok m → m ≡ after_change n v
+    by true c e = absurd cc
+    by false true e = absurd cc
+    by false false e = cc
+
+told-acts : (F : Type 0) (w : World) (i : ℕ) (v : Event) (fresh : ℕ) (ds : List Conn) → (F → fresh < 2 ^ 32) → Ready w i v ds → Acts F w (tell (record w { conns = ds }) i v fresh)
+told-acts F w i v fresh ds fits ready = let P = Acted F w in
+    if_there P (slice_get w.lives i) _ (λ l at.
+    if_holds P (runs l) _ (λ live.
+    if_ok P (step l.node v fresh) _ (λ x is.
+    let g = step-ok l.node v fresh x is in
+    let f = g.0 in
+    let same : x ≡ (f.reply, after l.node v f) = g.2 in
+    record {
+      setups = refl;
+      clock = refl;
+      act = Tells i l v fresh f ds fits at live g.1 ready
+          (ap (λ (y : Reply × NodeState). at_place i (λ old. life_after w.clock v y.0 y.1 l) w.lives) same)
+          (ap (λ (y : Reply × NodeState). let r = y.0 in conns_after_saying ds (slice_get (rows_after w.clock v r l.rows) r.end_.0) r.say) same);
+    })))
+
+plain-acts : (w : World) (a : ℕ) (v : Event) → IsPlain v → ((id : EndId) (link : ℕ) → v ≡ event.Opened id link → ⊥) → Acts (Unit {0}) w (tell_node w a v)
+plain-acts w a v plain not = if_there (Acted (Unit {0}) w) (running w a) _ (λ i e. told-acts (Unit {0}) w i v 0 w.conns (λ f. omega arith) (Plain plain (λ id link e. absurd (not id link e)) refl))
+
+-- the running incarnation runs
+pub is-running : (w : World) (a i : ℕ) (l : Life) → running w a ≡ Some i → slice_get w.lives i ≡ Some l → (l.who ≡ a) × (runs l ≡ true)
+is-running w a i l h at = let p = both-true _ _ (first-passes (runs_for a) w.lives i l h at) in (Rattle.std.proofs.lemmas.Bool.eqb-true l.who a p.0, p.1)
+
+first-there : {A : Type 0} (test : A → Bool) (xs : List A) (i : ℕ) → first_where test xs ≡ Some i → (x : A) × (slice_get xs i ≡ Some x)
+first-there test [] i h = absurd cc
+first-there test (y ∷ xs) i h =
+    elim (test y) as (λ b. cond b (Some 0) (option_map suc (first_where test xs)) ≡ Some i → (x : _) × (slice_get (y ∷ xs) i ≡ Some x)) [
+      | true ↦ λ e. let z : 0 ≡ i = cc in (y, ap (slice_get (y ∷ xs)) (sym z))
+      | false ↦ λ e. by (first_where test xs) (λ k f. first-there test xs k f) refl e
+    ] h
+  where
+    by : (o : Option ℕ) → ((k : ℕ) → first_where test xs ≡ Some k → (x : _) × (slice_get xs k ≡ Some x)) → first_where test xs ≡ o → option_map suc o ≡ Some i → (x : _) × (slice_get (y ∷ xs) i ≡ Some x)
+    by None more f e = absurd cc
+    by (Some k) more f e = let z : suc k ≡ i = cc in let g = more k f in (g.0, ap (slice_get (y ∷ xs)) (sym z) ∙ g.1)
+
+-- and is there
+pub life-of : (w : World) (a i : ℕ) → running w a ≡ Some i → (l : Life) × (slice_get w.lives i ≡ Some l)
+life-of w a i h = first-there (runs_for a) w.lives i h
+
+none-by : {A : Type 0} (o : Option A) → is_none o ≡ true → o ≡ None
+none-by None h = refl
+none-by (Some x) h = absurd cc
+
+pub acts : (w : World) (h : Happening) → Acts (Fits h) w (world_after w h)
+acts w (happening.Begin a c) = let P = Acted (c.0 < 2 ^ 32) w in
+    if_there P (slice_get w.setups a) _ (λ s at.
+    if_holds P (is_none (running w a)) _ (λ free.
+    if_holds P (ltb (length w.lives) most_begins) _ (λ few.
+    record { setups = refl; clock = refl; act = Begins a s c (λ f. f) at (none-by (running w a) free) refl refl })))
+acts w (happening.Halt a) = let P = Acted (Unit {0}) w in
+    if_there P (running w a) _ (λ i e.
+    let g = life-of w a i e in
+    let r = is-running w a i g.0 e g.1 in
+    record { setups = refl; clock = refl; act = Ends i g.0 g.1 r.1 refl refl })
+acts w (happening.Dial a p o) = plain-acts w a (event.Dial p o) tt (λ id link e. absurd cc)
+acts w (happening.Tick a id) = plain-acts w a (event.Tick id) tt (λ x link e. absurd cc)
+acts w (happening.Lose a id y) = plain-acts w a (event.Lost id y) tt (λ x link e. absurd cc)
+acts w (happening.Reset a v) = let P = Acted (Unit {0}) w in
+    if_there P (running w a) _ (λ i e.
+    if_there P (slice_get w.lives i) _ (λ l at.
+    if_ok P (change l.node v) _ (λ n is.
+    let r = is-running w a i l e at in
+    let same : n ≡ after_change l.node v = change-ok l.node v n is in
+    record {
+      setups = refl;
+      clock = refl;
+      act = Resets i l v at r.1 (is ∙ ap (λ (m : NodeState). Ok m) same) (ap (λ (m : NodeState). at_place i (with_node m) w.lives) same) refl;
+    })))
+acts w (happening.Reach a id b) = let P = Acted (Unit {0}) w in
+    if_there P (running w a) _ (λ i e.
+    if_there P (running w b) _ (λ j d.
+    if_holds P (is_dialing (end_at w i id.0) && is_none (conn_of (row_at w i id.0)) && ltb (length w.conns) most_connections) _ (λ t.
+    let p = both-true _ _ t in
+    let q = both-true _ _ p.0 in
+    let g = life-of w a i e in
+    let r = is-running w a i g.0 e g.1 in
+    let f = life-of w b j d in
+    let s = is-running w b j f.0 d f.1 in
+    record { setups = refl; clock = refl; act = Reaches i id.0 j g.0 f.0 g.1 r.1 f.1 s.1 q.0 (none-by _ q.1) refl refl })))
+acts w (happening.Opened a id) = let P = Acted (Unit {0}) w in
+    if_there P (running w a) _ (λ i e.
+    if_there P (conn_of (row_at w i id.0)) _ (λ c on.
+    told-acts (Unit {0}) w i (event.Opened id c) 0 w.conns (λ f. omega arith) (Plain tt (λ x link q. (let y : id ≡ x = cc in let z : c ≡ link = cc in ap (λ (k : EndId). conn_of (row_at w i k.0)) (sym y) ∙ on ∙ ap Some z)) refl)))
+acts w (happening.Accept c) = let P = Acted (Unit {0}) w in
+    if_there P (slice_get w.conns c) _ (λ k at.
+    if_holds P (is_none k.accepted) _ (λ free.
+    told-acts (Unit {0}) w k.target _ 0 _ (λ f. omega arith) (Accepts c k refl at (none-by k.accepted free) refl refl)))
+acts w (happening.Deliver a id n) = let P = Acted (Unit {0}) w in
+    if_there P (running w a) _ (λ i e.
+    if_holds P (is_open_end (end_at w i id.0)) _ (λ open_.
+    if_there P (row_at w i id.0) _ (λ row at.
+    if_there P row.conn _ (λ c on.
+    if_there P (slice_get w.conns c) _ (λ k at-c.
+    if_holds P (ltb 0 n && is_nonempty (let t = text_to row.side k in t.said)) _ (λ some.
+    record { setups = refl; clock = refl; act = Comes row.side c n refl refl }))))))
+acts w (happening.Take a id fresh) = let P = Acted (fresh < 2 ^ 32) w in
+    if_there P (running w a) _ (λ i e.
+    if_there P (row_at w i id.0) _ (λ row at.
+    if_there P row.conn _ (λ c on.
+    if_there P (slice_get w.conns c) _ (λ k at-c.
+    if_there P (let t = text_to row.side k in first_body w16 t.come) _ (λ body is.
+    told-acts (fresh < 2 ^ 32) w i _ fresh _ (λ f. f) (Takes id row c k body refl at on at-c is refl))))))

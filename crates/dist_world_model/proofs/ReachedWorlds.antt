@@ -1,0 +1,41 @@
+-- Worlds that can be.
+use Rattle.std.proofs.Common.{◌≡◌, List, [], ◌∷◌, ◌++◌, refl, sym, ap, ◌∙◌, subst, ℕ}
+use Rattle.std.specs.List.{AllByRecursion}
+use Rattle.dist_core_setup.specs.declared.setup.Setup.{Setup}
+use Rattle.dist_world_model.specs.declared.happening.Happening.{Happening}
+use Rattle.dist_world_model.specs.World.{World, empty}
+use Rattle.dist_world_model.specs.Happenings.{happens}
+use Rattle.dist_world_model.specs.Run.{run}
+use Rattle.dist_world_model.specs.Agreement.{AreSetups, AllFit, Fits, IsReached, Agreement, Counts, IsUp}
+use Rattle.dist_world_model.proofs.AgreementOfWorlds.{agreement_holds}
+use Rattle.dist_world_model.specs.Laws.{AllLives, UpsAreLinked}
+use Rattle.dist_world_model.proofs.HappeningEffects.{is-running}
+use Rattle.dist_world_model.proofs.EndConnections.{linked_lives}
+use Rattle.dist_world_model.specs.NodeLaws.{NodeLaws}
+
+run-append : (hs gs : List Happening) (w : World) → run (hs ++ gs) w ≡ run gs (run hs w)
+run-append [] gs w = refl
+run-append (h ∷ hs) gs w = run-append hs gs (happens w h)
+
+fit-append : (hs gs : List Happening) → AllByRecursion Fits hs → AllByRecursion Fits gs → AllByRecursion Fits (hs ++ gs)
+fit-append [] gs a b = b
+fit-append (h ∷ hs) gs a b = (a.0, fit-append hs gs a.1 b)
+
+module _ (laws : NodeLaws) where
+  pub reached_agree : (w : World) → IsReached w → Agreement w
+  reached_agree w r = subst Agreement (sym r.is) (agreement_holds laws r.setups r.happenings r.good r.fit)
+
+pub reached_new : (ss : List Setup) → AreSetups ss → IsReached (empty ss)
+reached_new ss h = record { setups = ss; happenings = []; good = h; fit = tt; is = refl }
+
+pub reached_run : (w : World) (hs : List Happening) → IsReached w → AllFit hs → IsReached (run hs w)
+reached_run w hs r f = record { setups = r.setups; happenings = r.happenings ++ hs; good = r.good; fit = fit-append r.happenings hs r.fit f; is = ap (run hs) r.is ∙ sym (run-append r.happenings hs (empty r.setups)) }
+
+module _ (laws : NodeLaws) where
+  -- who counts another as up does so on a connection
+  pub counted_on : (w : World) (a b : ℕ) → IsReached w → (u : Counts w a b) → (c : ℕ) × (x : IsUp w a b c) × (x.kept ≡ u.kept)
+  counted_on w a b r u =
+      let k : AllLives UpsAreLinked w = subst (AllLives UpsAreLinked) (sym r.is) (linked_lives laws r.setups r.happenings) in
+      let live = is-running w a u.place u.life u.runs u.lives in
+      let g = k u.place u.life u.lives live.1 u.id u.kept u.is_up in
+      (g.1, record { place = u.place; life = u.life; id = u.id; kept = u.kept; row = g.0; other = u.other; runs = u.runs; lives = u.lives; is_up = u.is_up; beside = g.2; on = g.3; named = u.named; peer = u.peer }, refl)

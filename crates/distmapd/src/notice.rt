@@ -1,0 +1,48 @@
+//! Tells whoever started the program that it listens (systemd, sd_notify(3)).
+
+ghost use Rattle.std.specs.Prelude.{◌≤◌, IfSome};
+
+use libc::net::{AF_UNIX, MSG_DONTWAIT, MSG_NOSIGNAL, SOCK_CLOEXEC, SOCK_DGRAM, sendto, socket};
+
+// What is said.
+const READY: &[u8] = b"READY=1\n";
+
+// The bytes of an address, and where its name begins behind its kind. Source: unix(7).
+const ADDRESS: usize = 128;
+
+const NAME: usize = 2;
+
+// The most bytes of a name.
+const MOST: usize = 107;
+
+// Writes the address of a socket by its name, and returns its length. One that begins with `@` is none of a file: a 0 stands for
+// the `@`.
+fn write_address(address: &mut [u8; ADDRESS], name: &[u8]) -> Option<u32>
+    ensures { IfSome result (λ length. length ≤ 128) }
+{
+    if name.is_empty() || name.len() > MOST {
+        return None;
+    }
+    let kind = (AF_UNIX as u16).to_ne_bytes();
+    address[..NAME].copy_from_slice(&kind);
+    address[NAME..NAME + name.len()].copy_from_slice(name);
+    if address[NAME] == b'@' {
+        address[NAME] = 0;
+    }
+    Some((NAME + name.len()) as u32)
+}
+
+/// Tells it at the socket of this name. Returns whether that was taken.
+pub fn say_ready(name: &[u8]) -> bool {
+    let mut address = [0u8; ADDRESS];
+    let Some(length) = write_address(&mut address, name) else {
+        return false;
+    };
+    let fd = unsafe { socket(AF_UNIX, SOCK_DGRAM | SOCK_CLOEXEC, 0) };
+    if fd < 0 {
+        return false;
+    }
+    let sent = unsafe { sendto(fd, READY, MSG_NOSIGNAL | MSG_DONTWAIT, &address, length) };
+    let _ = libc::close(fd);
+    sent == READY.len() as isize
+}
