@@ -3,20 +3,27 @@
  * questions that belong to it, so that no other step comes between. It answers terms and never ends the emulator.
  *
  * The library's three demands are met here: a node lives in a resource that is zero before dn_node_new and is let go once;
- * the lock gives it to one call at a time; no pointer is null, and none leads to another's bytes. */
+ * the lock gives it to one call at a time; no pointer is null, and none leads to another's bytes.
+ *
+ * A process of a connection makes the steps of its own end. Where such a step gives out an end, closes one or brings one up,
+ * the process that made the node gets a message of it before the lock is released: so the messages come in the order of the
+ * steps, and a process that is killed right after its step has reported it. */
 #define _GNU_SOURCE
 #include <distnode.h>
 #include <erl_nif.h>
 #include <string.h>
 #include <sys/random.h>
 
+/* owner: the process that made the node. changes: how often a cookie or the allow list was changed. */
 typedef struct {
     dn_node node;
     ErlNifMutex *lock;
+    ErlNifPid owner;
+    ErlNifUInt64 changes;
 } kept;
 
 static ErlNifResourceType *kept_type;
-static ERL_NIF_TERM a_ok, a_error, a_none, a_unknown;
+static ERL_NIF_TERM a_ok, a_error, a_none, a_unknown, a_made, a_step, a_arrived, a_ready, a_other, a_changed;
 
 static void kept_drop(ErlNifEnv *env, void *it) {
     kept *k = it;
@@ -103,14 +110,28 @@ static ERL_NIF_TERM up_term(ErlNifEnv *env, kept *k, const dn_reply *reply) {
                             reply->has_creation ? enif_make_uint(env, reply->creation) : a_unknown);
 }
 
-/* {step, Id, Bodies, Peer, Closed, Heard, Up}, or {error, Code, Closed}: an end that made room is told beside any code. */
+/* {step, Id, Bodies, Peer, Closed, Received, Up}, or {error, Code, Closed}: an end that made room is reported beside any code. */
 static ERL_NIF_TERM step_term(ErlNifEnv *env, kept *k, uint32_t code, const dn_reply *reply) {
-    uint32_t said = 0, heard = 0;
+    uint32_t said = 0, received = 0;
     if (code) return enif_make_tuple3(env, a_error, code_word(env, code), closed_term(env, reply));
-    (void)dn_node_status(&k->node, &said, &heard);
-    return enif_make_tuple7(env, enif_make_atom(env, "step"), enif_make_uint(env, reply->id),
+    (void)dn_node_status(&k->node, &said, &received);
+    return enif_make_tuple7(env, a_step, enif_make_uint(env, reply->id),
                             reply->say ? bodies_term(env, k) : enif_make_list(env, 0), peer_term(env, k, reply->id),
-                            closed_term(env, reply), status_word(env, heard), up_term(env, k, reply));
+                            closed_term(env, reply), status_word(env, received), up_term(env, k, reply));
+}
+
+/* The owner gets {distnode_made, Node, Pid, What, Step} of a step that Pid has made. */
+static void report(ErlNifEnv *env, kept *k, ERL_NIF_TERM node, ERL_NIF_TERM what, ERL_NIF_TERM step) {
+    ErlNifPid self;
+    if (!enif_self(env, &self)) return;
+    (void)enif_send(env, &k->owner, NULL, enif_make_tuple5(env, a_made, node, enif_make_pid(env, &self), what, step));
+}
+
+/* What a step of an end's own process did. */
+static ERL_NIF_TERM own_step_term(ErlNifEnv *env, kept *k, ERL_NIF_TERM node, uint32_t code, const dn_reply *reply) {
+    ERL_NIF_TERM term = step_term(env, k, code, reply);
+    if (reply->closed || (!code && reply->up)) report(env, k, node, a_step, term);
+    return term;
 }
 
 /* ---- the node, its cookies and its allow list */
@@ -137,6 +158,7 @@ static ERL_NIF_TERM nif_new(ErlNifEnv *env, int argc, const ERL_NIF_TERM argv[])
         return enif_make_badarg(env);
     kept *k = kept_new();
     if (!k) return fault(env, DN_NO_MEMORY);
+    (void)enif_self(env, &k->owner);
     dn_setup setup = {.flags = flags, .required = required, .creation = creation, .version = 6, .most_ends = most_ends,
                       .mandatory_25 = DN_MANDATORY_25};
     uint32_t code = dn_node_new(&k->node, name.data, name.size, cookie.data, cookie.size, &setup);
@@ -154,6 +176,7 @@ static ERL_NIF_TERM nif_cookie(ErlNifEnv *env, int argc, const ERL_NIF_TERM argv
         return enif_make_badarg(env);
     enif_mutex_lock(k->lock);
     uint32_t code = dn_node_cookie(&k->node, peer.data, peer.size, cookie.data, cookie.size);
+    k->changes++;
     enif_mutex_unlock(k->lock);
     return code_term(env, code);
 }
@@ -166,6 +189,7 @@ static ERL_NIF_TERM nif_usual_cookie(ErlNifEnv *env, int argc, const ERL_NIF_TER
     if (!kept_of(env, argv[0], &k) || !bytes_of(env, argv[1], &cookie)) return enif_make_badarg(env);
     enif_mutex_lock(k->lock);
     uint32_t code = dn_node_usual_cookie(&k->node, cookie.data, cookie.size);
+    k->changes++;
     enif_mutex_unlock(k->lock);
     return code_term(env, code);
 }
@@ -177,6 +201,7 @@ static ERL_NIF_TERM listed(ErlNifEnv *env, const ERL_NIF_TERM argv[],
     if (!kept_of(env, argv[0], &k) || !bytes_of(env, argv[1], &peer)) return enif_make_badarg(env);
     enif_mutex_lock(k->lock);
     uint32_t code = call(&k->node, peer.data, peer.size);
+    k->changes++;
     enif_mutex_unlock(k->lock);
     return code_term(env, code);
 }
@@ -191,6 +216,17 @@ static ERL_NIF_TERM nif_allow(ErlNifEnv *env, int argc, const ERL_NIF_TERM argv[
 static ERL_NIF_TERM nif_disallow(ErlNifEnv *env, int argc, const ERL_NIF_TERM argv[]) {
     (void)argc;
     return listed(env, argv, dn_node_disallow);
+}
+
+/* changes(Node): how often a cookie or the allow list was changed */
+static ERL_NIF_TERM nif_changes(ErlNifEnv *env, int argc, const ERL_NIF_TERM argv[]) {
+    kept *k;
+    (void)argc;
+    if (!kept_of(env, argv[0], &k)) return enif_make_badarg(env);
+    enif_mutex_lock(k->lock);
+    ErlNifUInt64 changes = k->changes;
+    enif_mutex_unlock(k->lock);
+    return enif_make_uint64(env, changes);
 }
 
 /* forget(Node, Below) */
@@ -234,7 +270,7 @@ static ERL_NIF_TERM nif_incoming(ErlNifEnv *env, int argc, const ERL_NIF_TERM ar
     return term;
 }
 
-/* opened(Node, Id) */
+/* opened(Node, Id), by the process that dials */
 static ERL_NIF_TERM nif_opened(ErlNifEnv *env, int argc, const ERL_NIF_TERM argv[]) {
     kept *k;
     unsigned id;
@@ -243,7 +279,7 @@ static ERL_NIF_TERM nif_opened(ErlNifEnv *env, int argc, const ERL_NIF_TERM argv
     if (!kept_of(env, argv[0], &k) || !enif_get_uint(env, argv[1], &id)) return enif_make_badarg(env);
     enif_mutex_lock(k->lock);
     uint32_t code = dn_node_opened(&k->node, id, &reply);
-    ERL_NIF_TERM term = step_term(env, k, code, &reply);
+    ERL_NIF_TERM term = own_step_term(env, k, argv[0], code, &reply);
     enif_mutex_unlock(k->lock);
     return term;
 }
@@ -259,21 +295,7 @@ static int frame_of(ErlNifEnv *env, const ERL_NIF_TERM argv[], frame *f) {
            enif_get_uint(env, argv[3], &f->challenge);
 }
 
-/* ready(Node, Id, Body, Challenge): the peer that body/4 would bring up, as {Peer, Common, Creation}; else none */
-static ERL_NIF_TERM nif_ready(ErlNifEnv *env, int argc, const ERL_NIF_TERM argv[]) {
-    frame f;
-    dn_reply reply = {0};
-    ERL_NIF_TERM term = a_none;
-    (void)argc;
-    if (!frame_of(env, argv, &f)) return enif_make_badarg(env);
-    enif_mutex_lock(f.k->lock);
-    if (!dn_node_ready_body(&f.k->node, f.id, f.body.data, f.body.size, f.challenge, &reply))
-        term = up_term(env, f.k, &reply);
-    enif_mutex_unlock(f.k->lock);
-    return term;
-}
-
-/* body(Node, Id, Body, Challenge) */
+/* body(Node, Id, Body, Challenge), by the owner */
 static ERL_NIF_TERM nif_body(ErlNifEnv *env, int argc, const ERL_NIF_TERM argv[]) {
     frame f;
     dn_reply reply = {0};
@@ -286,20 +308,72 @@ static ERL_NIF_TERM nif_body(ErlNifEnv *env, int argc, const ERL_NIF_TERM argv[]
     return term;
 }
 
-/* early_body(Node, Id, Body, Challenge): as body/4, but `ready`, and nothing done, where that would bring an end up */
+static ERL_NIF_TERM own_body(ErlNifEnv *env, frame *f, ERL_NIF_TERM node) {
+    dn_reply reply = {0};
+    uint32_t code = dn_node_body(&f->k->node, f->id, f->body.data, f->body.size, f->challenge, &reply);
+    return own_step_term(env, f->k, node, code, &reply);
+}
+
+static int is_ready(frame *f, dn_reply *reply) {
+    return !dn_node_ready_body(&f->k->node, f->id, f->body.data, f->body.size, f->challenge, reply) && reply->up;
+}
+
+/* early_body(Node, Id, Body, Challenge): as body/4, by the end's process; but {ready, Up}, and nothing done, where that would bring
+ * the end up */
 static ERL_NIF_TERM nif_early_body(ErlNifEnv *env, int argc, const ERL_NIF_TERM argv[]) {
     frame f;
     dn_reply reply = {0};
-    ERL_NIF_TERM term;
     (void)argc;
     if (!frame_of(env, argv, &f)) return enif_make_badarg(env);
     enif_mutex_lock(f.k->lock);
-    if (!dn_node_ready_body(&f.k->node, f.id, f.body.data, f.body.size, f.challenge, &reply) && reply.up) {
-        term = enif_make_atom(env, "ready");
-    } else {
-        memset(&reply, 0, sizeof reply);
-        uint32_t code = dn_node_body(&f.k->node, f.id, f.body.data, f.body.size, f.challenge, &reply);
-        term = step_term(env, f.k, code, &reply);
+    ERL_NIF_TERM term = is_ready(&f, &reply) ? enif_make_tuple2(env, a_ready, up_term(env, f.k, &reply)) : own_body(env, &f, argv[0]);
+    enif_mutex_unlock(f.k->lock);
+    return term;
+}
+
+/* come_up(Node, Id, Body, Challenge, Common, Creation): as body/4, by the end's process; but `other`, and nothing done, where that
+ * would bring the end up with other flags or another creation, 0 where the peer has none */
+static ERL_NIF_TERM nif_come_up(ErlNifEnv *env, int argc, const ERL_NIF_TERM argv[]) {
+    frame f;
+    ErlNifUInt64 common;
+    unsigned creation;
+    dn_reply reply = {0};
+    (void)argc;
+    if (!frame_of(env, argv, &f) || !enif_get_uint64(env, argv[4], &common) || !enif_get_uint(env, argv[5], &creation))
+        return enif_make_badarg(env);
+    enif_mutex_lock(f.k->lock);
+    int is_other = is_ready(&f, &reply) && (reply.common != common || reply.creation != creation);
+    ERL_NIF_TERM term = is_other ? a_other : own_body(env, &f, argv[0]);
+    enif_mutex_unlock(f.k->lock);
+    return term;
+}
+
+/* The end is there, so its owner has to know of it whatever becomes of the frame. */
+static ERL_NIF_TERM first_frame(ErlNifEnv *env, frame *f, ERL_NIF_TERM node, const dn_reply *newcomer) {
+    dn_reply reply = {0};
+    ERL_NIF_TERM id = enif_make_uint(env, newcomer->id);
+    f->id = newcomer->id;
+    uint32_t code = dn_node_body(&f->k->node, f->id, f->body.data, f->body.size, f->challenge, &reply);
+    ERL_NIF_TERM step = step_term(env, f->k, code, &reply);
+    report(env, f->k, node, enif_make_tuple3(env, a_arrived, id, closed_term(env, newcomer)), step);
+    return enif_make_tuple3(env, a_arrived, id, step);
+}
+
+/* arrive(Node, Changes, Body, Challenge): a connection was accepted, and this is its first frame: {arrived, Id, Step}; or `changed`,
+ * and nothing done, where cookies or the allow list were changed since; or {error, Code, Closed}, and there is no end */
+static ERL_NIF_TERM nif_arrive(ErlNifEnv *env, int argc, const ERL_NIF_TERM argv[]) {
+    frame f;
+    ErlNifUInt64 changes;
+    dn_reply reply = {0};
+    ERL_NIF_TERM term = a_changed;
+    (void)argc;
+    if (!kept_of(env, argv[0], &f.k) || !enif_get_uint64(env, argv[1], &changes) || !bytes_of(env, argv[2], &f.body) ||
+        !enif_get_uint(env, argv[3], &f.challenge))
+        return enif_make_badarg(env);
+    enif_mutex_lock(f.k->lock);
+    if (changes == f.k->changes) {
+        uint32_t code = dn_node_incoming(&f.k->node, &reply);
+        term = code ? own_step_term(env, f.k, argv[0], code, &reply) : first_frame(env, &f, argv[0], &reply);
     }
     enif_mutex_unlock(f.k->lock);
     return term;
@@ -321,6 +395,20 @@ static ERL_NIF_TERM nif_lost(ErlNifEnv *env, int argc, const ERL_NIF_TERM argv[]
 }
 
 /* ---- questions */
+
+/* cause(Node, Id): why this end is closed, or none */
+static ERL_NIF_TERM nif_cause(ErlNifEnv *env, int argc, const ERL_NIF_TERM argv[]) {
+    kept *k;
+    unsigned id;
+    uint8_t room[255];
+    dn_end end = {0, 0, 0};
+    (void)argc;
+    if (!kept_of(env, argv[0], &k) || !enif_get_uint(env, argv[1], &id)) return enif_make_badarg(env);
+    enif_mutex_lock(k->lock);
+    (void)dn_node_end(&k->node, id, &end, room, sizeof room);
+    enif_mutex_unlock(k->lock);
+    return end.phase == DN_PHASE_CLOSED ? why_word(env, end.why) : a_none;
+}
 
 /* up_end(Node, Peer): the end that is up with this peer, or none */
 static ERL_NIF_TERM nif_up_end(ErlNifEnv *env, int argc, const ERL_NIF_TERM argv[]) {
@@ -356,7 +444,7 @@ static ERL_NIF_TERM nif_peers(ErlNifEnv *env, int argc, const ERL_NIF_TERM argv[
     return list;
 }
 
-/* challenge(): a number that nobody can foretell */
+/* challenge(): a number that nobody can foresee */
 static ERL_NIF_TERM nif_challenge(ErlNifEnv *env, int argc, const ERL_NIF_TERM argv[]) {
     uint32_t drawn;
     (void)argc, (void)argv;
@@ -371,16 +459,23 @@ static int load(ErlNifEnv *env, void **priv, ERL_NIF_TERM info) {
     a_error = enif_make_atom(env, "error");
     a_none = enif_make_atom(env, "none");
     a_unknown = enif_make_atom(env, "unknown");
+    a_made = enif_make_atom(env, "distnode_made");
+    a_step = enif_make_atom(env, "step");
+    a_arrived = enif_make_atom(env, "arrived");
+    a_ready = enif_make_atom(env, "ready");
+    a_other = enif_make_atom(env, "other");
+    a_changed = enif_make_atom(env, "changed");
     return kept_type ? 0 : 1;
 }
 
 static ErlNifFunc functions[] = {
-    {"new", 6, nif_new, 0},           {"cookie", 3, nif_cookie, 0},     {"usual_cookie", 2, nif_usual_cookie, 0},
-    {"allow", 2, nif_allow, 0},       {"disallow", 2, nif_disallow, 0}, {"forget", 2, nif_forget, 0},
-    {"dial", 2, nif_dial, 0},         {"incoming", 1, nif_incoming, 0}, {"opened", 2, nif_opened, 0},
-    {"ready", 4, nif_ready, 0},       {"body", 4, nif_body, 0},         {"lost", 3, nif_lost, 0},
-    {"early_body", 4, nif_early_body, 0},
-    {"up_end", 2, nif_up_end, 0},     {"peers", 1, nif_peers, 0},       {"challenge", 0, nif_challenge, 0},
+    {"new", 6, nif_new, 0},           {"cookie", 3, nif_cookie, 0},   {"usual_cookie", 2, nif_usual_cookie, 0},
+    {"allow", 2, nif_allow, 0},       {"disallow", 2, nif_disallow, 0}, {"changes", 1, nif_changes, 0},
+    {"forget", 2, nif_forget, 0},     {"dial", 2, nif_dial, 0},       {"incoming", 1, nif_incoming, 0},
+    {"opened", 2, nif_opened, 0},     {"body", 4, nif_body, 0},       {"early_body", 4, nif_early_body, 0},
+    {"come_up", 6, nif_come_up, 0},   {"arrive", 4, nif_arrive, 0},   {"lost", 3, nif_lost, 0},
+    {"cause", 2, nif_cause, 0},       {"up_end", 2, nif_up_end, 0},   {"peers", 1, nif_peers, 0},
+    {"challenge", 0, nif_challenge, 0},
 };
 
 ERL_NIF_INIT(distnode_nif, functions, load, NULL, NULL, NULL)

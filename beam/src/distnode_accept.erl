@@ -6,7 +6,7 @@
 -include_lib("kernel/include/dist_util.hrl").
 
 %% Between two questions to net_kernel, where it is busy with another attempt of the same peer, in milliseconds.
--define(ASK_AGAIN, 10).
+-define(ASK_AGAIN, 2).
 
 start(Driver, Acceptor, Socket, MyNode, Allowed, SetupTime) ->
     spawn_opt(?MODULE, accept, [Driver, self(), Acceptor, Socket, MyNode, Allowed, SetupTime],
@@ -23,9 +23,9 @@ accept(Driver, Kernel, Acceptor, Socket, MyNode, Allowed, SetupTime) ->
 
 shake(Driver, Kernel, Socket, MyNode, Allowed, SetupTime) ->
     case distnode_shake:accepted(Driver, Socket, Allowed, SetupTime) of
-        {ready, Info, {give, Setup}} -> distnode_shake:give(Socket, Info, Setup);
-        {ready, Info, keep} ->
-            Timer = dist_util:start_timer(SetupTime),
+        {ready, Info, Timer} ->
+            %% The heap of who has shown the cookie, and of nobody else, is as large as that of an own dial.
+            _ = process_flag(min_heap_size, distnode_carrier:heap_words()),
             bring_up(Driver, Kernel, Socket, Info, {MyNode, Allowed}, Timer);
         {nameless, Body} -> nameless(Driver, Kernel, Socket, Body, MyNode, Allowed, SetupTime);
         {refused, Peer, Code} -> refused(Peer, Code);
@@ -57,7 +57,7 @@ ask_again(Driver, Kernel, Socket, #{id := Id} = Info, Own, Timer) ->
 %% A peer that asks to be given a name (DFLAG_NAME_ME, as erl -remsh does): net_kernel alone gives names, so this handshake is
 %% OTP's own, beside the node. Nobody can dial such a peer, so none of its connections crosses another.
 nameless(Driver, Kernel, Socket, Body, MyNode, Allowed, SetupTime) ->
-    ok = inet:setopts(Socket, [list, {active, false}]),
+    ok = inet:setopts(Socket, [list, {active, false}, {nopush, false}]),
     self() ! {distnode, {first, binary_to_list(Body)}},
     dist_util:handshake_other_started(
       #hs_data{

@@ -1,7 +1,7 @@
 %% SPDX-License-Identifier: Apache-2.0
 %% What the carriers over IPv4 and IPv6 have in common, beside the processes of connections: distnode_accept, distnode_setup.
 -module(distnode_carrier).
--export([childspecs/0, renamed/1, accept/2, accept_loop/3]).
+-export([childspecs/0, renamed/1, accept/2, accept_loop/3, setup_options/0, heap_words/0]).
 
 -include_lib("kernel/include/net_address.hrl").
 
@@ -16,6 +16,12 @@ childspecs() ->
 renamed(#net_address{} = Address) -> Address#net_address{protocol = ?PROTOCOL};
 renamed({ok, {Socket, Address, Creation}}) -> {ok, {Socket, renamed(Address), Creation}};
 renamed(Error) -> Error.
+
+%% How a process of an own dial is started: as other carriers start theirs, but with a heap that a whole handshake fits into, so that
+%% none of it waits for a garbage collection. A parameter of kernel, net_ticker_spawn_options, may say otherwise.
+setup_options() -> [{min_heap_size, heap_words()} | dist_util:net_ticker_spawn_options()].
+
+heap_words() -> 2586.
 
 accept(Driver, Listen) -> spawn_opt(?MODULE, accept_loop, [Driver, self(), Listen], [link, {priority, max}]).
 

@@ -1,69 +1,109 @@
 %% SPDX-License-Identifier: Apache-2.0
-%% Owns the one proved node of this emulator: every step of every connection is made here, one at a time. Which process has
-%% which end and who waits for whom is decided by distnode_links; here its actions are done, and what the node does is told
-%% to it. Where this process ends the distribution does, as it does where net_kernel ends.
+%% Owns the one proved node of this emulator. The process of a connection makes the steps of its own end, under the node's lock, and
+%% what others have to know of them is reported to this process in the order of the steps. Which process has which end and who waits
+%% for whom is decided by distnode_links; here its actions are done, and what the node does is reported to it. Where this process
+%% ends the distribution does, as it does where net_kernel ends.
 -module(distnode_core).
 -behaviour(gen_server).
--export([start_link/0, want/1, arrived/2, stepped/3, received/2, finish/3, admit/1, refused/1, handed/1, done/1, lost/1]).
+-export([start_link/0, want/1, arrived/2, opened/1, early/2, come_up/1, refused/1, handed/1, done/1, lost/1]).
 -export([table/0, counts/0]).
 -export([init/1, handle_call/3, handle_cast/2, handle_info/2]).
 
 -type id() :: distnode_nif:id().
 -type access() :: distnode_access:access().
--type info() :: #{id := id(), peer := binary(), common := non_neg_integer(), creation := non_neg_integer() | unknown,
-                  flags := non_neg_integer()}.
--type received() :: {more, [binary()]} | {closed, [binary()], Why :: atom(), Heard :: atom()} |
-                    {ready, info(), keep | {give, pid()}} | {error, atom()}.
--export_type([info/0]).
+%% An end, for its process: it is the node's that has these flags.
+-type own_end() :: #{id := id(), node := reference(), flags := non_neg_integer(), _ => _}.
+%% An end that a frame, with a challenge that was drawn for it, brings up with this peer, these common flags and this creation.
+-type info() :: #{id := id(), node := reference(), flags := non_neg_integer(), peer := binary(), common := non_neg_integer(),
+                  creation := non_neg_integer() | unknown, frame := {binary(), non_neg_integer()}, _ => _}.
+-type received() :: {more, [binary()]} | {closed, [binary()], Why :: atom(), Received :: atom()} | {ready, info()} | {error, atom()}.
+-export_type([own_end/0, info/0, received/0]).
 
-%% ready: the frame that brings an end up, and what it will bring, until net_kernel has agreed.
 %% own: the cookies that the node has for peers; usual: for all others. dials: the access of each peer that is wanted.
--record(st, {node :: reference() | undefined, flags = 0, links = distnode_links:new(), watched = #{}, ready = #{},
+-record(st, {node :: reference() | undefined, flags = 0, links = distnode_links:new(), watched = #{},
              usual :: binary() | undefined, own = #{}, dials = #{}, is_limited = false, forgotten = 0, counts = #{}}).
 
 %% Causes are forgotten each so many ends; a peer that is no dial of ours gets a cookie of its own up to this many.
 -define(FORGET_EACH, 65536).
 -define(MOST_NAMED, 512).
 
+%% What others read of the node, so that most connections that come need not ask: {node, Node, Changes, Flags, Usual} and, for each
+%% peer that has a cookie of its own, {{cookie, Peer}, Cookie}.
+-define(TABLE, ?MODULE).
+
 start_link() -> gen_server:start_link({local, ?MODULE}, ?MODULE, [], []).
 
-%% net_kernel has started the caller to set up a connection to this peer. It hears {distnode, {dial, #{id, node, flags}}},
+%% net_kernel has started the caller to set up a connection to this peer. It hears {distnode, {dial, own_end()}},
 %% {distnode, {closed, Id, Why}} of that dial, {distnode, {failed, Code}}, {distnode, again} or, from the process that has made
 %% an end ready, {distnode, {ready, ..}}.
 -spec want(access()) -> ok.
 want(Access) -> gen_server:call(?MODULE, {want, Access}, infinity).
 
 %% The caller has accepted a connection, and this is its first frame, with what this emulator says of the name in it. The end
-%% that it gets, and what received/2 answers.
--spec arrived(binary(), access() | none) -> {ok, id(), received()} | {error, atom()}.
-arrived(Body, Access) -> gen_server:call(?MODULE, {arrived, Body, Access}, infinity).
+%% that it gets, and what became of the frame. Where the node has the very cookie, the caller makes the step by itself.
+-spec arrived(binary(), access() | none) -> {ok, own_end(), received()} | {error, atom()}.
+arrived(Body, Access) ->
+    case node_as(Access) of
+        {Node, Changes, Flags} -> arrived(Node, Changes, Flags, Body, Access);
+        none -> gen_server:call(?MODULE, {arrived, Body, Access}, infinity)
+    end.
 
-%% The caller has made this step of its own end at this node, and it was not only words that the step said.
--spec stepped(id(), reference(), distnode_nif:step() | ready) ->
-    {closed, [binary()], Why :: atom(), Heard :: atom()} | {error, atom()}.
-stepped(Id, Node, Step) -> gen_server:call(?MODULE, {stepped, Id, Node, Step}, infinity).
+arrived(Node, Changes, Flags, Body, Access) ->
+    case distnode_nif:arrive(Node, Changes, Body, distnode_nif:challenge()) of
+        {arrived, Id, Step} ->
+            End = #{id => Id, node => Node, flags => Flags},
+            {ok, End, outcome(Step, End)};
+        _ -> gen_server:call(?MODULE, {arrived, Body, Access}, infinity)
+    end.
 
-%% A frame came on the caller's end.
-%% `ready`: the peer has shown the cookie and nothing was answered yet; whoever keeps or gets the end asks net_kernel.
--spec received(id(), binary()) -> received().
-received(Id, Body) -> gen_server:call(?MODULE, {received, Id, Body}, infinity).
+%% The node, where it has this cookie for this peer and needs no list.
+node_as(#{peer := Peer, cookie := {ok, Cookie}, allowed := all}) ->
+    case {ets:lookup(?TABLE, node), ets:lookup(?TABLE, {cookie, Peer})} of
+        {[{node, Node, Changes, Flags, Cookie}], []} -> {Node, Changes, Flags};
+        {[{node, Node, Changes, Flags, _}], [{_, Cookie}]} -> {Node, Changes, Flags};
+        _ -> none
+    end;
+node_as(_) -> none.
 
-%% A frame came on the end that the caller has dialled, while net_kernel has its row for that peer: the end comes up at once, with
-%% these flags and this creation.
--spec finish(id(), binary(), {non_neg_integer(), non_neg_integer()}) ->
-    {ok, [binary()]} | gone | {give, info(), pid()} | {more, [binary()]} |
-    {closed, [binary()], Why :: atom(), Heard :: atom()} | {error, atom()}.
-finish(Id, Body, Told) -> gen_server:call(?MODULE, {finish, Id, Body, Told}, infinity).
+%% The connection of an end that was dialled is there, and the caller says the name on it. Where this end is over, the setup whose
+%% dial it was gets a message.
+-spec opened(own_end()) -> received().
+opened(#{id := Id, node := Node} = End) -> outcome(distnode_nif:opened(Node, Id), End).
 
-%% net_kernel has agreed, and an old connection of that peer is gone: the end comes up, and what it says is the acknowledgement.
--spec admit(id()) -> {ok, [binary()]} | gone.
-admit(Id) -> gen_server:call(?MODULE, {admit, Id}, infinity).
+%% A frame came on the caller's end, which isn't up.
+%% `ready`: it would bring the end up, and nothing was done yet; whoever keeps or gets the end asks net_kernel.
+-spec early(binary(), own_end()) -> received().
+early(Body, #{id := Id, node := Node} = End) ->
+    Challenge = distnode_nif:challenge(),
+    case distnode_nif:early_body(Node, Id, Body, Challenge) of
+        {ready, {Peer, Common, Creation}} ->
+            {ready, End#{peer => Peer, common => Common, creation => Creation, frame => {Body, Challenge}}};
+        Step -> outcome(Step, End)
+    end.
 
-%% net_kernel would not take the peer from the caller, since it has a setup of its own for it.
+%% net_kernel has agreed, and an old connection of that peer is gone: the end comes up with the very peer, flags and creation for
+%% which net_kernel has agreed, or not at all. On an accepted end the words are the acknowledgement.
+-spec come_up(info()) -> {ok, [binary()]} | received().
+come_up(#{id := Id, node := Node, frame := {Body, Challenge}, common := Common, creation := Creation} = Info) ->
+    case distnode_nif:come_up(Node, Id, Body, Challenge, Common, distnode_script:number(Creation)) of
+        {step, Id, Bodies, _, _, _, {_, Common, Creation}} -> {ok, Bodies};
+        other -> {error, 'OtherFlags'};
+        Step -> outcome(Step, Info)
+    end.
+
+%% What a step that brought nobody up did. Nobody comes up otherwise: early/2 had said so.
+outcome({step, Id, _, _, _, _, {_, _, _}}, _) ->
+    _ = lost(Id),
+    {error, 'Gone'};
+outcome({step, Id, Bodies, _, {Id, Why}, Received, none}, _) -> {closed, Bodies, Why, Received};
+outcome({step, _, Bodies, _, _, _, none}, _) -> {more, Bodies};
+outcome({error, Code, _}, _) -> {error, Code}.
+
+%% The next step brings the caller's end up, and net_kernel would not take the peer from it, since it has a setup of its own for it.
 -spec refused(id()) -> {give, pid()} | retry | gone.
 refused(Id) -> gen_server:call(?MODULE, {refused, Id}, infinity).
 
-%% The caller has handed the socket of this end to the process that it was told.
+%% The caller has handed the socket of this end to the process that it was given.
 -spec handed(id()) -> ok.
 handed(Id) -> gen_server:cast(?MODULE, {handed, Id, self()}).
 
@@ -81,7 +121,9 @@ counts() -> gen_server:call(?MODULE, counts, infinity).
 init([]) ->
     process_flag(priority, high),
     case distnode_nif:load() of
-        ok -> {ok, #st{}};
+        ok ->
+            ?TABLE = ets:new(?TABLE, [named_table, protected, {read_concurrency, true}]),
+            {ok, #st{}};
         {error, Text} ->
             error_logger:error_msg("** distnode: the library distnode_nif can't be loaded, so there is no distribution: ~ts **~n", [Text]),
             {stop, {shutdown, no_library}}
@@ -90,62 +132,46 @@ init([]) ->
 handle_call({want, #{peer := Peer} = Access}, {Pid, _}, St0) ->
     case with_node(St0) of
         {ok, St} ->
-            {_, St1} = told({want, Peer, Pid}, watch(Pid, St#st{dials = (St#st.dials)#{Peer => Access}})),
-            {reply, ok, St1};
+            {_, St1} = report({want, Peer, Pid}, watch(Pid, St#st{dials = (St#st.dials)#{Peer => Access}})),
+            {reply, ok, publish(St1)};
         {error, Code} ->
             Pid ! {distnode, {failed, Code}},
             {reply, ok, St0}
     end;
 handle_call({arrived, Body, Access}, {Pid, _}, St0) ->
     case with_node(St0) of
-        {ok, St} -> arrived(Body, Access, Pid, St);
+        {ok, St1} ->
+            {Answer, St} = accept(Body, Access, Pid, St1),
+            {reply, Answer, publish(St)};
         {error, Code} -> {reply, {error, Code}, St0}
     end;
-handle_call({stepped, Id, Node, Step}, {Pid, _}, #st{node = Node} = St0) ->
-    %% It may have lost the end before that step, and not have heard it.
-    Owner = distnode_links:owner(Id, St0#st.links),
-    case stepped(Id, Pid, Step, St0) of
-        {reply, {error, _}, St} when Owner =/= Pid -> {reply, {error, 'Gone'}, St};
-        Reply -> Reply
-    end;
-handle_call({stepped, _, _, _}, _, St) -> {reply, {error, 'Gone'}, St};
-handle_call({received, Id, Body}, {Pid, _}, St) ->
-    case distnode_links:owner(Id, St#st.links) of
-        Pid -> frame(Id, Body, Pid, St);
-        _ -> {reply, {error, 'Gone'}, St}
-    end;
-handle_call({finish, Id, Body, Told}, {Pid, _}, St) ->
-    case distnode_links:owner(Id, St#st.links) of
-        Pid -> finish(Id, Body, Told, Pid, St);
-        _ -> {reply, {error, 'Gone'}, St}
-    end;
-handle_call({admit, Id}, {Pid, _}, St0) ->
-    case told({admit, Id, Pid}, St0) of
-        {ok, St} -> admit(Id, Pid, St);
-        {gone, St} -> {reply, gone, St}
-    end;
 handle_call({refused, Id}, {Pid, _}, St0) ->
-    {Answer, St} = told({vetoed, Id, Pid}, note(vetoed, St0)),
+    {Answer, St} = report({vetoed, Id, Pid}, note(vetoed, settle(Id, Pid, St0))),
     {reply, Answer, St};
 handle_call({lost, Id}, {Pid, _}, St0) ->
-    {Answer, St} = told({given_up, Id, Pid}, St0),
+    {Answer, St} = report({given_up, Id, Pid}, St0),
     {reply, Answer, St};
 handle_call(table, _, St) -> {reply, table(St), St};
 handle_call(counts, _, St) -> {reply, St#st.counts, St};
 handle_call(_, _, St) -> {reply, {error, unknown_call}, St}.
 
 handle_cast({handed, Id, Giver}, St) ->
-    {_, St1} = told({handed, Id, Giver}, St),
+    {_, St1} = report({handed, Id, Giver}, St),
     {noreply, St1};
 handle_cast({done, Id, Pid}, St) ->
-    {_, St1} = told({done, Id, Pid}, note(done, St)),
+    {_, St1} = report({done, Id, Pid}, note(done, St)),
     {noreply, St1};
 handle_cast(_, St) -> {noreply, St}.
 
+handle_info({distnode_made, Node, Pid, What, Step}, #st{node = Node} = St) -> {noreply, follow(What, Pid, Step, St)};
+handle_info({distnode_made, _, Pid, _, _}, St) ->
+    %% Of a node that was given up since.
+    exit(Pid, kill),
+    {noreply, St};
 handle_info({'DOWN', Ref, process, Pid, _}, #st{watched = Watched} = St) ->
     case Watched of
         #{Pid := Ref} ->
-            {_, St1} = told({down, Pid}, St#st{watched = maps:remove(Pid, Watched)}),
+            {_, St1} = report({down, Pid}, St#st{watched = maps:remove(Pid, Watched)}),
             {noreply, St1};
         #{} -> {noreply, St}
     end;
@@ -153,103 +179,64 @@ handle_info(_, St) -> {noreply, St}.
 
 %% ---- steps
 
-arrived(Body, Access, Pid, St0) ->
+%% A connection for which the node gets a cookie or a name of the list first.
+accept(Body, Access, Pid, St0) ->
     case prepare(Access, St0) of
         {ok, St1} ->
-            case came(Pid, St1) of
-                {ok, Id, St2} ->
-                    {reply, Answer, St} = frame(Id, Body, Pid, St2),
-                    {reply, {ok, Id, Answer}, close_list(Access, St)};
-                Refused -> Refused
-            end;
-        {error, Code} -> {reply, {error, Code}, note({prepare, Code}, St0)}
+            {Answer, St} = incoming(Body, Pid, St1),
+            {Answer, close_list(Access, St)};
+        {error, Code} -> {{error, Code}, note({prepare, Code}, St0)}
     end.
 
-came(Pid, St0) ->
-    case distnode_nif:incoming(St0#st.node) of
-        {step, Id, [], none, Closed, none, none} ->
-            {_, St} = told({accepted, Id, Pid}, watch(Pid, note(incoming, closed(Closed, none, St0)))),
-            {ok, Id, forget(Id, St)};
-        {error, 'Spent', _} -> {reply, {error, 'Spent'}, begin_anew(St0)};
-        {error, Code, Closed} -> {reply, {error, Code}, closed(Closed, none, note({incoming, Code}, St0))}
+incoming(Body, Pid, #st{node = Node, flags = Flags} = St) ->
+    case distnode_nif:incoming(Node) of
+        {step, Id, [], none, Room, none, none} ->
+            End = #{id => Id, node => Node, flags => Flags},
+            Step = distnode_nif:body(Node, Id, Body, distnode_nif:challenge()),
+            {{ok, End, answer(Id, Step)}, follow({arrived, Id, Room}, Pid, Step, St)};
+        {error, 'Spent', _} -> {{error, 'Spent'}, begin_anew(St)};
+        {error, Code, Closed} -> {{error, Code}, closed(Closed, none, note({incoming, Code}, St))}
     end.
 
-frame(Id, Body, Pid, St) ->
-    Challenge = distnode_nif:challenge(),
-    case distnode_nif:ready(St#st.node, Id, Body, Challenge) of
-        none -> stepped(Id, Pid, distnode_nif:body(St#st.node, Id, Body, Challenge), St);
-        Up -> ready(Id, Body, Challenge, Up, St)
+%% A first frame brings nobody up.
+answer(Id, {step, Id, Bodies, _, {Id, Why}, Received, none}) -> {closed, Bodies, Why, Received};
+answer(Id, {step, Id, Bodies, _, _, _, none}) -> {more, Bodies};
+answer(_, {error, Code, _}) -> {error, Code}.
+
+%% What a process did with its own end.
+follow({arrived, Id, Room}, Pid, Step, St0) ->
+    {_, St} = report({accepted, Id, Pid}, watch(Pid, note(incoming, St0))),
+    closed(Room, none, settle(Id, none, follow_name(Step, follow_step(Pid, Step, forget(Id, St)))));
+follow(step, Pid, Step, St) -> follow_step(Pid, Step, St).
+
+follow_name({step, Id, _, Peer, _, _, _}, St) when Peer =/= none -> ignored(report({named, Id, Peer}, St));
+follow_name(_, St) -> St.
+
+follow_step(Pid, {step, Id, _, _, Closed, _, {_, _, _}}, St) ->
+    ignored(report({came_up, Id, Pid}, note(came_up, closed(Closed, Pid, St))));
+follow_step(Pid, {step, _, _, _, Closed, _, none}, St) -> closed(Closed, Pid, St);
+follow_step(Pid, {error, Code, Closed}, St) -> closed(Closed, Pid, note({refused, Code}, St)).
+
+%% Another step may have closed an end, and that isn't reported to the machine yet, or was before the end had arrived.
+settle(Id, By, #st{node = Node, links = Links} = St) ->
+    case distnode_links:owner(Id, Links) =/= none andalso distnode_nif:cause(Node, Id) of
+        IsOpen when IsOpen =:= false; IsOpen =:= none -> St;
+        Why -> closed({Id, Why}, By, St)
     end.
-
-ready(Id, Body, Challenge, {Peer, Common, Creation} = Up, #st{ready = Ready} = St0) ->
-    {Answer, St} = told({ready, Id, Peer}, St0#st{ready = Ready#{Id => {Body, Challenge, Up}}}),
-    Info = #{id => Id, peer => Peer, common => Common, creation => Creation, flags => St#st.flags},
-    {reply, {ready, Info, Answer}, note(case Answer of keep -> kept; _ -> given end, St)}.
-
-%% net_kernel has its row for this peer, and the process that owns it is the caller: nobody else is to be asked.
-finish(Id, Body, Told, Pid, St) ->
-    Challenge = distnode_nif:challenge(),
-    case distnode_nif:ready(St#st.node, Id, Body, Challenge) of
-        none -> stepped(Id, Pid, distnode_nif:body(St#st.node, Id, Body, Challenge), St);
-        {_, Common, Creation} = Up ->
-            case {Common, distnode_script:number(Creation)} of
-                Told -> finish_ready(Id, Pid, ready(Id, Body, Challenge, Up, St));
-                _ -> {reply, {error, 'OtherFlags'}, St}
-            end
-    end.
-
-finish_ready(Id, Pid, {reply, {ready, _, keep}, St0}) ->
-    {ok, St} = told({admit, Id, Pid}, St0),
-    admit(Id, Pid, St);
-finish_ready(_, _, {reply, {ready, Info, {give, Setup}}, St}) -> {reply, {give, Info, Setup}, St}.
-
-%% An end comes up with the very peer, flags and creation for which net_kernel has agreed, or not at all.
-admit(Id, Pid, #st{ready = Ready} = St0) ->
-    {{Body, Challenge, Up}, Rest} = maps:take(Id, Ready),
-    St1 = St0#st{ready = Rest},
-    case distnode_nif:body(St1#st.node, Id, Body, Challenge) of
-        {step, Id, Bodies, _, Closed, _, Up} ->
-            {_, St2} = told({admitted, Id}, closed(Closed, Pid, St1)),
-            {reply, {ok, Bodies}, note(admitted, St2)};
-        Other ->
-            {reply, _, St2} = stepped(Id, Pid, Other, St1),
-            {_, St3} = told({given_up, Id, Pid}, St2),
-            {reply, gone, St3}
-    end.
-
-%% What a step of this process did, for the process. No end comes up but by admit/3: ready/4 had said so.
-stepped(Id, Pid, {step, Id, _, _, Closed, _, {_, _, _}}, St) -> unasked(Id, Pid, closed(Closed, Pid, St));
-stepped(Id, Pid, {step, Id, Bodies, _, {Id, Why} = Closed, Heard, none}, St) ->
-    {reply, {closed, Bodies, Why, Heard}, closed(Closed, Pid, St)};
-stepped(Id, Pid, {step, Id, Bodies, Peer, Closed, _, none}, St0) ->
-    {_, St} = case Peer of
-                  none -> {ok, St0};
-                  _ -> told({named, Id, Peer}, St0)
-              end,
-    {reply, {more, Bodies}, closed(Closed, Pid, St)};
-stepped(_, Pid, {error, Code, Closed}, St) ->
-    {reply, {error, Code}, closed(Closed, Pid, note({refused, Code}, St))};
-stepped(Id, Pid, ready, St) -> unasked(Id, Pid, St).
-
-unasked(Id, Pid, St0) ->
-    {_, St} = told({given_up, Id, Pid}, note(unasked, St0)),
-    {reply, {error, 'Gone'}, St}.
 
 closed(none, _, St) -> St;
-closed({Id, Why}, Pid, St0) ->
-    {_, St} = told({closed, Id, Why, Pid}, note({closed, Why}, St0)),
-    St#st{ready = maps:remove(Id, St#st.ready)}.
+closed({Id, Why}, Pid, St0) -> ignored(report({closed, Id, Why, Pid}, note({closed, Why}, St0))).
 
-%% ---- the machine is told, and its actions are done
+%% ---- an event is reported to the machine, and its actions are done
 
-told(Event, #st{links = Links} = St) ->
+report(Event, #st{links = Links} = St) ->
     {Answer, Actions, Next} = distnode_links:event(Event, Links),
     {Answer, lists:foldl(fun act/2, St#st{links = Next}, Actions)}.
 
-act({tell, Pid, {dial, Id}}, St) ->
+act({send, Pid, {dial, Id}}, St) ->
     Pid ! {distnode, {dial, #{id => Id, node => St#st.node, flags => St#st.flags}}},
     St;
-act({tell, Pid, What}, St) ->
+act({send, Pid, What}, St) ->
     Pid ! {distnode, What},
     St;
 act({kill, Pid}, St) ->
@@ -259,9 +246,9 @@ act(_, #st{node = undefined} = St) ->
     %% The node has begun anew since: nothing is open, and nobody waits.
     St;
 act({lose, Id, Why}, St) ->
-    %% A step of the process that dials may have closed it, which this process has not been told yet.
+    %% A step of its process may have closed it, which has not been reported to this process yet.
     _ = distnode_nif:lost(St#st.node, Id, why(Why)),
-    note({lost, Why}, St#st{ready = maps:remove(Id, St#st.ready)});
+    note({lost, Why}, St);
 act({dial, Peer}, St) -> dial(Peer, St).
 
 why(ended) -> 1;
@@ -271,17 +258,17 @@ dial(Peer, #st{dials = Dials} = St0) ->
     #{Peer := Access} = Dials,
     case suit(Access, 1024, St0) of
         {ok, St} -> dialled(Peer, distnode_nif:dial(St#st.node, Peer), St);
-        {error, Code} -> ignored(told({refused, Peer, Code}, St0))
+        {error, Code} -> ignored(report({refused, Peer, Code}, St0))
     end.
 
 dialled(Peer, {step, Id, [], _, Closed, _, none}, St) ->
-    forget(Id, ignored(told({dialled, Peer, Id}, closed(Closed, none, note(dial, St)))));
+    forget(Id, closed(Closed, none, ignored(report({dialled, Peer, Id}, note(dial, St)))));
 dialled(Peer, {error, 'Busy', Closed}, St) ->
     Up = distnode_nif:up_end(St#st.node, Peer),
-    ignored(told({busy, Peer, Up}, closed(Closed, none, note(busy, St))));
+    ignored(report({busy, Peer, Up}, closed(Closed, none, note(busy, St))));
 dialled(_, {error, 'Spent', _}, St) -> begin_anew(St);
 dialled(Peer, {error, Code, Closed}, St) ->
-    ignored(told({refused, Peer, Code}, closed(Closed, none, note({dial, Code}, St)))).
+    ignored(report({refused, Peer, Code}, closed(Closed, none, note({dial, Code}, St)))).
 
 ignored({_, St}) -> St.
 
@@ -302,7 +289,8 @@ made(Own, Usual, St) ->
     Flags = case net_kernel:publish_on_node(Own) of true -> Default bor 1; _ -> Default end,
     Cookie = usual_or_none(Usual),
     case distnode_nif:new(atom_to_binary(Own, utf8), Cookie, Flags, Mandatory, erts_internal:get_creation(), most_ends()) of
-        {ok, Node} -> {ok, St#st{node = Node, flags = Flags, usual = Cookie, own = #{}, is_limited = false, forgotten = 0}};
+        {ok, Node} ->
+            {ok, St#st{node = Node, flags = Flags, usual = Cookie, own = #{}, is_limited = false, forgotten = 0}};
         {error, Code} -> {error, Code}
     end.
 
@@ -317,8 +305,16 @@ most_ends() -> application:get_env(kernel, distnode_most_ends, 0).
 %% made with the next attempt, as where the emulator had begun anew with its creation.
 begin_anew(St0) ->
     error_logger:warning_msg("** distnode: all numbers of connections were given out; all are closed, and numbered anew **~n"),
-    {_, St} = told(spent, note(spent, St0)),
-    St#st{node = undefined, ready = #{}, dials = #{}}.
+    {_, St} = report(spent, note(spent, St0)),
+    true = ets:delete_all_objects(?TABLE),
+    St#st{node = undefined, dials = #{}}.
+
+%% Others read of the node what it is like now.
+publish(#st{node = undefined} = St) -> St;
+publish(#st{node = Node, flags = Flags, usual = Usual} = St) ->
+    Row = {node, Node, distnode_nif:changes(Node), Flags, Usual},
+    _ = [ets:insert(?TABLE, Row) || ets:lookup(?TABLE, node) =/= [Row]],
+    St.
 
 forget(Id, #st{forgotten = Forgotten} = St) when Id - Forgotten < ?FORGET_EACH -> St;
 forget(Id, St) ->
@@ -353,7 +349,9 @@ suit_other(Peer, Cookie, Most, #st{own = Own, usual = Usual} = St) ->
 
 suit_peer(Peer, Cookie, #st{node = Node, own = Own} = St) ->
     case distnode_nif:cookie(Node, Peer, Cookie) of
-        ok -> {ok, St#st{own = Own#{Peer => Cookie}}};
+        ok ->
+            true = ets:insert(?TABLE, {{cookie, Peer}, Cookie}),
+            {ok, St#st{own = Own#{Peer => Cookie}}};
         {error, 'PeerInUse'} -> {ok, note(cookie_in_use, St)};
         {error, Code} -> {error, Code}
     end.
@@ -380,12 +378,13 @@ limited(#st{node = Node} = St) ->
     ok = distnode_nif:disallow(Node, Own),
     St#st{is_limited = true}.
 
+close_list(_, #st{node = undefined} = St) -> St;
 close_list(#{peer := Peer, allowed := true}, #st{node = Node} = St) ->
     _ = distnode_nif:disallow(Node, Peer),
     St;
 close_list(_, St) -> St.
 
-%% ---- what is told of it
+%% ---- what is reported of it
 
 table(#st{node = undefined}) -> #{up => [], open => 0, wants => []};
 table(#st{node = Node, links = Links}) ->

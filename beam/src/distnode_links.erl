@@ -1,18 +1,19 @@
 %% SPDX-License-Identifier: Apache-2.0
 %% Which process has which end, which setup waits for which peer, and whose acknowledgement is held back: a pure machine. An
-%% event leads to an answer for the process that told it, to actions, and to the next state. It knows no socket, no clock and
-%% no process dictionary; distnode_core tells it what happened and does what it says.
+%% event leads to an answer for the process that reported it, to actions, and to the next state. It knows no socket, no clock and
+%% no process dictionary; distnode_core reports to it what happened and does what it says.
 %%
-%% An end goes through these stages, and has one owner, the process that holds its socket:
+%% An end has one owner, the process that holds its socket, and goes through these stages. Its owner makes the steps of the
+%% handshake itself, so the machine learns a little later of those that concern others, in the order in which they were made.
 %%
-%%   shaking    its owner reads the handshake, frame by frame
-%%   ready      the next step brings it up, and isn't made yet: net_kernel is being asked, and the acknowledgement is held back
+%%   shaking    its owner reads the handshake, frame by frame, and asks net_kernel before the step that brings it up
+%%   ready      net_kernel wouldn't take it from the process that accepted it: whoever gets it makes the step that brings it up
 %%   admitted   that step was made, and its owner brings the emulator up
 %%   up         net_kernel counts its peer as up
 %%
-%% A setup is a process of net_kernel that wants a peer. It gets whichever end becomes ready with that peer, whoever dialled
-%% it: net_kernel's row and the end that comes up need not have begun together. Until then it dials, or it waits for an end
-%% that somebody else has with that peer.
+%% A setup is a process of net_kernel that wants a peer. Where net_kernel won't take an accepted end, since it has a setup for that
+%% peer, the setup gets that end: net_kernel's row and the end that comes up need not have begun together. Until then it
+%% dials, or it waits for an end that somebody else has with that peer.
 -module(distnode_links).
 -export([new/0, event/2, owner/2, stage/2, peer/2, ends/1, wanted/1, invariant/1]).
 -export_type([links/0, event/0, action/0, answer/0]).
@@ -36,22 +37,21 @@
     {refused, peer(), Code :: atom()} |       % or no end, for another reason
     {accepted, id(), pid()} |                 % a connection came, and got this end
     {named, id(), peer()} |                   % the end holds this peer now
-    {ready, id(), peer()} |                   % the next step brings this end up with this peer
-    {vetoed, id(), pid()} |                   % net_kernel wouldn't take this end from its owner: it has a setup of its own
+    {vetoed, id(), pid()} |                   % the next step brings this end up, and net_kernel wouldn't take it from its owner: it
+                                              % has a setup of its own
     {handed, id(), pid()} |                   % the giver of this end has handed its socket to the owner
-    {admit, id(), pid()} |                    % net_kernel has agreed: may the step be made?
-    {admitted, id()} |                        % it was made
+    {came_up, id(), pid()} |                  % its owner has made that step: net_kernel had agreed
     {done, id(), pid()} |                     % net_kernel counts the peer as up
     {closed, id(), Why :: atom(), pid() | none} | % the node has closed this end, in a step of this process
     {given_up, id(), pid()} |                 % its owner gives it up
     {down, pid()} |                           % a process has ended
     spent.                                    % the node has no numbers left and begins anew
 -type action() ::
-    {tell, pid(), term()} |                   % a message {distnode, Term}: {dial, Id}, {closed, Id, Why}, {failed, Code}, again
+    {send, pid(), term()} |                   % a message {distnode, Term}: {dial, Id}, {closed, Id, Why}, {failed, Code}, again
     {kill, pid()} |                           % its end is over, and net_kernel holds it: its socket goes with it
-    {lose, id(), Why :: atom()} |             % tell the node
-    {dial, peer()}.                           % have the node dial, and tell what became of it
--type answer() :: ok | keep | {give, Setup :: pid()} | retry | gone.
+    {lose, id(), Why :: atom()} |             % report it to the node
+    {dial, peer()}.                           % have the node dial, and report what became of it
+-type answer() :: ok | {give, Setup :: pid()} | retry | gone.
 
 -spec new() -> links().
 new() -> #links{}.
@@ -63,11 +63,9 @@ event({busy, Peer, Up}, L) -> busy(Peer, Up, L);
 event({refused, Peer, Code}, L) -> refused(Peer, Code, L);
 event({accepted, Id, Pid}, L) -> {ok, [], put_link(Id, #link{owner = Pid}, L)};
 event({named, Id, Peer}, L) -> named(Id, Peer, L);
-event({ready, Id, Peer}, L) -> ready(Id, Peer, L);
 event({vetoed, Id, Pid}, L) -> vetoed(Id, Pid, L);
 event({handed, Id, Giver}, L) -> handed(Id, Giver, L);
-event({admit, Id, Pid}, L) -> admit(Id, Pid, L);
-event({admitted, Id}, L) -> {ok, [], move(Id, ready, admitted, L)};
+event({came_up, Id, Pid}, L) -> came_up(Id, Pid, L);
 event({done, Id, Pid}, L) -> done(Id, Pid, L);
 event({closed, Id, Why, By}, L) -> closed(Id, Why, By, L);
 event({given_up, Id, Pid}, L) -> given_up(Id, Pid, L);
@@ -104,12 +102,12 @@ dialled(Peer, Id, L) ->
     case want_of(Peer, L) of
         #want{setup = Setup} = Want ->
             L1 = put_want(Peer, Want#want{how = {dialling, Id}}, L),
-            {ok, [{tell, Setup, {dial, Id}}], put_link(Id, #link{owner = Setup, peer = Peer}, L1)};
+            {ok, [{send, Setup, {dial, Id}}], put_link(Id, #link{owner = Setup, peer = Peer}, L1)};
         none -> {ok, [{lose, Id, gave_up}], L}
     end.
 
 %% net_kernel starts a setup only where it counts the peer as down. So an end that it had counted as up is over there, and the
-%% end of its process hasn't been told here yet. Any other end with that peer is one to wait for.
+%% end of its process hasn't been reported here yet. Any other end with that peer is one to wait for.
 busy(Peer, Up, L) ->
     case {want_of(Peer, L), link_of(Up, L)} of
         {none, _} -> {ok, [], L};
@@ -120,7 +118,7 @@ busy(Peer, Up, L) ->
 
 refused(Peer, Code, L) ->
     case want_of(Peer, L) of
-        #want{setup = Setup} -> {ok, [{tell, Setup, {failed, Code}}], drop_want(Peer, L)};
+        #want{setup = Setup} -> {ok, [{send, Setup, {failed, Code}}], drop_want(Peer, L)};
         none -> {ok, [], L}
     end.
 
@@ -132,23 +130,14 @@ named(Id, Peer, L) ->
         none -> {ok, [], L}
     end.
 
-%% A setup's own dial is its own already.
-ready(Id, Peer, L) ->
-    #link{owner = Owner, stage = shaking} = Link = link_of(Id, L),
-    L1 = put_link(Id, Link#link{peer = Peer, stage = ready}, L),
-    case want_of(Peer, L1) of
-        #want{setup = Owner} -> {keep, [], drop_want(Peer, L1)};
-        #want{} = Want -> give(Id, Want, L1);
-        none -> {keep, [], L1}
-    end.
-
-%% The setup may have been killed since, and then its end is told before long, or net_kernel may not have started it yet.
+%% The setup may have been killed since, and then its end is reported before long, or net_kernel may not have started it yet.
 vetoed(Id, Pid, L) ->
     case link_of(Id, L) of
-        #link{owner = Pid, stage = ready, peer = Peer} ->
-            case want_of(Peer, L) of
-                #want{} = Want -> give(Id, Want, L);
-                none -> {retry, [], L}
+        #link{owner = Pid, stage = Stage, peer = Peer} = Link when Peer =/= none, Stage =:= shaking orelse Stage =:= ready ->
+            L1 = put_link(Id, Link#link{stage = ready}, L),
+            case want_of(Peer, L1) of
+                #want{} = Want -> give(Id, Want, L1);
+                none -> {retry, [], L1}
             end;
         _ -> {gone, [], L}
     end.
@@ -167,7 +156,7 @@ give(Id, #want{setup = Setup, how = How}, L) ->
 
 lose_dial(Dial, Setup, L) ->
     {Actions, L1} = lose(Dial, gave_up, L),
-    {Actions ++ [{tell, Setup, {closed, Dial, 'Crossed'}}], L1}.
+    {Actions ++ [{send, Setup, {closed, Dial, 'Crossed'}}], L1}.
 
 handed(Id, Giver, L) ->
     case link_of(Id, L) of
@@ -175,10 +164,17 @@ handed(Id, Giver, L) ->
         _ -> {ok, [], L}
     end.
 
-admit(Id, Pid, L) ->
+%% net_kernel has its row for the owner, so its want is over, and a setup that it had before is about to end. An end that is gone
+%% here was closed after that step, so its process is over, too.
+came_up(Id, Pid, L) ->
     case link_of(Id, L) of
-        #link{owner = Pid, stage = ready} -> {ok, [], L};
-        _ -> {gone, [], L}
+        #link{owner = Pid, stage = Stage, peer = Peer} = Link when Stage =:= shaking; Stage =:= ready ->
+            L1 = put_link(Id, Link#link{stage = admitted}, L),
+            case want_of(Peer, L1) of
+                #want{setup = Pid} -> {ok, [], drop_want(Peer, L1)};
+                _ -> {ok, [], L1}
+            end;
+        _ -> {gone, [{kill, Pid}], L}
     end.
 
 done(Id, Pid, L) ->
@@ -190,7 +186,7 @@ done(Id, Pid, L) ->
 %% ---- an end is over
 
 %% The process of an end that net_kernel may count as up is killed, and its socket and its row go with it. One that shakes
-%% hands is told, but for the one whose step it was, which has the answer.
+%% hands gets a message, but for the one whose step it was, which has the answer.
 closed(Id, Why, By, L) ->
     case link_of(Id, L) of
         none -> {ok, [], L};
@@ -201,7 +197,7 @@ closed(Id, Why, By, L) ->
             {ok, [over(Stage, Id, Why, Owner) | again(Peer, L1)], L1}
     end.
 
-over(Stage, Id, Why, Owner) when Stage =:= shaking; Stage =:= ready -> {tell, Owner, {closed, Id, Why}};
+over(Stage, Id, Why, Owner) when Stage =:= shaking; Stage =:= ready -> {send, Owner, {closed, Id, Why}};
 over(_, _, _, Owner) -> {kill, Owner}.
 
 given_up(Id, Pid, L) ->
@@ -225,7 +221,7 @@ left({end_of, Id}, _, L) -> lose(Id, ended, L);
 left({given_by, Id}, _, L) ->
     #link{owner = Owner} = link_of(Id, L),
     {Actions, L1} = lose(Id, ended, L),
-    {[{tell, Owner, again} | Actions], L1}.
+    {[{send, Owner, again} | Actions], L1}.
 
 lose(Id, Why, L) ->
     case link_of(Id, L) of

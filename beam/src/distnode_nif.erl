@@ -1,10 +1,11 @@
 %% SPDX-License-Identifier: Apache-2.0
 %% A node of the C library as functions of Erlang: c_src/distnode_nif.c.
 -module(distnode_nif).
--export([load/0, new/6, cookie/3, usual_cookie/2, allow/2, disallow/2, forget/2]).
--export([dial/2, incoming/1, opened/2, ready/4, body/4, early_body/4, lost/3]).
--export([up_end/2, peers/1, challenge/0]).
--export_type([id/0, peer/0, closed/0, step/0]).
+-export([load/0, new/6, cookie/3, usual_cookie/2, allow/2, disallow/2, changes/1, forget/2]).
+-export([dial/2, incoming/1, body/4, lost/3]).
+-export([arrive/4, opened/2, early_body/4, come_up/6]).
+-export([cause/2, up_end/2, peers/1, challenge/0]).
+-export_type([id/0, peer/0, closed/0, step/0, up/0, made/0]).
 
 -type id() :: non_neg_integer().
 -type peer() :: binary().
@@ -12,10 +13,13 @@
 -type closed() :: none | {id(), why()}.
 -type status() :: none | ok | ok_simultaneous | nok | not_allowed | alive | true | false.
 -type up() :: none | {peer(), Common :: non_neg_integer(), Creation :: non_neg_integer() | unknown}.
-%% What a step did: the frames that it says, the peer that its end holds, the end that it closed, the status that it heard,
-%% and who came up. An end that made room for a newcomer is told beside an error, too.
+%% What a step did: the frames that it says, the peer that its end holds, the end that it closed, the status that it received,
+%% and who came up. An end that made room for a newcomer is reported beside an error, too.
 -type step() ::
-    {step, id(), Bodies :: [binary()], peer() | none, closed(), Heard :: status(), up()} | {error, atom(), closed()}.
+    {step, id(), Bodies :: [binary()], peer() | none, closed(), Received :: status(), up()} | {error, atom(), closed()}.
+%% The process that made the node gets such a message of each step of another process that gave out an end, closed one or brought
+%% one up. The messages come in the order of the steps. Closed is the end that made room for the one that arrived.
+-type made() :: {distnode_made, reference(), pid(), step | {arrived, id(), Closed :: closed()}, step()}.
 
 %% Loads the library: from beside ebin, else from where the code server knows this application to be. It is called where the
 %% distribution starts. That is before the server of files is there, and in a release before init runs what -on_load names, so
@@ -26,12 +30,12 @@ load() ->
     case {load_from(Near), code:priv_dir(distnode)} of
         {ok, _} -> ok;
         {{error, {reload, _}}, _} -> ok;
-        {_, Known} when is_list(Known) -> told(load_from(Known));
-        {Error, _} -> told(Error)
+        {_, Known} when is_list(Known) -> loaded(load_from(Known));
+        {Error, _} -> loaded(Error)
     end.
 
-told({error, {_, Text}}) -> {error, Text};
-told(ok) -> ok.
+loaded({error, {_, Text}}) -> {error, Text};
+loaded(ok) -> ok.
 
 load_from(Folder) -> erlang:load_nif(filename:join(Folder, "distnode_nif"), 0).
 
@@ -54,6 +58,10 @@ allow(_Node, _Peer) -> ?STUB.
 -spec disallow(reference(), peer()) -> ok | {error, atom()}.
 disallow(_Node, _Peer) -> ?STUB.
 
+%% How often a cookie or the allow list was changed.
+-spec changes(reference()) -> non_neg_integer().
+changes(_Node) -> ?STUB.
+
 -spec forget(reference(), id()) -> ok | {error, atom()}.
 forget(_Node, _Below) -> ?STUB.
 
@@ -63,23 +71,38 @@ dial(_Node, _Peer) -> ?STUB.
 -spec incoming(reference()) -> step().
 incoming(_Node) -> ?STUB.
 
--spec opened(reference(), id()) -> step().
-opened(_Node, _Id) -> ?STUB.
-
-%% Whom body/4 would bring up; nothing is done.
--spec ready(reference(), id(), binary(), Challenge :: non_neg_integer()) -> up().
-ready(_Node, _Id, _Body, _Challenge) -> ?STUB.
-
 -spec body(reference(), id(), binary(), Challenge :: non_neg_integer()) -> step().
 body(_Node, _Id, _Body, _Challenge) -> ?STUB.
-
-%% As body/4, but where that would bring an end up nothing is done: no other step comes between.
--spec early_body(reference(), id(), binary(), Challenge :: non_neg_integer()) -> step() | ready.
-early_body(_Node, _Id, _Body, _Challenge) -> ?STUB.
 
 %% Why is a number of dn_why.
 -spec lost(reference(), id(), Why :: 1..15) -> step().
 lost(_Node, _Id, _Why) -> ?STUB.
+
+%% ---- steps of the process that has the end
+
+%% A connection came, and this is its first frame. `changed`: nothing is done, since cookies or the allow list were changed since.
+%% An error is one for which there is no end.
+-spec arrive(reference(), Changes :: non_neg_integer(), binary(), Challenge :: non_neg_integer()) ->
+    {arrived, id(), step()} | changed | {error, atom(), closed()}.
+arrive(_Node, _Changes, _Body, _Challenge) -> ?STUB.
+
+-spec opened(reference(), id()) -> step().
+opened(_Node, _Id) -> ?STUB.
+
+%% Nothing is done where the frame would bring the end up.
+-spec early_body(reference(), id(), binary(), Challenge :: non_neg_integer()) -> step() | {ready, up()}.
+early_body(_Node, _Id, _Body, _Challenge) -> ?STUB.
+
+%% Nothing is done where the frame would bring the end up with other flags or another creation, 0 where the peer has none.
+-spec come_up(reference(), id(), binary(), Challenge :: non_neg_integer(), Common :: non_neg_integer(),
+              Creation :: non_neg_integer()) -> step() | other.
+come_up(_Node, _Id, _Body, _Challenge, _Common, _Creation) -> ?STUB.
+
+%% ---- questions
+
+%% Why this end is closed.
+-spec cause(reference(), id()) -> why() | none.
+cause(_Node, _Id) -> ?STUB.
 
 -spec up_end(reference(), peer()) -> id() | none.
 up_end(_Node, _Peer) -> ?STUB.

@@ -4,8 +4,10 @@
 %% refuse whom the node is ready to let in and can let nobody in whom the node has refused; and all that follows (setnode,
 %% nodeup, ticks, statistics) is OTP's own code, whatever its release.
 %%
-%% The step that brings the end up in the node is made where dist_util says the acknowledgement, or waits for it: an old
-%% connection of that peer is gone from the emulator by then, and the peer hears nothing of the new one before.
+%% The process of the end itself makes the step that brings it up in the node. Of an accepted peer that is where dist_util says the
+%% status `ok`: net_kernel had no connection of that peer, and has agreed to this one. Where it had one, dist_util says another
+%% status, and the step is made where it says the acknowledgement: the old connection is gone from the emulator by then, and the peer
+%% hears nothing of the new one before. Of a dialled peer it is made where dist_util waits for the acknowledgement.
 -module(distnode_script).
 -export([other_started/6, we_started/6, number/1]).
 
@@ -14,13 +16,13 @@
 
 -define(KEY, distnode_script).
 
-%% Of an own dial dist_util gets as far as it does without the acknowledgement while the peer looks at the reply: `heard` is the
-%% peer's challenge, and the frame that follows is read here.
+%% Of an own dial dist_util begins once the name was said, and the peer's frames are read here: so it gets as far as it does without the
+%% acknowledgement while the peer looks at the reply.
 %%
 %% Both end with the connection, or throw {distnode, nok}: net_kernel has a setup for that peer; {distnode, already}: it is
 %% about to let another connection of that peer in, for which dist_util ends before it has said a word; {distnode, gone}: the
-%% node has closed the end meanwhile. An own dial throws {distnode, {told, What}} where this process was told something before
-%% the acknowledgement came, {distnode, {give, Info, Setup}}, {distnode, {closed, Why, Status}} or {distnode, {failed, Why}}.
+%% node has closed the end meanwhile. An own dial throws {distnode, {message, What, Kept}} where a message came to this process
+%% instead of a frame, with what to begin with again; {distnode, {closed, Why, Status}} or {distnode, {failed, Why}}.
 -spec other_started(module(), pid(), port(), map(), {node(), [term()]}, pid()) -> no_return().
 other_started(Driver, Kernel, Socket, Info, {MyNode, Allowed}, Timer) ->
     Data = data(Driver, Kernel, Socket, MyNode, Timer, Info),
@@ -37,7 +39,7 @@ other_started(Driver, Kernel, Socket, Info, {MyNode, Allowed}, Timer) ->
 -spec we_started(module(), pid(), port(), map(), {node(), node(), term()}, pid()) -> no_return().
 we_started(Driver, Kernel, Socket, Info, {MyNode, Node, Type}, Timer) ->
     Data = data(Driver, Kernel, Socket, MyNode, Timer, Info),
-    start(dialled, Driver, foreseen(Info)),
+    start(dialled, Driver, Info#{timer => Timer}),
     dist_util:handshake_we_started(Data#hs_data{other_node = Node, other_version = 6, request_type = Type}).
 
 data(Driver, Kernel, Socket, MyNode, Timer, #{id := Id} = Info) ->
@@ -50,14 +52,17 @@ data(Driver, Kernel, Socket, MyNode, Timer, #{id := Id} = Info) ->
        f_setopts_post_nodeup =
            fun(S) -> inet:setopts(S, [{active, true}, {deliver, port}, {packet, 4}, binary, distnode_tcp:nodelay()]) end,
        f_getll = fun inet:getll/1,
-       f_address = fun(S, Node) -> maps:get(address, Info, distnode_tcp:remote(Driver, S, Node)) end,
+       f_address = fun(S, Node) -> address(Driver, S, Node, Info) end,
        mf_tick = fun(S) -> distnode_tcp:tick(Driver, S) end,
        mf_getstat = fun distnode_tcp:getstat/1,
        mf_setopts = fun distnode_tcp:setopts/2,
        mf_getopts = fun distnode_tcp:getopts/2,
        f_handshake_complete = fun(_, _, _) -> erase(?KEY), distnode_core:done(Id) end}.
 
-%% ---- the script: what was said and heard so far decides what comes next
+address(_, _, _, #{address := Address}) -> Address;
+address(Driver, Socket, Node, _) -> distnode_tcp:remote(Driver, Socket, Node).
+
+%% ---- the script: what was sent and received so far decides what comes next
 
 start(Side, Driver, Info) -> put(?KEY, Info#{side => Side, driver => Driver, said => []}).
 
@@ -68,11 +73,13 @@ send(Socket, Data) ->
     send(Side, Words, Socket, Script).
 
 send(accepted, <<"snok">>, _, _) -> throw({distnode, nok});
+send(accepted, <<"sok">>, Socket, Script) -> agreed(Socket, Script);
 send(accepted, <<$s, _/binary>>, _, _) -> ok;
 send(accepted, <<$N, Flags:64, Challenge:32, _/binary>>, _, Script) -> challenged(Flags, Challenge, Script);
+send(accepted, <<$a, _/binary>>, _, #{acknowledged := true}) -> ok;
 send(accepted, <<$a, _/binary>>, Socket, Script) -> admitted(Socket, Script);
 send(dialled, <<$N, Flags:64, _/binary>>, _, Script) -> challenged(Flags, none, Script);
-send(dialled, <<$r, Challenge:32, _/binary>>, _, _) -> heard(Challenge).
+send(dialled, <<$r, Challenge:32, _/binary>>, _, _) -> put_challenge(Challenge).
 
 recv(Socket, _, _) ->
     #{side := Side, said := Said} = Script = get(?KEY),
@@ -86,10 +93,11 @@ recv(accepted, [<<$N, _/binary>> | _], _, Script) -> {ok, [$r, 0, 0, 0, 0 | dige
 recv(dialled, [<<$N, _/binary>>], _, Script) ->
     put(?KEY, Script#{said := [status]}),
     {ok, "sok"};
-recv(dialled, [status], _, Script) -> {ok, challenge(Script)};
-recv(dialled, [<<$r, _/binary>> | _], Socket, #{heard := _} = Script) ->
+recv(dialled, [status], _, #{common := _} = Script) -> {ok, challenge(Script)};
+recv(dialled, [status], Socket, Script) -> {ok, challenge(await_challenge(Socket, Script))};
+recv(dialled, [<<$r, _/binary>> | _], Socket, #{received := _} = Script) ->
     Digest = digest(Script),
-    acknowledged(Socket, Script),
+    await_acknowledgement(Socket, Script),
     {ok, [$a | Digest]};
 recv(dialled, [<<$r, _/binary>> | _], Socket, Script) ->
     case admitted(Socket, Script) of
@@ -97,55 +105,87 @@ recv(dialled, [<<$r, _/binary>> | _], Socket, Script) ->
         Error -> Error
     end.
 
-acknowledged(Socket, #{wait := Wait} = Script) ->
+%% ---- the frames of an own dial
+
+%% Until the node says the reply to the peer's challenge.
+await_challenge(Socket, #{driver := Driver} = Script) ->
+    Body = next(Socket, Script),
+    Bodies = go_on(distnode_core:early(Body, Script), Socket, Script),
+    case {distnode_shake:say(Driver, Socket, Bodies), [reply || <<$r, _/binary>> <- Bodies]} of
+        {ok, []} -> await_challenge(Socket, Script#{is_active => false});
+        {ok, _} ->
+            Foreseen = foreseen(Script#{received => Body, is_active => true}),
+            _ = inet:setopts(Socket, [{active, once}]),
+            put(?KEY, Foreseen),
+            Foreseen;
+        _ -> throw({distnode, {failed, write_failed}})
+    end.
+
+await_acknowledgement(Socket, Script) ->
+    Body = next(Socket, Script),
+    case distnode_core:come_up(Script#{frame => {Body, distnode_nif:challenge()}}) of
+        {ok, Bodies} -> distnode_shake:say(maps:get(driver, Script), Socket, Bodies);
+        Other ->
+            _ = distnode_shake:say(maps:get(driver, Script), Socket, go_on(Other, Socket, Script)),
+            await_acknowledgement(Socket, Script#{is_active => false})
+    end.
+
+%% A message may come first, while the socket is active: then that is kept.
+next(Socket, #{wait := Wait, timer := Timer} = Script) ->
+    ok = dist_util:reset_timer(Timer),
+    _ = [inet:setopts(Socket, [{active, once}]) || not maps:get(is_active, Script, false)],
     receive
-        {tcp, Socket, Body} -> acknowledged(Body, Socket, Script);
+        {tcp, Socket, Body} -> Body;
         {tcp_closed, Socket} -> throw({distnode, {failed, ended}});
         {tcp_error, Socket, _} -> throw({distnode, {failed, read_failed}});
-        {distnode, Told} -> throw({distnode, {told, Told}})
+        {distnode, Message} ->
+            throw({distnode, {message, Message, maps:with([received, common, creation, is_active], Script#{is_active => true})}})
     after Wait -> throw({distnode, {failed, gave_up}})
     end.
 
-acknowledged(Body, Socket, #{id := Id, driver := Driver, common := Common, creation := Creation} = Script) ->
-    case distnode_core:finish(Id, Body, {Common, number(Creation)}) of
-        {ok, Bodies} -> distnode_shake:say(Driver, Socket, Bodies);
-        {more, Bodies} ->
-            _ = distnode_shake:say(Driver, Socket, Bodies),
-            _ = inet:setopts(Socket, [{active, once}]),
-            acknowledged(Socket, Script);
-        {closed, Bodies, Why, Status} ->
-            _ = distnode_shake:say(Driver, Socket, Bodies),
-            throw({distnode, {closed, Why, Status}});
-        {give, Info, Setup} -> throw({distnode, {give, Info, Setup}});
-        {error, 'Gone'} -> throw({distnode, gone});
-        gone -> throw({distnode, gone});
-        {error, Code} -> throw({distnode, {failed, Code}})
-    end.
+go_on({more, Bodies}, _, _) -> Bodies;
+go_on({closed, Bodies, Why, Status}, Socket, #{driver := Driver}) ->
+    _ = distnode_shake:say(Driver, Socket, Bodies),
+    throw({distnode, {closed, Why, Status}});
+go_on({error, 'Gone'}, _, _) -> throw({distnode, gone});
+go_on({error, Code}, _, _) -> throw({distnode, {failed, Code}}).
 
-%% What the end will be up with, if the peer acknowledges: the node says so itself before it comes up (distnode_core:finish/3).
-foreseen(#{heard := <<$N, Flags:64, _Challenge:32, Creation:32, _/binary>>} = Info) -> foreseen(Flags, Creation, Info);
-foreseen(#{heard := <<$n, _Version:16, Flags:32, _/binary>>} = Info) -> foreseen(Flags, unknown, Info);
-foreseen(Info) -> Info.
+%% What the end will be up with, if the peer acknowledges: the node says so itself before it comes up (distnode_core:come_up/1).
+foreseen(#{received := <<$N, Flags:64, _Challenge:32, Creation:32, _/binary>>} = Info) -> foreseen(Flags, Creation, Info);
+foreseen(#{received := <<$n, _Version:16, Flags:32, _/binary>>} = Info) -> foreseen(Flags, unknown, Info).
 
 foreseen(Flags, Creation, #{flags := Own} = Info) when Flags band ?DFLAG_MANDATORY_25_DIGEST =/= 0 ->
     Info#{common => Own band (Flags bor ?MANDATORY_DFLAGS_25), creation => Creation};
 foreseen(Flags, Creation, #{flags := Own} = Info) -> Info#{common => Own band Flags, creation => Creation}.
 
+%% So the peer has its acknowledgement while dist_util draws a challenge that nobody sees, for which it asks each scheduler. But
+%% not where dist_util is about to announce other flags, by which it is stopped.
+agreed(Socket, #{flags := Own, peer := Peer} = Script) ->
+    IsPublished = net_kernel:publish_on_node(binary_to_atom(Peer, latin1)),
+    case Own band ?DFLAG_PUBLISHED of
+        Flag when (Flag =/= 0) =:= IsPublished ->
+            put(?KEY, Script#{acknowledged => true}),
+            admitted(Socket, Script);
+        _ -> ok
+    end.
+
 %% dist_util announces what the node has announced. It would do otherwise of a hidden dial or of another global group.
-challenged(Flags, Challenge, #{flags := Flags}) -> heard(Challenge);
+challenged(Flags, Challenge, #{flags := Flags}) -> put_challenge(Challenge);
 challenged(Flags, _, #{flags := Own, peer := Peer}) ->
     error_logger:error_msg("** distnode: flags ~.16B for node ~ts, and ~.16B were announced **~n", [Flags, Peer, Own]),
     exit(distnode_other_flags).
 
-heard(Challenge) ->
+put_challenge(Challenge) ->
     Script = get(?KEY),
     put(?KEY, Script#{challenge => Challenge}),
     ok.
 
-admitted(Socket, #{id := Id, driver := Driver}) ->
-    case distnode_core:admit(Id) of
+admitted(Socket, #{id := Id, driver := Driver} = Script) ->
+    case distnode_core:come_up(Script) of
         {ok, Bodies} -> distnode_shake:say(Driver, Socket, Bodies);
-        gone -> throw({distnode, gone})
+        _ ->
+            _ = distnode_core:lost(Id),
+            throw({distnode, gone})
     end.
 
 name(#{peer := Peer, common := Common} = Script) ->
@@ -154,7 +194,7 @@ name(#{peer := Peer, common := Common} = Script) ->
 challenge(#{peer := Peer, common := Common} = Script) ->
     binary_to_list(<<$N, Common:64, 0:32, (creation(Script)):32, (byte_size(Peer)):16, Peer/binary>>).
 
-%% A peer of version 5 tells no creation, and OTP puts 0 in its place.
+%% A peer of version 5 sends no creation, and OTP puts 0 in its place.
 creation(#{creation := Creation}) -> number(Creation).
 
 number(unknown) -> 0;

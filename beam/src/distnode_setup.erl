@@ -1,7 +1,7 @@
 %% SPDX-License-Identifier: Apache-2.0
 %% The process that net_kernel starts to set up a connection to a peer. It has the node dial, and gets whichever end becomes
 %% ready with that peer, its own dial or a connection that the peer made meanwhile; that one it holds to its end. A process
-%% beside it finds the peer and connects, so that it can be told of another end at any time.
+%% beside it finds the peer and connects, so that another end can be reported to it at any time.
 -module(distnode_setup).
 -export([start/6, setup/7, dial/2]).
 
@@ -19,7 +19,7 @@
 
 start(Driver, Node, Type, MyNode, LongOrShort, SetupTime) ->
     spawn_opt(?MODULE, setup, [Driver, self(), Node, Type, MyNode, LongOrShort, SetupTime],
-              dist_util:net_ticker_spawn_options()).
+              distnode_carrier:setup_options()).
 
 setup(Driver, Kernel, Node, Type, MyNode, LongOrShort, SetupTime) ->
     {Name, Host} = distnode_tcp:parts(Driver, Node, LongOrShort),
@@ -49,33 +49,31 @@ want(#setup{peer = Peer, left = Left} = S0) ->
 
 dial_now(End, #setup{dialler = none} = S) -> dial_now(End, start_dialler(S));
 dial_now(End, #setup{dialler = Dialler, wait = Wait} = S) ->
-    Dialler ! {self(), dial},
+    Dialler ! {self(), {dial, End}},
     await(S#setup{end_of = End}, 6 * Wait).
 
 %% A dial has its times for the port mapper, the connection and each frame; without one this process waits for an end that
 %% somebody else has with that peer.
-await(#setup{dialler = Dialler, socket = Socket} = S, Wait) ->
+await(#setup{dialler = Dialler} = S, Wait) ->
     receive
-        {distnode, Told} -> told(Told, S, Wait);
-        {Dialler, {connected, Connected, Address}} -> opened(Address, S#setup{dialler = none, socket = Connected});
-        {Dialler, {failed, Why}} -> failed(S, Why);
-        {tcp, Socket, Body} -> frame(Body, S);
-        {tcp_closed, Socket} -> failed(S, ended);
-        {tcp_error, Socket, _} -> failed(S, read_failed)
+        {distnode, Message} -> receive_message(Message, S, Wait);
+        {Dialler, {connected, Connected, Address}} -> connected(Connected, Address, S);
+        {Dialler, {failed, Why}} -> failed(S, Why)
     after Wait -> failed(S, gave_up)
     end.
 
-told({dial, End}, #setup{socket = none} = S, _) -> dial_now(End, S);
-told({dial, End}, S, _) -> dial_now(End, end_dial(S));
-told({ready, Socket, Info, _}, S, _) -> bring_up(Socket, Info, end_dial(S));
-told({failed, Code}, S, _) ->
+receive_message({dial, End}, #setup{socket = none, end_of = none} = S, _) -> dial_now(End, S);
+receive_message({dial, End}, S, _) -> dial_now(End, end_dial(S));
+receive_message({ready, Socket, Info, _}, S, _) -> bring_up(Socket, Info, end_dial(S));
+receive_message({failed, Code}, S, _) ->
     distnode_access:report(S#setup.peer, Code),
     failed(S, Code);
-told(again, S, _) -> want(end_dial(S));
-told({closed, Id, _}, #setup{end_of = #{id := Id}} = S, _) -> want(end_dial(S));
+receive_message(again, S, _) -> want(end_dial(S));
+receive_message({closed, Id, _}, #setup{end_of = #{id := Id}} = S, _) -> want(end_dial(S));
 %% An end that another process was to hand over, and without a dial that was all there was to wait for.
-told({closed, _, _}, #setup{end_of = none} = S, _) -> want(S);
-told({closed, _, _}, S, Wait) -> await(S, Wait).
+receive_message({closed, _, _}, #setup{end_of = none} = S, _) -> want(S);
+receive_message({closed, _, _}, #setup{socket = none} = S, Wait) -> await(S, Wait);
+receive_message({closed, _, _}, S, _) -> shake(S).
 
 await_other(S) ->
     receive
@@ -94,56 +92,32 @@ bring_up(Socket, Info, #setup{driver = Driver, kernel = Kernel, wait = Wait} = S
             want(S)
     end.
 
-%% ---- the own dial: its frames up to the challenge are steps of this process, and the one that brings it up is the core's
+%% ---- the own dial: the dialler makes the first step, by which the name is said, and this process the others, in distnode_script
 
-opened(Address, #setup{end_of = #{id := Id, node := Node} = End} = S) ->
-    go_on(distnode_nif:opened(Node, Id), name, S#setup{end_of = End#{address => Address}}).
+connected(Socket, Address, #setup{end_of = End} = S) ->
+    shake(S#setup{dialler = none, socket = Socket, end_of = End#{address => Address}}).
 
-frame(Body, #setup{end_of = #{id := Id, node := Node}} = S) ->
-    go_on(distnode_nif:early_body(Node, Id, Body, distnode_nif:challenge()), Body, S).
-
-%% What a step did that closed no end. Whatever else it did, the core is told.
-go_on({step, _, Bodies, _, none, _, none}, Heard, #setup{driver = Driver, socket = Socket, wait = Wait} = S) ->
-    case {distnode_shake:say(Driver, Socket, Bodies), [reply || <<$r, _/binary>> <- Bodies]} of
-        {ok, []} ->
-            _ = inet:setopts(Socket, [{active, once}]),
-            await(S, Wait);
-        {ok, _} -> acknowledged(Heard, S);
-        _ -> failed(S, write_failed)
-    end;
-go_on(Step, _, #setup{driver = Driver, socket = Socket, end_of = #{id := Id, node := Node}} = S) ->
-    case distnode_core:stepped(Id, Node, Step) of
-        {closed, Bodies, Why, Status} ->
-            _ = distnode_shake:say(Driver, Socket, Bodies),
-            over(Why, Status, end_dial(S));
-        {error, 'Gone'} -> want(end_dial(S));
-        {error, Code} -> failed(S, Code)
+shake(#setup{driver = Driver, kernel = Kernel, socket = Socket, end_of = End, wait = Wait} = S) ->
+    Timer = dist_util:start_timer(Wait),
+    Info = End#{peer => S#setup.peer, wait => Wait},
+    try distnode_script:we_started(Driver, Kernel, Socket, Info, {S#setup.my_node, S#setup.node, S#setup.type}, Timer)
+    catch
+        throw:{distnode, Why} ->
+            dist_util:cancel_timer(Timer),
+            shaken(Why, S)
     end.
+
+shaken({message, Message, Kept}, #setup{end_of = End} = S) -> receive_message(Message, S#setup{end_of = maps:merge(End, Kept)}, S#setup.wait);
+shaken({closed, Why, Status}, S) -> over(Why, Status, end_dial(S));
+shaken(gone, S) -> want(end_dial(S));
+shaken({failed, Why}, S) -> failed(S, Why).
 
 over('StatusRefused', nok, S) -> await_other(S);
 over(Why, _, S) when Why =:= 'Crossed'; Why =:= 'Replaced'; Why =:= 'GaveUp' -> want(S);
 over(Why, _, S) -> failed(S, Why).
 
-%% While the peer looks at the reply, dist_util gets as far as where it waits for the acknowledgement.
-acknowledged(Challenge, #setup{driver = Driver, kernel = Kernel, socket = Socket, end_of = End, wait = Wait} = S) ->
-    Timer = dist_util:start_timer(Wait),
-    _ = inet:setopts(Socket, [{active, once}]),
-    Info = End#{peer => S#setup.peer, heard => Challenge, wait => Wait},
-    try distnode_script:we_started(Driver, Kernel, Socket, Info, {S#setup.my_node, S#setup.node, S#setup.type}, Timer)
-    catch
-        throw:{distnode, Why} ->
-            dist_util:cancel_timer(Timer),
-            unacknowledged(Why, S)
-    end.
-
-unacknowledged({told, Told}, S) -> told(Told, S, S#setup.wait);
-unacknowledged({give, Info, Setup}, #setup{socket = Socket}) -> distnode_shake:give(Socket, Info, Setup);
-unacknowledged({closed, Why, Status}, S) -> over(Why, Status, end_dial(S));
-unacknowledged(gone, S) -> want(end_dial(S));
-unacknowledged({failed, Why}, S) -> failed(S, Why).
-
 start_dialler(#setup{dialler = none, driver = Driver, name = Name, host = Host, wait = Wait} = S) ->
-    S#setup{dialler = spawn_opt(?MODULE, dial, [self(), {Driver, Name, Host, Wait}], dist_util:net_ticker_spawn_options())}.
+    S#setup{dialler = spawn_opt(?MODULE, dial, [self(), {Driver, Name, Host, Wait}], distnode_carrier:setup_options())}.
 
 %% A dial that another end has overtaken, or that the node has closed.
 end_dial(#setup{dialler = none, socket = none} = S) -> S#setup{end_of = none};
@@ -164,19 +138,32 @@ end_dial(#setup{dialler = Dialler} = S) ->
 
 dial(Setup, {Driver, Name, Host, Wait}) ->
     Found = distnode_tcp:find(Driver, Name, Host),
-    receive {Setup, dial} -> ok end,
-    Setup ! {self(), connect(Setup, Driver, Found, Host, Wait)}.
+    receive
+        {Setup, {dial, End}} ->
+            case connect(Driver, Found, Host, Wait) of
+                {ok, Socket, Address} -> say_name(Setup, Driver, Socket, Address, End);
+                {error, Why} -> Setup ! {self(), {failed, Why}}
+            end
+    end.
 
-connect(Setup, Driver, {ok, Ip, Port}, Host, Wait) ->
-    case distnode_tcp:connect(Driver, Ip, Port, Host, Wait) of
-        {ok, Socket, Address} ->
-            case Driver:controlling_process(Socket, Setup) of
-                ok -> {connected, Socket, Address};
-                {error, Why} -> {failed, Why}
-            end;
+connect(Driver, {ok, Ip, Port}, Host, Wait) -> distnode_tcp:connect(Driver, Ip, Port, Host, Wait);
+connect(_, {error, _} = Error, _, _) -> Error.
+
+%% The name is on its way before the socket is handed over.
+say_name(Setup, Driver, Socket, Address, End) ->
+    case distnode_core:opened(End) of
+        {more, Bodies} -> Setup ! {self(), hand_over(distnode_shake:say(Driver, Socket, Bodies), Setup, Driver, Socket, Address)};
+        {closed, _, _, _} -> ok;
+        {error, 'Gone'} -> ok;
+        {error, Code} -> Setup ! {self(), {failed, Code}}
+    end.
+
+hand_over(ok, Setup, Driver, Socket, Address) ->
+    case Driver:controlling_process(Socket, Setup) of
+        ok -> {connected, Socket, Address};
         {error, Why} -> {failed, Why}
     end;
-connect(_, _, {error, Why}, _, _) -> {failed, Why}.
+hand_over({error, Why}, _, _, _, _) -> {failed, Why}.
 
 -spec failed(#setup{}, term()) -> no_return().
 failed(#setup{node = Node}, 'WrongDigest') ->

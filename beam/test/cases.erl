@@ -143,7 +143,7 @@ crossing(KindA, KindB, Rounds) ->
                  Ours = [Node || {Node, Kind} <- [{A, KindA}, {B, KindB}], is_ours(Kind)],
                  [cross(A, B, Ours) || _ <- lists:seq(1, Rounds)],
                  Counts = [c(Node, distnode_core, counts, []) || Node <- Ours],
-                 {said, "~b of ~b rounds with both up, nok heard or said at ~p ends", [Rounds, Rounds, noks(Counts)]}
+                 {said, "~b of ~b rounds with both up, nok received or sent at ~p ends", [Rounds, Rounds, noks(Counts)]}
          end).
 
 is_ours({_, Kind}) -> is_ours(Kind);
@@ -355,7 +355,7 @@ veto(Mapper) ->
                  Challenge = other_side:challenge(Socket),
                  ok = c(A, sys, suspend, [net_kernel]),
                  ok = other_side:reply(Socket, "test", Challenge),
-                 true = test_nodes:wait(fun() -> maps:get(kept, c(A, distnode_core, counts, []), 0) =:= 1 end, 5000),
+                 true = test_nodes:wait(fun() -> c(A, test_agent, is_asked, ['x@127.0.0.1']) end, 5000),
                  #{up := [], open := 1} = c(A, distnode_core, table, []),
                  true = other_side:is_silent(Socket, 200),
                  ok = c(A, sys, resume, [net_kernel]),

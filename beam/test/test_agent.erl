@@ -2,7 +2,7 @@
 %% In a node under test: does what the test asks, over a connection of its own beside the distribution. It connects to the
 %% test's port, and ends the node with that connection.
 -module(test_agent).
--export([main/1, row/1, connect_at/2, is_agreed/0, sink/0, flood/2, watch/1, is_down/1, stay_up/2, traffic/2]).
+-export([main/1, row/1, connect_at/2, is_asked/1, is_agreed/0, sink/0, flood/2, watch/1, is_down/1, stay_up/2, traffic/2]).
 -export([observe/1, traffic_observed/2, reconnect/2, memory/0, crowd/2, crowd_closed/0]).
 
 main([Port]) ->
@@ -45,6 +45,11 @@ busy_until(Moment) ->
         true -> busy_until(Moment);
         false -> ok
     end.
+
+%% Has net_kernel been asked to take a connection of this node, and not answered yet?
+is_asked(Node) ->
+    {messages, Messages} = process_info(whereis(net_kernel), messages),
+    [] =/= [asked || {_, {accept_pending, _, Peer, _}} <- Messages, Peer =:= Node].
 
 %% Is each peer that net_kernel counts as up also up in the node, on the end whose process is net_kernel's owner, and the other
 %% way round; and is no other end open, and does nobody wait?
@@ -119,7 +124,7 @@ reconnect(Node) ->
     end.
 
 %% So many strangers without sockets, one after the other: each has said its name at the core, and has its end open. It answers how
-%% many ends are open then; crowd_closed/0, which of them were told that theirs is closed.
+%% many ends are open then; crowd_closed/0, which of them got a message that theirs is closed.
 crowd(N, Flags) ->
     Self = self(),
     Crowd = spawn(fun() ->
@@ -136,21 +141,23 @@ member(I, Flags) ->
     Name = iolist_to_binary(io_lib:format("stranger~b@127.0.0.1", [I])),
     Frame = <<$N, Flags:64, 7:32, (byte_size(Name)):16, Name/binary>>,
     Pid = spawn(fun() ->
-                        {ok, Id, {more, [<<"sok">>, <<$N, _/binary>>]}} = distnode_core:arrived(Frame, distnode_access:of_peer(Name, [])),
+                        {ok, #{id := Id}, {more, [<<"sok">>, <<$N, _/binary>>]}} = distnode_core:arrived(Frame, distnode_access:of_peer(Name, [])),
                         Self ! {self(), came},
-                        receive {distnode, {closed, Id, 'GaveUp'}} -> stay(true) after infinity -> ok end
+                        stay(Id, false)
                 end),
     receive {Pid, came} -> {I, Pid} end.
 
-stay(Answer) -> receive {is_closed, From} -> From ! {self(), Answer}, stay(Answer) end.
+stay(Id, IsClosed) ->
+    receive
+        {distnode, {closed, Id, 'GaveUp'}} -> stay(Id, true);
+        {is_closed, From} ->
+            From ! {self(), IsClosed},
+            stay(Id, IsClosed)
+    end.
 
-%% One that was told answers; one that was not has the question behind it.
 is_closed(Pid) ->
     Pid ! {is_closed, self()},
-    case process_info(Pid, message_queue_len) of
-        {message_queue_len, 0} -> receive {Pid, true} -> true after 1000 -> false end;
-        _ -> receive {Pid, true} -> true after 0 -> false end
-    end.
+    receive {Pid, IsClosed} -> IsClosed end.
 
 crowd_closed() ->
     Crowd = whereis(crowd),

@@ -149,7 +149,7 @@ log(#node{log = Log}) ->
     {ok, Text} = file:read_file(Log),
     Text.
 
-%% Until a condition holds: true, or {timeout, What} with what it told last.
+%% Until a condition holds: true, or {timeout, What} with what it returned last.
 wait(Condition, Wait) -> wait_until(Condition, erlang:monotonic_time(millisecond) + Wait).
 
 wait_until(Condition, Deadline) ->

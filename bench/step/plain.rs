@@ -628,7 +628,7 @@ fn main() {
     say_name(&mut whole, ANNOUNCED, &peer);
     let mut reader = Frames::default();
     match kind {
-        "accepted" => (0..turns).for_each(|_| {
+        "accepted" | "booked" => (0..turns).for_each(|_| {
             let end = bench.accepted(&name, &reply);
             bench.lost(end);
         }),

@@ -6,12 +6,14 @@
  * line, which `ps` shows to everybody. A file that others than its owner can reach is refused, as `erl` refuses it.
  *
  * It prints a line when a peer comes up or goes down, sends a tick after each TICK seconds (a quarter of net_ticktime), and
- * ends after SECONDS. Hosts are IPv4 addresses; the port mapper is at ERL_EPMD_PORT, 4369 if unset. What Erlang's processes
- * say to it is dropped. */
+ * ends after SECONDS. Hosts are names or addresses, IPv4 or IPv6; each address of PEER's host is tried. It listens at ::1 where its
+ * own host is an IPv6 address, else at 127.0.0.1. The port mapper is at ERL_EPMD_PORT, 4369 if unset. What Erlang's processes say to
+ * it is dropped. */
 #define _POSIX_C_SOURCE 200809L
 #include <distnode.h>
 
 #include <arpa/inet.h>
+#include <netdb.h>
 #include <poll.h>
 #include <stdio.h>
 #include <stdlib.h>
@@ -61,12 +63,51 @@ static int write_all(int fd, const uint8_t *bytes, size_t n) {
     return 0;
 }
 
-static int connected(const char *host, int port) {
-    struct sockaddr_in to = {.sin_family = AF_INET, .sin_port = htons((uint16_t)port)};
-    int fd = socket(AF_INET, SOCK_STREAM, 0);
-    if (inet_pton(AF_INET, host, &to.sin_addr) == 1 && fd >= 0 && !connect(fd, (struct sockaddr *)&to, sizeof to)) return fd;
+/* The addresses of a host, in the resolver's order; NULL where it has none. */
+static struct addrinfo *addresses_of(const char *host) {
+    const struct addrinfo kind = {.ai_socktype = SOCK_STREAM};
+    struct addrinfo *found = NULL;
+    return getaddrinfo(host, NULL, &kind, &found) ? NULL : found;
+}
+
+/* The place of an address at which its port stands, in the order of the network. */
+static in_port_t *port_of(struct sockaddr_storage *at) {
+    return at->ss_family == AF_INET6 ? &((struct sockaddr_in6 *)at)->sin6_port : &((struct sockaddr_in *)at)->sin_port;
+}
+
+/* A connection to a port of an address. */
+static int connected(const struct addrinfo *at, int port) {
+    struct sockaddr_storage to = {0};
+    memcpy(&to, at->ai_addr, at->ai_addrlen);
+    *port_of(&to) = htons((uint16_t)port);
+    int fd = socket(at->ai_family, SOCK_STREAM, 0);
+    if (fd >= 0 && !connect(fd, (struct sockaddr *)&to, at->ai_addrlen)) return fd;
     if (fd >= 0) close(fd);
     return -1;
+}
+
+/* A connection to a port of this host. */
+static int connected_here(int port) {
+    const char *const hosts[] = {"127.0.0.1", "::1"};
+    int fd = -1;
+    for (size_t i = 0; i < 2 && fd < 0; i++) {
+        struct addrinfo *at = addresses_of(hosts[i]);
+        if (at) fd = connected(at, port), freeaddrinfo(at);
+    }
+    return fd;
+}
+
+/* Listens at this host, at an address of the kind that the node's own host has, and answers the port. */
+static int listening(const char *name, int *port) {
+    struct addrinfo *at = addresses_of(strchr(name, ':') ? "::1" : "127.0.0.1");
+    struct sockaddr_storage place = {0};
+    socklen_t size = sizeof place;
+    int fd = at ? socket(at->ai_family, SOCK_STREAM, 0) : -1;
+    if (fd < 0 || bind(fd, at->ai_addr, at->ai_addrlen) || listen(fd, 8) || getsockname(fd, (struct sockaddr *)&place, &size))
+        stop("cannot listen", 0);
+    freeaddrinfo(at);
+    *port = ntohs(*port_of(&place));
+    return fd;
 }
 
 /* Reads until there are so many bytes, or the connection ends. */
@@ -193,16 +234,29 @@ static uint32_t registered(int mapper, const char *name, int port) {
     return creation;
 }
 
-static int looked_up(const char *host, int epmd, const char *peer) {
+/* The peer's port, of which the port mapper at this address knows. */
+static int looked_up(const struct addrinfo *at, int epmd, const char *peer) {
     uint8_t bytes[1024];
     size_t n;
     uint32_t result = 1, code = dn_epmd_port_request((const uint8_t *)peer, strcspn(peer, "@"), bytes, sizeof bytes, &n);
     dn_info info;
-    int fd = connected(host, epmd);
+    int fd = connected(at, epmd);
     if (!code && fd >= 0 && !write_all(fd, bytes, n))
         code = dn_epmd_port_answer(bytes, read_up_to(fd, bytes, sizeof bytes), &result, &info);
     if (fd >= 0) close(fd);
     return code || result ? -1 : info.port;
+}
+
+/* A connection to the peer at the first address of its host at which the port mapper knows it and it listens. */
+static int connected_to(const char *peer, int epmd) {
+    struct addrinfo *all = addresses_of(strchr(peer, '@') + 1);
+    int fd = -1;
+    for (const struct addrinfo *at = all; at && fd < 0; at = at->ai_next) {
+        int port = looked_up(at, epmd, peer);
+        if (port >= 0) fd = connected(at, port);
+    }
+    if (all) freeaddrinfo(all);
+    return fd;
 }
 
 static void dial(const char *peer, int epmd) {
@@ -210,8 +264,7 @@ static void dial(const char *peer, int epmd) {
     uint32_t code = newcomer(dn_node_dial(&node, (const uint8_t *)peer, strlen(peer), 1, &reply), &reply);
     if (code) stop("the dial", code);
     uint32_t end = reply.id;
-    const char *host = strchr(peer, '@') + 1;
-    int port = looked_up(host, epmd, peer), fd = port < 0 ? -1 : connected(host, port);
+    int fd = connected_to(peer, epmd);
     struct link *it = fd < 0 ? NULL : new_link(fd, end);
     if (!it) {
         fprintf(stderr, "join: %s cannot be reached\n", peer);
@@ -269,13 +322,9 @@ int main(int argc, char **argv) {
     size_t cookie_len = cookie_of(file, cookie);
     int epmd = getenv("ERL_EPMD_PORT") ? atoi(getenv("ERL_EPMD_PORT")) : 4369;
     for (int i = 0; i < MOST_LINKS; i++) links[i].fd = -1;
-    struct sockaddr_in at = {.sin_family = AF_INET, .sin_addr.s_addr = htonl(INADDR_LOOPBACK)};
-    socklen_t size = sizeof at;
-    int listener = socket(AF_INET, SOCK_STREAM, 0), mapper = connected("127.0.0.1", epmd);
-    if (bind(listener, (struct sockaddr *)&at, size) || listen(listener, 8) || getsockname(listener, (struct sockaddr *)&at, &size))
-        stop("cannot listen", 0);
+    int port = 0, listener = listening(argv[1], &port), mapper = connected_here(epmd);
     /* flags as an Erlang node of OTP 25 announces them, but for DFLAG_PUBLISHED; each open end has a place in the table */
-    uint32_t creation = registered(mapper, argv[1], ntohs(at.sin_port));
+    uint32_t creation = registered(mapper, argv[1], port);
     dn_setup setup = {.flags = 0x403070f94, .creation = creation, .most_open_ends = MOST_LINKS};
     uint32_t code = dn_node_new(&node, (const uint8_t *)argv[1], strlen(argv[1]), cookie, cookie_len, &setup);
     if (code) stop("no node", code);

@@ -197,7 +197,7 @@ def _copied(call, *given, most: int = 65540) -> bytes:
 
 class Node:
     """A node. One thread at a time uses it: others under a lock. `with Node(..) as node` lets it go at the end. The limits that
-    are 0 have their usual values, as dn_setup of the header tells them."""
+    are 0 have their usual values, as dn_setup of the header says."""
 
     def __init__(self, name: bytes, cookie: bytes, flags: int, creation: int, required: int = 0, version: int = 6,
                  limited: bool = False, most_ends: int = 0, most_steps: int = 0, most_entries: int = 0,

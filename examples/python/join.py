@@ -5,8 +5,10 @@ usage: join.py NAME [--cookie FILE] [--dial PEER] [--tick SECONDS] [--seconds N]
 The cookie is that of FILE, else of DISTNODE_COOKIE in the environment, else of $HOME/.erlang.cookie: no word of the command line,
 which `ps` shows to everybody. A file that others than its owner can reach is refused, as `erl` refuses it.
 
-It prints a line when a peer comes up or goes down, and ends after so many seconds, or when it is interrupted. The port mapper
-(`epmd`) is the one at ERL_EPMD_PORT, 4369 if unset. What Erlang's processes say to it is counted and dropped.
+It prints a line when a peer comes up or goes down, and ends after so many seconds, or when it is interrupted. Hosts are names or
+addresses, IPv4 or IPv6; each address of the peer's host is tried. It listens at ::1 where its own host is an IPv6 address, else at
+127.0.0.1. The port mapper (`epmd`) is the one at ERL_EPMD_PORT, 4369 if unset. What Erlang's processes say to it is counted and
+dropped.
 """
 
 import argparse
@@ -20,9 +22,47 @@ from typing import Optional
 import distnode as dn
 
 HIDDEN_FLAGS = 0x403070F94  # as an Erlang node of OTP 25 announces them, but for DFLAG_PUBLISHED
-EPMD = ("127.0.0.1", int(os.environ.get("ERL_EPMD_PORT", "4369")))
+EPMD_PORT = int(os.environ.get("ERL_EPMD_PORT", "4369"))
 MOST_OPEN = 512  # ends at one time: a process has 1,024 descriptors by custom
 FORGET_EACH = 65_536  # ends: so often what was kept of those that are closed is given back
+
+
+def addresses_of(host: str) -> list[str]:
+    """The addresses of a host, in the resolver's order."""
+    return [it[4][0] for it in socket.getaddrinfo(host, None, type=socket.SOCK_STREAM)]
+
+
+def connect_first(addresses: list[str], connect) -> socket.socket:
+    """What a call answers to the first address with which it does not fail."""
+    fault = OSError("no address")
+    for address in addresses:
+        try:
+            return connect(address)
+        except OSError as error:
+            fault = error
+    raise fault
+
+
+def connect_to(peer: bytes) -> socket.socket:
+    """A connection to a peer, at the first address of its host at which the port mapper knows it and it listens."""
+    alive, _, host = peer.partition(b"@")
+
+    def connect(address: str) -> socket.socket:
+        with socket.create_connection((address, EPMD_PORT), timeout=10) as asked:
+            asked.sendall(dn.port_request(alive))
+            info = dn.port_answer(b"".join(iter(lambda: asked.recv(4096), b"")))
+        if info is None:
+            raise OSError("no such node")
+        return socket.create_connection((address, info.port), timeout=10)
+
+    return connect_first(addresses_of(host.decode()), connect)
+
+
+def listen_at(host: str) -> socket.socket:
+    """A listener at this host, at an address of the kind that the node's own host has."""
+    if ":" in host:
+        return socket.create_server(("::1", 0), family=socket.AF_INET6)
+    return socket.create_server(("127.0.0.1", 0))
 
 
 class Link:
@@ -37,10 +77,11 @@ class Joined:
 
     def __init__(self, name: bytes, cookie: bytes, tick: float):
         self.selector, self.links, self.tick = selectors.DefaultSelector(), {}, tick
-        self.listener = socket.create_server(("127.0.0.1", 0))
+        alive, _, host = name.partition(b"@")
+        self.listener = listen_at(host.decode())
         # the registration lasts as long as this connection
-        self.registration = socket.create_connection(EPMD, timeout=10)
-        self.registration.sendall(dn.alive_request(name.partition(b"@")[0], self.listener.getsockname()[1], hidden=True))
+        self.registration = connect_first(["127.0.0.1", "::1"], lambda it: socket.create_connection((it, EPMD_PORT), timeout=10))
+        self.registration.sendall(dn.alive_request(alive, self.listener.getsockname()[1], hidden=True))
         result, creation = dn.alive_answer(self.registration.recv(6, socket.MSG_WAITALL))
         if result:
             raise SystemExit("the port mapper refuses the name")
@@ -78,15 +119,9 @@ class Joined:
         self.link(stream, end)
 
     def dial(self, peer: bytes) -> None:
-        alive, _, host = peer.partition(b"@")
         end = self.new_end(self.node.dial, peer)
         try:
-            with socket.create_connection((host.decode(), EPMD[1]), timeout=10) as asked:
-                asked.sendall(dn.port_request(alive))
-                info = dn.port_answer(b"".join(iter(lambda: asked.recv(4096), b"")))
-            if info is None:
-                raise OSError("no such node")
-            link = self.link(socket.create_connection((host.decode(), info.port), timeout=10), end)
+            link = self.link(connect_to(peer), end)
         except OSError as error:
             print("cannot dial:", error, flush=True)
             self.node.lost(end, dn.Why.DIAL_FAILED)

@@ -2,10 +2,12 @@
 
 usage: mapper.py [--port N]
 
-It listens at 127.0.0.1 alone, prints the port, and ends when it is interrupted. A registration lasts as long as its connection.
+It listens at 127.0.0.1 alone, and at ::1 where this host has it, prints the port, and ends when it is interrupted. A registration
+lasts as long as its connection.
 """
 
 import argparse
+import contextlib
 import secrets
 import selectors
 import socket
@@ -20,19 +22,28 @@ class Client:
         self.stream, self.number, self.held, self.registered = stream, number, b"", False
 
 
+def listeners_at(port: int) -> list[socket.socket]:
+    """Who listens at a port of this host."""
+    listeners = [socket.create_server(("127.0.0.1", port))]
+    with contextlib.suppress(OSError):  # where this host has no IPv6
+        listeners.append(socket.create_server(("::1", listeners[0].getsockname()[1]), family=socket.AF_INET6))
+    return listeners
+
+
 class Mapper:
-    """A listener, a registry, and the connections."""
+    """Listeners, a registry, and the connections."""
 
     def __init__(self, port: int):
         self.selector, self.numbers = selectors.DefaultSelector(), 0
-        self.listener = socket.create_server(("127.0.0.1", port))
-        self.port = self.listener.getsockname()[1]
+        listeners = listeners_at(port)
+        self.port = listeners[0].getsockname()[1]
         # (a restarted port mapper gives no creation that it has just given)
         self.registry = dn.Registry(self.port, 4 + secrets.randbits(24))
-        self.selector.register(self.listener, selectors.EVENT_READ, None)
+        for listener in listeners:
+            self.selector.register(listener, selectors.EVENT_READ, None)
 
-    def accept(self) -> None:
-        stream, self.numbers = self.listener.accept()[0], self.numbers + 1
+    def accept(self, listener: socket.socket) -> None:
+        stream, self.numbers = listener.accept()[0], self.numbers + 1
         stream.settimeout(10)
         self.selector.register(stream, selectors.EVENT_READ, Client(stream, self.numbers))
 
@@ -58,7 +69,7 @@ class Mapper:
         while True:
             for key, _ in self.selector.select():
                 if key.data is None:
-                    self.accept()
+                    self.accept(key.fileobj)
                     continue
                 try:
                     stays = self.take(key.data)

@@ -1,5 +1,6 @@
 complete -c joining -f
 complete -c joining -l name -x -d 'the own name'
+complete -c joining -l address -x -a '(__fish_print_hostnames)' -d 'the host to connect to'
 complete -c joining -l cookie -r -F -d 'the file of the cookie'
 complete -c joining -l cookie-file -r -F -d 'the same'
 complete -c joining -l cookie-unsafe -d 'take a file of a cookie that others can read'

@@ -1,6 +1,7 @@
 //! A node, and its newest reply.
-ghost use Rattle.std.specs.Prelude.{◌≡◌, ◌≢◌, ℕ, List, None, Err, IfOk};
-ghost use Rattle.dist_core.specs.Answers.{GivesReply, IsLoss, Refuses};
+ghost use Rattle.std.specs.Prelude.{◌≡◌, ◌≢◌, ℕ, List, None, Err, IfOk, IsTrue};
+ghost use Rattle.dist_core.specs.Answers.{GivesReply, Refuses};
+ghost use Rattle.dist_core.specs.Losses.{is_loss};
 ghost use Rattle.std.specs.Int.{w16};
 ghost use Rattle.dist_core.specs.Step.{step};
 ghost use Rattle.dist_frames.specs.Stream.{first_body};
@@ -48,7 +49,7 @@ impl Guest {
     /// Makes the definition's step, and keeps its reply. A refusal changes nothing, and a loss never runs out of memory.
     pub fn step(&mut self, alloc: Global, event: &Event, fresh: u32) -> Result<(), StepError>
         ensures step { IsCall event.now result (step self.old.node event.now fresh) self.old self.new }
-        ensures loss { IsLoss event.now → result ≢ Err StepError.NoMemory }
+        ensures loss { IsTrue (is_loss event.now) → result ≢ Err StepError.NoMemory }
     {
         let reply = self.node.step(alloc, event, fresh)?;
         self.last = Some(reply);

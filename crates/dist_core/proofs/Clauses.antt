@@ -1,4 +1,5 @@
 -- What follows from the definition of the step for a call that gives what it gives.
+use Rattle.std.specs.Prelude.{IsTrue}
 use Rattle.std.proofs.Common.{◌≡◌, ◌≢◌, ℕ, true, Option, Some, None, Result, Ok, Err, IfOk, IsOk, refl, sym, ap, ◌∙◌, subst, slice_get}
 use Rattle.dist_peers.specs.declared.entry.EndId.{EndId}
 use Rattle.dist_core_ends.specs.declared.why.Why.{Why}
@@ -14,7 +15,8 @@ use Rattle.dist_core_ends.specs.Ends.{AreLegal, is_open}
 use Rattle.dist_core.specs.Node.{NodeState}
 use Rattle.dist_core.specs.Effects.{closes}
 use Rattle.dist_core.specs.Step.{effect_of, at_end, opening_effect, framed_from, sender_to, tick_effect, step, step_result}
-use Rattle.dist_core.specs.Answers.{IsStep, GivesReply, Refuses, reply_of, IsLoss}
+use Rattle.dist_core.specs.Answers.{IsStep, GivesReply, Refuses, reply_of}
+use Rattle.dist_core.specs.Losses.{is_loss}
 use Rattle.dist_core.specs.Clauses.{end_of, loss_reply, ClosesOnReply}
 use Rattle.dist_core.proofs.Closings.{closes_on_reply}
 
@@ -49,8 +51,8 @@ accepted (Err x) s h ok apart = by x h apart
     by error.Spent h apart = let Q : Result (Reply × NodeState) StepError → Type 0 = λ q. IsOk q in subst Q h ok
     by error.NoMemory h apart = absurd (apart refl)
 
-pub is-loss : (v : Event) (x : EndId) (w : Why) → v ≡ event.Lost x w → IsLoss v
-is-loss v x w is = subst IsLoss (sym is) tt
+pub is-loss : (v : Event) (x : EndId) (w : Why) → v ≡ event.Lost x w → IsTrue (is_loss v)
+is-loss v x w is = ap is_loss is
 
 module _ (n : NodeState) where
   -- what an end that is not open has done to an event that names it

@@ -1,6 +1,6 @@
 -- What a call returns for a loss.
 use Rattle.std.proofs.Common.{◌≡◌, true, Option, Some, None, Result, Ok, Err, slice_get, List, refl, ap, subst}
-use Rattle.std.specs.Prelude.{IsOk, IfOk, IfErr}
+use Rattle.std.specs.Prelude.{IsOk, IfOk, IfErr, IsTrue}
 use Rattle.dist_peers.specs.declared.entry.EndId.{EndId}
 use Rattle.dist_core_ends.specs.declared.why.Why.{Why}
 use Rattle.dist_core_ends.specs.declared.known.End.{End}
@@ -10,10 +10,9 @@ use Rattle.dist_core.specs.declared.event.Event.TheVariants as event
 use Rattle.dist_core.specs.declared.reply.Reply.{Reply}
 use Rattle.dist_core.specs.declared.step_error.StepError.{StepError}
 use Rattle.dist_core.specs.declared.step_error.StepError.TheVariants as error
-use Rattle.dist_core.specs.Answers.{IsLoss}
 use Rattle.dist_core_ends.specs.Ends.{is_open}
 use Rattle.dist_core.specs.Clauses.{end_of, loss_reply}
-use Rattle.dist_core.specs.Losses.{IsGone, IsSilent}
+use Rattle.dist_core.specs.Losses.{IsGone, IsSilent, is_loss}
 
 abbrev bad : StepError → Result Reply StepError
 bad e = Err e
@@ -32,20 +31,20 @@ not_ok : (e : StepError) → IsOk (bad e) → ⊥
 not_ok e h = cc
 
 -- a loss is refused only where its end is unknown or closed
-pub loss_gone : (es : List End) (v : Event) (e : StepError) → IsLoss v
+pub loss_gone : (es : List End) (v : Event) (e : StepError) → IsTrue (is_loss v)
     → ((x : EndId) → end_of v ≡ Some x → slice_get es x.0 ≡ None → bad e ≡ bad error.NoSuchEnd)
     → ((x : EndId) (w : Why) → end_of v ≡ Some x → slice_get es x.0 ≡ Some (ends.Closed w) → bad e ≡ bad (error.Gone w))
     → ((x : EndId) (w : Why) (d : End) → v ≡ event.Lost x w → slice_get es x.0 ≡ Some d → is_open d ≡ true → IsOk (bad e))
     → IsGone e
 loss_gone es (event.Lost x w) e h unknown gone lost = gone_in (slice_get es x.0) e (unknown x refl) (λ w. gone x w refl) (λ d at opened. not_ok e (lost x w d refl at opened))
-loss_gone es (event.Dial p o) e h unknown gone lost = absurd h
-loss_gone es (event.Opened x link) e h unknown gone lost = absurd h
-loss_gone es (event.Incoming link) e h unknown gone lost = absurd h
-loss_gone es (event.Frame x body) e h unknown gone lost = absurd h
-loss_gone es (event.Tick x) e h unknown gone lost = absurd h
+loss_gone es (event.Dial p o) e h unknown gone lost = absurd cc
+loss_gone es (event.Opened x link) e h unknown gone lost = absurd cc
+loss_gone es (event.Incoming link) e h unknown gone lost = absurd cc
+loss_gone es (event.Frame x body) e h unknown gone lost = absurd cc
+loss_gone es (event.Tick x) e h unknown gone lost = absurd cc
 
 -- a loss that is answered
-pub answer_gone : (es : List End) (v : Event) (r : Result Reply StepError) → IsLoss v
+pub answer_gone : (es : List End) (v : Event) (r : Result Reply StepError) → IsTrue (is_loss v)
     → ((x : EndId) → end_of v ≡ Some x → slice_get es x.0 ≡ None → r ≡ bad error.NoSuchEnd)
     → ((x : EndId) (w : Why) → end_of v ≡ Some x → slice_get es x.0 ≡ Some (ends.Closed w) → r ≡ bad (error.Gone w))
     → ((x : EndId) (w : Why) (d : End) → v ≡ event.Lost x w → slice_get es x.0 ≡ Some d → is_open d ≡ true → IsOk r)
@@ -60,10 +59,10 @@ silent_so : (x : EndId) (w : Why) (r : Result Reply StepError) → IfOk r (λ q.
 silent_so x w (Ok r) e = silent_is x w r e
 silent_so x w (Err e) h = tt
 
-pub answer_silent : (v : Event) (r : Result Reply StepError) → IsLoss v → ((x : EndId) (w : Why) → v ≡ event.Lost x w → IfOk r (λ q. q ≡ loss_reply x w)) → IfOk r IsSilent
+pub answer_silent : (v : Event) (r : Result Reply StepError) → IsTrue (is_loss v) → ((x : EndId) (w : Why) → v ≡ event.Lost x w → IfOk r (λ q. q ≡ loss_reply x w)) → IfOk r IsSilent
 answer_silent (event.Lost x w) r h silent = silent_so x w r (silent x w refl)
-answer_silent (event.Dial p o) r h silent = absurd h
-answer_silent (event.Opened x link) r h silent = absurd h
-answer_silent (event.Incoming link) r h silent = absurd h
-answer_silent (event.Frame x body) r h silent = absurd h
-answer_silent (event.Tick x) r h silent = absurd h
+answer_silent (event.Dial p o) r h silent = absurd cc
+answer_silent (event.Opened x link) r h silent = absurd cc
+answer_silent (event.Incoming link) r h silent = absurd cc
+answer_silent (event.Frame x body) r h silent = absurd cc
+answer_silent (event.Tick x) r h silent = absurd cc

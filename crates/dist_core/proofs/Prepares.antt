@@ -1,4 +1,5 @@
 -- A step that is prepared is the step of the definition.
+use Rattle.std.specs.Prelude.{IsTrue}
 use Rattle.std.proofs.Common.{◌≡◌, ℕ, ◌+◌, ◌<◌, ◌≤◌, false, cond, length, List, Option, Some, None, Result, Ok, Err, IfOk, IfErr, IsOk, refl, sym, ap, ◌∙◌, subst, slice_get, arith}
 use Rattle.dist_peers.specs.declared.entry.EndId.{EndId}
 use Rattle.dist_core_ends.specs.declared.known.UpRecord.{UpRecord}
@@ -20,7 +21,8 @@ use Rattle.dist_core.specs.Node.{NodeState, is_spent, ends_after, limits_of}
 use Rattle.dist_core.specs.Effects.{goes_on}
 use Rattle.dist_core.specs.Fitting.{FitsNodeTable}
 use Rattle.dist_core.specs.Step.{effect_of, at_end, tick_effect, step, step_result, cost_of}
-use Rattle.dist_core.specs.Answers.{GivesReply, Refuses, reply_of, IsLoss, IsStep}
+use Rattle.dist_core.specs.Answers.{GivesReply, Refuses, reply_of, IsStep}
+use Rattle.dist_core.specs.Losses.{is_loss}
 use Rattle.dist_core.specs.Rows.{StepRow}
 use Rattle.dist_core.specs.Preparing.{PreparedStep, Prepares, IsPrepared, FitsNode, GivesPrepared, MakesChange, ends_by, after_commit}
 use Rattle.dist_core.proofs.Counts.{counts, loses, of_ok}
@@ -152,7 +154,7 @@ bounded-made n p h b =
     omega (arith, it.0, same)
 
 -- a loss that was prepared takes no memory
-pub loss-made : (n : NodeState) (v : Event) (fresh : ℕ) (r : Reply) (this : End) (other : Option (EndId × End)) (cost : ℕ) → IsPrepared n v fresh (becoming r this other cost) → IsLoss v → (claim_of this ≡ None) × (r.end_.0 < length n.ends)
+pub loss-made : (n : NodeState) (v : Event) (fresh : ℕ) (r : Reply) (this : End) (other : Option (EndId × End)) (cost : ℕ) → IsPrepared n v fresh (becoming r this other cost) → IsTrue (is_loss v) → (claim_of this ≡ None) × (r.end_.0 < length n.ends)
 loss-made n v fresh r this other cost h lost = of_ok (λ (f : Effect). (claim_of f.this ≡ None) × (f.reply.end_.0 < length n.ends)) _ _ (effect-is n v fresh r this other cost h) (loses n v fresh lost)
 
 -- a call that made it, or lacked memory for it

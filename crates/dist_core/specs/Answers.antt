@@ -2,8 +2,6 @@
 use Rattle.std.specs.Prelude.{◌≡◌, ◌≢◌, Option, Some, Result, Ok, Err, IsOk}
 use Rattle.std.specs.Borrow.{Bor}
 use Rattle.dist_core_ends.specs.declared.known.End.{End}
-use Rattle.dist_core.specs.declared.event.Event.{Event}
-use Rattle.dist_core.specs.declared.event.Event.TheVariants as event
 use Rattle.dist_core.specs.declared.reply.Reply.{Reply}
 use Rattle.dist_core.specs.declared.effect.Effect.{Effect}
 use Rattle.dist_core.specs.declared.step_error.StepError.{StepError}
@@ -30,11 +28,6 @@ FindsOpen (Err r) o = (r ≢ error.NoMemory) × ((f : End → Result Effect Step
 abbrev pub Gives : Result Effect StepError → Result Effect StepError → Type 0
 Gives (Ok f) s = s ≡ Ok f
 Gives (Err e) s = Refuses e s
-
--- an event that reports a loss
-abbrev pub IsLoss : Event → Type 0
-IsLoss (event.Lost id w) = Unit {0}
-IsLoss e = ⊥
 
 -- the reply of a step, without the node after it
 abbrev pub reply_of : Result (Reply × NodeState) StepError → Result Reply StepError

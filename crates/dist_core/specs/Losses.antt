@@ -18,9 +18,9 @@ is_loss (event.Frame id body) = false
 is_loss (event.Tick id) = false
 
 -- the cause that a loss reports
-abbrev pub loss_of : Event → Option Why
-loss_of (event.Lost id w) = Some w
-loss_of e = None
+abbrev pub cause_of_loss : Event → Option Why
+cause_of_loss (event.Lost id w) = Some w
+cause_of_loss e = None
 
 -- The reply sends nothing, brings nothing up and notes nothing, as every reply to a loss.
 abbrev pub IsSilent : Reply → Type 0

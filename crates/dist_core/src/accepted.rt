@@ -20,7 +20,7 @@ use dist_peers::{EndId, Verdict, replaced_end};
 use std::alloc::{AllocError, Global};
 
 // What stands for an end that a crossing name supersedes.
-fn superseded_end(alloc: Global, end: &End) -> Result<End, AllocError>
+fn doomed_or_closed(alloc: Global, end: &End) -> Result<End, AllocError>
     ensures { IfOk result (λ e. e ≡ superseded_end (Some end.now)) }
 {
     let End::Attempt(attempt) = end else {
@@ -34,11 +34,11 @@ fn superseded_end(alloc: Global, end: &End) -> Result<End, AllocError>
 }
 
 // The same, of the end of this number.
-fn superseded_end_of(alloc: Global, ends: &Ends, id: EndId) -> Result<End, AllocError>
+fn superseded_end(alloc: Global, ends: &Ends, id: EndId) -> Result<End, AllocError>
     ensures { IfOk result (λ e. e ≡ superseded_end (slice_get ends.now id.0)) }
 {
     match ends.open_end(id) {
-        Ok(end) => superseded_end(alloc, end),
+        Ok(end) => doomed_or_closed(alloc, end),
         Err(_) => Ok(End::Closed(Why::Crossed)),
     }
 }
@@ -79,7 +79,7 @@ fn crosses(
     ensures { answer.peer ≡ answer.attempt.peer
         → IfOk result (λ f. f ≡ supersedes id answer.say answer.attempt x (superseded_end (slice_get ends.now x.0))) }
 {
-    let crossed = superseded_end_of(alloc, ends, x)?;
+    let crossed = superseded_end(alloc, ends, x)?;
     Ok(supersedes(id, answer, x, crossed))
 }
 

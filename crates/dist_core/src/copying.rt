@@ -1,7 +1,6 @@
 //! Equal copies.
-ghost use Rattle.std.specs.Prelude.{◌≡◌, [], IfOk, IsOk, Ok, Err, Some, None};
-ghost use Rattle.dist_core.specs.Answers.{IsLoss};
-ghost use Rattle.dist_core.specs.Losses.{IsSilent};
+ghost use Rattle.std.specs.Prelude.{◌≡◌, [], IfOk, IsOk, Ok, Err, Some, None, IsTrue};
+ghost use Rattle.dist_core.specs.Losses.{IsSilent, is_loss};
 
 use crate::event::Event;
 use crate::reply::{Note, Reply};
@@ -55,7 +54,7 @@ impl Event {
     /// An equal event. That of a loss takes no memory.
     pub fn try_clone(&self, alloc: Global) -> Result<Event, AllocError>
         ensures same { IfOk result (λ copy. copy ≡ self.now) }
-        ensures loss { IsLoss self.now → IsOk result }
+        ensures loss { IsTrue (is_loss self.now) → IsOk result }
     {
         match self {
             Event::Dial { peer, opening } => Ok(Event::Dial {

@@ -1,8 +1,7 @@
 //! The events that a node is given.
-ghost use Rattle.std.specs.Prelude.{◌≡◌, ◌↔◌, IsTrue};
-ghost use Rattle.dist_core.specs.Answers.{IsLoss};
+ghost use Rattle.std.specs.Prelude.{◌≡◌};
 ghost use Rattle.dist_core.specs.Clauses.{end_of};
-ghost use Rattle.dist_core.specs.Losses.{is_loss, loss_of};
+ghost use Rattle.dist_core.specs.Losses.{is_loss, cause_of_loss};
 
 use dist_core_ends::Why;
 use dist_messages::Opening;
@@ -30,15 +29,14 @@ pub enum Event {
 impl Event {
     /// Whether it reports a loss.
     pub fn is_lost(&self) -> bool
-        ensures test { result ≡ is_loss self.now }
-        ensures loss { IsTrue result ↔ IsLoss self.now }
+        ensures { result ≡ is_loss self.now }
     {
         matches!(self, Event::Lost { .. })
     }
 
     /// The cause that a loss reports.
     pub fn lost_why(&self) -> Option<Why>
-        ensures { result ≡ loss_of self.now }
+        ensures { result ≡ cause_of_loss self.now }
     {
         match self {
             Event::Lost { why, .. } => Some(*why),

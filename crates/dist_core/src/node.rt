@@ -8,13 +8,13 @@ ghost use Rattle.dist_core_ends.specs.Ends.{oldest_pending, record_in, up_from, 
 ghost use Rattle.dist_core_ends.specs.Forgetting.{without_causes_below};
 ghost use Rattle.dist_core.specs.Node.{NodeState, ends_after, is_crowded, is_full_for, is_given_out, is_spent, limits_of, new_id};
 ghost use Rattle.dist_core.specs.Clauses.{ClosesOnReply, end_of, loss_reply};
-ghost use Rattle.dist_core.specs.Losses.{IsGone, IsSilent};
+ghost use Rattle.dist_core.specs.Losses.{IsGone, IsSilent, is_loss};
 ghost use Rattle.dist_core.specs.Fitting.{FitsNodeTable};
 ghost use Rattle.dist_core_setup.specs.Saying.{name_text, tick_text};
 ghost use Rattle.dist_core.specs.Effects.{moves, goes_on, closes};
 ghost use Rattle.dist_core.specs.Accepted.{verdict_in, name_taken};
 ghost use Rattle.dist_core.specs.Step.{effect_of, step, step_result, at_end, opening_effect, tick_effect, dial_effect, came_in, cost_of};
-ghost use Rattle.dist_core.specs.Answers.{IsStep, Gives, IsLoss, GivesReply};
+ghost use Rattle.dist_core.specs.Answers.{IsStep, Gives, GivesReply};
 
 use crate::effect::{Effect, FrameStep, closes};
 use crate::event::Event;
@@ -147,12 +147,12 @@ impl Node {
     }
 
     /// The up end whose peer has this name, and its record. There is at most one.
-    pub fn up_of(&self, peer: &NodeName) -> Option<(EndId, &UpRecord)>
+    pub fn up_with(&self, peer: &NodeName) -> Option<(EndId, &UpRecord)>
         ensures found { FindsUp self.now.ends peer.now (option_map (λ r. (r.0, r.1.now)) result) }
         ensures only { (i : ℕ) (kept : UpRecord) → slice_get self.now.ends i ≡ Some (End.Up kept) → kept.peer ≡ peer.now
             → option_map (λ r. (r.0, r.1.now)) result ≡ up_pair i kept }
     {
-        self.ends.up_of(peer)
+        self.ends.up_with(peer)
     }
 
     /// How many peers have an entry.
@@ -211,11 +211,11 @@ impl Node {
         // An end that is unknown or gone is refused so, and an open one can always be lost.
         ensures unknown { (x : EndId) → end_of event.now ≡ Some x → slice_get self.old.ends x.0 ≡ None → result ≡ Err StepError.NoSuchEnd }
         ensures gone { (x : EndId) (w : Why) → end_of event.now ≡ Some x → slice_get self.old.ends x.0 ≡ Some (End.Closed w) → result ≡ Err (StepError.Gone w) }
-        ensures loss { IsLoss event.now → result ≢ Err StepError.NoMemory }
+        ensures loss { IsTrue (is_loss event.now) → result ≢ Err StepError.NoMemory }
         ensures lost { (x : EndId) (w : Why) (e : End) → event.now ≡ Event.Lost x w → slice_get self.old.ends x.0 ≡ Some e → is_open e ≡ true → IsOk result }
         ensures silent { (x : EndId) (w : Why) → event.now ≡ Event.Lost x w → IfOk result (λ r. r ≡ loss_reply x w) }
-        ensures alone { IsLoss event.now → IfErr result IsGone }
-        ensures quiet { IsLoss event.now → IfOk result IsSilent }
+        ensures alone { IsTrue (is_loss event.now) → IfErr result IsGone }
+        ensures quiet { IsTrue (is_loss event.now) → IfOk result IsSilent }
 
         // A frame closes an end that is up only where it is a right reply.
         ensures replaced { IfOk result (λ r. ClosesOnReply self.old event.now r) }
@@ -232,11 +232,11 @@ impl Node {
 
         ensures unknown { (x : EndId) → end_of event.now ≡ Some x → slice_get self.now.ends x.0 ≡ None → result ≡ Err StepError.NoSuchEnd }
         ensures gone { (x : EndId) (w : Why) → end_of event.now ≡ Some x → slice_get self.now.ends x.0 ≡ Some (End.Closed w) → result ≡ Err (StepError.Gone w) }
-        ensures loss { IsLoss event.now → result ≢ Err StepError.NoMemory }
+        ensures loss { IsTrue (is_loss event.now) → result ≢ Err StepError.NoMemory }
         ensures lost { (x : EndId) (w : Why) (e : End) → event.now ≡ Event.Lost x w → slice_get self.now.ends x.0 ≡ Some e → is_open e ≡ true → IsOk result }
         ensures silent { (x : EndId) (w : Why) → event.now ≡ Event.Lost x w → IfOk result (λ r. r ≡ loss_reply x w) }
-        ensures alone { IsLoss event.now → IfErr result IsGone }
-        ensures quiet { IsLoss event.now → IfOk result IsSilent }
+        ensures alone { IsTrue (is_loss event.now) → IfErr result IsGone }
+        ensures quiet { IsTrue (is_loss event.now) → IfOk result IsSilent }
     {
         self.answer_by_effect(alloc, event, fresh)
     }
@@ -246,7 +246,7 @@ impl Node {
     #[inline(always)]
     fn make_step(&mut self, alloc: Global, event: &Event, fresh: u32) -> Result<Reply, StepError>
         ensures step { IsStep result (step self.old event.now fresh) self.old self.new }
-        ensures loss { IsLoss event.now → result ≢ Err StepError.NoMemory }
+        ensures loss { IsTrue (is_loss event.now) → result ≢ Err StepError.NoMemory }
         ensures legal { AreLegal self.old.ends }
     {
         self.show_legal();
@@ -276,7 +276,7 @@ impl Node {
         fresh: u32,
     ) -> Result<Reply, StepError>
         ensures step { IsStep result (step self.old event.now fresh) self.old self.new }
-        ensures loss { IsLoss event.now → result ≢ Err StepError.NoMemory }
+        ensures loss { IsTrue (is_loss event.now) → result ≢ Err StepError.NoMemory }
         ensures legal { AreLegal self.old.ends }
     {
         self.show_legal();
@@ -342,7 +342,7 @@ impl Node {
     // An answer, with what is shown of it at once.
     fn answer_by_effect(&self, alloc: Global, event: &Event, fresh: u32) -> Result<Reply, StepError>
         ensures answer { GivesReply result (step self.now event.now fresh) }
-        ensures loss { IsLoss event.now → result ≢ Err StepError.NoMemory }
+        ensures loss { IsTrue (is_loss event.now) → result ≢ Err StepError.NoMemory }
     {
         let prepared = self.work_out(alloc, event, fresh)?;
         Ok(prepared.into_reply())
@@ -400,7 +400,7 @@ impl Node {
         fresh: u32,
     ) -> Result<Effect, StepError>
         ensures effect { Gives result (effect_of self.now event.now fresh) }
-        ensures loss { IsLoss event.now → result ≢ Err StepError.NoMemory }
+        ensures loss { IsTrue (is_loss event.now) → result ≢ Err StepError.NoMemory }
         ensures few { length self.now.ends ≤ self.now.steps }
         ensures bounded { self.now.steps ≤ (let l = limits_of self.now in l.steps) }
         ensures numbered { length self.now.ends ≤ (let l = limits_of self.now in l.ends) }

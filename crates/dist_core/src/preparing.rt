@@ -1,10 +1,10 @@
 //! A step in two halves: what it will do, and that it is made.
-ghost use Rattle.std.specs.Prelude.{◌≡◌, ◌≢◌, ℕ, true, slice_get, IfOk, IfErr, IsOk, OnErr, Ok, Err, Some, None};
+ghost use Rattle.std.specs.Prelude.{◌≡◌, ◌≢◌, ℕ, true, slice_get, IfOk, IfErr, IsOk, OnErr, Ok, Err, Some, None, IsTrue};
 ghost use Rattle.dist_core_ends.specs.Ends.{AreLegal, is_open};
 ghost use Rattle.dist_core.specs.Clauses.{end_of, loss_reply};
-ghost use Rattle.dist_core.specs.Losses.{IsGone, IsSilent};
+ghost use Rattle.dist_core.specs.Losses.{IsGone, IsSilent, is_loss};
 ghost use Rattle.dist_core.specs.Step.{effect_of, step, cost_of, at_end, tick_effect};
-ghost use Rattle.dist_core.specs.Answers.{IsStep, IsLoss, Refuses, reply_of};
+ghost use Rattle.dist_core.specs.Answers.{IsStep, Refuses, reply_of};
 ghost use Rattle.dist_core.specs.Preparing.{IsPrepared, FitsNode, GivesPrepared, after_commit};
 
 use crate::effect::Effect;
@@ -84,11 +84,11 @@ impl Node {
 
         ensures unknown { (x : EndId) → end_of event.now ≡ Some x → slice_get self.now.ends x.0 ≡ None → result ≡ Err StepError.NoSuchEnd }
         ensures gone { (x : EndId) (w : Why) → end_of event.now ≡ Some x → slice_get self.now.ends x.0 ≡ Some (End.Closed w) → result ≡ Err (StepError.Gone w) }
-        ensures loss { IsLoss event.now → result ≢ Err StepError.NoMemory }
+        ensures loss { IsTrue (is_loss event.now) → result ≢ Err StepError.NoMemory }
         ensures lost { (x : EndId) (w : Why) (e : End) → event.now ≡ Event.Lost x w → slice_get self.now.ends x.0 ≡ Some e → is_open e ≡ true → IsOk result }
         ensures silent { (x : EndId) (w : Why) → event.now ≡ Event.Lost x w → IfOk result (λ p. p.reply ≡ loss_reply x w) }
-        ensures alone { IsLoss event.now → IfErr result IsGone }
-        ensures quiet { IsLoss event.now → IfOk result (λ p. IsSilent p.reply) }
+        ensures alone { IsTrue (is_loss event.now) → IfErr result IsGone }
+        ensures quiet { IsTrue (is_loss event.now) → IfOk result (λ p. IsSilent p.reply) }
     {
         self.work_out(alloc, event, fresh)
     }
@@ -104,7 +104,7 @@ impl Node {
         ensures reply { IfOk result (λ r. r ≡ prepared.reply) }
 
         ensures err { IfErr result (λ e. e ≡ StepError.NoMemory) }
-        ensures loss { (v : Event) (fresh : ℕ) → IsPrepared self.old v fresh prepared → IsLoss v → IsOk result }
+        ensures loss { (v : Event) (fresh : ℕ) → IsPrepared self.old v fresh prepared → IsTrue (is_loss v) → IsOk result }
         ensures unchanged { OnErr result (self.new ≡ self.old) }
     {
         let Prepared {
@@ -124,7 +124,7 @@ impl Node {
         fresh: u32,
     ) -> Result<Prepared, StepError>
         ensures prepared { GivesPrepared result self.now.ends (cost_of event.now) (effect_of self.now event.now fresh) }
-        ensures loss { IsLoss event.now → result ≢ Err StepError.NoMemory }
+        ensures loss { IsTrue (is_loss event.now) → result ≢ Err StepError.NoMemory }
     {
         match event {
             Event::Tick { end_: id } => self.work_out_tick(alloc, *id),
@@ -161,7 +161,7 @@ impl Node {
         fresh: u32,
     ) -> Result<Prepared, StepError>
         ensures prepared { GivesPrepared result self.now.ends (cost_of event.now) (effect_of self.now event.now fresh) }
-        ensures loss { IsLoss event.now → result ≢ Err StepError.NoMemory }
+        ensures loss { IsTrue (is_loss event.now) → result ≢ Err StepError.NoMemory }
     {
         let effect = self.effect(alloc, event, fresh)?;
         Ok(of_effect(effect, cost(event)))
@@ -172,7 +172,8 @@ impl Node {
         requires { FitsNode self.old (record { reply = reply; change = change; cost = cost }) }
         ensures ok { IfOk result (λ r. (r ≡ reply) × (self.new ≡ after_commit self.old (record { reply = reply; change = change; cost = cost }))) }
         ensures err { IfErr result (λ e. (e ≡ StepError.NoMemory) × (self.new ≡ self.old)) }
-        ensures loss { (v : Event) (fresh : ℕ) → IsPrepared self.old v fresh (record { reply = reply; change = change; cost = cost }) → IsLoss v → IsOk result }
+        ensures loss { (v : Event) (fresh : ℕ) → IsPrepared self.old v fresh (record { reply = reply; change = change; cost = cost })
+            → IsTrue (is_loss v) → IsOk result }
     {
         self.show_legal();
         // This shows what every node keeps.

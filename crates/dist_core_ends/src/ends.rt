@@ -183,18 +183,18 @@ impl Ends {
     }
 
     /// The up end whose peer has this name, and its record. There is at most one.
-    pub fn up_of(&self, peer: &NodeName) -> Option<(EndId, &UpRecord)>
+    pub fn up_with(&self, peer: &NodeName) -> Option<(EndId, &UpRecord)>
         ensures found { FindsUp self.now peer.now (option_map (λ r. (r.0, r.1.now)) result) }
         ensures only { (i : ℕ) (kept : UpRecord) → slice_get self.now i ≡ Some (End.Up kept) → kept.peer ≡ peer.now
             → option_map (λ r. (r.0, r.1.now)) result ≡ up_pair i kept }
     {
         // This shows that the entries are those of the ends.
         let _ = self.open_ends();
-        self.with_record(self.up_id_of(peer))
+        self.with_record(self.up_id_with(peer))
     }
 
     // The end that the peer's entry has up.
-    fn up_id_of(&self, peer: &NodeName) -> Option<EndId>
+    fn up_id_with(&self, peer: &NodeName) -> Option<EndId>
         ensures { result ≡ option_and_then up_id (entry_in self.now peer.now) }
     {
         self.entry_of(peer)?.up()

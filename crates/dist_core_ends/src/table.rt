@@ -177,7 +177,7 @@ fn apply_new(
 }
 
 // What an end changes in the table.
-fn shift_at(
+fn shift_by_number(
     peers: &mut Peers,
     rows: &Rows,
     slots: &Slab<End>,
@@ -199,7 +199,7 @@ fn shift_at(
 }
 
 // Changes an end.
-fn apply_at(
+fn apply_known(
     peers: &mut Peers,
     rows: &mut Rows,
     slots: &mut Slab<End>,
@@ -221,7 +221,7 @@ fn apply_at(
     ensures err { OnErr result ((peers.new ≡ peers.old) × (ends_of_rows rows.new.items slots.new.slots ≡ ends_of_rows rows.old.items slots.old.slots)) }
     ensures loss { claim_of this ≡ None → IsOk result }
 {
-    shift_at(peers, rows, slots, me, id, &this)?;
+    shift_by_number(peers, rows, slots, me, id, &this)?;
     put(rows, slots, id.0 as usize, this);
     put_second(rows, slots, other);
     Ok(())
@@ -252,7 +252,7 @@ pub fn apply(
     ensures loss { claim_of this ≡ None → id.0 < length rows.old.items → IsOk result }
 {
     if (id.0 as usize) < rows.len() {
-        apply_at(peers, rows, slots, me, id, this, other)
+        apply_known(peers, rows, slots, me, id, this, other)
     } else {
         apply_new(peers, rows, slots, me, id, this, other)
     }

@@ -114,7 +114,7 @@ pub lost-closed : (n : NodeState) (x : EndId) (w : Why) (fresh : ℕ) (r : Reply
 lost-closed n x w fresh r m is =
     let h = has-effect n (event.Lost x w) fresh r m is in
     let own : h.effect.reply.end_ ≡ x = effect-end n (event.Lost x w) fresh h.effect h.is in
-    let kept = of_ok (λ (f : Effect). (claim_of f.this ≡ None) × (f.reply.end_.0 < length n.ends)) _ h.effect h.is (loses n (event.Lost x w) fresh tt) in
+    let kept = of_ok (λ (f : Effect). (claim_of f.this ≡ None) × (f.reply.end_.0 < length n.ends)) _ h.effect h.is (loses n (event.Lost x w) fresh refl) in
     let within : x.0 < length n.ends = subst (λ (y : EndId). y.0 < length n.ends) own kept.1 in
     let put : m.ends ≡ put_end n.ends x.0 (ends.Closed w) = ap (λ (k : NodeState). k.ends) h.node ∙ (loss_change n x w fresh h.effect h.is).0 in
     ap (λ (es : List End). slice_get es x.0) put

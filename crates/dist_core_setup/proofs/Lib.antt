@@ -1,3 +1,4 @@
+pub mod Framing
 pub mod Sayable
 pub mod Versions
 pub mod Wholes

@@ -1,73 +1,147 @@
 //! The frames that a node sends.
-ghost use Rattle.std.specs.Prelude.{◌≡◌, ◌++◌, IfOk};
-ghost use Rattle.dist_core_setup.specs.Saying.{frame_of, CanBeSaid, status_text, name_text, challenge_text, greeting_text, reply_text, ack_text};
-ghost use Rattle.dist_core_setup.specs.Saying.{reply_message, complement_message};
+//!
+//! A frame is appended to what is sent before it, and the own name is read where the setup has it: what is sent in one step takes
+//! memory once.
+ghost use Rattle.std.specs.Prelude.{◌≡◌, ◌<◌, ◌^◌, ◌++◌, [], IfOk, OnOk};
+ghost use Rattle.std.specs.Int.{w16, to_be_bytes};
+ghost use Rattle.dist_messages.specs.declared.message.Message.TheVariants as message;
+ghost use Rattle.dist_core_setup.specs.Saying.{frame_of, status_text, name_text, challenge_text, greeting_text, reply_text, ack_text};
+ghost use Rattle.dist_core_setup.specs.Saying.{challenge_message, complement_message, name_message, reply_message, ack_message};
 
 use crate::checks::{announced_by, opens_new, own_digest};
 use crate::setup::Setup;
-use dist_frames::{FrameError, into_short};
-use dist_messages::{Form, Message, MessageError, Side, Status, encode};
+use dist_messages::{
+    Form, Status, put_ack, put_complement, put_new_challenge, put_new_name, put_old_challenge,
+    put_old_name, put_reply, put_status,
+};
 use dist_names::{ByteString, NodeName};
 use std::alloc::{AllocError, Global};
 
-// The frame of a message.
-#[tactic(auto, unfolding(crate::specs::Saying::frame_of))]
-fn frame(alloc: Global, side: Side, message: &Message) -> Result<ByteString, AllocError>
-    requires { CanBeSaid side message.now }
-    ensures { IfOk result (λ b. b ≡ frame_of message.now) }
+/// Room for what is sent in one step beside a name: a status, and a challenge after it, have at most 39 bytes.
+const ROOM: usize = 40;
+
+// Nothing is sent so far. There is room for what a node sends in one step.
+fn begin(alloc: Global, setup: &Setup) -> Result<Vec<u8>, AllocError>
+    ensures { IfOk result (λ say. say.items ≡ []) }
 {
-    let body = match encode(alloc, side, message) {
-        Ok(body) => body,
-        Err(MessageError::NoMemory) => return Err(AllocError),
-        Err(_) => unreachable!(),
-    };
-    match into_short(body) {
-        Ok(frame) => Ok(ByteString::from_vec(frame)),
-        Err(FrameError::NoMemory) => Err(AllocError),
-        Err(FrameError::TooLong) => unreachable!(),
+    Vec::with_capacity(alloc, ROOM + setup.name.bytes().len())
+}
+
+// Appends the length of a frame: how many bytes its body has.
+fn put_len(say: &mut Vec<u8>, len: usize) -> Result<(), AllocError>
+    // No body that a node sends has more than 274 bytes.
+    requires { len < 2 ^ 16 }
+    ensures { OnOk result (say.new.items ≡ say.old.items ++ to_be_bytes w16 len) }
+{
+    say.extend_from_slice(&(len as u16).to_be_bytes())
+}
+
+// Appends a status.
+#[tactic(auto, using(crate::proofs::Framing::says_status, crate::proofs::Framing::text_is_short))]
+fn put_status_frame(say: &mut Vec<u8>, status: Status) -> Result<(), AllocError>
+    ensures { OnOk result (say.new.items ≡ say.old.items ++ frame_of (message.Status status)) }
+{
+    put_len(say, 1 + status.text().len())?;
+    put_status(say, status)
+}
+
+// Appends the own name in the form that opens the handshake.
+#[tactic(auto, using(crate::proofs::Framing::old_name, crate::proofs::Framing::new_name))]
+fn put_name_frame(say: &mut Vec<u8>, setup: &Setup, form: Form) -> Result<(), AllocError>
+    ensures { OnOk result (say.new.items ≡ say.old.items ++ frame_of (name_message setup.now form)) }
+{
+    let name = setup.name.bytes();
+    let flags = announced_by(setup);
+    if opens_new(setup, form) {
+        put_len(say, 15 + name.len())?;
+        put_new_name(say, flags, setup.creation, name)
+    } else {
+        put_len(say, 7 + name.len())?;
+        put_old_name(say, flags.low(), name)
     }
 }
 
-// The side that sends a status.
-fn teller(status: Status) -> Side
-    ensures { CanBeSaid result (Message.Status status) }
+// Appends the own challenge.
+#[tactic(auto, using(crate::proofs::Framing::old_challenge, crate::proofs::Framing::new_challenge))]
+fn put_challenge_frame(
+    say: &mut Vec<u8>,
+    setup: &Setup,
+    form: Form,
+    fresh: u32,
+) -> Result<(), AllocError>
+    ensures { OnOk result (say.new.items ≡ say.old.items ++ frame_of (challenge_message setup.now form fresh)) }
 {
-    match status {
-        Status::True | Status::False => Side::Dialler,
-        _ => Side::Acceptor,
+    let name = setup.name.bytes();
+    let flags = announced_by(setup);
+    match form {
+        Form::New | Form::Old => {
+            put_len(say, 19 + name.len())?;
+            put_new_challenge(say, flags, fresh, setup.creation, name)
+        }
+        Form::Five => {
+            put_len(say, 11 + name.len())?;
+            put_old_challenge(say, flags.low(), fresh, name)
+        }
     }
+}
+
+// Appends the complement.
+#[tactic(auto, using(crate::proofs::Framing::complement))]
+fn put_complement_frame(say: &mut Vec<u8>, setup: &Setup) -> Result<(), AllocError>
+    ensures { OnOk result (say.new.items ≡ say.old.items ++ frame_of (complement_message setup.now)) }
+{
+    put_len(say, 9)?;
+    put_complement(say, announced_by(setup).high(), setup.creation)
+}
+
+// Appends the reply to a challenge.
+#[tactic(auto, using(crate::proofs::Framing::reply))]
+fn put_reply_frame(
+    say: &mut Vec<u8>,
+    setup: &Setup,
+    peer: &NodeName,
+    fresh: u32,
+    challenge: u32,
+) -> Result<(), AllocError>
+    ensures { OnOk result (say.new.items ≡ say.old.items ++ frame_of (reply_message setup.now peer.now fresh challenge)) }
+{
+    put_len(say, 21)?;
+    put_reply(say, fresh, &own_digest(setup, peer, challenge))
+}
+
+// Appends the acknowledgement of a reply.
+#[tactic(auto, using(crate::proofs::Framing::ack))]
+fn put_ack_frame(
+    say: &mut Vec<u8>,
+    setup: &Setup,
+    peer: &NodeName,
+    challenge: u32,
+) -> Result<(), AllocError>
+    ensures { OnOk result (say.new.items ≡ say.old.items ++ frame_of (ack_message setup.now peer.now challenge)) }
+{
+    put_len(say, 17)?;
+    put_ack(say, &own_digest(setup, peer, challenge))
 }
 
 /// A status, in its frame.
 pub fn status_frame(alloc: Global, status: Status) -> Result<ByteString, AllocError>
     ensures { IfOk result (λ b. b ≡ status_text status) }
 {
-    frame(alloc, teller(status), &Message::Status(status))
+    let mut say = Vec::with_capacity(alloc, ROOM)?;
+    put_status_frame(&mut say, status)?;
+    Ok(ByteString::from_vec(say))
 }
 
 /// The own name in the form that opens the handshake, in its frame (OTP's `send_name`).
-#[tactic(auto, using(crate::proofs::Sayable::old_name, crate::proofs::Sayable::new_name))]
 pub fn name_frame(alloc: Global, setup: &Setup, form: Form) -> Result<ByteString, AllocError>
     ensures { IfOk result (λ b. b ≡ name_text setup.now form) }
 {
-    let name = ByteString::from_slice(alloc, setup.name.bytes())?;
-    let message = if opens_new(setup, form) {
-        Message::NewName {
-            flags: announced_by(setup),
-            creation: setup.creation,
-            name,
-        }
-    } else {
-        Message::OldName {
-            flags: announced_by(setup).low(),
-            name,
-        }
-    };
-    frame(alloc, Side::Dialler, &message)
+    let mut say = begin(alloc, setup)?;
+    put_name_frame(&mut say, setup, form)?;
+    Ok(ByteString::from_vec(say))
 }
 
 /// The own challenge, in its frame (OTP's `send_challenge`).
-#[tactic(auto, using(crate::proofs::Sayable::old_challenge, crate::proofs::Sayable::new_challenge))]
 pub fn challenge_frame(
     alloc: Global,
     setup: &Setup,
@@ -76,21 +150,9 @@ pub fn challenge_frame(
 ) -> Result<ByteString, AllocError>
     ensures { IfOk result (λ b. b ≡ challenge_text setup.now form fresh) }
 {
-    let name = ByteString::from_slice(alloc, setup.name.bytes())?;
-    let message = match form {
-        Form::New | Form::Old => Message::NewChallenge {
-            flags: announced_by(setup),
-            challenge: fresh,
-            creation: setup.creation,
-            name,
-        },
-        Form::Five => Message::OldChallenge {
-            flags: announced_by(setup).low(),
-            challenge: fresh,
-            name,
-        },
-    };
-    frame(alloc, Side::Acceptor, &message)
+    let mut say = begin(alloc, setup)?;
+    put_challenge_frame(&mut say, setup, form, fresh)?;
+    Ok(ByteString::from_vec(say))
 }
 
 /// The status, and the challenge after it: two frames.
@@ -103,40 +165,10 @@ pub fn greeting(
 ) -> Result<ByteString, AllocError>
     ensures { IfOk result (λ b. b ≡ greeting_text setup.now status form fresh) }
 {
-    let mut say = status_frame(alloc, status)?;
-    let challenge = challenge_frame(alloc, setup, form, fresh)?;
-    say.append(challenge.as_slice())?;
-    Ok(say)
-}
-
-// The reply to a challenge, in its frame.
-#[tactic(auto, using(crate::proofs::Sayable::reply))]
-fn answer_frame(
-    alloc: Global,
-    setup: &Setup,
-    peer: &NodeName,
-    fresh: u32,
-    challenge: u32,
-) -> Result<ByteString, AllocError>
-    ensures { IfOk result (λ b. b ≡ frame_of (reply_message setup.now peer.now fresh challenge)) }
-{
-    let message = Message::Reply {
-        challenge: fresh,
-        digest: own_digest(setup, peer, challenge),
-    };
-    frame(alloc, Side::Dialler, &message)
-}
-
-// The complement, in its frame.
-#[tactic(auto, using(crate::proofs::Sayable::complement))]
-fn complement_frame(alloc: Global, setup: &Setup) -> Result<ByteString, AllocError>
-    ensures { IfOk result (λ b. b ≡ frame_of (complement_message setup.now)) }
-{
-    let message = Message::Complement {
-        high: announced_by(setup).high(),
-        creation: setup.creation,
-    };
-    frame(alloc, Side::Dialler, &message)
+    let mut say = begin(alloc, setup)?;
+    put_status_frame(&mut say, status)?;
+    put_challenge_frame(&mut say, setup, form, fresh)?;
+    Ok(ByteString::from_vec(say))
 }
 
 /// The reply to a challenge, after the complement in a handshake that has one (OTP's `send_challenge_reply`,
@@ -151,19 +183,16 @@ pub fn reply_frame(
 ) -> Result<ByteString, AllocError>
     ensures { IfOk result (λ b. b ≡ reply_text setup.now form peer.now fresh challenge) }
 {
-    let reply = answer_frame(alloc, setup, peer, fresh, challenge)?;
+    let mut say = Vec::with_capacity(alloc, ROOM)?;
     match form {
-        Form::New | Form::Five => Ok(reply),
-        Form::Old => {
-            let mut say = complement_frame(alloc, setup)?;
-            say.append(reply.as_slice())?;
-            Ok(say)
-        }
+        Form::New | Form::Five => {}
+        Form::Old => put_complement_frame(&mut say, setup)?,
     }
+    put_reply_frame(&mut say, setup, peer, fresh, challenge)?;
+    Ok(ByteString::from_vec(say))
 }
 
 /// The acknowledgement of a reply, in its frame (OTP's `send_challenge_ack`).
-#[tactic(auto, using(crate::proofs::Sayable::ack))]
 pub fn ack_frame(
     alloc: Global,
     setup: &Setup,
@@ -172,8 +201,7 @@ pub fn ack_frame(
 ) -> Result<ByteString, AllocError>
     ensures { IfOk result (λ b. b ≡ ack_text setup.now peer.now challenge) }
 {
-    let message = Message::Ack {
-        digest: own_digest(setup, peer, challenge),
-    };
-    frame(alloc, Side::Acceptor, &message)
+    let mut say = Vec::with_capacity(alloc, ROOM)?;
+    put_ack_frame(&mut say, setup, peer, challenge)?;
+    Ok(ByteString::from_vec(say))
 }

@@ -6,14 +6,13 @@ use dist_peers::EndId;
 /// Its meaning is what it was made of and the end that it is for, which no step changes, and what it says of itself: the
 /// list of its own steps so far, how it may say that an end stands, and what it may refuse.
 pub trait Desk {
-    ghost use Rattle.std.specs.Prelude.{◌≡◌, ◌≢◌, [], ◌∷◌, ◌++◌, Some, Err, OnOk, OnErr, IfErr, option_copied};
+    ghost use Rattle.std.specs.Prelude.{◌≡◌, ◌≢◌, [], ◌∷◌, ◌++◌, Some, Err, OnOk, OnErr, IfErr, option_copied, IsTrue};
     ghost use Rattle.dist_peers.specs.declared.entry.EndId.{EndId};
     ghost use Rattle.dist_core.specs.declared.event.Event.{Event};
     ghost use Rattle.dist_core.specs.declared.reply.Reply.{Reply};
-    ghost use Rattle.dist_core.specs.Answers.{IsLoss};
     ghost use Rattle.dist_core.specs.Clauses.{end_of};
     ghost use Rattle.dist_drive.specs.Desks.{DeskFacts, last_reply};
-    ghost use Rattle.dist_core.specs.Losses.{IsGone};
+    ghost use Rattle.dist_core.specs.Losses.{IsGone, is_loss};
 
     /// What the desk was made of. It is there for proofs alone.
     type Base;
@@ -30,7 +29,7 @@ pub trait Desk {
         ensures ok { OnOk result ((reply : Reply) × (facts.list self.new ≡ facts.list self.old ++ (event, fresh, reply) ∷ [])) }
         ensures err { OnErr result (self.new ≡ self.old) }
         ensures refused { IfErr result (λ e. facts.refusal self.old event fresh e) }
-        ensures loss { IsLoss event → IfErr result IsGone }
+        ensures loss { IsTrue (is_loss event) → IfErr result IsGone }
         ensures other { end_of event ≢ Some (serves self.old) → result ≡ Err StepError.NoSuchEnd }
         ensures base { base self.new ≡ base self.old }
         ensures serves { serves self.new ≡ serves self.old };

@@ -1,9 +1,9 @@
-ghost use Rattle.std.specs.Prelude.{◌≡◌, ◌≢◌, ◌<◌, ◌≤◌, ◌+◌, ◌++◌, ◌∷◌, [], vec_len, vec_capacity, false};
+ghost use Rattle.std.specs.Prelude.{◌≡◌, ◌≢◌, ◌<◌, ◌≤◌, ◌+◌, ◌++◌, ◌∷◌, [], vec_len, vec_capacity, false, IsTrue};
 ghost use Rattle.std.specs.Prelude.{Some, Ok, Err, IfOk, IfErr, OnOk, OnErr};
 ghost use Rattle.dist_core.specs.declared.reply.Reply.{Reply};
-ghost use Rattle.dist_core.specs.Answers.{IsLoss, Refuses};
+ghost use Rattle.dist_core.specs.Answers.{Refuses};
 ghost use Rattle.dist_core.specs.Clauses.{end_of};
-ghost use Rattle.dist_core.specs.Losses.{IsGone};
+ghost use Rattle.dist_core.specs.Losses.{IsGone, is_loss};
 ghost use Rattle.dist_core.specs.Step.{step};
 ghost use Rattle.dist_drive.specs.Memory.{MayRefuse};
 
@@ -103,7 +103,7 @@ impl Desk for MemoryDesk {
             × (step self.old.node event fresh ≡ Ok (reply, self.new.node))) }
         ensures err { OnErr result (self.new ≡ self.old) }
         ensures refused { IfErr result (λ e. MayRefuse self.old event fresh e) }
-        ensures loss { IsLoss event → IfErr result IsGone }
+        ensures loss { IsTrue (is_loss event) → IfErr result IsGone }
         ensures other { end_of event ≢ Some self.old.end_ → result ≡ Err StepError.NoSuchEnd }
         ensures serves { self.new.end_ ≡ self.old.end_ }
     {

@@ -4,4 +4,5 @@ pub mod Legal
 pub mod Messages
 pub mod Named
 pub mod OpenFields
+pub mod Own
 pub mod Refusals

@@ -15,7 +15,7 @@ use Rattle.dist_epmd.specs.declared.row.Row.{Row}
 use Rattle.dist_epmd.specs.Registrations.{with_row, is_named, is_behind}
 use Rattle.dist_epmd.specs.Named.{IsAtItsName, StandAtNames}
 
-abbrev compared : List ℕ → List ℕ → Ordering
+abbrev pub compared : List ℕ → List ℕ → Ordering
 compared a b = slice_cmp nat_cmp a b
 
 turned_eq : (o : Ordering) → is_eq (ordering_reverse o) ≡ is_eq o
@@ -27,7 +27,7 @@ turned_eq Greater = refl
 named_is : (name key : List ℕ) → is_eq (compared name key) ≡ bytes_eq key name
 named_is name key = ap is_eq (nat_list_cmp_total.antisymm name key) ∙ turned_eq (compared key name) ∙ is_eq-slice_cmp key name
 
-at_name : {Z : Type 0} (name : List ℕ) (e : Vec ℕ Z × Row) → IsAtItsName e → is_eq (compared name e.0.items) ≡ is_named name e.1
+pub at_name : {Z : Type 0} (name : List ℕ) (e : Vec ℕ Z × Row) → IsAtItsName e → is_eq (compared name e.0.items) ≡ is_named name e.1
 at_name name e own = ap (λ (k : List ℕ). is_eq (compared name k)) own ∙ named_is name e.1.info.name
 
 -- ---- lookups

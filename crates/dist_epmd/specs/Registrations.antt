@@ -44,6 +44,10 @@ is_named name row = bytes_eq row.info.name name
 abbrev pub is_of : ℕ → Row → Bool
 is_of conn row = row.conn == conn
 
+-- the row is that of this connection, and of this name
+abbrev pub is_own : ℕ → List ℕ → Row → Bool
+is_own conn name row = is_of conn row && is_named name row
+
 -- WHICH REGISTRATIONS ARE ACCEPTED: a good name, neither it nor the connection registered, room for a row, and a creation left
 abbrev pub is_accepted : ℕ → NodeInfo → Registrations → Bool
 is_accepted conn info registrations =
@@ -78,6 +82,10 @@ after_request conn info registrations = if is_accepted conn info registrations t
 abbrev pub after_closed : ℕ → Registrations → Registrations
 after_closed conn registrations = record registrations { rows = filter (λ row. not (is_of conn row)) registrations.rows }
 
+-- the registrations without that of this name, where it is this connection's
+abbrev pub after_closed_as : ℕ → List ℕ → Registrations → Registrations
+after_closed_as conn name registrations = record registrations { rows = filter (λ row. not (is_own conn name row)) registrations.rows }
+
 -- ---- what is answered
 
 -- the creation that a node of version 5 is given: one of 1 to 3
@@ -99,6 +107,10 @@ answer_to conn info registrations = if is_accepted conn info registrations then 
 -- what the node of this name said of itself, where it is registered
 abbrev pub registered_info : List ℕ → Registrations → Option NodeInfo
 registered_info name registrations = option_map (λ row. row.info) (find (is_named name) registrations.rows)
+
+-- the name that is registered on this connection, where one is
+abbrev pub registered_name : ℕ → Registrations → Option (List ℕ)
+registered_name conn registrations = option_map (λ row. row.info.name) (find (is_of conn) registrations.rows)
 
 -- the line of a row among all names
 abbrev pub line_of : Row → List ℕ

@@ -1,13 +1,15 @@
 //! The registry behind the port mapper's answers.
 
-ghost use Rattle.std.specs.Prelude.{◌≡◌, ◌∷◌, ◌++◌, IfOk, OnOk, OnErr, IsTrue, flat_map, option_copied};
-ghost use Rattle.dist_epmd.specs.Registrations.{Registrations, IsLegal, opening, is_accepted, after_request, after_closed};
-ghost use Rattle.dist_epmd.specs.Registrations.{answer_to, creation_answer, refusal_answer, registered_info, line_of, names_text};
+ghost use Rattle.std.specs.Prelude.{◌≡◌, ◌⊎◌, ◌∷◌, ◌++◌, ℕ, false, IfOk, OnOk, OnErr, IsTrue, Some, flat_map, option_copied};
+ghost use Rattle.std.specs.List.{list_any};
+ghost use Rattle.dist_epmd.specs.Registrations.{Registrations, IsLegal, opening, is_accepted, is_of, after_request, after_closed, after_closed_as};
+ghost use Rattle.dist_epmd.specs.Registrations.{answer_to, creation_answer, refusal_answer, registered_info, registered_name, line_of, names_text};
 
 use crate::message::{AliveReq, Answer, PortInfo};
 use crate::row::Row;
 use crate::rows::{
-    drop_conn, has_conn, has_fewer, has_name, is_short_name, push_lines, register, row_of_name,
+    drop_conn, drop_own, has_conn, has_fewer, has_name, is_short_name, push_lines, register,
+    row_of_name,
 };
 use dist_names::ByteString;
 use std::alloc::{AllocError, Global};
@@ -58,7 +60,7 @@ fn refusal(request: &AliveReq) -> Answer
 ///
 /// It has at most 1,024 of them (our own limit), in byte order of their names, and no two of one name or of one
 /// connection. It keeps them in a map from the name, so that a lookup is quick. The caller gives each connection a number
-/// that it uses for no other, and calls `closed` once the connection is over. Nothing here waits, reads or writes.
+/// that it uses for no other, and calls `closed` or `closed_as` once the connection is over. Nothing here waits, reads or writes.
 #[derive(Drop)]
 pub struct Registry {
     port: u16,
@@ -93,13 +95,12 @@ impl Registry {
         }
     }
 
-    // Whether this registration is accepted on this connection.
-    fn is_accepted(&self, conn: u64, request: &AliveReq) -> bool
-        ensures { result ≡ is_accepted conn request.now self.now }
+    // Whether this registration is accepted on each connection that has none.
+    fn has_place(&self, request: &AliveReq) -> bool
+        ensures { (conn : ℕ) → list_any (is_of conn) self.now.rows ≡ false → result ≡ is_accepted conn request.now self.now }
     {
         is_short_name(request.name.as_slice())
             && !has_name(&self.rows, request.name.as_slice())
-            && !has_conn(&self.rows, conn)
             && has_fewer(&self.rows, MOST)
             && self.next <= u32::MAX as u64
     }
@@ -129,7 +130,29 @@ impl Registry {
         ensures lacks { OnErr result (IsTrue (is_accepted conn request.now self.old)) }
         ensures err { OnErr result (self.new ≡ self.old) }
     {
-        if !self.is_accepted(conn, request) {
+        if has_conn(&self.rows, conn) {
+            return Ok(refusal(request));
+        }
+        self.alive_first(alloc, conn, request)
+    }
+
+    /// The same as `alive`, for a connection that has no registration: there is no walk over all rows to look for one.
+    pub fn alive_first(
+        &mut self,
+        alloc: Global,
+        conn: u64,
+        request: &AliveReq,
+    ) -> Result<Answer, AllocError>
+        // The caller knows it of a connection on which it has called neither this nor `alive` before. Any other calls `alive`.
+        requires { list_any (is_of conn) self.old.rows ≡ false }
+        ensures answer { IfOk result (λ answer. answer ≡ answer_to conn request.now self.old) }
+        ensures after { OnOk result (self.new ≡ after_request conn request.now self.old) }
+
+        // Memory runs out only where the registration is accepted.
+        ensures lacks { OnErr result (IsTrue (is_accepted conn request.now self.old)) }
+        ensures err { OnErr result (self.new ≡ self.old) }
+    {
+        if !self.has_place(request) {
             return Ok(refusal(request));
         }
         let creation = self.next as u32;
@@ -183,5 +206,21 @@ impl Registry {
         ensures { self.new ≡ after_closed conn self.old }
     {
         drop_conn(&mut self.rows, conn);
+    }
+
+    /// Drops the registration of this name where it was made on this connection, which is closed. It takes no memory.
+    ///
+    /// It is `closed` for a caller that knows under which name the connection is registered: the name is looked up,
+    /// and there is no walk over all rows.
+    pub fn closed_as(&mut self, conn: u64, name: &[u8])
+        ensures after { self.new ≡ after_closed_as conn name.now self.old }
+
+        // Where the connection is registered under this name, that is all that `closed` does.
+        ensures whole { registered_name conn self.old ≡ Some name.now → self.new ≡ after_closed conn self.old }
+
+        // In any other case it is that, or nothing.
+        ensures either { (self.new ≡ self.old) ⊎ (self.new ≡ after_closed conn self.old) }
+    {
+        drop_own(&mut self.rows, conn, name);
     }
 }

@@ -3,7 +3,7 @@
 ghost use Rattle.std.specs.Prelude.{◌≡◌, ◌++◌, false, not, length, filter, find, flat_map, nat_lt, option_copied, OnOk, OnErr};
 ghost use Rattle.std.specs.BTreeMap.{values};
 ghost use Rattle.std.specs.List.{list_all, list_any};
-ghost use Rattle.dist_epmd.specs.Registrations.{is_short_byte, is_short_name, is_named, is_of, with_row, line_of};
+ghost use Rattle.dist_epmd.specs.Registrations.{Apart, is_short_byte, is_short_name, is_named, is_of, is_own, with_row, line_of};
 ghost use Rattle.dist_epmd.specs.Named.{StandAtNames};
 
 use crate::encoding::push_both;
@@ -116,6 +116,32 @@ pub fn drop_conn(rows: &mut BTreeMap<Vec<u8>, Row>, conn: u64)
     ensures names { StandAtNames rows.new.entries }
 {
     rows.retain(|_name, row| row.conn != conn);
+}
+
+// Whether this connection has registered this name.
+fn has_own(rows: &BTreeMap<Vec<u8>, Row>, conn: u64, name: &[u8]) -> bool
+    // A registry keeps its rows so.
+    requires names { StandAtNames rows.now.entries }
+    requires apart { Apart (values rows.now) }
+    ensures { result ≡ list_any (is_own conn name.now) (values rows.now) }
+{
+    match row_of_name(rows, name) {
+        Some(row) => row.conn == conn,
+        None => false,
+    }
+}
+
+/// Drops the row of this name where it is this connection's. Otherwise it changes nothing.
+pub fn drop_own(rows: &mut BTreeMap<Vec<u8>, Row>, conn: u64, name: &[u8])
+    // A registry keeps its rows so.
+    requires names { StandAtNames rows.old.entries }
+    requires apart { Apart (values rows.old) }
+    ensures rows { values rows.new ≡ filter (λ row. not (is_own conn name.now row)) (values rows.old) }
+    ensures names { StandAtNames rows.new.entries }
+{
+    if has_own(rows, conn, name) {
+        rows.remove(name);
+    }
 }
 
 // Puts the line of a row: `name a at port 9001`, and a line feed.

@@ -1,5 +1,5 @@
 -- Clients that have not asked leave, and no registration does.
-use Rattle.std.proofs.Common.{◌≡◌, ℕ, suc, Bool, true, false, not, ◌&&◌, cond, List, [], ◌∷◌, Option, Some, None, is_some, refl, sym, ap, subst, ◌∙◌}
+use Rattle.std.proofs.Common.{◌≡◌, ℕ, suc, Bool, true, false, not, ◌&&◌, cond, List, [], ◌∷◌, Option, Some, None, is_some, refl, sym, ap, ◌∙◌}
 use Rattle.std.specs.Prelude.{filter, ◌-◌, nat_le, slice_get, IfSome}
 use Rattle.std.specs.List.{filter_map}
 use Rattle.std.specs.Map.{lookup, keys_of}
@@ -13,7 +13,7 @@ use Rattle.dist_epmd.specs.Registrations.{Registrations}
 use Rattle.dist_epmd_clients.specs.declared.client.Client.{Client}
 use Rattle.dist_epmd_clients.specs.declared.client.Talk.{Talk}
 use Rattle.dist_epmd_clients.specs.declared.client.Talk.TheVariants.{Asking, Registered}
-use Rattle.dist_epmd_clients.specs.Standing.{Stand, NumbersBelow, is_registered, is_registered_talk, asking_at, asking_since}
+use Rattle.dist_epmd_clients.specs.Standing.{Stand, NumbersBelow, is_registered, is_registered_talk, talk_name, client_name, asking_since}
 use Rattle.dist_epmd_clients.specs.Sweeping.{is_late}
 
 module _ {S : Type 0} where
@@ -24,14 +24,14 @@ module _ {S : Type 0} where
       ap (λ es. lookup (eq_by_cmp nat_cmp q) es) e
       ∙ lookup-filter-values (eq_by_cmp_equiv nat_cmp_total) (λ c. not (is_late now seconds c)) q m.entries (IsDistinct-from_sorted nat_cmp (keys_of m.entries) ordered)
 
-  by_talk : (a l : Bool) (c : Client S) → is_registered (Some c) ≡ a → is_registered (cond (not (not a && l)) (Some c) None) ≡ a
-  by_talk true l c e = e
-  by_talk false true c e = refl
-  by_talk false false c e = e
+  by_talk : (t : Talk) (l : Bool) (c : Client S) → c.talk ≡ t → client_name (cond (not (not (is_registered_talk t) && l)) (Some c) None) ≡ talk_name t
+  by_talk (Registered name) l c e = ap talk_name e
+  by_talk (Asking said) true c e = refl
+  by_talk (Asking said) false c e = ap talk_name e
 
-  registered_stays : (now seconds : ℕ) (o : Option (Client S)) → is_registered (option_filter (λ (c : Client S). not (is_late now seconds c)) o) ≡ is_registered o
+  registered_stays : (now seconds : ℕ) (o : Option (Client S)) → client_name (option_filter (λ (c : Client S). not (is_late now seconds c)) o) ≡ client_name o
   registered_stays now seconds None = refl
-  registered_stays now seconds (Some c) = by_talk (is_registered (Some c)) (nat_le seconds (now - c.since)) c refl
+  registered_stays now seconds (Some c) = by_talk c.talk (nat_le seconds (now - c.since)) c refl
 
   there_before : (now seconds : ℕ) (o : Option (Client S)) → is_some (option_filter (λ (c : Client S). not (is_late now seconds c)) o) ≡ true → is_some o ≡ true
   there_before now seconds None s = s
@@ -39,7 +39,7 @@ module _ {S : Type 0} where
 
   pub stand_swept : (now seconds : ℕ) (registrations : Registrations) (m n : BTreeMap ℕ (Client S)) → IsOrdered nat_cmp m → n.entries ≡ filter (λ e. not (is_late now seconds e.1)) m.entries → Stand registrations m → Stand registrations n
   stand_swept now seconds registrations m n ordered e stand q =
-      stand q ∙ sym (registered_stays now seconds (get nat_cmp m q)) ∙ ap (λ (o : Option (Client S)). is_registered o) (sym (unless_late now seconds m n ordered e q))
+      stand q ∙ sym (registered_stays now seconds (get nat_cmp m q)) ∙ ap (λ (o : Option (Client S)). client_name o) (sym (unless_late now seconds m n ordered e q))
 
   pub numbered_swept : (now seconds next : ℕ) (m n : BTreeMap ℕ (Client S)) → IsOrdered nat_cmp m → n.entries ≡ filter (λ e. not (is_late now seconds e.1)) m.entries → NumbersBelow next m → NumbersBelow next n
   numbered_swept now seconds next m n ordered e numbered q s =

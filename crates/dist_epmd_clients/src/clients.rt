@@ -20,7 +20,7 @@ use crate::open_error::OpenError;
 use crate::question::{Question, question_of};
 use crate::replying::{drop_registration, reply_to};
 use crate::reporting::{name_in, note_answer, note_end, note_registration};
-use crate::table::{client_in, first_asking, is_registered_in, put_client, set_talk, take_client};
+use crate::table::{client_in, client_name, first_asking, put_client, set_talk, take_client};
 use crate::turn::Turn;
 use dist_epmd::{Registry, Request};
 use dist_epmd_calls::Served;
@@ -160,11 +160,7 @@ impl<S: Drop> Clients<S> {
         ensures next { next_of self.new ≡ next_of self.old }
         ensures journal { journal_of self.new ≡ journal_of self.old }
     {
-        drop_registration(
-            &mut self.registry,
-            conn,
-            is_registered_in(&self.clients, conn),
-        );
+        drop_registration(&mut self.registry, conn, client_name(&self.clients, conn));
         take_client(&mut self.clients, conn)
     }
 

@@ -1,8 +1,8 @@
 //! What the registry answers to a client that asks.
 
-ghost use Rattle.std.specs.Prelude.{◌≡◌, false, IfOk, OnOk, OnErr};
+ghost use Rattle.std.specs.Prelude.{◌≡◌, false, IfOk, OnOk, OnErr, option_copied};
 ghost use Rattle.std.specs.List.{list_any};
-ghost use Rattle.dist_epmd.specs.Registrations.{after_closed, is_of};
+ghost use Rattle.dist_epmd.specs.Registrations.{after_closed, is_of, registered_name};
 ghost use Rattle.dist_epmd_calls.specs.Serving.{served_as};
 ghost use Rattle.dist_epmd_clients.specs.Replying.{answer_for, registrations_after, text_of};
 ghost use Rattle.dist_epmd_clients.specs.Clients.{Keeps};
@@ -23,6 +23,25 @@ fn text_of(alloc: Global, answer: &Answer) -> Result<ByteString, AllocError>
     }
 }
 
+// Asks the registry. A registration does not look through all rows for an earlier one of its connection.
+fn ask_first(
+    registry: &mut Registry,
+    alloc: Global,
+    conn: u64,
+    request: &Request,
+) -> Result<Answer, AllocError>
+    // The client of this connection has not asked yet.
+    requires { list_any (is_of conn) registry.old.rows ≡ false }
+    ensures answer { IfOk result (λ answer. answer ≡ answer_for conn request.now registry.old) }
+    ensures after { OnOk result (registry.new ≡ registrations_after conn request.now registry.old) }
+    ensures err { OnErr result (registry.new ≡ registry.old) }
+{
+    if let Request::Alive(info) = request {
+        return registry.alive_first(alloc, conn, info);
+    }
+    registry.ask(alloc, conn, request)
+}
+
 /// Asks the registry. Returns how the request is served, and the bytes of the answer.
 ///
 /// After an `Err` the registrations are those that there were. A creation may be used up.
@@ -39,7 +58,7 @@ pub fn reply_to(
     ensures after { OnOk result (registry.new ≡ registrations_after conn request.now registry.old) }
     ensures err { OnErr result (Keeps registry.old registry.new) }
 {
-    let answer = registry.ask(alloc, conn, request)?;
+    let answer = ask_first(registry, alloc, conn, request)?;
     let Ok(text) = text_of(alloc, &answer) else {
         registry.closed(conn);
         return Err(AllocError);
@@ -48,12 +67,12 @@ pub fn reply_to(
 }
 
 /// Drops the registration of a connection, where it has one.
-pub fn drop_registration(registry: &mut Registry, conn: u64, has_one: bool)
+pub fn drop_registration(registry: &mut Registry, conn: u64, name: Option<&[u8]>)
     // The caller knows it from the client of the connection.
-    requires { list_any (is_of conn) registry.old.rows ≡ has_one }
+    requires { registered_name conn registry.old ≡ option_copied name }
     ensures { registry.new ≡ after_closed conn registry.old }
 {
-    if has_one {
-        registry.closed(conn);
+    if let Some(name) = name {
+        registry.closed_as(conn, name);
     }
 }

@@ -4,7 +4,7 @@ ghost use Rattle.std.specs.Prelude.{◌≡◌, OnOk, OnErr, IsSome, Some, None, 
 ghost use Rattle.std.specs.Ordering.{nat_cmp};
 ghost use Rattle.std.specs.List.{filter_map};
 ghost use Rattle.std.specs.BTreeMap.{get, Updates, IsUnchanged};
-ghost use Rattle.dist_epmd_clients.specs.Standing.{asking_since, is_registered};
+ghost use Rattle.dist_epmd_clients.specs.Standing.{asking_since, client_name};
 ghost use Rattle.dist_epmd_clients.specs.Replying.{with_talk};
 
 use crate::client::{Client, Talk};
@@ -38,13 +38,16 @@ pub fn first_asking<S>(clients: &BTreeMap<u64, Client<S>>) -> Option<(u64, u64)>
         .nth(0)
 }
 
-/// Whether the client of a connection is registered.
-pub fn is_registered_in<S>(clients: &BTreeMap<u64, Client<S>>, conn: u64) -> bool
-    ensures { result ≡ is_registered (get nat_cmp clients.now conn) }
+/// The name under which the client of a connection is registered.
+pub fn client_name<S>(clients: &BTreeMap<u64, Client<S>>, conn: u64) -> Option<&[u8]>
+    ensures { option_copied result ≡ client_name (get nat_cmp clients.now conn) }
 {
     match client_in(clients, conn) {
-        Some(client) => matches!(client.talk, Talk::Registered(_)),
-        None => false,
+        Some(client) => match &client.talk {
+            Talk::Asking(_) => None,
+            Talk::Registered(name) => Some(name.as_slice()),
+        },
+        None => None,
     }
 }
 

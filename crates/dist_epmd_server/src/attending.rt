@@ -27,7 +27,7 @@ pub struct Ready {
     pub second: u64,
 }
 
-fn watch_of(is_left: bool) -> Watch
+fn watch_for_rest(is_left: bool) -> Watch
     ensures { WatchIsOf is_left result }
 {
     if is_left {
@@ -43,7 +43,7 @@ fn settle<S: Stream + Drop>(owing: &mut Owing<S>, conn: u64, step: Step<S>, now:
 {
     match step {
         Step::More => Watch::Reading,
-        Step::Leaves(stream, text) => watch_of(owing.leave(conn, stream, text, now)),
+        Step::Leaves(stream, text) => watch_for_rest(owing.leave(conn, stream, text, now)),
         Step::Quiet | Step::Closed => Watch::Nothing,
     }
 }
@@ -67,7 +67,7 @@ fn serve_client<S: Stream + Drop>(
 fn send_owed<S: Stream + Drop>(owing: &mut Owing<S>, conn: u64) -> Watch
     ensures { GoesOnOwed S.meaning conn owing.old owing.new result }
 {
-    watch_of(owing.go_on(conn))
+    watch_for_rest(owing.go_on(conn))
 }
 
 /// Does what is to be done for a connection that is ready, and returns what it is to be watched for. A client that is here is

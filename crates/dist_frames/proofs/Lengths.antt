@@ -1,11 +1,11 @@
 -- The frame at the front, by how many bytes it has.
-use Rattle.std.proofs.Common.{◌≡◌, ℕ, ◌+◌, ◌-◌, ◌<◌, ◌≤◌, Bool, true, false, cond, leb, List, length, take, drop, Option, Some, None, refl, sym, ap, subst, ◌∙◌, arith, lit≤, length-drop}
+use Rattle.std.proofs.Common.{◌≡◌, ℕ, ◌+◌, ◌-◌, ◌<◌, ◌≤◌, Bool, true, false, cond, leb, List, ◌++◌, length, take, drop, Option, Some, None, refl, sym, ap, subst, ◌∙◌, arith, lit≤, length-append, length-drop}
 use Rattle.std.specs.Int.{w16}
-use Rattle.std.proofs.lemmas.Bool.{leb-true, leb-false, lt-leb, and_left, and_right}
+use Rattle.std.proofs.lemmas.Bool.{leb-true, leb-false, le-leb, lt-leb, and_left, and_right}
 use Rattle.std.proofs.lemmas.List.{drop-drop}
 use Rattle.dist_frames.specs.Stream.{head, has_first, front, behind, first_body, after_first}
 use Rattle.dist_frames.specs.Kept.{frame_len}
-use Rattle.dist_frames.proofs.Streams.{starts_true}
+use Rattle.dist_frames.proofs.Streams.{starts_true, head-append}
 
 -- this many bytes are the frame at the front
 record Whole (s : List ℕ) (n : ℕ) : Type 0 where
@@ -78,3 +78,18 @@ moved s n e le =
 
 pub stays_put : (s : List ℕ) (n : ℕ) → n ≡ frame_len s → length s < n → s ≡ after_first w16 s
 stays_put s n e lt = sym (all_where (has_first w16 s) (behind w16 s) s (part s n e lt))
+
+-- ---- more bytes
+
+same_where : (b c : Bool) (x y : ℕ) → b ≡ true → c ≡ true → x ≡ y → cond b (2 + x) 2 ≡ cond c (2 + y) 2
+same_where true true x y p q e = ap (λ (k : ℕ). 2 + k) e
+same_where true false x y p q e = absurd cc
+same_where false c x y p q e = absurd cc
+
+frame_len-append : (s t : List ℕ) → 2 ≤ length s → frame_len (s ++ t) ≡ frame_len s
+frame_len-append s t long = same_where (leb 2 (length (s ++ t))) (leb 2 (length s)) (head w16 (s ++ t)) (head w16 s)
+    (le-leb 2 (length (s ++ t)) (omega (arith, length-append s t))) (le-leb 2 (length s) long) (head-append w16 s t long)
+
+-- a length that has come stays what it is
+pub same_len : (s t : List ℕ) (n : ℕ) → n ≡ frame_len s → 2 ≤ length s → n ≡ frame_len (s ++ t)
+same_len s t n e long = e ∙ sym (frame_len-append s t long)

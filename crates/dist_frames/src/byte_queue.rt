@@ -51,13 +51,22 @@ impl ByteQueue {
         &self.bytes[self.start..]
     }
 
+    /// How many wait.
+    pub fn len(&self) -> usize
+        ensures { result ≡ length self.now }
+    {
+        self.bytes.len() - self.start
+    }
+
     // Moves the bytes to the front of the vector, where it would grow for this many more, and no more of them wait than went.
     fn make_room(&mut self, more: usize)
         ensures { self.new ≡ self.old }
     {
-        let lacks = self.bytes.capacity().saturating_sub(self.bytes.len()) < more;
-        let waiting = self.bytes.len() - self.start;
-        if lacks && waiting <= self.start {
+        if self.bytes.capacity().saturating_sub(self.bytes.len()) >= more {
+            return;
+        }
+        let waiting = self.len();
+        if waiting <= self.start {
             self.bytes.copy_within(self.start.., 0);
             self.bytes.truncate(waiting);
             self.start = 0;
@@ -77,16 +86,14 @@ impl ByteQueue {
     pub fn drop_front(&mut self, count: usize)
         ensures { self.new ≡ drop count self.old }
     {
-        let waiting = self.bytes.len() - self.start;
-        self.start += count.min(waiting);
+        self.start += count.min(self.len());
     }
 
     /// The last `count` bytes go, or all.
     pub fn drop_back(&mut self, count: usize)
         ensures { self.new ≡ take (length self.old - count) self.old }
     {
-        let waiting = self.bytes.len() - self.start;
-        let left = self.bytes.len() - count.min(waiting);
+        let left = self.bytes.len() - count.min(self.len());
         self.bytes.truncate(left);
     }
 

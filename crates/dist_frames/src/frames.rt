@@ -2,9 +2,8 @@ ghost use Rattle.std.specs.Prelude.{◌≡◌, [], option_map, option_copied, On
 ghost use Rattle.dist_frames.specs.Reader.{with_bytes, next_body, to_come, without_next, as_linked, untold, without_count, rest_of, IsLinked};
 ghost use Rattle.dist_frames.specs.Reader.Reader.{Short};
 
-use crate::byte_queue::ByteQueue;
 use crate::partial::Partial;
-use crate::short::{drop_first, first_body};
+use crate::short_queue::ShortQueue;
 use std::alloc::{AllocError, Global};
 use std::marker::Model;
 
@@ -23,7 +22,7 @@ pub struct Frames {
 #[derive(Drop)]
 enum Stage {
     // Short frames: the bytes that were not moved out.
-    Short(ByteQueue),
+    Short(ShortQueue),
     // Packets: how many ended and were not reported, and what is owed of the next.
     Linked { ended: usize, left: Partial },
 }
@@ -44,7 +43,7 @@ impl Frames {
     {
         Frames {
             alloc,
-            stage: Stage::Short(ByteQueue::new(alloc)),
+            stage: Stage::Short(ShortQueue::new(alloc)),
         }
     }
 
@@ -52,7 +51,7 @@ impl Frames {
         ensures { option_copied result ≡ next_body self.now }
     {
         match &self.stage {
-            Stage::Short(pending) => first_body(pending.as_slice()),
+            Stage::Short(pending) => pending.front(),
             Stage::Linked { .. } => None,
         }
     }
@@ -71,7 +70,7 @@ impl Frames {
         ensures { self.new ≡ without_next self.old }
     {
         match &mut self.stage {
-            Stage::Short(pending) => drop_first(pending),
+            Stage::Short(pending) => pending.drop_front(),
             Stage::Linked { .. } => {}
         }
     }

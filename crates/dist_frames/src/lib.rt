@@ -14,6 +14,7 @@ mod frames;
 mod laws;
 mod partial;
 mod short;
+mod short_queue;
 
 pub use byte_queue::ByteQueue;
 pub use frame_error::FrameError;
@@ -22,4 +23,4 @@ pub use laws::{
     any_pieces, bodies_of_stream, fed_and_moved, frame_in_front, one_frame, packets_of_stream,
 };
 pub use partial::tick;
-pub use short::{first_body, into_short, write_short};
+pub use short::{first_body, write_short};

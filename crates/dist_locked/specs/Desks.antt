@@ -8,7 +8,7 @@ use Rattle.dist_core_ends.specs.declared.why.Why.{Why}
 use Rattle.dist_core.specs.declared.step_error.StepError.{StepError}
 use Rattle.dist_core.specs.declared.step_error.StepError.TheVariants as error
 use Rattle.dist_core.specs.Clauses.{end_of}
-use Rattle.dist_core.specs.Losses.{loss_of}
+use Rattle.dist_core.specs.Losses.{cause_of_loss}
 use Rattle.dist_drive.specs.Desks.{Step, DeskFacts}
 use Rattle.dist_locked_book.specs.declared.line.Receipt.{Receipt}
 use Rattle.dist_locked_book.specs.History.{BookState, SeatState, IsLegal, IsRefused}
@@ -43,7 +43,7 @@ stands_so d end_ told = IsStill end_ told
 -- the cause that the last step reports, where it is of a loss
 abbrev pub last_loss : List Step → Option Why
 last_loss [] = None
-last_loss (s ∷ []) = loss_of s.0
+last_loss (s ∷ []) = cause_of_loss s.0
 last_loss (s ∷ t ∷ ss) = last_loss (t ∷ ss)
 
 -- the causes of its refusals: an event that doesn't name the end is refused as unknown, one behind a loss with the cause of

@@ -1,6 +1,5 @@
-ghost use Rattle.std.specs.Prelude.{◌≡◌, ◌≢◌, ◌<◌, ◌≤◌, ◌∷◌, [], ◌++◌, vec_len, false, Ok, Err, IfOk, IfErr, OnOk, OnErr};
+ghost use Rattle.std.specs.Prelude.{◌≡◌, ◌≢◌, ◌<◌, ◌≤◌, ◌∷◌, [], ◌++◌, vec_len, false, Ok, Err, IfOk, IfErr, OnOk, OnErr, IsTrue};
 ghost use Rattle.dist_core.specs.Losses.{is_loss, IsGone};
-ghost use Rattle.dist_core.specs.Answers.{IsLoss};
 ghost use Rattle.dist_locked_book.specs.History.{AreFresh, IsAnswered, IsLegal, IsRefused};
 ghost use Rattle.dist_locked.specs.Desks.{IsStill};
 
@@ -77,7 +76,7 @@ impl LockedNode {
         ensures receipt { IfOk result (λ r. seat.new.list ≡ seat.old.list ++ r ∷ []) }
         ensures err { OnErr result (seat.new.list ≡ seat.old.list) }
         ensures seat { seat.new.number ≡ seat.old.number }
-        ensures gone { IsLoss event.now → 0 < seat.old.spare → IfErr result IsGone }
+        ensures gone { IsTrue (is_loss event.now) → 0 < seat.old.spare → IfErr result IsGone }
         ensures room { OnOk result (is_loss event.now ≡ false → 0 < seat.new.spare) }
         ensures room_kept { OnErr result (seat.old.spare ≤ seat.new.spare) }
 

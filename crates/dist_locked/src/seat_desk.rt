@@ -1,9 +1,8 @@
-ghost use Rattle.std.specs.Prelude.{◌≡◌, ◌≢◌, ◌<◌, ◌≤◌, ℕ, List, ◌∷◌, [], ◌++◌, length, ◌+◌, map};
+ghost use Rattle.std.specs.Prelude.{◌≡◌, ◌≢◌, ◌<◌, ◌≤◌, ℕ, List, ◌∷◌, [], ◌++◌, length, ◌+◌, map, IsTrue};
 ghost use Rattle.std.specs.Prelude.{vec_len, vec_capacity, false, Some, None, Ok, Err, IfOk, IfErr, OnOk, OnErr, option_copied};
 ghost use Rattle.dist_core.specs.declared.event.Event.{Event};
 ghost use Rattle.dist_core.specs.declared.reply.Reply.{Reply};
 ghost use Rattle.dist_core.specs.Losses.{is_loss, IsGone};
-ghost use Rattle.dist_core.specs.Answers.{IsLoss};
 ghost use Rattle.dist_core.specs.Clauses.{end_of};
 ghost use Rattle.dist_core.specs.declared.step_error.StepError.{StepError};
 ghost use Rattle.dist_locked_book.specs.declared.line.Receipt.{Receipt};
@@ -99,7 +98,7 @@ impl<'a, R: Wait> SeatDesk<'a, R> {
         ensures ok { OnOk result ((reply : Reply) × (self.new.list ≡ self.old.list ++ (event.now, fresh, reply) ∷ [])) }
         ensures err { OnErr result (self.new ≡ self.old) }
         ensures refused { IfErr result (causes self.old event.now fresh) }
-        ensures loss { IsLoss event.now → IfErr result IsGone }
+        ensures loss { IsTrue (is_loss event.now) → IfErr result IsGone }
         ensures other { end_of event.now ≢ Some self.old.end_ → result ≡ Err StepError.NoSuchEnd }
         ensures same { (self.new.number ≡ self.old.number) × (self.new.start ≡ self.old.start) × (self.new.end_ ≡ self.old.end_) }
     {

@@ -1,11 +1,10 @@
-ghost use Rattle.std.specs.Prelude.{◌≡◌, ◌≢◌, ◌<◌, ◌+◌, ◌≤◌, ◌∷◌, [], ◌++◌, length, vec_len, vec_capacity, true, false, MatchBool};
+ghost use Rattle.std.specs.Prelude.{◌≡◌, ◌≢◌, ◌<◌, ◌+◌, ◌≤◌, ◌∷◌, [], ◌++◌, length, vec_len, vec_capacity, true, false, MatchBool, IsTrue};
 ghost use Rattle.std.specs.Prelude.{Ok, Err, IfOk, IfErr, OnOk, OnErr, IsOk, Some, slice_get};
 ghost use Rattle.dist_peers.specs.declared.entry.EndId.{EndId};
 ghost use Rattle.dist_core_ends.specs.declared.why.Why.{Why};
 ghost use Rattle.dist_core_ends.specs.declared.known.End.{End};
 ghost use Rattle.dist_core.specs.declared.event.Event.TheVariants as Event;
 ghost use Rattle.dist_core.specs.Losses.{is_loss, IsGone, IsSilent};
-ghost use Rattle.dist_core.specs.Answers.{IsLoss};
 ghost use Rattle.dist_core.specs.Runs.{opening};
 ghost use Rattle.dist_core.specs.Step.{step};
 ghost use Rattle.dist_core.specs.Answers.{Refuses};
@@ -109,7 +108,7 @@ impl Book {
         ensures seats { self.new.seats ≡ self.old.seats }
         ensures err { OnErr result (self.new ≡ self.old) }
         ensures refused { IfErr result (λ e. e ≡ StepError.NoMemory) }
-        ensures lost { IsLoss event → IsOk result }
+        ensures lost { IsTrue (is_loss event) → IsOk result }
     {
         a_step_keeps();
         open_ends_after_a_step();
@@ -173,7 +172,7 @@ pub fn step_on(
     ensures err { OnErr result ((book.new ≡ book.old) × (seat.new.list ≡ seat.old.list)) }
 
     // A loss takes no memory where the seat has room, as it has after a receipt that is not of a loss.
-    ensures gone { IsLoss event.now → 0 < seat.old.spare → IfErr result IsGone }
+    ensures gone { IsTrue (is_loss event.now) → 0 < seat.old.spare → IfErr result IsGone }
     ensures open_end { (x : EndId) (w : Why) (e : End) → event.now ≡ Event.Lost x w
         → slice_get book.old.node.ends x.0 ≡ Some e → is_open e ≡ true → ends_in_loss seat.old.list ≡ false → IsOk result }
     ensures room { OnOk result (is_loss event.now ≡ false → 0 < seat.new.spare) }
@@ -209,7 +208,7 @@ fn prepare_line(
     ensures room { OnOk result (MatchBool (is_loss event.now) (0 < seat.new.spare) (1 < seat.new.spare)) }
 
     ensures refused { IfErr result (λ e. Refuses e (step node.now event.now fresh)) }
-    ensures gone { IsLoss event.now → 0 < seat.old.spare → IfErr result IsGone }
+    ensures gone { IsTrue (is_loss event.now) → 0 < seat.old.spare → IfErr result IsGone }
     ensures open_end { (x : EndId) (w : Why) (e : End) → event.now ≡ Event.Lost x w
         → slice_get node.now.ends x.0 ≡ Some e → is_open e ≡ true → ends_in_loss seat.old.list ≡ false → IsOk result }
 {
@@ -235,7 +234,7 @@ fn copies(
     ensures event { IfOk result (λ r. r.0 ≡ event.now) }
     ensures line { IfOk result (λ r. r.1 ≡ record { ticket = ticket; seat = seat; event = event.now; fresh = fresh; reply = reply.now }) }
     ensures same { IfOk result (λ r. r.2 ≡ r.1) }
-    ensures loss { IsLoss event.now → IsSilent reply.now → IsOk result }
+    ensures loss { IsTrue (is_loss event.now) → IsSilent reply.now → IsOk result }
 {
     let copy = event.try_clone(alloc)?;
     let event = event.try_clone(alloc)?;

@@ -1,6 +1,5 @@
 ghost use Rattle.std.specs.Prelude.{◌≡◌, ◌↔◌, [], IfOk, IsOk, IsTrue};
-ghost use Rattle.dist_core.specs.Answers.{IsLoss};
-ghost use Rattle.dist_core.specs.Losses.{IsSilent};
+ghost use Rattle.dist_core.specs.Losses.{IsSilent, is_loss};
 
 use dist_core::{Event, Reply};
 use std::alloc::{AllocError, Global};
@@ -33,7 +32,7 @@ impl Line {
     /// An equal line. That of a loss takes no memory.
     pub fn try_clone(&self, alloc: Global) -> Result<Line, AllocError>
         ensures same { IfOk result (λ l. l ≡ self.now) }
-        ensures loss { IsLoss self.now.event → IsSilent self.now.reply → IsOk result }
+        ensures loss { IsTrue (is_loss self.now.event) → IsSilent self.now.reply → IsOk result }
     {
         let event = self.event.try_clone(alloc)?;
         let reply = self.reply.try_clone(alloc)?;

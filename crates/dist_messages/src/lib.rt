@@ -1,5 +1,7 @@
 //! The messages of the distribution handshake, as values and as the bodies of frames: `decode` and `encode`.
 //!
+//! `put_..` append the same bodies to bytes that are there, as to the frame before, without a copy of the name.
+//!
 //! It reads and writes bodies alone: no length before them, no name's form, no state of a connection, no input or output.
 #![tactic(auto)]
 
@@ -23,4 +25,5 @@ pub use message::{Message, Side, Status};
 pub use message_error::MessageError;
 pub use opening::Opening;
 pub use reading::decode;
-pub use writing::encode;
+pub use writing::{encode, put_ack, put_complement, put_reply, put_status};
+pub use writing_named::{put_new_challenge, put_new_name, put_old_challenge, put_old_name};

@@ -1,13 +1,13 @@
 //! Writing a message: the one body that each has.
 
-ghost use Rattle.std.specs.Prelude.{◌≡◌, ◌∷◌, ◌≤◌, ◌++◌, length, IfOk, OnOk};
+ghost use Rattle.std.specs.Prelude.{◌≡◌, ◌≤◌, ◌++◌, length, IfOk, OnOk};
 ghost use Rattle.dist_messages.specs.declared.message.Message.TheVariants as message;
 ghost use Rattle.dist_messages.specs.Answer.{Answers};
 ghost use Rattle.dist_messages.specs.Canonical.{canonical, own_spelling};
 ghost use Rattle.dist_messages.specs.Writing.{name_in};
 
 use crate::checking::check;
-use crate::message::{Message, Side};
+use crate::message::{Message, Side, Status};
 use crate::message_error::MessageError;
 use crate::pieces::put_32;
 use crate::writing_named::{put_new_challenge, put_new_name, put_old_challenge, put_old_name};
@@ -17,14 +17,8 @@ use std::alloc::{AllocError, Global};
 /// The most bytes that a body has beside its name: a reply has this many.
 const MOST_BESIDE_NAME: usize = 21;
 
-/// The bytes of the length that a frame puts before the body, for which there is to be room.
-const LENGTH_OF_FRAME: usize = 2;
-
-/// The least room that a body is given, in which another finds place behind a short one: a greeting's challenge stands behind its
-/// status.
-const LEAST_ROOM: usize = 64;
-
-fn put_complement(body: &mut Vec<u8>, high: u32, creation: Creation) -> Result<(), AllocError>
+/// Appends a complement.
+pub fn put_complement(body: &mut Vec<u8>, high: u32, creation: Creation) -> Result<(), AllocError>
     ensures { OnOk result (body.new.items ≡ body.old.items ++ canonical (message.Complement high creation)) }
 {
     body.push(b'c')?;
@@ -32,7 +26,8 @@ fn put_complement(body: &mut Vec<u8>, high: u32, creation: Creation) -> Result<(
     put_32(body, creation.0)
 }
 
-fn put_reply(body: &mut Vec<u8>, challenge: u32, digest: &[u8]) -> Result<(), AllocError>
+/// Appends a reply to a challenge: the own challenge, and the digest, of 16 bytes.
+pub fn put_reply(body: &mut Vec<u8>, challenge: u32, digest: &[u8]) -> Result<(), AllocError>
     ensures { OnOk result (body.new.items ≡ body.old.items ++ canonical (message.Reply challenge digest.now)) }
 {
     body.push(b'r')?;
@@ -40,11 +35,20 @@ fn put_reply(body: &mut Vec<u8>, challenge: u32, digest: &[u8]) -> Result<(), Al
     body.extend_from_slice(digest)
 }
 
-fn put_tag_and_text(body: &mut Vec<u8>, tag: u8, text: &[u8]) -> Result<(), AllocError>
-    ensures { OnOk result (body.new.items ≡ body.old.items ++ tag ∷ text.now) }
+/// Appends an acknowledgement: the digest, of 16 bytes.
+pub fn put_ack(body: &mut Vec<u8>, digest: &[u8]) -> Result<(), AllocError>
+    ensures { OnOk result (body.new.items ≡ body.old.items ++ canonical (message.Ack digest.now)) }
 {
-    body.push(tag)?;
-    body.extend_from_slice(text)
+    body.push(b'a')?;
+    body.extend_from_slice(digest)
+}
+
+/// Appends a status.
+pub fn put_status(body: &mut Vec<u8>, status: Status) -> Result<(), AllocError>
+    ensures { OnOk result (body.new.items ≡ body.old.items ++ canonical (message.Status status)) }
+{
+    body.push(b's')?;
+    body.extend_from_slice(status.text())
 }
 
 fn put_message(body: &mut Vec<u8>, message: &Message) -> Result<(), AllocError>
@@ -59,7 +63,7 @@ fn put_message(body: &mut Vec<u8>, message: &Message) -> Result<(), AllocError>
             creation,
             name,
         } => put_new_name(body, *flags, *creation, name.as_slice()),
-        Message::Status(status) => put_tag_and_text(body, b's', status.text()),
+        Message::Status(status) => put_status(body, *status),
         Message::OldChallenge {
             flags,
             challenge,
@@ -73,7 +77,7 @@ fn put_message(body: &mut Vec<u8>, message: &Message) -> Result<(), AllocError>
         } => put_new_challenge(body, *flags, *challenge, *creation, name.as_slice()),
         Message::Complement { high, creation } => put_complement(body, *high, *creation),
         Message::Reply { challenge, digest } => put_reply(body, *challenge, digest),
-        Message::Ack { digest } => put_tag_and_text(body, b'a', digest),
+        Message::Ack { digest } => put_ack(body, digest),
     }
 }
 
@@ -90,14 +94,13 @@ fn name_in(message: &Message) -> &[u8]
     }
 }
 
-// The body of a message, in memory that is asked for once, with room for the length of a frame.
+// The body of a message, in memory that is asked for once.
 fn body_of(alloc: Global, message: &Message) -> Result<Vec<u8>, AllocError>
     // A message is checked before it is written.
     requires { length (name_in message.now) ≤ 255 }
     ensures { IfOk result (λ v. v.items ≡ canonical message.now) }
 {
-    let room = MOST_BESIDE_NAME + name_in(message).len() + LENGTH_OF_FRAME;
-    let mut body = Vec::with_capacity(alloc, room.max(LEAST_ROOM))?;
+    let mut body = Vec::with_capacity(alloc, MOST_BESIDE_NAME + name_in(message).len())?;
     put_message(&mut body, message)?;
     Ok(body)
 }
@@ -106,8 +109,7 @@ fn body_of(alloc: Global, message: &Message) -> Result<Vec<u8>, AllocError>
 ///
 /// Refusals, in this order: `UnknownTag` (a message of the other side), `BadName` (a name of more than 255 bytes),
 /// `UnknownStatus` (a status of the other side), `NoMemory`. What is written, and when each of the first three comes, stands in
-/// the words of the layouts in [`causes_of_writing`](crate::causes_of_writing). The body has room for the length that its frame
-/// puts before it.
+/// the words of the layouts in [`causes_of_writing`](crate::causes_of_writing).
 pub fn encode(alloc: Global, side: Side, message: &Message) -> Result<Vec<u8>, MessageError>
     ensures exact { Answers (λ v. v.items) result (own_spelling side message.now) }
 {

@@ -1,5 +1,6 @@
 pub mod Places
 pub mod Orders
+pub mod Fronts
 pub mod Bytes
 pub mod Texts
 pub mod Digits

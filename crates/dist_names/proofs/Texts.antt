@@ -13,7 +13,7 @@ below byte h =
     let most : byte ≤ 0x7E = leb-true byte 0x7E p.1 in
     omega (arith, most)
 
-all_below : (bytes : List ℕ) → list_all is_visible bytes ≡ true → (i : ℕ) → get_or bytes i 0 < 128
+pub all_below : (bytes : List ℕ) → list_all is_visible bytes ≡ true → (i : ℕ) → get_or bytes i 0 < 128
 all_below [] h i = omega arith
 all_below (b ∷ bytes) h zero = below b (and_parts (is_visible b) (list_all is_visible bytes) h).0
 all_below (b ∷ bytes) h (suc i) = all_below bytes (and_parts (is_visible b) (list_all is_visible bytes) h).1 i

@@ -1,5 +1,6 @@
 pub mod NodeName
 pub mod Order
+pub mod Front
 pub mod Answer
 pub mod Bytes
 pub mod Flags

@@ -8,6 +8,8 @@ mod byte_string;
 mod creation;
 mod escaping;
 mod flags;
+mod front;
+mod keyed_text;
 mod laws;
 mod name;
 mod name_error;

@@ -1,10 +1,12 @@
 ghost use Rattle.std.specs.Prelude.{◌≡◌, ◌↔◌, Some, None, IsTrue, IfOk, OnOk, option_copied, if◌then◌else◌};
 ghost use Rattle.std.specs.List.{list_all};
 ghost use Rattle.dist_names.specs.Bytes.{is_visible};
+ghost use Rattle.dist_names.specs.Front.{front_number, next_number};
 ghost use Rattle.dist_names.specs.NodeName.{short_of, host_of, has_two_parts, name_of_bytes, IsNodeName};
 ghost use Rattle.dist_names.specs.Order.{same_name};
 ghost use Rattle.dist_names.specs.Answer.{AnswersName};
 
+use crate::keyed_text::KeyedText;
 use crate::name_error::NameError;
 use crate::plain::{are_visible, host_part, is_same_text, short_part};
 use std::alloc::{AllocError, Global};
@@ -15,18 +17,18 @@ use std::str;
 /// empty. Contracts see it as its bytes, and whoever holds one need not test it again.
 #[derive(Debug, Drop)]
 pub struct NodeName {
-    text: String,
+    text: KeyedText,
 }
 
 impl Model for NodeName {
-    ghost use Rattle.std.specs.Prelude.{ℕ, List, string_bytes};
+    ghost use Rattle.std.specs.Prelude.{ℕ, List};
     ghost use Rattle.dist_names.specs.NodeName.{IsNodeName};
 
     ghost Value = { List ℕ };
 
-    ghost view = { λ n. string_bytes n.text };
+    ghost view = { λ n. n.text };
 
-    ghost invariant = { λ n. IsNodeName (string_bytes n.text) };
+    ghost invariant = { λ n. IsNodeName n.text };
 }
 
 const LEAST: usize = 3;
@@ -76,8 +78,16 @@ impl NodeName {
         if !is_two_parts(bytes) {
             return Err(NameError::BadAt);
         }
+        Ok(NodeName::from_text(alloc, text)?)
+    }
+
+    // A text that is a name.
+    fn from_text(alloc: Global, text: &str) -> Result<NodeName, AllocError>
+        requires { IsNodeName text.now }
+        ensures { IfOk result (λ name. name ≡ text.now) }
+    {
         Ok(NodeName {
-            text: String::from_str(alloc, text)?,
+            text: KeyedText::new(alloc, text)?,
         })
     }
 
@@ -86,13 +96,29 @@ impl NodeName {
         ensures same { result.now ≡ self.now }
         ensures good { IsNodeName self.now }
     {
-        self.text.as_bytes()
+        self.text.as_str().as_bytes()
     }
 
     pub(crate) fn text(&self) -> &str
         ensures { result.now ≡ self.now }
     {
         self.text.as_str()
+    }
+
+    // Its first bytes as a number.
+    pub(crate) fn front(&self) -> u64
+        ensures same { result ≡ front_number self.now }
+        ensures good { IsNodeName self.now }
+    {
+        self.text.front()
+    }
+
+    // Its next bytes as a number.
+    pub(crate) fn next(&self) -> u64
+        ensures same { result ≡ next_number self.now }
+        ensures good { IsNodeName self.now }
+    {
+        self.text.next()
     }
 
     /// The part before the `@`, by which the port mapper knows the node.
@@ -114,7 +140,7 @@ impl NodeName {
         ensures { IfOk result (λ copy. copy ≡ self.now) }
     {
         Ok(NodeName {
-            text: String::from_str(alloc, self.text.as_str())?,
+            text: self.text.try_clone(alloc)?,
         })
     }
 
@@ -131,6 +157,7 @@ impl NodeName {
         ensures computed { result ≡ same_name self.now other.now }
         ensures each { IsTrue result ↔ (self.now ≡ other.now) }
     {
-        is_same_text(self.bytes(), other.bytes())
+        let (ours, theirs) = (self.front(), other.front());
+        ours == theirs && is_same_text(self.bytes(), other.bytes())
     }
 }

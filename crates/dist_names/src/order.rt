@@ -1,4 +1,5 @@
-//! Names are compared as strings of unsigned bytes, a proper prefix being smaller (our own choice).
+//! Names are compared as strings of unsigned bytes, a proper prefix being smaller (our own choice). Their first
+//! bytes are compared as numbers, and their texts only where these are equal.
 
 ghost use Rattle.std.specs.Prelude.{◌==◌};
 ghost use Rattle.std.proofs.Common.{rules};
@@ -16,7 +17,7 @@ impl PartialEq for NodeName {
     ghost laws = { Prim.search (comparing, rules) };
 
     fn eq(&self, other: &NodeName) -> bool {
-        self.text() == other.text()
+        self.front() == other.front() && self.text() == other.text()
     }
 }
 
@@ -34,6 +35,14 @@ impl Ord for NodeName {
     ghost matches_eq = { Prim.search (comparing, rules) };
 
     fn cmp(&self, other: &NodeName) -> Ordering {
+        let (ours, theirs) = (self.front(), other.front());
+        if ours != theirs {
+            return ours.cmp(&theirs);
+        }
+        let (our_next, their_next) = (self.next(), other.next());
+        if our_next != their_next {
+            return our_next.cmp(&their_next);
+        }
         self.text().cmp(other.text())
     }
 }

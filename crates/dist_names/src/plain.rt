@@ -72,5 +72,5 @@ pub fn is_same_text(one: &[u8], other: &[u8]) -> bool
     ensures computed { result ≡ same_name one.now other.now }
     ensures each { IsTrue result ↔ (one.now ≡ other.now) }
 {
-    one.cmp(other).is_eq()
+    one == other
 }

@@ -153,7 +153,7 @@ fn print_later<W: Write>(
 }
 
 // What a node and each one behind it have in common.
-fn print_agreements_of<W: Write>(
+fn print_agreements_from<W: Write>(
     alloc: Global,
     world: &World,
     place: usize,
@@ -180,7 +180,7 @@ pub fn print_agreements<W: Write>(
     let setups = world.setups();
     let places = places(alloc, setups)?;
     for place in 0..setups.len() {
-        print_agreements_of(alloc, world, place, &places, out)?;
+        print_agreements_from(alloc, world, place, &places, out)?;
     }
     Ok(())
 }

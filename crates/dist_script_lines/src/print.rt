@@ -231,7 +231,7 @@ fn up_record(node: &Node, entry: Entry) -> Option<&UpRecord>
 
 // A row of the table.
 #[tactic(auto, using(crate::proofs::Printing::in_three))]
-fn row<W: Write>(out: &mut W, node: &Node, peer: &NodeName, entry: Entry) -> io::Result<()>
+fn write_row<W: Write>(out: &mut W, node: &Node, peer: &NodeName, entry: Entry) -> io::Result<()>
     ensures { OnOk result (Appends (W.contents out.old) (W.contents out.new) (row_text node.now (peer.now, entry))) }
 {
     out.write_all(peer.bytes())?;
@@ -241,11 +241,11 @@ fn row<W: Write>(out: &mut W, node: &Node, peer: &NodeName, entry: Entry) -> io:
 
 // The row at this place of the table, where there is one.
 #[tactic(auto, using(crate::proofs::Printing::nothing))]
-fn row_at<W: Write>(out: &mut W, node: &Node, place: usize) -> io::Result<()>
+fn write_nth_row<W: Write>(out: &mut W, node: &Node, place: usize) -> io::Result<()>
     ensures { OnOk result (Appends (W.contents out.old) (W.contents out.new) (found_text node.now (slice_get (map.entries (table_of node.now.ends)) place))) }
 {
     match node.entry_at(place) {
-        Some((peer, entry)) => row(out, node, peer, entry),
+        Some((peer, entry)) => write_row(out, node, peer, entry),
         None => Ok(()),
     }
 }
@@ -259,7 +259,7 @@ pub fn table<W: Write>(out: &mut W, node: &Node) -> io::Result<()>
         return out.write_all(b"no peers\n");
     }
     for place in 0..node.entries() {
-        row_at(out, node, place)?;
+        write_nth_row(out, node, place)?;
     }
     Ok(())
 }

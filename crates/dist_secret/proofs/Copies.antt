@@ -2,7 +2,6 @@
 use Rattle.std.proofs.Common.{◌≡◌, ℕ, List, [], ◌∷◌, ◌++◌, refl, sym, ap, ◌∙◌, subst, append_assoc}
 use Rattle.std.specs.List.{AllByRecursion}
 use Rattle.std.specs.List.Sorted.{IsStrictlySortedBy}
-use Rattle.std.specs.declared.cmp.Ordering.{Ordering}
 use Rattle.std.specs.declared.cmp.Ordering.TheVariants.{Less, Greater}
 use Rattle.std.specs.Ordering.{match_ordering, ordering_reverse}
 use Rattle.std.specs.Cmp.{IsTotalOrder}
@@ -37,3 +36,10 @@ pub one_more : (all copy after left : List Row) (e : Row) → IsStrictlySortedBy
 one_more all copy after left e s whole is =
     let sorted : IsStrictlySortedBy name_cmp (keys_of (copy ++ e ∷ left)) = subst (λ (rows : List Row). IsStrictlySortedBy name_cmp (keys_of rows)) (sym whole) s in
     ap (λ (rows : List Row). rows ++ left) (is ∙ last copy left e sorted) ∙ append_assoc copy (e ∷ []) left ∙ whole
+
+-- the same of the next row of those that were left
+pub next_more : (all copy after before left : List Row) (row : Row) (name cookie : List ℕ) → IsStrictlySortedBy name_cmp (keys_of all)
+    → copy ++ before ≡ all → before ≡ row ∷ left → name ≡ row.0 → cookie ≡ row.1 → after ≡ insert_entry name_cmp copy name cookie → after ++ left ≡ all
+next_more all copy after before left row name cookie s whole next n k is =
+    one_more all copy after left row s (ap (λ (rows : List Row). copy ++ rows) (sym next) ∙ whole)
+    (is ∙ ap (λ q. insert_entry name_cmp copy q cookie) n ∙ ap (λ q. insert_entry name_cmp copy (row.0) q) k)

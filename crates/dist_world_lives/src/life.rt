@@ -106,7 +106,7 @@ impl Life {
             → slice_get self.now.node.ends i ≡ Some (end.Up kept) → kept.peer ≡ peer.now → conn_of (slice_get self.now.rows i) ≡ Some c
             → option_map (λ r. (r.0, r.1.now)) result ≡ up_on c kept }
     {
-        link_of_record(&self.rows, self.node.up_of(peer))
+        link_of_record(&self.rows, self.node.up_with(peer))
     }
 
     /// It gets an event, and sends what the reply says on this side of a connection. A refusal changes nothing.

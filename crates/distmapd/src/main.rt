@@ -62,7 +62,7 @@ A port mapper for Erlang nodes, in place of epmd. It stays in the foreground.
   -systemd           the sockets are handed over, LISTEN_FDS of them from descriptor 3 on
   -log text|json     in which form it says on standard error what happens (text)
   -quiet             it says nothing of that
-  -metrics PORT      tells its figures to Prometheus at this port of 127.0.0.1
+  -metrics PORT      serves its figures to Prometheus at this port of 127.0.0.1
   -names             prints the names that the port mapper of this host knows
   --help, -help      prints this
   --version          prints the version

@@ -6,7 +6,7 @@ use thiserror::Error;
 #[derive(Clone, Copy, Debug, PartialEq, Eq, Error)]
 pub enum Refusal {
     /// A word is none of the program's.
-    #[error("no such word: 'distmapd --help' tells them")]
+    #[error("no such word: 'distmapd --help' lists them")]
     UnknownWord,
     /// A word of `epmd` asks for what is not done here.
     #[error("-daemon, -kill, -stop, -d and -relaxed_command_check are not done here: it stays in the foreground, and a signal ends it")]

@@ -1,2 +1,5 @@
 pub mod OneEnd
 pub mod Showing
+pub mod Members
+pub mod ObjectLine
+pub mod Naming

@@ -13,6 +13,8 @@ fault_status fault.BadName = 2
 fault_status fault.NoNode = 2
 fault_status fault.TwoCookies = 2
 fault_status fault.OneNodeAlone = 2
+fault_status fault.TooManyNodes = 2
+fault_status fault.CountAlone = 2
 fault_status fault.ListenAlone = 2
 fault_status other = 1
 

@@ -5,3 +5,8 @@ pub mod Pairs
 pub mod Listening
 pub mod Accepting
 pub mod Budgets
+pub mod Objects
+pub mod Layouts
+pub mod Targets
+pub mod Summary
+pub mod Census

@@ -1,5 +1,5 @@
 -- What can be said of two nodes from outside.
-use Rattle.std.specs.Prelude.{ℕ, ◌==◌, ◌&&◌, Bool, true, false, Option, Some, if◌then◌else◌}
+use Rattle.std.specs.Prelude.{ℕ, ◌==◌, ◌&&◌, Bool, true, false, List, Option, Some, codes, if◌then◌else◌}
 use Rattle.dist_names.specs.Order.{same_name}
 use Rattle.dist_names.specs.declared.flags.Flags.{Flags}
 use Rattle.dist_flags.specs.Releases.{missing, release_of, required_by}
@@ -40,6 +40,23 @@ pairing_of first second =
     if same_name first.node.now second.node.now then pairing.SameName else
     if same_style (style_of first.node.now) (style_of second.node.now)
     then behind_flags first.flags second.flags (behind_cookies first.verdict second.verdict) else pairing.LongAndShort
+
+-- the word of what can be said of two nodes
+abbrev pub pair_word : Pairing → List ℕ
+pair_word pairing.SameName = codes "SameName"
+pair_word pairing.LongAndShort = codes "LongAndShort"
+pair_word pairing.NotReached = codes "NotReached"
+pair_word (pairing.LacksFlags first second) = codes "LacksFlags"
+pair_word pairing.OtherCookies = codes "OtherCookies"
+pair_word pairing.Unsure = codes "Unsure"
+pair_word pairing.Agree = codes "Agree"
+
+-- something speaks against the two: the pair has a status of its own
+abbrev pub is_bad : Pairing → Bool
+is_bad pairing.NotReached = false
+is_bad pairing.Unsure = false
+is_bad pairing.Agree = false
+is_bad other = true
 
 -- the exit status: the place to look at
 abbrev pub pair_status : Pairing → ℕ

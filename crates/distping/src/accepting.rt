@@ -266,7 +266,7 @@ pub fn refusal_verdict(error: StepError) -> Taken
 }
 
 // What comes of what is heard upon the challenge.
-fn talk_on<S: Stream>(
+fn continue_talk<S: Stream>(
     alloc: Global,
     limited: &mut Limited<'_, S>,
     node: &mut Node,
@@ -306,6 +306,6 @@ pub fn talk<S: Stream>(
 {
     match take(alloc, limited, node, listen, body, content) {
         Some(taken) => taken,
-        None => talk_on(alloc, limited, node, listen),
+        None => continue_talk(alloc, limited, node, listen),
     }
 }

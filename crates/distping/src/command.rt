@@ -2,7 +2,9 @@
 
 use crate::fault::Fault;
 use crate::refusal::Refusal;
-use crate::refusing::{bad_flags, bad_name, bad_number, bad_words};
+use crate::refusing::{bad_flags, bad_group, bad_name, bad_number, bad_words};
+use crate::roster::push_target;
+use crate::targets::{Target, target_of};
 use clap::error::ErrorKind;
 use clap::{Arg, ArgAction, ArgMatches, Command, Error};
 use dist_flags::{Dflag, Release};
@@ -52,8 +54,8 @@ pub enum CookieSource<'a> {
 /// What is to be dialled, and how.
 #[derive(Drop)]
 pub struct Wanted<'a> {
-    /// The names of the nodes, one at least unless it is listened.
-    pub nodes: Vec<NodeName>,
+    /// What is dialled: one at least unless it is listened, or a file names more.
+    pub targets: Vec<Target>,
     /// The name that the probe gives itself, where one is given.
     pub name: Option<NodeName>,
     /// The rest.
@@ -83,6 +85,31 @@ pub struct Choices<'a> {
     pub json: bool,
     /// The cookie's file is read even where others than its owner may use it.
     pub takes_any_file: bool,
+    /// The file that names more nodes.
+    pub roster: Option<&'a str>,
+    /// Each pair is printed, also those of more than two nodes against which nothing speaks.
+    pub all_pairs: bool,
+    /// The nodes are probed again and again, and what changes is printed.
+    pub watch: Option<Rhythm>,
+}
+
+/// How often nodes are probed that are watched.
+#[derive(Clone, Copy)]
+pub struct Rhythm {
+    /// How many seconds are between the beginnings of two rounds.
+    pub seconds: u16,
+    /// How many rounds there are, where the command line says so.
+    pub count: Option<u16>,
+}
+
+impl Rhythm {
+    /// How many rounds there are: more than any run lasts, where the command line does not say.
+    pub fn rounds(self) -> u64 {
+        match self.count {
+            Some(count) => u64::from(count),
+            None => u64::MAX,
+        }
+    }
 }
 
 impl<'a> Choices<'a> {
@@ -116,10 +143,10 @@ impl<'a> Choices<'a> {
 }
 
 // The program's words that stand by themselves.
-const SWITCHES: [&str; 3] = ["no-cookie", "json", "cookie-unsafe"];
+const SWITCHES: [&str; 4] = ["no-cookie", "json", "cookie-unsafe", "all-pairs"];
 
 // The program's words that a value stands behind.
-const VALUES: [&str; 8] = [
+const VALUES: [&str; 11] = [
     "name",
     "cookie",
     "flags",
@@ -128,6 +155,9 @@ const VALUES: [&str; 8] = [
     "address",
     "seconds",
     "listen",
+    "nodes",
+    "watch",
+    "count",
 ];
 
 // The program with the names of the nodes alone.
@@ -199,7 +229,7 @@ fn flags_in(alloc: Global, matches: &ArgMatches<'_>) -> Result<Flags, Refusal> {
 }
 
 // The program's words whose value is a number.
-const NUMBERS: [&str; 4] = ["epmd-port", "port", "listen", "seconds"];
+const NUMBERS: [&str; 6] = ["epmd-port", "port", "listen", "seconds", "watch", "count"];
 
 // A number of 16 bits that is not 0.
 fn number_named(word: &str) -> Option<u16> {
@@ -221,16 +251,16 @@ fn number_of(alloc: Global, matches: &ArgMatches<'_>, id: &str) -> Result<Option
 }
 
 // The numbers, each where it is given.
-fn numbers_in(alloc: Global, matches: &ArgMatches<'_>) -> Result<[Option<u16>; 4], Refusal> {
-    let mut numbers = [None; 4];
-    for at in 0..4 {
+fn numbers_in(alloc: Global, matches: &ArgMatches<'_>) -> Result<[Option<u16>; 6], Refusal> {
+    let mut numbers = [None; 6];
+    for at in 0..6 {
         numbers[at] = number_of(alloc, matches, NUMBERS[at])?;
     }
     Ok(numbers)
 }
 
 /// The name that these bytes are.
-pub fn name_of(alloc: Global, bytes: &[u8]) -> Result<NodeName, Fault> {
+pub fn parse_name(alloc: Global, bytes: &[u8]) -> Result<NodeName, Fault> {
     match NodeName::new(alloc, bytes) {
         Ok(name) => Ok(name),
         Err(NameError::NoMemory) => Err(Fault::NoMemory),
@@ -240,29 +270,39 @@ pub fn name_of(alloc: Global, bytes: &[u8]) -> Result<NodeName, Fault> {
 
 // The name that a word of the command line is.
 fn name_in(alloc: Global, word: &str) -> Result<NodeName, Refusal> {
-    match name_of(alloc, word.as_bytes()) {
+    match parse_name(alloc, word.as_bytes()) {
         Ok(name) => Ok(name),
         Err(Fault::BadName) => Err(bad_name(alloc, word)),
         Err(fault) => Err(Refusal::Fault(fault)),
     }
 }
 
-// One more name of a node.
-fn push_node(alloc: Global, nodes: &mut Vec<NodeName>, word: &str) -> Result<(), Refusal> {
-    let name = name_in(alloc, word)?;
-    match nodes.push(name) {
-        Ok(()) => Ok(()),
-        Err(_) => Err(Refusal::Fault(Fault::NoMemory)),
+// The refusal of a word that names no target.
+fn bad_target(alloc: Global, word: &str) -> Refusal {
+    if word.starts_with('@') {
+        bad_group(alloc, word)
+    } else {
+        bad_name(alloc, word)
     }
 }
 
-// The names of the nodes.
-fn nodes_in(alloc: Global, matches: &ArgMatches<'_>) -> Result<Vec<NodeName>, Refusal> {
-    let mut nodes = Vec::new(alloc);
-    for word in matches.get_strs("node").unwrap_or(&[]) {
-        push_node(alloc, &mut nodes, word)?;
+// What a word of the command line names.
+fn target_in(alloc: Global, word: &str) -> Result<Target, Refusal> {
+    match target_of(alloc, word.as_bytes()) {
+        Ok(target) => Ok(target),
+        Err(NameError::NoMemory) => Err(Refusal::Fault(Fault::NoMemory)),
+        Err(_) => Err(bad_target(alloc, word)),
     }
-    Ok(nodes)
+}
+
+// What the words of the command line name.
+fn targets_in(alloc: Global, matches: &ArgMatches<'_>) -> Result<Vec<Target>, Refusal> {
+    let mut targets = Vec::new(alloc);
+    for word in matches.get_strs("node").unwrap_or(&[]) {
+        let target = target_in(alloc, word)?;
+        push_target(&mut targets, target)?;
+    }
+    Ok(targets)
 }
 
 // The own name that is given.
@@ -282,6 +322,15 @@ fn cookie_in<'a>(matches: &ArgMatches<'a>) -> Result<CookieSource<'a>, Fault> {
     }
 }
 
+// How often nodes are probed, where they are watched.
+fn rhythm_in(watch: Option<u16>, count: Option<u16>) -> Result<Option<Rhythm>, Fault> {
+    match (watch, count) {
+        (Some(seconds), count) => Ok(Some(Rhythm { seconds, count })),
+        (None, None) => Ok(None),
+        (None, Some(_)) => Err(Fault::CountAlone),
+    }
+}
+
 // What the parser matched beside names.
 fn choices_in<'a>(
     alloc: Global,
@@ -290,7 +339,7 @@ fn choices_in<'a>(
 ) -> Result<Choices<'a>, Refusal> {
     let cookie = cookie_in(matches)?;
     let flags = flags_in(alloc, matches)?;
-    let [mapper_port, port, listen, seconds] = numbers_in(alloc, matches)?;
+    let [mapper_port, port, listen, seconds, watch, count] = numbers_in(alloc, matches)?;
     Ok(Choices {
         cookie,
         flags,
@@ -302,6 +351,9 @@ fn choices_in<'a>(
         listen,
         json: matches.get_flag("json"),
         takes_any_file: matches.get_flag("cookie-unsafe"),
+        roster: matches.get_str("nodes"),
+        all_pairs: matches.get_flag("all-pairs"),
+        watch: rhythm_in(watch, count)?,
     })
 }
 
@@ -314,26 +366,46 @@ fn read_in<'a>(
     let choices = choices_in(alloc, matches, usual_port)?;
     let name = own_name_in(alloc, matches)?;
     Ok(Wanted {
-        nodes: nodes_in(alloc, matches)?,
+        targets: targets_in(alloc, matches)?,
         name,
         choices,
     })
 }
 
-// What does not go together.
-fn fault_in(choices: Choices<'_>, nodes: usize, is_named: bool) -> Option<Fault> {
-    if choices.listen.is_some() {
-        if nodes == 0 && is_named {
-            None
-        } else {
-            Some(Fault::ListenAlone)
-        }
-    } else if nodes == 0 {
+// Whether one node alone is dialled.
+fn is_one_node(wanted: &Wanted<'_>) -> bool {
+    matches!(wanted.targets.as_slice(), [Target::Node(_)]) && wanted.choices.roster.is_none()
+}
+
+// What does not go together where it is listened.
+fn listening_fault(wanted: &Wanted<'_>) -> Option<Fault> {
+    let choices = &wanted.choices;
+    let is_alone = wanted.targets.is_empty() && choices.roster.is_none() && choices.watch.is_none();
+    if is_alone && wanted.name.is_some() {
+        None
+    } else {
+        Some(Fault::ListenAlone)
+    }
+}
+
+// What does not go together where nodes are dialled.
+fn dialling_fault(wanted: &Wanted<'_>) -> Option<Fault> {
+    let choices = &wanted.choices;
+    if wanted.targets.is_empty() && choices.roster.is_none() {
         Some(Fault::NoNode)
-    } else if nodes > 1 && (choices.port.is_some() || choices.address.is_some()) {
+    } else if !is_one_node(wanted) && (choices.port.is_some() || choices.address.is_some()) {
         Some(Fault::OneNodeAlone)
     } else {
         None
+    }
+}
+
+// What does not go together.
+fn fault_in(wanted: &Wanted<'_>) -> Option<Fault> {
+    if wanted.choices.listen.is_some() {
+        listening_fault(wanted)
+    } else {
+        dialling_fault(wanted)
     }
 }
 
@@ -344,7 +416,7 @@ fn wanted_in<'a>(
     usual_port: u16,
 ) -> Result<Wanted<'a>, Instead> {
     let wanted = read_in(alloc, matches, usual_port)?;
-    match fault_in(wanted.choices, wanted.nodes.len(), wanted.name.is_some()) {
+    match fault_in(&wanted) {
         Some(fault) => Err(Instead::Refusal(Refusal::Fault(fault))),
         None => Ok(wanted),
     }

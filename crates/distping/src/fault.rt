@@ -26,6 +26,18 @@ pub enum Fault {
     OpenFailed,
     /// The cookie's file has no cookie.
     NoCookie(CookieError),
+    /// The file of names could not be opened.
+    RosterClosed,
+    /// The file of names could not be read.
+    RosterUnread,
+    /// The file of names is too long.
+    RosterTooLong,
+    /// There are more nodes than are dialled in one run.
+    TooManyNodes,
+    /// `--count` stands without `--watch`.
+    CountAlone,
+    /// The system gave no time.
+    NoTime,
     /// The port could not be listened at, or no connection be taken, for this cause.
     ListenFailed(ErrorKind),
     /// The host of `--address` gives no address to listen at.
@@ -82,6 +94,12 @@ impl Fault {
             Fault::BadName =>
                 "a node's name has one @, something on both sides, and 3 to 255 bytes",
             Fault::OneNodeAlone => "--port and --address go with one NODE alone",
+            Fault::CountAlone => "--count goes with --watch",
+            Fault::NoTime => "ReadFailed: the system's clock",
+            Fault::RosterClosed => "OpenFailed: the file of --nodes",
+            Fault::RosterUnread => "ReadFailed: the file of --nodes",
+            Fault::RosterTooLong => "TooLong: the file of --nodes has more than 1048576 bytes",
+            Fault::TooManyNodes => "more than 1024 nodes are named, or known to the port mappers",
             Fault::OpenFailed => "OpenFailed: the cookie's file",
             Fault::NoCookie(error) => error.name(),
             Fault::ListenFailed(_) => "ListenFailed",
@@ -103,6 +121,8 @@ impl Fault {
             | Fault::TwoCookies
             | Fault::BadName
             | Fault::OneNodeAlone
+            | Fault::TooManyNodes
+            | Fault::CountAlone
             | Fault::ListenAlone => 2,
             _ => 1,
         }

@@ -7,6 +7,8 @@ ghost use Rattle.distping.specs.Texts.{PutsPiece, TellsVerdict};
 use crate::fault::Fault;
 use crate::listening::Taken;
 use crate::pairs::Pairing;
+use crate::summary::{Summary, Tally};
+use crate::watching::Answers;
 use dist_epmd::PortInfo;
 use dist_epmd_calls::LookupError;
 use dist_flags::{Dflag, Release, Told, missing, told_by};
@@ -53,7 +55,7 @@ pub enum Piece<'a> {
 }
 
 /// The text that bytes of the program itself are.
-pub fn text_of(bytes: &'static [u8]) -> &'static str {
+pub fn static_text(bytes: &'static [u8]) -> &'static str {
     std::str::from_utf8(bytes).unwrap_or("?")
 }
 
@@ -179,7 +181,7 @@ fn pairing_mark(pairing: Pairing) -> &'static str {
 }
 
 // The mark before a status.
-fn mark_of(status: Status) -> &'static str {
+fn status_mark(status: Status) -> &'static str {
     match status {
         Status::Ok | Status::OkSimultaneous => "✓",
         _ => "✗",
@@ -206,6 +208,38 @@ fn verdict_lines(alloc: Global, verdict: Verdict) -> Result<String, AllocError>
     with_mark(alloc, mark, verdict.name(), &sentences)
 }
 
+// A count of all, and how many of them have which word: `3: Up 2, WrongCookie 1`.
+fn tally_text(alloc: Global, count: u64, tallies: &[Tally]) -> Result<String, AllocError> {
+    let mut text = format!(in alloc; "{count}")?;
+    let mut before = ": ";
+    for tally in tallies {
+        let (word, number) = (tally.word, tally.count);
+        write!(&mut text, "{before}{word} {number}")?;
+        before = ", ";
+    }
+    Ok(text)
+}
+
+// What stands between a verdict and the word of the one before, where there is one.
+fn before_text(before: &[u8]) -> &'static str {
+    if before.is_empty() { "" } else { ", was " }
+}
+
+// How long the answers of a node took.
+fn answers_text(alloc: Global, answers: &Answers<'_>) -> Result<String, AllocError> {
+    let rounds = answers.rounds;
+    match answers.summary {
+        Some(summary) => {
+            let (count, least) = (summary.count, summary.least);
+            let (median, worst) = (summary.median, summary.worst);
+            format!(in alloc;
+                "{count} answers in {rounds} rounds, least {least} ms, median {median} ms, worst {worst} ms"
+            )
+        }
+        None => format!(in alloc; "no answer in {rounds} rounds"),
+    }
+}
+
 // What stands before and behind an address of this kind of a host.
 fn address_texts(is_ipv4: bool, has_ipv4: bool) -> (&'static str, &'static str) {
     if is_ipv4 {
@@ -224,7 +258,7 @@ fn address_texts(is_ipv4: bool, has_ipv4: bool) -> (&'static str, &'static str) 
 }
 
 // The mark of a status of the program.
-fn mark_at(status: u8) -> &'static str {
+fn exit_mark(status: u8) -> &'static str {
     if status == 0 { "✓" } else { "✗" }
 }
 
@@ -244,6 +278,14 @@ impl Lines {
         }
     }
 
+    /// The same place, where no step is printed.
+    pub fn quietly(self) -> Lines {
+        Lines {
+            quiet: true,
+            ..self
+        }
+    }
+
     // A line of pieces, unless no step is printed.
     fn put(self, pieces: &[Piece<'_>]) -> Result<(), Fault> {
         if self.quiet {
@@ -258,11 +300,27 @@ impl Lines {
         self.put(&[Piece::Text(front), Piece::Names(flags), Piece::Text("\n")])
     }
 
-    /// Which node is dialled, where there are several.
-    pub fn put_node(self, node: &NodeName) -> Result<(), Fault> {
+    /// Which node is dialled, where there are several, or of which host the nodes are asked for.
+    pub fn put_heading(self, word: &[u8]) -> Result<(), Fault> {
+        self.put(&[Piece::Text("-- "), Piece::Name(word), Piece::Text("\n")])
+    }
+
+    /// The port mapper knows so many names.
+    pub fn put_known(self, mapper_port: u16, count: u32) -> Result<(), Fault> {
         self.put(&[
-            Piece::Text("-- "),
-            Piece::Name(node.bytes()),
+            Piece::Text("✓  epmd      port "),
+            Piece::Number(u32::from(mapper_port)),
+            Piece::Text(" answers: nodes that are registered there: "),
+            Piece::Number(count),
+            Piece::Text("\n"),
+        ])
+    }
+
+    /// What the port mapper has in a line is no node's name.
+    pub fn put_left_out(self, text: &[u8]) -> Result<(), Fault> {
+        self.put(&[
+            Piece::Text("!  epmd      no node's name, and left out: "),
+            Piece::Name(text),
             Piece::Text("\n"),
         ])
     }
@@ -370,13 +428,13 @@ impl Lines {
     /// The status that the node sent upon the own name.
     pub fn put_status(self, own: &NodeName, flags: Flags, status: Status) -> Result<(), Fault> {
         self.put(&[
-            Piece::Text(mark_of(status)),
+            Piece::Text(status_mark(status)),
             Piece::Text("  name      said "),
             Piece::Name(own.bytes()),
             Piece::Text(" with flags "),
             Piece::Digits(flags.announced()),
             Piece::Text("; the node says "),
-            Piece::Text(text_of(status.text())),
+            Piece::Text(static_text(status.text())),
             Piece::Text("\n"),
         ])
     }
@@ -445,7 +503,7 @@ impl Lines {
     pub fn put_outcome(self, taken: Taken) -> Result<(), Fault> {
         let (name, cause) = taken.texts();
         self.put(&[
-            Piece::Text(mark_at(taken.status())),
+            Piece::Text(exit_mark(taken.status())),
             Piece::Text("  "),
             Piece::Text(name),
             Piece::Text(": "),
@@ -494,6 +552,59 @@ impl Lines {
     fn put_lacks(self, of_first: Flags, of_second: Flags) -> Result<(), Fault> {
         self.put_flags("   lacking   the first:", of_first)?;
         self.put_flags("   lacking   the second:", of_second)
+    }
+
+    // How many have which word, behind a count of all.
+    fn put_tallies(self, front: &'static str, count: u64, tallies: &[Tally]) -> Result<(), Fault> {
+        let text = tally_text(self.alloc, count, tallies)?;
+        self.put(&[Piece::Text(front), Piece::Escaped(&text), Piece::Text("\n")])
+    }
+
+    /// How many nodes came to which verdict, and how many pairs have which word.
+    pub fn put_summary(self, summary: &Summary) -> Result<(), Fault> {
+        self.put_tallies("   nodes     ", summary.nodes, &summary.verdicts)?;
+        self.put_tallies("   pairs     ", summary.pairs, &summary.pairings)
+    }
+
+    /// The verdict upon a node that is watched, at this time, and which one it had before.
+    pub fn put_change<'x>(
+        self,
+        time: &'x str,
+        node: &'x NodeName,
+        verdict: Verdict,
+        before: &'x [u8],
+    ) -> Result<(), Fault> {
+        self.put(&[
+            Piece::Escaped(time),
+            Piece::Text(" "),
+            Piece::Text(exit_mark(verdict.status())),
+            Piece::Text("  "),
+            Piece::Name(node.bytes()),
+            Piece::Text(": "),
+            Piece::Text(verdict.name()),
+            Piece::Text(before_text(before)),
+            Piece::Foreign(before),
+            Piece::Text(": "),
+            Piece::Text(verdict.cause()),
+            Piece::Text("\n"),
+        ])
+    }
+
+    // How long the answers of a node took, in a line.
+    fn put_answers_line<'x>(self, node: &'x NodeName, text: &'x str) -> Result<(), Fault> {
+        self.put(&[
+            Piece::Text("   latency   "),
+            Piece::Name(node.bytes()),
+            Piece::Text(": "),
+            Piece::Escaped(text),
+            Piece::Text("\n"),
+        ])
+    }
+
+    /// How long the answers of a node took that was watched.
+    pub fn put_answers(self, answers: &Answers<'_>) -> Result<(), Fault> {
+        let text = answers_text(self.alloc, answers)?;
+        self.put_answers_line(answers.node, &text)
     }
 
     /// Which address of several got furthest.

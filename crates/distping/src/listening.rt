@@ -154,13 +154,13 @@ fn accept(
     caller: &mut Caller,
 ) -> Result<Option<Connection>, Fault> {
     match bind_listener(rt, listen.place, listen.port) {
-        Ok(listener) => accept_at(rt, &listener, listen, lines, caller),
+        Ok(listener) => accept_from(rt, &listener, listen, lines, caller),
         Err(error) => Err(Fault::ListenFailed(error.kind())),
     }
 }
 
 // The same at this listener.
-fn accept_at(
+fn accept_from(
     rt: &HostRuntime,
     listener: &TcpListener,
     listen: &Listen<'_>,

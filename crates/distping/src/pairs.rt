@@ -1,9 +1,9 @@
 //! What can be said of two nodes from outside, once both were dialled.
 
-ghost use Rattle.std.specs.Prelude.{◌≡◌};
+ghost use Rattle.std.specs.Prelude.{◌≡◌, ◌≢◌, ◌↔◌, IsTrue};
 ghost use Rattle.dist_probe.specs.Styles.{style_of};
 ghost use Rattle.dist_names.specs.Order.{same_name};
-ghost use Rattle.distping.specs.Pairs.{behind_cookies, behind_flags, lacks, pairing_of, pair_status};
+ghost use Rattle.distping.specs.Pairs.{behind_cookies, behind_flags, is_bad, lacks, pairing_of, pair_status, pair_word};
 
 use dist_flags::{missing, release_of};
 use dist_names::{Flags, NodeName};
@@ -89,32 +89,49 @@ pub fn pairing_of(first: &Half<'_>, second: &Half<'_>) -> Pairing
 }
 
 impl Pairing {
-    /// Its word, and what it means, in a sentence without a full stop.
-    pub fn texts(self) -> (&'static str, &'static str) {
+    /// Its word.
+    pub fn name(self) -> &'static str
+        ensures { result.now ≡ pair_word self }
+    {
         match self {
-            Pairing::SameName => ("SameName", "two nodes of one name never connect"),
-            Pairing::LongAndShort => (
-                "LongAndShort",
-                "a node of -name and one of -sname never connect",
-            ),
-            Pairing::NotReached => (
-                "NotReached",
-                "not both answered, so nothing is known of the pair",
-            ),
-            Pairing::LacksFlags(..) => (
-                "LacksFlags",
-                "one lacks flags that the other's release asks for",
-            ),
-            Pairing::OtherCookies => (
-                "OtherCookies",
-                "they have different cookies: one takes ours, the other does not",
-            ),
-            Pairing::Unsure => (
-                "Unsure",
-                "names and flags agree; not both took our cookie, so theirs are not compared",
-            ),
-            Pairing::Agree => ("Agree", "names, flags and cookie agree"),
+            Pairing::SameName => "SameName",
+            Pairing::LongAndShort => "LongAndShort",
+            Pairing::NotReached => "NotReached",
+            Pairing::LacksFlags(..) => "LacksFlags",
+            Pairing::OtherCookies => "OtherCookies",
+            Pairing::Unsure => "Unsure",
+            Pairing::Agree => "Agree",
         }
+    }
+
+    // What it means, in a sentence without a full stop.
+    fn cause(self) -> &'static str {
+        match self {
+            Pairing::SameName => "two nodes of one name never connect",
+            Pairing::LongAndShort => "a node of -name and one of -sname never connect",
+            Pairing::NotReached => "not both answered, so nothing is known of the pair",
+            Pairing::LacksFlags(..) => "one lacks flags that the other's release asks for",
+            Pairing::OtherCookies =>
+                "they have different cookies: one takes ours, the other does not",
+            Pairing::Unsure =>
+                "names and flags agree; not both took our cookie, so theirs are not compared",
+            Pairing::Agree => "names, flags and cookie agree",
+        }
+    }
+
+    /// Its word, and what it means, in a sentence without a full stop.
+    pub fn texts(self) -> (&'static str, &'static str)
+        ensures { result.0.now ≡ pair_word self }
+    {
+        (self.name(), self.cause())
+    }
+
+    /// Whether something speaks against the two: not where they agree, nor where nothing is known.
+    pub fn is_bad(self) -> bool
+        ensures cases { result ≡ is_bad self }
+        ensures status { IsTrue result ↔ (pair_status self ≢ 0) }
+    {
+        self.status() != 0
     }
 
     /// The exit status: 0 where nothing speaks against the pair, else the place to look at, as that of a verdict.

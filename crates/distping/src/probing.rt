@@ -88,7 +88,7 @@ enum Unknown {
 
 /// What stops a probe.
 #[derive(Clone, Copy)]
-enum Stop {
+pub enum Stop {
     /// A verdict before the talk.
     Verdict(Verdict),
     /// A fault of the own side.
@@ -176,8 +176,8 @@ fn host_verdict(error: HostError) -> Verdict
     }
 }
 
-// A connection to the port mapper.
-fn mapper_at(
+/// A connection to the port mapper.
+pub fn mapper_at(
     dial: &Dial<'_>,
     address: &SocketAddr,
     budget: &mut Budget,
@@ -187,24 +187,24 @@ fn mapper_at(
     limit_step(dial.rt, stream, Step::Lookup, budget)
 }
 
-// The end of a probe by this verdict, unless printing it failed.
-fn stop_after(told: Result<(), Fault>, verdict: Verdict) -> Stop {
+/// The end of a probe by this verdict, unless printing it failed.
+pub fn stop_after(told: Result<(), Fault>, verdict: Verdict) -> Stop {
     match told {
         Ok(()) => Stop::Verdict(verdict),
         Err(fault) => Stop::Fault(fault),
     }
 }
 
-// Prints that the port mapper was not reached.
-fn no_mapper(dial: &Dial<'_>, place: Unreached) -> Stop {
+/// Prints that the port mapper was not reached.
+pub fn no_mapper(dial: &Dial<'_>, place: Unreached) -> Stop {
     let told = dial
         .lines
         .put_unreached("epmd     ", dial.choices.mapper_port, place);
     stop_after(told, mapper_verdict(place))
 }
 
-// A lookup that went wrong, as a verdict.
-fn lookup_verdict(error: LookupError) -> Verdict
+/// A lookup that went wrong, as a verdict.
+pub fn lookup_verdict(error: LookupError) -> Verdict
     ensures { result ≡ lookup_verdict error }
 {
     match error {
@@ -452,7 +452,7 @@ fn steps_at(
 }
 
 // Dials the node at this address, prints each step, and returns what it comes to.
-fn probe_at(
+fn probe_address(
     dial: &Dial<'_>,
     address: &SocketAddr,
     budget: &mut Budget,
@@ -472,18 +472,30 @@ fn try_address(
     all: &mut Tries,
 ) -> Result<bool, Fault> {
     let mut found = Found::nothing(Some(*address));
-    let verdict = probe_at(dial, address, budget, &mut found)?;
+    let verdict = probe_address(dial, address, budget, &mut found)?;
     all.found.push(found)?;
     all.verdicts.push(verdict)?;
     budget.go_on();
     Ok(is_found(verdict))
 }
 
-// What was found at each address so far, and the verdict upon it.
+/// What was found at each address so far, and the verdict upon it.
 #[derive(Drop)]
-struct Tries {
-    found: Vec<Found>,
-    verdicts: Vec<Verdict>,
+pub struct Tries {
+    /// What was found at each.
+    pub found: Vec<Found>,
+    /// The verdict upon each.
+    pub verdicts: Vec<Verdict>,
+}
+
+impl Tries {
+    /// No address so far.
+    pub fn nothing(alloc: Global) -> Tries {
+        Tries {
+            found: Vec::new(alloc),
+            verdicts: Vec::new(alloc),
+        }
+    }
 }
 
 // Tries each address, until the node was found at one.
@@ -501,8 +513,8 @@ fn try_each(dial: &Dial<'_>, addresses: &[SocketAddr], all: &mut Tries) -> Resul
     Ok(())
 }
 
-// What the addresses come to: the verdict of the first of those that got furthest. There is no host where there is none.
-fn outcome_of(addresses: Vec<SocketAddr>, all: Tries) -> Outcome {
+/// What the addresses come to: the verdict of the first of those that got furthest. There is no host where there is none.
+pub fn outcome_of(addresses: Vec<SocketAddr>, all: Tries) -> Outcome {
     let Tries { found, verdicts } = all;
     if verdicts.is_empty() {
         return nowhere(addresses, verdicts, HostError::NoName);
@@ -519,8 +531,8 @@ fn outcome_of(addresses: Vec<SocketAddr>, all: Tries) -> Outcome {
     }
 }
 
-// What it comes to where the host has no address.
-fn nowhere(addresses: Vec<SocketAddr>, verdicts: Vec<Verdict>, error: HostError) -> Outcome {
+/// What it comes to where the host has no address.
+pub fn nowhere(addresses: Vec<SocketAddr>, verdicts: Vec<Verdict>, error: HostError) -> Outcome {
     Outcome {
         verdict: host_verdict(error),
         found: Found::nothing(None),
@@ -531,11 +543,7 @@ fn nowhere(addresses: Vec<SocketAddr>, verdicts: Vec<Verdict>, error: HostError)
 
 // Dials the node at each of these addresses, until it is found at one.
 fn probe_addresses(dial: &Dial<'_>, addresses: Vec<SocketAddr>) -> Result<Outcome, Fault> {
-    let alloc = dial.lines.alloc;
-    let mut all = Tries {
-        found: Vec::new(alloc),
-        verdicts: Vec::new(alloc),
-    };
+    let mut all = Tries::nothing(dial.lines.alloc);
     try_each(dial, &addresses, &mut all)?;
     Ok(outcome_of(addresses, all))
 }

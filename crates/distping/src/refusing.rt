@@ -33,6 +33,31 @@ pub fn bad_name(alloc: Global, word: &str) -> Refusal {
     refuse(with_word(alloc, text, word))
 }
 
+/// A word that should name a host, and all nodes there.
+pub fn bad_group(alloc: Global, word: &str) -> Refusal {
+    let text = "behind the @ of @HOST stands a host, of 1 to 246 bytes and without a further @: ";
+    refuse(with_word(alloc, text, word))
+}
+
+// The sentence of a line of a file that names no node.
+fn line_sentence(
+    alloc: Global,
+    path: &str,
+    number: u64,
+    word: &[u8],
+) -> Result<String, AllocError> {
+    let file = quote(alloc, path.as_bytes())?;
+    let quoted = quote(alloc, word)?;
+    format!(in alloc;
+        "--nodes {file}, line {number}: no NAME@HOST of 3 to 255 bytes, and no @HOST: {quoted}"
+    )
+}
+
+/// A line of a file that should name a node or a host.
+pub fn bad_line(alloc: Global, path: &str, number: u64, word: &[u8]) -> Refusal {
+    refuse(line_sentence(alloc, path, number, word))
+}
+
 /// What stands behind `--flags`.
 pub fn bad_flags(alloc: Global, word: &str) -> Refusal {
     let text =

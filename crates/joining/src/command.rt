@@ -1,16 +1,18 @@
 //! What the command line asks for.
 
 use crate::fault::Fault;
+use crate::refusing::{bad_name, bad_number, bad_words};
 use clap::error::ErrorKind;
-use clap::{Arg, ArgAction, ArgMatches, Command};
+use clap::{Arg, ArgAction, ArgMatches, Command, Error};
 use dist_names::number_16;
+use distribution::{NameError, NodeName};
 use std::alloc::{AllocError, Global};
 
 /// After how many seconds a silent peer is given up. Source: Erlang/OTP, application `kernel`, `net_ticktime`.
 const NET_TICKTIME: u16 = 60;
 
 /// What the command line asks for.
-#[derive(Clone, Copy)]
+#[derive(Drop)]
 pub enum Asked<'a> {
     /// How the program is called.
     Help,
@@ -21,12 +23,21 @@ pub enum Asked<'a> {
 }
 
 /// Which node is to be joined, and how.
-#[derive(Clone, Copy)]
+#[derive(Drop)]
 pub struct Wanted<'a> {
     /// The node's name.
-    pub node: &'a str,
+    pub node: NodeName,
     /// The own name, where one is given.
-    pub name: Option<&'a str>,
+    pub name: Option<NodeName>,
+    /// The rest.
+    pub choices: Choices<'a>,
+}
+
+/// What is chosen beside names.
+#[derive(Clone, Copy)]
+pub struct Choices<'a> {
+    /// The host to connect to, where it is not that of the node's name.
+    pub address: Option<&'a str>,
     /// The cookie's file, where it is not that of the home folder.
     pub cookie_file: Option<&'a str>,
     /// Whether the file may be one that others than its owner can read.
@@ -37,19 +48,18 @@ pub struct Wanted<'a> {
     pub net_ticktime: u16,
 }
 
-// The words that the parser matched.
-#[derive(Clone, Copy)]
-struct Matched<'a> {
-    node: Option<&'a str>,
-    name: Option<&'a str>,
-    cookie_file: Option<&'a str>,
-    is_unsafe: bool,
-    mapper_port: Option<&'a str>,
-    net_ticktime: Option<&'a str>,
+impl<'a> Choices<'a> {
+    /// The host to connect to for a node.
+    pub fn host<'b>(&'b self, node: &'b NodeName) -> &'b str {
+        match self.address {
+            Some(host) => host,
+            None => std::str::from_utf8(node.host()).unwrap_or(""),
+        }
+    }
 }
 
 // The program's words that take a value.
-const VALUES: [&str; 3] = ["name", "epmd-port", "net-ticktime"];
+const VALUES: [&str; 4] = ["name", "address", "epmd-port", "net-ticktime"];
 
 // So does this one, by which the other programs name the file of the cookie too, and its older form.
 const COOKIE: &str = "cookie";
@@ -85,66 +95,103 @@ fn program<'a>(alloc: Global) -> Result<Command<'a>, AllocError> {
     Ok(program)
 }
 
-fn matched_values<'a>(matches: &ArgMatches<'a>) -> Matched<'a> {
-    Matched {
-        node: matches.get_str("node"),
-        name: matches.get_str("name"),
+// A number of 16 bits that is not 0.
+fn number_named(word: &str) -> Option<u16> {
+    match number_16(word.as_bytes()) {
+        Some(0) | None => None,
+        number => number,
+    }
+}
+
+// The number from 1 to 65,535 behind this word, where one is given, else the usual one.
+fn number_of(alloc: Global, matches: &ArgMatches<'_>, id: &str, usual: u16) -> Result<u16, Fault> {
+    let Some(word) = matches.get_str(id) else {
+        return Ok(usual);
+    };
+    match number_named(word) {
+        Some(number) => Ok(number),
+        None => Err(bad_number(alloc, id, word)),
+    }
+}
+
+/// The name that these bytes are.
+pub fn name_of(alloc: Global, bytes: &[u8]) -> Result<NodeName, Fault> {
+    match NodeName::new(alloc, bytes) {
+        Ok(name) => Ok(name),
+        Err(NameError::NoMemory) => Err(Fault::NoMemory),
+        Err(_) => Err(Fault::BadName),
+    }
+}
+
+// The name that a word of the command line is.
+fn name_in(alloc: Global, word: &str) -> Result<NodeName, Fault> {
+    match name_of(alloc, word.as_bytes()) {
+        Err(Fault::BadName) => Err(bad_name(alloc, word)),
+        other => other,
+    }
+}
+
+// The own name, where one is given.
+fn own_name_in(alloc: Global, matches: &ArgMatches<'_>) -> Result<Option<NodeName>, Fault> {
+    match matches.get_str("name") {
+        None => Ok(None),
+        Some(word) => Ok(Some(name_in(alloc, word)?)),
+    }
+}
+
+// What the parser matched beside names.
+fn choices_in<'a>(
+    alloc: Global,
+    matches: &ArgMatches<'a>,
+    usual_port: u16,
+) -> Result<Choices<'a>, Fault> {
+    let mapper_port = number_of(alloc, matches, "epmd-port", usual_port)?;
+    let net_ticktime = number_of(alloc, matches, "net-ticktime", NET_TICKTIME)?;
+    Ok(Choices {
+        address: matches.get_str("address"),
         cookie_file: matches.get_str(COOKIE),
         is_unsafe: matches.get_flag(UNSAFE),
-        mapper_port: matches.get_str("epmd-port"),
-        net_ticktime: matches.get_str("net-ticktime"),
-    }
-}
-
-// What the parser makes of the words.
-fn match_words<'a>(alloc: Global, words: &'a [String]) -> Result<Matched<'a>, ErrorKind> {
-    let Ok(program) = program(alloc) else {
-        return Err(ErrorKind::OutOfMemory);
-    };
-    match program.try_get_matches_from(words) {
-        Ok(matches) => Ok(matched_values(&matches)),
-        Err(error) => Err(error.kind()),
-    }
-}
-
-// A number of 16 bits, where a word is given, else the usual one.
-fn number_of(word: Option<&str>, usual: u16) -> Option<u16> {
-    match word {
-        Some(word) => number_16(word.as_bytes()),
-        None => Some(usual),
-    }
-}
-
-// What the matched words ask for.
-fn wanted_of<'a>(matched: Matched<'a>, mapper_port: u16) -> Option<Wanted<'a>> {
-    let net_ticktime = number_of(matched.net_ticktime, NET_TICKTIME)?;
-    if net_ticktime == 0 {
-        return None;
-    }
-    Some(Wanted {
-        node: matched.node?,
-        name: matched.name,
-        cookie_file: matched.cookie_file,
-        is_unsafe: matched.is_unsafe,
-        mapper_port: number_of(matched.mapper_port, mapper_port)?,
+        mapper_port,
         net_ticktime,
     })
 }
 
-/// What these words ask for. `mapper_port` is the port mapper's port, where they name none.
+// What the parser matched.
+fn wanted_in<'a>(
+    alloc: Global,
+    matches: &ArgMatches<'a>,
+    usual_port: u16,
+) -> Result<Wanted<'a>, Fault> {
+    let choices = choices_in(alloc, matches, usual_port)?;
+    let name = own_name_in(alloc, matches)?;
+    let Some(word) = matches.get_str("node") else {
+        return Err(Fault::NamesNoNode);
+    };
+    Ok(Wanted {
+        node: name_in(alloc, word)?,
+        name,
+        choices,
+    })
+}
+
+// What is asked for where the parser matched nothing.
+fn request_instead<'a>(alloc: Global, error: &Error) -> Result<Asked<'a>, Fault> {
+    match error.kind() {
+        ErrorKind::DisplayHelp => Ok(Asked::Help),
+        ErrorKind::DisplayVersion => Ok(Asked::Version),
+        ErrorKind::OutOfMemory => Err(Fault::NoMemory),
+        _ => Err(bad_words(alloc, error)),
+    }
+}
+
+/// What these words ask for. `usual_port` is the port mapper's port, where they name none.
 pub fn request_of<'a>(
     alloc: Global,
     words: &'a [String],
-    mapper_port: u16,
+    usual_port: u16,
 ) -> Result<Asked<'a>, Fault> {
-    match match_words(alloc, words) {
-        Ok(matched) => match wanted_of(matched, mapper_port) {
-            Some(wanted) => Ok(Asked::Joins(wanted)),
-            None => Err(Fault::BadCommandLine),
-        },
-        Err(ErrorKind::DisplayHelp) => Ok(Asked::Help),
-        Err(ErrorKind::DisplayVersion) => Ok(Asked::Version),
-        Err(ErrorKind::OutOfMemory) => Err(Fault::NoMemory),
-        Err(_) => Err(Fault::BadCommandLine),
+    match program(alloc)?.try_get_matches_from(words) {
+        Ok(matches) => Ok(Asked::Joins(wanted_in(alloc, &matches, usual_port)?)),
+        Err(error) => request_instead(alloc, &error),
     }
 }

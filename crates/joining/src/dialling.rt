@@ -1,19 +1,17 @@
-//! How a node is joined: the port mapper is asked where it listens, a connection is made, and the handshake driven. Each of
-//! these has its time by the clock.
+//! How a node is joined: at each address of its host the port mapper is asked where it listens, a connection is made, and the
+//! handshake driven, until it is found at one. Each of these has its time by the clock.
 
+use crate::budget::{Budget, Step};
 use crate::fault::Fault;
 use crate::handshake::shake_hands;
 use crate::link::Link;
-use dist_program::{CONNECT_SECONDS, connect, draw, one_turn, resolve, talk_over};
+use dist_program::{CONNECT_SECONDS, HostError, at_port, draw, one_turn};
 use distribution::{
-    DeadlineStream, EndId, Event, Node, NodeName, Opening, Packets, SocketStream, lookup,
-    opening_for,
+    DeadlineStream, EndId, Event, Node, NodeName, Opening, Packets, PortInfo, Setup, SocketStream,
+    connect_by, deadline_after, lookup, opening_for, time_left,
 };
 use std::alloc::Global;
 use std::net::SocketAddr;
-
-/// How many seconds a lookup and a handshake may take each, whatever comes meanwhile. A node gives up a handshake after 7.
-const TALK_SECONDS: u16 = 8;
 
 /// The most reads and writes of a lookup, if its time is not over before: 4,096 reads of 4,096 bytes bound the memory that an
 /// answer takes.
@@ -23,15 +21,20 @@ const TURNS_OF_A_LOOKUP: usize = 4096;
 /// both sides announce `DFLAG_FRAGMENTS`, which this one does not.
 const MOST_OF_PACKET: usize = 16_777_216;
 
-/// A connection that is quiet once the time of its lookup or its handshake is over.
+/// A connection that is quiet once the time of its step is over.
 type Connection<'a> = DeadlineStream<&'a HostRuntime>;
 
-// How a node is dialled: where it listens, which opening it knows, and the challenge of this one connection.
+/// A node that is to be joined.
 #[derive(Clone, Copy)]
-struct Way {
-    address: SocketAddr,
-    opening: Opening,
-    challenge: u32,
+pub struct Dial<'a> {
+    /// What is asked for sockets, the time and random numbers.
+    pub rt: &'a HostRuntime,
+    /// What the own node is set up with.
+    pub setup: &'a Setup,
+    /// The node's name.
+    pub peer: &'a NodeName,
+    /// The port of the port mapper.
+    pub mapper_port: u16,
 }
 
 /// A random number of 32 bits.
@@ -42,67 +45,78 @@ pub fn draw_number(rt: &HostRuntime) -> Result<u32, Fault> {
     }
 }
 
-// The IPv4 address of a host. A node listens at one unless it is configured otherwise.
-fn address_of(rt: &HostRuntime, host: &[u8]) -> Option<SocketAddr> {
-    let host = std::str::from_utf8(host).ok()?;
-    match resolve(rt, host) {
-        Some(address) if address.is_ipv4() => Some(address),
-        _ => None,
-    }
-}
-
-// The connection, with the time of a lookup or a handshake from now on.
-fn talk_in_time(rt: &HostRuntime, stream: SocketStream) -> Result<Connection<'_>, Fault> {
-    match talk_over(rt, stream, TALK_SECONDS) {
-        Ok(connection) => Ok(connection),
+// What goes over this connection has the share of this step from now on.
+fn limit_step<'a>(
+    rt: &'a HostRuntime,
+    stream: SocketStream,
+    step: Step,
+    budget: &Budget,
+) -> Result<Connection<'a>, Fault> {
+    match deadline_after(rt, budget.share(step)) {
+        Ok(until) => Ok(DeadlineStream::new(stream, rt, until)),
         Err(_) => Err(Fault::SystemFailed),
     }
 }
 
-// A connection to this address, if it was made in time.
-fn connect_in_time<'a>(
-    rt: &'a HostRuntime,
-    address: &SocketAddr,
-) -> Result<Option<Connection<'a>>, Fault> {
-    match connect(rt, address, CONNECT_SECONDS) {
-        Ok(stream) => Ok(Some(talk_in_time(rt, stream)?)),
+// A connection to this place, if it was made within the share of this step.
+fn connect_step(
+    rt: &HostRuntime,
+    place: &SocketAddr,
+    step: Step,
+    budget: &mut Budget,
+) -> Result<Option<SocketStream>, Fault> {
+    let Ok(until) = deadline_after(rt, budget.share(step)) else {
+        return Err(Fault::SystemFailed);
+    };
+    let made = connect_by(rt, place, until);
+    budget.settle(step, time_left(rt, until));
+    match made {
+        Ok(stream) => Ok(Some(stream.into_inner())),
         Err(_) => Ok(None),
     }
 }
 
-// The way to a node, as the port mapper of its host knows it.
-fn way_to(
-    rt: &HostRuntime,
-    alloc: Global,
-    node: &NodeName,
-    mapper_port: u16,
-) -> Result<Way, Fault> {
-    let challenge = draw_number(rt)?;
-    let Some(mut address) = address_of(rt, node.host()) else {
-        return Err(Fault::NoHost);
-    };
-    address.set_port(mapper_port);
-    let Some(mut stream) = connect_in_time(rt, &address)? else {
-        return Err(Fault::NoMapper);
-    };
-    match lookup(alloc, &mut stream, node.short(), TURNS_OF_A_LOOKUP) {
-        Ok(info) => {
-            address.set_port(info.port);
-            let opening = opening_for(&info);
-            Ok(Way {
-                address,
-                opening,
-                challenge,
-            })
-        }
-        Err(error) => Err(Fault::NotFound(error)),
+// The connection to the port mapper at this address.
+fn mapper_at<'a>(
+    dial: &Dial<'a>,
+    address: &SocketAddr,
+    budget: &mut Budget,
+) -> Result<Connection<'a>, Fault> {
+    let place = at_port(address, dial.mapper_port);
+    match connect_step(dial.rt, &place, Step::Mapper, budget)? {
+        Some(stream) => limit_step(dial.rt, stream, Step::Lookup, budget),
+        None => Err(Fault::NoMapper),
     }
 }
 
-// The end of a node that dials another.
-fn dial(alloc: Global, node: &mut Node, peer: NodeName, opening: Opening) -> Result<EndId, Fault> {
-    let dial = Event::Dial { peer, opening };
-    Ok(node.step(alloc, &dial, 0)?.end_)
+// What the port mapper at this address knows of the node.
+fn info_at(dial: &Dial<'_>, address: &SocketAddr, budget: &mut Budget) -> Result<PortInfo, Fault> {
+    let (alloc, short) = (dial.rt.alloc(), dial.peer.short());
+    let mut stream = mapper_at(dial, address, budget)?;
+    let answer = lookup(alloc, &mut stream, short, TURNS_OF_A_LOOKUP);
+    budget.settle(Step::Lookup, stream.time_left());
+    Ok(answer?)
+}
+
+// The connection to the node at this place.
+fn node_at<'a>(
+    dial: &Dial<'a>,
+    place: &SocketAddr,
+    budget: &mut Budget,
+) -> Result<Connection<'a>, Fault> {
+    match connect_step(dial.rt, place, Step::Port, budget)? {
+        Some(stream) => limit_step(dial.rt, stream, Step::Talk, budget),
+        None => Err(Fault::NoNode),
+    }
+}
+
+// The own node, and its end that dials the peer.
+fn dialled_end(dial: &Dial<'_>, opening: Opening) -> Result<(Node, EndId), Fault> {
+    let alloc = dial.rt.alloc();
+    let mut node = Node::new(alloc, dial.setup.try_clone(alloc)?);
+    let peer = dial.peer.try_clone(alloc)?;
+    let end_ = node.step(alloc, &Event::Dial { peer, opening }, 0)?.end_;
+    Ok((node, end_))
 }
 
 // The connection for the link: each read and write waits for one turn.
@@ -113,16 +127,19 @@ fn with_turns(stream: Connection<'_>) -> Result<SocketStream, Fault> {
     }
 }
 
-// The link over a connection that an end dialled.
+// The link over a connection to the node, where the handshake of this end of the own node comes to its end.
 fn link_over(
     alloc: Global,
     stream: Connection<'_>,
     node: Node,
     end_: EndId,
     challenge: u32,
+    budget: &mut Budget,
 ) -> Result<Link, Fault> {
     let mut stream = stream;
-    let (record, rest) = shake_hands(alloc, &mut stream, node, end_, challenge)?;
+    let shaken = shake_hands(alloc, &mut stream, node, end_, challenge);
+    budget.settle(Step::Talk, stream.time_left());
+    let (record, rest) = shaken?;
     Ok(Link {
         stream: with_turns(stream)?,
         record,
@@ -130,30 +147,36 @@ fn link_over(
     })
 }
 
-// Joins the node to which this is the way.
-fn join_by(
-    rt: &HostRuntime,
-    alloc: Global,
-    node: Node,
-    peer: NodeName,
-    way: Way,
-) -> Result<Link, Fault> {
-    let mut node = node;
-    let end_ = dial(alloc, &mut node, peer, way.opening)?;
-    match connect_in_time(rt, &way.address)? {
-        Some(stream) => link_over(alloc, stream, node, end_, way.challenge),
-        None => Err(Fault::NoNode),
+// Joins the node at this address of its host.
+fn join_address(dial: &Dial<'_>, address: &SocketAddr, budget: &mut Budget) -> Result<Link, Fault> {
+    let info = info_at(dial, address, budget)?;
+    let challenge = draw_number(dial.rt)?;
+    let (node, end_) = dialled_end(dial, opening_for(&info))?;
+    let stream = node_at(dial, &at_port(address, info.port), budget)?;
+    link_over(dial.rt.alloc(), stream, node, end_, challenge, budget)
+}
+
+// What is tried next where an address ended by this fault: another address, with the fault that got furthest, or none.
+fn go_further(furthest: Fault, fault: Fault) -> Result<Fault, Fault> {
+    if fault.is_found() {
+        Err(fault)
+    } else {
+        Ok(furthest.or_further(fault))
     }
 }
 
-/// Joins a node, of which the port mapper of its host knows where it listens.
-pub fn join_node(
-    rt: &HostRuntime,
-    alloc: Global,
-    node: Node,
-    peer: NodeName,
-    mapper_port: u16,
-) -> Result<Link, Fault> {
-    let way = way_to(rt, alloc, &peer, mapper_port)?;
-    join_by(rt, alloc, node, peer, way)
+/// Joins the node at the first of these addresses of its host at which it is found. Where it is found at none, the fault is that
+/// of the address that got furthest, and of those the first.
+pub fn join_node(dial: &Dial<'_>, addresses: &[SocketAddr]) -> Result<Link, Fault> {
+    let count = u32::try_from(addresses.len()).unwrap_or(u32::MAX);
+    let mut budget = Budget::new(CONNECT_SECONDS, count);
+    let mut furthest = Fault::NoHost(HostError::NoName);
+    for address in addresses {
+        match join_address(dial, address, &mut budget) {
+            Ok(link) => return Ok(link),
+            Err(fault) => furthest = go_further(furthest, fault)?,
+        }
+        budget.go_on();
+    }
+    Err(furthest)
 }

@@ -5,38 +5,45 @@
 //! terminates.
 #![tactic(auto)]
 
+mod budget;
 mod command;
+mod cookie;
 mod dialling;
 mod fault;
 mod handshake;
 mod link;
 mod printing;
+mod refusing;
 
-use command::{Asked, Wanted, request_of};
-use dialling::{draw_number, join_node};
-use dist_program::{cookie_at, home_cookie, mapper_port, report, words_of};
-use distribution::{
-    Cookie, Cookies, Creation, Flags, Limits, NameError, Node, NodeName, Release, Setup, Version,
-};
+use command::{Asked, Wanted, name_of, request_of};
+use cookie::cookie_of;
+use dialling::{Dial, draw_number, join_node};
+use dist_program::{CONNECT_SECONDS, Resolving, lookup_host, mapper_port, report, words_of};
+use distribution::{Cookie, Cookies, Creation, Flags, Limits, NodeName, Release, Setup, Version};
 use fault::Fault;
 use link::Link;
 use printing::print_up;
 use std::alloc::{AllocError, Global};
 use std::io::{self, Write};
+use std::net::SocketAddr;
 use std::process::ExitCode;
 use std::sync::Arc;
 use std::sync::atomic::{AtomicBool, Ordering};
 use std::thread;
+use std::time::Duration;
 
 /// How the program is called.
-const HELP: &str = "usage: joining NODE [--name NAME] [--cookie FILE] [--cookie-unsafe]
+const HELP: &str =
+    "usage: joining NODE [--name NAME] [--address HOST] [--cookie FILE] [--cookie-unsafe]
                     [--epmd-port N] [--net-ticktime N]
        joining --help | --version
 
-Joins a live Erlang node as a hidden node, tells each packet that comes, and leaves at the end of its input.
+Joins a live Erlang node as a hidden node, at the first address of its host at which it is found, tells each packet that comes, and
+leaves at the end of its input.
 
   NODE               the node to join, NAME@HOST
   --name NAME        the own name (joining@ and the host part of NODE)
+  --address HOST     the host to connect to, in place of the host part of NODE
   --cookie FILE      the file of the cookie ($HOME/.erlang.cookie)
   --cookie-file FILE the same
   --cookie-unsafe    take a cookie's file that others than its owner can read
@@ -55,7 +62,7 @@ type Mark = Arc<AtomicBool, Global>;
 fn main(rt: HostRuntime) -> ExitCode {
     let done = match marks(rt.alloc()) {
         Ok((ended, theirs)) => match thread::spawn(&rt, move || watch(rt, &theirs)) {
-            Ok(_) => perform(&rt, &ended),
+            Ok(_) => perform(&rt, &rt, &ended),
             Err(_) => Err(Fault::SystemFailed),
         },
         Err(_) => Err(Fault::NoMemory),
@@ -79,29 +86,25 @@ fn watch<R: Input + Drop>(rt: R, ended: &AtomicBool) {
     ended.store(true, Ordering::SeqCst);
 }
 
-// Does what the command line asks for.
-fn perform(rt: &HostRuntime, ended: &AtomicBool) -> Result<(), Fault> {
+// Does what the command line asks for. The second handle is the same: what may wait for a thread.
+fn perform<R: Resolving>(rt: &HostRuntime, resolver: &R, ended: &AtomicBool) -> Result<(), Fault> {
     let words = words_of(rt)?;
     let mapper_port = mapper_port(rt)?;
     let asked = request_of(rt.alloc(), &words, mapper_port)?;
-    follow(rt, asked, ended)
+    follow(rt, resolver, &asked, ended)
 }
 
 // Does what is asked for.
-fn follow(rt: &HostRuntime, asked: Asked<'_>, ended: &AtomicBool) -> Result<(), Fault> {
+fn follow<R: Resolving>(
+    rt: &HostRuntime,
+    resolver: &R,
+    asked: &Asked<'_>,
+    ended: &AtomicBool,
+) -> Result<(), Fault> {
     match asked {
         Asked::Help => Ok(rt.stdout().write_all(HELP.as_bytes())?),
         Asked::Version => Ok(rt.stdout().write_all(VERSION.as_bytes())?),
-        Asked::Joins(wanted) => join_and_stay(rt, &wanted, ended),
-    }
-}
-
-// The name that these bytes are.
-fn name_of(alloc: Global, bytes: &[u8]) -> Result<NodeName, Fault> {
-    match NodeName::new(alloc, bytes) {
-        Ok(name) => Ok(name),
-        Err(NameError::NoMemory) => Err(Fault::NoMemory),
-        Err(_) => Err(Fault::BadName),
+        Asked::Joins(wanted) => join_and_stay(rt, resolver, wanted, ended),
     }
 }
 
@@ -113,18 +116,10 @@ fn name_beside(alloc: Global, peer: &NodeName) -> Result<NodeName, Fault> {
 }
 
 // The own name: the one that is given, else one at the node's host.
-fn own_name(alloc: Global, wanted: &Wanted<'_>, peer: &NodeName) -> Result<NodeName, Fault> {
-    match wanted.name {
-        Some(name) => name_of(alloc, name.as_bytes()),
-        None => name_beside(alloc, peer),
-    }
-}
-
-// The cookie of the file that is named, else of the home folder's.
-fn cookie_of(rt: &HostRuntime, wanted: &Wanted<'_>) -> Result<Cookie, Fault> {
-    match wanted.cookie_file {
-        Some(path) => Ok(cookie_at(rt, path, wanted.is_unsafe)?),
-        None => home_cookie(rt, wanted.is_unsafe)?.ok_or(Fault::OpenFailed),
+fn own_name(alloc: Global, wanted: &Wanted<'_>) -> Result<NodeName, Fault> {
+    match &wanted.name {
+        Some(name) => Ok(name.try_clone(alloc)?),
+        None => name_beside(alloc, &wanted.node),
     }
 }
 
@@ -142,21 +137,36 @@ fn setup_of(alloc: Global, name: NodeName, cookie: Cookie, creation: u32) -> Set
     }
 }
 
-// The node of this program.
-fn node_of(rt: &HostRuntime, wanted: &Wanted<'_>, peer: &NodeName) -> Result<Node, Fault> {
+// What the node of this program is set up with, upon these words.
+fn own_setup(rt: &HostRuntime, wanted: &Wanted<'_>) -> Result<Setup, Fault> {
     let alloc = rt.alloc();
     let creation = draw_number(rt)?;
-    let name = own_name(alloc, wanted, peer)?;
-    let cookie = cookie_of(rt, wanted)?;
-    Ok(Node::new(alloc, setup_of(alloc, name, cookie, creation)))
+    let name = own_name(alloc, wanted)?;
+    let cookie = cookie_of(rt, &wanted.choices)?;
+    Ok(setup_of(alloc, name, cookie, creation))
+}
+
+// The addresses of the node's host.
+fn addresses_of<R: Resolving>(
+    rt: &HostRuntime,
+    resolver: &R,
+    wanted: &Wanted<'_>,
+) -> Result<Vec<SocketAddr>, Fault> {
+    let limit = Duration::from_secs(u64::from(CONNECT_SECONDS));
+    Ok(lookup_host(resolver, *rt, wanted.choices.host(&wanted.node), limit)?)
 }
 
 // Joins the node.
-fn join(rt: &HostRuntime, wanted: &Wanted<'_>) -> Result<Link, Fault> {
-    let alloc = rt.alloc();
-    let peer = name_of(alloc, wanted.node.as_bytes())?;
-    let node = node_of(rt, wanted, &peer)?;
-    join_node(rt, alloc, node, peer, wanted.mapper_port)
+fn join<R: Resolving>(rt: &HostRuntime, resolver: &R, wanted: &Wanted<'_>) -> Result<Link, Fault> {
+    let setup = own_setup(rt, wanted)?;
+    let addresses = addresses_of(rt, resolver, wanted)?;
+    let dial = Dial {
+        rt,
+        setup: &setup,
+        peer: &wanted.node,
+        mapper_port: wanted.choices.mapper_port,
+    };
+    join_node(&dial, &addresses)
 }
 
 // Keeps the link until the input ends, and leaves.
@@ -174,8 +184,13 @@ fn stay<W: Write>(
 }
 
 // Joins the node, and keeps the link until the input ends.
-fn join_and_stay(rt: &HostRuntime, wanted: &Wanted<'_>, ended: &AtomicBool) -> Result<(), Fault> {
-    let mut link = join(rt, wanted)?;
-    let quarter = u32::from(wanted.net_ticktime) * 250;
+fn join_and_stay<R: Resolving>(
+    rt: &HostRuntime,
+    resolver: &R,
+    wanted: &Wanted<'_>,
+    ended: &AtomicBool,
+) -> Result<(), Fault> {
+    let mut link = join(rt, resolver, wanted)?;
+    let quarter = u32::from(wanted.choices.net_ticktime) * 250;
     stay(rt, &mut link, quarter, ended, &mut rt.stdout())
 }

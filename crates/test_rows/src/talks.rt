@@ -57,10 +57,10 @@ fn verdict_over(alloc: Global, talk: &str, stream: &mut FaultStream) -> Option<V
     let target = name_at(alloc, talk, 1)?;
     let setup = setup_of(alloc, talk)?;
     let replies = word(talk, 2) != "-";
-    Some(verdict_of(alloc, stream, &setup, &target, fresh, replies))
+    Some(talk_to_verdict(alloc, stream, &setup, &target, fresh, replies))
 }
 
-fn verdict_of(
+fn talk_to_verdict(
     alloc: Global,
     stream: &mut FaultStream,
     setup: &Setup,

@@ -54,7 +54,7 @@ fn put_both(alloc: Global, sides: &mut Vec<Side>) -> Option<()> {
 }
 
 // What a node is given: a word, or a frame.
-fn event_of(alloc: Global, told: &str) -> Option<Event> {
+fn event_or_frame(alloc: Global, told: &str) -> Option<Event> {
     if told.starts_with('0') {
         frame(alloc, told)
     } else {
@@ -63,7 +63,7 @@ fn event_of(alloc: Global, told: &str) -> Option<Event> {
 }
 
 fn step(rt: &impl Wait, alloc: Global, side: &mut Side, told: &str) -> Option<()> {
-    let event = event_of(alloc, told)?;
+    let event = event_or_frame(alloc, told)?;
     let seat = side.seats.first_mut()?;
     side.node.step(rt, seat, &event, CHALLENGE).ok()?;
     Some(())
@@ -152,7 +152,7 @@ fn leave_out(history: &mut Vec<Line>) {
 }
 
 // Alters a line of a history, `NODE LINE WHAT`, or leaves its last line out, `NODE LINE out`.
-fn alter_at(alloc: Global, all: &mut [Closed], row: &str) -> Option<()> {
+fn alter_row(alloc: Global, all: &mut [Closed], row: &str) -> Option<()> {
     let history = &mut all.get_mut(number(row, 0)?)?.history;
     if row.ends_with("out") {
         leave_out(history);
@@ -167,7 +167,7 @@ fn first_wrong(alloc: Global, all: &mut [Closed], text: &'static str) -> Option<
     for line in text.lines() {
         let is_so = match line.split_once("? ") {
             Some((_, wanted)) => answer(alloc, all) == wanted,
-            None => alter_at(alloc, all, line).is_some(),
+            None => alter_row(alloc, all, line).is_some(),
         };
         if !is_so {
             return Some(line);

@@ -61,7 +61,7 @@ fn wrong_in_memory(alloc: Global) -> Option<Option<usize>> {
 }
 
 // Of the desk of this seat, which comes back.
-fn wrong_at<R: Wait>(
+fn first_wrong_by_seat<R: Wait>(
     rt: &R,
     alloc: Global,
     node: &LockedNode,
@@ -76,7 +76,7 @@ fn wrong_at<R: Wait>(
 fn wrong_at_a_seat<R: Wait>(rt: &R, alloc: Global) -> Option<(Option<usize>, Closing)> {
     let (node, mut seats) = seated_node(alloc)?;
     let _ = make_steps(rt, alloc, &node, &mut seats, 1);
-    let (wrong, seat) = wrong_at(rt, alloc, &node, seats.pop()?)?;
+    let (wrong, seat) = first_wrong_by_seat(rt, alloc, &node, seats.pop()?)?;
     Some((wrong, closing_with(node, seats, seat)?))
 }
 

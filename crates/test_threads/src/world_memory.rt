@@ -51,7 +51,7 @@ fn crossing(alloc: Global) -> Option<(World, Vec<Happening>)> {
 }
 
 // Lets the list happen; where it is cut off since memory runs out, the rest too.
-fn run_on(alloc: Global, world: &mut World, list: &[Happening]) -> Option<usize> {
+fn run_to_end(alloc: Global, world: &mut World, list: &[Happening]) -> Option<usize> {
     match world.run(alloc, list) {
         Ok(applied) => Some(applied),
         Err(Stopped { done }) => world.run(alloc, list.get(done..)?).ok(),
@@ -69,7 +69,7 @@ fn shows_the_crossing(alloc: Global, world: &World) -> Option<bool> {
 // Whether a crossing comes to its end, in one run or in two. `None`: memory was refused to the test itself.
 fn a_crossing_stands(alloc: Global) -> Option<bool> {
     let (mut world, list) = crossing(alloc)?;
-    run_on(alloc, &mut world, &list)?;
+    run_to_end(alloc, &mut world, &list)?;
     shows_the_crossing(alloc, &world)
 }
 

@@ -4,7 +4,7 @@ use Rattle.dist_script_lines.proofs.agreements.print_agreements.Goals as goal
 
 pub loop-place-preserved : goal.loop-place-preserved
 loop-place-preserved g c =
-    let t = c.in_ok-print_agreements_of.ensures in
+    let t = c.in_ok-print_agreements_from.ensures in
     pairs_go_on c.args.world.now c.loop-place.place _ _ _ t.0 c.loop-place.invariant t.1 t.2
 
 pub returns : goal.returns

@@ -19,7 +19,7 @@ returns-then-entries-eq0 g c =
 pub loop-place-preserved : goal.loop-place-preserved
 loop-place-preserved g c =
     let n = c.args.node.now in
-    row_more _ _ _ n (rows_of n) c.loop-place.place (omega (arith, c.entries-place-end.ensures, map.len-entries (table_of n.ends))) c.loop-place.invariant c.in_ok-row_at.ensures
+    row_more _ _ _ n (rows_of n) c.loop-place.place (omega (arith, c.entries-place-end.ensures, map.len-entries (table_of n.ends))) c.loop-place.invariant c.in_ok-write_nth_row.ensures
 
 pub returns : goal.returns
 returns g c =

@@ -19,14 +19,14 @@ returns-in-Some-clause-shows g c =
 
 pub returns-in-None-clause-shows : goal.returns-in-None-clause-shows
 returns-in-None-clause-shows g c =
-    let talks : Talks c.args.listen.now.fresh c.args.listen.now.compares c.args.body c.args.content.now c.args.node.now c.talk_on.new.node (g.S.Stream.meaning c.args.limited.now.stream.now) (g.S.Stream.meaning c.talk_on.new.limited.stream.now) c.args.limited.now.left c.talk_on.new.limited.left c.talk_on.result =
+    let talks : Talks c.args.listen.now.fresh c.args.listen.now.compares c.args.body c.args.content.now c.args.node.now c.continue_talk.new.node (g.S.Stream.meaning c.args.limited.now.stream.now) (g.S.Stream.meaning c.continue_talk.new.limited.stream.now) c.args.limited.now.left c.continue_talk.new.limited.left c.continue_talk.result =
     record {
       verdict = None;
       after = c.take.new.node;
       mid = g.S.Stream.meaning c.take.new.limited.stream.now;
       between = c.take.new.limited.left;
       takes = c.in-None.ensures.takes;
-      behind = c.talk_on.ensures.talks;
+      behind = c.continue_talk.ensures.talks;
     }
     in
     shows c.requires.opened c.requires.content talks

@@ -16,4 +16,4 @@ invariant_of-self-2 c =
     let opened = taken_open c.self.inside.node.ends c.self.inside.end_ c.in_ok-reply.reply (λ h. c.in_ok-reply.ensures.unknown c.self.inside.end_ names h) (λ w h. c.in_ok-reply.ensures.gone c.self.inside.end_ w names h) in
     by_loss c.args.event
     (λ loss. loss_room c.a_lost_end_is_closed.ensures c.self.inside.node c.step.new.self c.args.event c.self.inside.end_ c.args.fresh _ _ c.in_ok-reply.reply opened.kept loss names opened.there c.in_ok-reply.ensures.step)
-    (λ keeps e at opens. let room : vec_len c.make_room.new.steps + 1 < vec_capacity c.make_room.new.steps = c.in-Ok.ensures.room (c.is_lost.ensures.test ∙ keeps) in omega (arith, room, c.push_reserved.ensures.len, c.push_reserved.ensures.capacity))
+    (λ keeps e at opens. let room : vec_len c.make_room.new.steps + 1 < vec_capacity c.make_room.new.steps = c.in-Ok.ensures.room (c.is_lost.ensures ∙ keeps) in omega (arith, room, c.push_reserved.ensures.len, c.push_reserved.ensures.capacity))

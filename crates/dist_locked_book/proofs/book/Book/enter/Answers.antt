@@ -24,7 +24,7 @@ push_reserved-requires c =
     let opened = c.open_ends-open_ends.ensures.count in
     let P : BookState → Type 0 = λ b. IsPrepared b.node v c.args.fresh c.args.prepared in
     let is = c.in_ok-reply.ensures.step v c.args.fresh (subst P (sym c.self.view_is) c.requires) in
-    let more : is_loss v ≡ false → len + open_count n + 2 ≤ cap = λ h. omega (arith, opened, c.in_ok-make_room.ensures.room (c.is_lost.ensures.test ∙ h)) in
+    let more : is_loss v ≡ false → len + open_count n + 2 ≤ cap = λ h. omega (arith, opened, c.in_ok-make_room.ensures.room (c.is_lost.ensures ∙ h)) in
     let room = room-step c.open_ends_after_a_step.ensures.most c.open_ends_after_a_step.ensures.loss n v c.args.fresh c.in_ok-reply.reply c.commit.new.self len cap c.open_ends-open_ends.ensures.legal is (omega (arith, opened, c.make_room.ensures.kept)) more in
     omega (arith, room)
 
@@ -38,7 +38,7 @@ invariant_of-self-2 c =
     let line : Line = record { ticket = c.args.ticket; seat = c.args.seat; event = v; fresh = c.args.fresh; reply = c.in_ok-reply.reply } in
     let P : BookState → Type 0 = λ b. IsPrepared b.node v c.args.fresh c.args.prepared in
     let is = c.in_ok-reply.ensures.step v c.args.fresh (subst P (sym c.self.view_is) c.requires) in
-    let more : is_loss v ≡ false → len + open_count n + 2 ≤ cap = λ h. omega (arith, opened, c.in_ok-make_room.ensures.room (c.is_lost.ensures.test ∙ h)) in
+    let more : is_loss v ≡ false → len + open_count n + 2 ≤ cap = λ h. omega (arith, opened, c.in_ok-make_room.ensures.room (c.is_lost.ensures ∙ h)) in
     let room = room-step c.open_ends_after_a_step.ensures.most c.open_ends_after_a_step.ensures.loss n v c.args.fresh c.in_ok-reply.reply c.commit.new.self len cap c.open_ends-open_ends.ensures.legal is (omega (arith, opened, c.make_room.ensures.kept)) more in
     let answer : reply_of (step n v c.args.fresh) ≡ Ok line.reply = ap reply_of is in
     let items = c.push_reserved.ensures.items ∙ ap (λ ls. ls ++ line ∷ []) c.make_room.ensures.same.0 in

@@ -7,11 +7,8 @@ returns-in_default-clause-exact c = search rules
 pub returns-then-not-is_two_parts-clause-exact : goal.returns-then-not-is_two_parts-clause-exact
 returns-then-not-is_two_parts-clause-exact c = search rules
 
-pub returns-in_err-from_str-clause-exact : goal.returns-in_err-from_str-clause-exact
-returns-in_err-from_str-clause-exact c = search rules
-
-pub invariant_of-result : goal.invariant_of-result
-invariant_of-result c = search rules
+pub returns-in_err-from_text-clause-exact : goal.returns-in_err-from_text-clause-exact
+returns-in_err-from_text-clause-exact c = search rules
 
 pub returns-clause-exact : goal.returns-clause-exact
 returns-clause-exact c = search rules

@@ -1,0 +1,89 @@
+//! Short frames that wait.
+
+ghost use Rattle.std.specs.Prelude.{◌≡◌, ◌++◌, [], option_copied, OnOk, OnErr};
+ghost use Rattle.std.specs.Int.{w16};
+ghost use Rattle.dist_frames.specs.Stream.{first_body, after_first};
+
+use crate::byte_queue::ByteQueue;
+use crate::short::{awaited_body, frame_len};
+use std::alloc::{AllocError, Global};
+use std::marker::Model;
+
+/// The bytes of short frames that wait. The length of the frame at the front is read once, and not at each byte that comes.
+#[derive(Drop)]
+pub struct ShortQueue {
+    bytes: ByteQueue,
+    // How many bytes the frame at the front has with its length, and 2 until that has come.
+    awaited: usize,
+}
+
+impl Model for ShortQueue {
+    ghost use Rattle.std.specs.Prelude.{◌≡◌, ℕ, List};
+    ghost use Rattle.dist_frames.specs.Kept.{frame_len};
+
+    ghost Value = { List ℕ };
+
+    ghost view = { λ q. q.bytes };
+
+    ghost invariant = { λ q. q.awaited ≡ frame_len q.bytes };
+}
+
+impl ShortQueue {
+    /// No bytes. It takes no memory.
+    pub fn new(alloc: Global) -> ShortQueue
+        ensures { result ≡ [] }
+    {
+        ShortQueue {
+            bytes: ByteQueue::new(alloc),
+            awaited: 2,
+        }
+    }
+
+    /// All that wait.
+    pub fn as_slice(&self) -> &[u8]
+        ensures { result.now ≡ self.now }
+    {
+        self.bytes.as_slice()
+    }
+
+    /// The body of the frame at the front, where it is whole.
+    pub fn front(&self) -> Option<&[u8]>
+        ensures { option_copied result ≡ first_body w16 self.now }
+    {
+        awaited_body(self.bytes.as_slice(), self.awaited)
+    }
+
+    /// The frame at the front goes. Where none is whole nothing changes.
+    #[tactic(auto, using(crate::proofs::Lengths::moved, crate::proofs::Lengths::stays_put))]
+    pub fn drop_front(&mut self)
+        ensures { self.new ≡ after_first w16 self.old }
+    {
+        if self.bytes.len() < self.awaited {
+            return;
+        }
+        self.bytes.drop_front(self.awaited);
+        self.awaited = frame_len(self.bytes.as_slice());
+    }
+
+    /// More bytes come, behind all others. An `Err` changes nothing.
+    #[tactic(auto, using(crate::proofs::Lengths::same_len))]
+    pub fn extend(&mut self, more: &[u8]) -> Result<(), AllocError>
+        ensures ok { OnOk result (self.new ≡ self.old ++ more.now) }
+        ensures err { OnErr result (self.new ≡ self.old) }
+    {
+        let has_length = self.bytes.len() >= 2;
+        self.bytes.extend(more)?;
+        if !has_length {
+            self.awaited = frame_len(self.bytes.as_slice());
+        }
+        Ok(())
+    }
+
+    /// The bytes themselves, given back. It takes no memory.
+    pub fn into_vec(self) -> Vec<u8>
+        ensures { result.items ≡ self }
+    {
+        let ShortQueue { bytes, awaited: _ } = self;
+        bytes.into_vec()
+    }
+}

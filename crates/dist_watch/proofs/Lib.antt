@@ -1,0 +1,4 @@
+pub mod Lasts
+pub mod Watches
+pub mod Reports
+pub mod Tallies

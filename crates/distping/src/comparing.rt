@@ -1,0 +1,123 @@
+//! Each two of the nodes that were dialled are compared: of more than two those pairs are printed against which something speaks, and
+//! a summary.
+
+ghost use Rattle.std.specs.Prelude.{◌≡◌, ◌||◌, ◌<◌, ◌↔◌, IsTrue, length};
+ghost use Rattle.distping.specs.Faults.{first_of};
+ghost use Rattle.distping.specs.Pairs.{is_bad};
+
+use crate::fault::Fault;
+use crate::lines::Lines;
+use crate::objects::pair_object;
+use crate::pairs::{Half, Pairing, pairing_of};
+use crate::reports::summary_object;
+use crate::summary::Summary;
+
+/// The first of two statuses, unless it is 0.
+pub fn first_of(first: u8, second: u8) -> u8
+    ensures { result ≡ first_of first second }
+{
+    if first == 0 { second } else { first }
+}
+
+// Which pairs are printed, and where.
+#[derive(Clone, Copy)]
+struct Pairs {
+    lines: Lines,
+    // Also those against which nothing speaks.
+    all: bool,
+}
+
+impl Pairs {
+    // Whether a pair is printed.
+    fn shows(self, pairing: Pairing) -> bool
+        ensures { result ≡ (self.all || is_bad pairing) }
+    {
+        self.all || pairing.is_bad()
+    }
+}
+
+// Prints what can be said of two nodes.
+fn put_pair(
+    lines: Lines,
+    first: &Half<'_>,
+    second: &Half<'_>,
+    pairing: Pairing,
+) -> Result<(), Fault> {
+    if lines.quiet {
+        lines.write_made(pair_object(lines.alloc, first.node, second.node, pairing))
+    } else {
+        lines.put_pair(first.node, second.node, pairing)
+    }
+}
+
+// Prints what can be said of two nodes, where that is printed, and returns the status of it.
+fn pair_one(pairs: Pairs, first: &Half<'_>, second: &Half<'_>) -> Result<u8, Fault> {
+    let pairing = pairing_of(first, second);
+    if pairs.shows(pairing) {
+        put_pair(pairs.lines, first, second, pairing)?;
+    }
+    Ok(pairing.status())
+}
+
+// Prints what can be said of one node and each of others, and returns the first status that is not 0.
+fn pair_with(pairs: Pairs, first: &Half<'_>, others: &[Half<'_>]) -> Result<u8, Fault> {
+    let mut status = 0;
+    for second in others {
+        status = first_of(status, pair_one(pairs, first, second)?);
+    }
+    Ok(status)
+}
+
+// Prints what can be said of each two nodes, and returns the first status that is not 0.
+fn pair_all(pairs: Pairs, halves: &[Half<'_>]) -> Result<u8, Fault> {
+    let mut status = 0;
+    let mut rest = halves;
+    for first in halves {
+        rest = behind_the_first(rest);
+        status = first_of(status, pair_with(pairs, first, rest)?);
+    }
+    Ok(status)
+}
+
+fn behind_the_first<'h, 'n>(halves: &'h [Half<'n>]) -> &'h [Half<'n>] {
+    match halves {
+        [_, rest @ ..] => rest,
+        [] => halves,
+    }
+}
+
+// Whether there are more than two, so that a summary is printed, and of the pairs those against which something speaks.
+fn are_many(halves: &[Half<'_>]) -> bool
+    ensures { IsTrue result ↔ (2 < length halves.now) }
+{
+    halves.len() > 2
+}
+
+// Prints how many nodes came to which verdict, and how many pairs have which word.
+fn put_summary(lines: Lines, halves: &[Half<'_>], status: u8) -> Result<(), Fault> {
+    let summary = Summary::of_nodes(lines.alloc, halves)?;
+    if lines.quiet {
+        lines.write_made(summary_object(lines.alloc, &summary, status))
+    } else {
+        lines.put_summary(&summary)
+    }
+}
+
+/// Prints what can be said of these nodes together, and returns the first status that is not 0. `status` is that of the nodes, and
+/// with `all_pairs` each pair is printed, however many there are.
+pub fn compare(
+    lines: Lines,
+    all_pairs: bool,
+    halves: &[Half<'_>],
+    status: u8,
+) -> Result<u8, Fault> {
+    let pairs = Pairs {
+        lines,
+        all: all_pairs || !are_many(halves),
+    };
+    let status = first_of(status, pair_all(pairs, halves)?);
+    if are_many(halves) {
+        put_summary(lines, halves, status)?;
+    }
+    Ok(status)
+}

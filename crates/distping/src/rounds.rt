@@ -1,0 +1,189 @@
+//! All nodes are dialled, one behind the other, and each two of them are compared.
+
+use crate::command::{Wanted, parse_name};
+use crate::comparing::{compare, first_of};
+use crate::fault::Fault;
+use crate::gathering::gather;
+use crate::lines::Lines;
+use crate::objects::object_of;
+use crate::pairs::Half;
+use crate::probing::{Dial, Found, Outcome, probe};
+use crate::targets::{Target, USUAL};
+use crate::watching::watch_all;
+use dist_names::NodeName;
+use dist_probe::Verdict;
+use dist_program::{Addresses, Resolving, lookup_host};
+use dist_secret::Cookie;
+use std::alloc::Global;
+
+/// What all nodes are dialled with.
+#[derive(Clone, Copy)]
+pub struct Round<'a, R: Resolving> {
+    /// What is asked for sockets and random bytes.
+    pub rt: &'a HostRuntime,
+    /// What may wait for the resolver.
+    pub resolver: &'a R,
+    /// Where the steps are printed.
+    pub lines: Lines,
+    /// What the command line asks for.
+    pub wanted: &'a Wanted<'a>,
+    /// The cookie that is tried.
+    pub cookie: Option<&'a Cookie>,
+}
+
+// The own name: the one that is given, else one at the node's host, so that it is as long or short as the node's.
+fn own_name(alloc: Global, wanted: &Wanted<'_>, node: &NodeName) -> Result<NodeName, Fault> {
+    match &wanted.name {
+        Some(name) => Ok(name.try_clone(alloc)?),
+        None => usual_name(alloc, node.host()),
+    }
+}
+
+// The own name at this host, where none is given.
+fn usual_name(alloc: Global, host: &[u8]) -> Result<NodeName, Fault> {
+    let mut text = Vec::from_slice(alloc, USUAL)?;
+    text.push(b'@')?;
+    match text.extend_from_slice(host) {
+        Ok(()) => parse_name(alloc, &text),
+        Err(_) => Err(Fault::NoMemory),
+    }
+}
+
+// Prints what a probe came to.
+fn tell(dial: &Dial<'_>, outcome: &Outcome) -> Result<(), Fault> {
+    let lines = dial.lines;
+    if lines.quiet {
+        lines.write_made(object_of(lines.alloc, dial, outcome))
+    } else {
+        tell_furthest(lines, outcome)?;
+        lines.put_verdict(outcome.verdict)
+    }
+}
+
+// Prints which address got furthest, where several were tried.
+fn tell_furthest(lines: Lines, outcome: &Outcome) -> Result<(), Fault> {
+    let count = u32::try_from(outcome.verdicts.len()).unwrap_or(u32::MAX);
+    match &outcome.found.address {
+        Some(address) if count > 1 => lines.put_furthest(address, count),
+        _ => Ok(()),
+    }
+}
+
+/// The addresses of a node's host.
+pub fn addresses_of<R: Resolving>(round: &Round<'_, R>, node: &NodeName) -> Addresses {
+    let choices = &round.wanted.choices;
+    lookup_host(
+        round.resolver,
+        *round.rt,
+        choices.host(node),
+        choices.limit(),
+    )
+}
+
+// Dials one node, and returns what is left of it.
+fn dial_one<'n, R: Resolving>(round: &Round<'_, R>, node: &'n NodeName) -> Result<Half<'n>, Fault> {
+    let own = own_name(round.lines.alloc, round.wanted, node)?;
+    let addresses = addresses_of(round, node);
+    let dial = Dial {
+        rt: round.rt,
+        lines: round.lines,
+        own: &own,
+        node,
+        cookie: round.cookie,
+        choices: round.wanted.choices,
+    };
+    probe_one(&dial, node, addresses)
+}
+
+/// The verdict upon a node, with no step printed.
+pub fn verdict_upon<R: Resolving>(round: &Round<'_, R>, node: &NodeName) -> Result<Verdict, Fault> {
+    let own = own_name(round.lines.alloc, round.wanted, node)?;
+    let addresses = addresses_of(round, node);
+    let dial = Dial {
+        rt: round.rt,
+        lines: round.lines.quietly(),
+        own: &own,
+        node,
+        cookie: round.cookie,
+        choices: round.wanted.choices,
+    };
+    Ok(probe(&dial, addresses)?.verdict)
+}
+
+// Probes a node at these addresses, prints what it comes to, and returns what is left of it.
+fn probe_one<'n>(
+    dial: &Dial<'_>,
+    node: &'n NodeName,
+    addresses: Addresses,
+) -> Result<Half<'n>, Fault> {
+    let outcome = probe(dial, addresses)?;
+    tell(dial, &outcome)?;
+    Ok(half_of(node, &outcome.found, outcome.verdict))
+}
+
+// What is left of a node. What another node said of itself is nothing of it.
+fn half_of<'n>(node: &'n NodeName, found: &Found, verdict: Verdict) -> Half<'n> {
+    let flags = match (verdict, &found.peer) {
+        (Verdict::OtherName, _) | (_, None) => None,
+        (_, Some(peer)) => Some(peer.flags),
+    };
+    Half {
+        node,
+        flags,
+        verdict,
+    }
+}
+
+// Dials one node, keeps what is left of it, and returns its status.
+fn dial_next<'n, R: Resolving>(
+    round: &Round<'_, R>,
+    node: &'n NodeName,
+    halves: &mut Vec<Half<'n>>,
+) -> Result<u8, Fault> {
+    let half = dial_one(round, node)?;
+    halves.push(half)?;
+    Ok(half.verdict.status())
+}
+
+// Whether each node has a heading: not the one that alone is asked for.
+fn has_headings(targets: &[Target]) -> bool {
+    !matches!(targets, [Target::Node(_)])
+}
+
+// Dials all nodes, one behind the other, and returns the first status that is not 0, and what is left of them.
+fn dial_each<'n, R: Resolving>(
+    round: &Round<'_, R>,
+    nodes: &'n [NodeName],
+    halves: &mut Vec<Half<'n>>,
+) -> Result<u8, Fault> {
+    let mut status = 0;
+    let has_headings = has_headings(&round.wanted.targets);
+    for node in nodes {
+        if has_headings {
+            round.lines.put_heading(node.bytes())?;
+        }
+        status = first_of(status, dial_next(round, node, halves)?);
+    }
+    Ok(status)
+}
+
+// Dials all nodes, and prints what can be said of each two of them. `status` is that of what was done before.
+fn dial_and_compare<R: Resolving>(
+    round: &Round<'_, R>,
+    nodes: &[NodeName],
+    status: u8,
+) -> Result<u8, Fault> {
+    let mut halves = Vec::new(round.lines.alloc);
+    let status = first_of(status, dial_each(round, nodes, &mut halves)?);
+    compare(round.lines, round.wanted.choices.all_pairs, &halves, status)
+}
+
+/// Dials all nodes, and prints what can be said of each two of them, or watches them.
+pub fn dial_all<R: Resolving>(round: &Round<'_, R>) -> Result<u8, Fault> {
+    let mut nodes = Vec::new(round.lines.alloc);
+    let status = gather(round, &mut nodes)?;
+    match round.wanted.choices.watch {
+        Some(rhythm) if !nodes.is_empty() => watch_all(round, &nodes, rhythm),
+        _ => dial_and_compare(round, &nodes, status),
+    }
+}
