@@ -1,5 +1,5 @@
 -- The frame at the front, by how many bytes it has.
-use Rattle.std.proofs.Common.{◌≡◌, ℕ, ◌+◌, ◌-◌, ◌<◌, ◌≤◌, Bool, true, false, cond, leb, List, ◌++◌, length, take, drop, Option, Some, None, refl, sym, ap, subst, ◌∙◌, arith, lit≤, length-append, length-drop}
+use Rattle.std.proofs.Common.{◌≡◌, ◌≢◌, ℕ, ◌+◌, ◌-◌, ◌<◌, ◌≤◌, Bool, true, false, cond, leb, List, [], ◌++◌, length, take, drop, drop_of_length-le, Option, Some, None, refl, sym, ap, subst, ◌∙◌, arith, lit≤, length-append, length-drop}
 use Rattle.std.specs.Int.{w16}
 use Rattle.std.proofs.lemmas.Bool.{leb-true, leb-false, le-leb, lt-leb, and_left, and_right}
 use Rattle.std.proofs.lemmas.List.{drop-drop}
@@ -76,6 +76,10 @@ moved s n e le =
     let there : behind w16 s ≡ drop n s = drop-drop (head w16 s) 2 s ∙ ap (λ (k : ℕ). drop k s) (sym w.len) in
     sym (rest_where (has_first w16 s) (behind w16 s) (drop n s) s w.starts there)
 
+-- where it is all that waits
+pub all_moved : (s : List ℕ) (n : ℕ) → n ≡ frame_len s → length s ≡ n → [] ≡ after_first w16 s
+all_moved s n e all = sym (drop_of_length-le s (omega (arith, all))) ∙ moved s n e (omega (arith, all))
+
 pub stays_put : (s : List ℕ) (n : ℕ) → n ≡ frame_len s → length s < n → s ≡ after_first w16 s
 stays_put s n e lt = sym (all_where (has_first w16 s) (behind w16 s) s (part s n e lt))
 
@@ -90,6 +94,11 @@ frame_len-append : (s t : List ℕ) → 2 ≤ length s → frame_len (s ++ t) �
 frame_len-append s t long = same_where (leb 2 (length (s ++ t))) (leb 2 (length s)) (head w16 (s ++ t)) (head w16 s)
     (le-leb 2 (length (s ++ t)) (omega (arith, length-append s t))) (le-leb 2 (length s) long) (head-append w16 s t long)
 
+-- more than 2 bytes are awaited once the length has come
+long_where : (b : Bool) (k n : ℕ) → n ≡ cond b (2 + k) 2 → n ≢ 2 → b ≡ true
+long_where true k n e apart = refl
+long_where false k n e apart = absurd (apart e)
+
 -- a length that has come stays what it is
-pub same_len : (s t : List ℕ) (n : ℕ) → n ≡ frame_len s → 2 ≤ length s → n ≡ frame_len (s ++ t)
-same_len s t n e long = e ∙ sym (frame_len-append s t long)
+pub same_len : (s t : List ℕ) (n : ℕ) → n ≡ frame_len s → n ≢ 2 → n ≡ frame_len (s ++ t)
+same_len s t n e apart = e ∙ sym (frame_len-append s t (leb-true 2 (length s) (long_where (leb 2 (length s)) (head w16 s) n e apart)))

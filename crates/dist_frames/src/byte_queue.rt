@@ -58,13 +58,13 @@ impl ByteQueue {
         self.bytes.len() - self.start
     }
 
-    // Moves the bytes to the front of the vector, where it would grow for this many more, and no more of them wait than went.
-    fn make_room(&mut self, more: usize)
+    // Moves the bytes to the front of the vector, where no more of them wait than went. It is seldom needed, and apart so that `extend`
+    // is short enough to become part of its callers.
+    #[cold]
+    #[inline(never)]
+    fn make_room(&mut self)
         ensures { self.new ≡ self.old }
     {
-        if self.bytes.capacity().saturating_sub(self.bytes.len()) >= more {
-            return;
-        }
         let waiting = self.len();
         if waiting <= self.start {
             self.bytes.copy_within(self.start.., 0);
@@ -78,7 +78,9 @@ impl ByteQueue {
         ensures ok { OnOk result (self.new ≡ self.old ++ more.now) }
         ensures err { OnErr result (self.new ≡ self.old) }
     {
-        self.make_room(more.len());
+        if self.bytes.capacity() - self.bytes.len() < more.len() {
+            self.make_room();
+        }
         self.bytes.extend_from_slice(more)
     }
 
@@ -87,6 +89,14 @@ impl ByteQueue {
         ensures { self.new ≡ drop count self.old }
     {
         self.start += count.min(self.len());
+    }
+
+    /// All go, and the next ones have the room of the whole vector.
+    pub(crate) fn clear(&mut self)
+        ensures { self.new ≡ [] }
+    {
+        self.bytes.clear();
+        self.start = 0;
     }
 
     /// The last `count` bytes go, or all.

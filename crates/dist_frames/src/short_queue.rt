@@ -54,14 +54,20 @@ impl ShortQueue {
     }
 
     /// The frame at the front goes. Where none is whole nothing changes.
-    #[tactic(auto, using(crate::proofs::Lengths::moved, crate::proofs::Lengths::stays_put))]
+    #[tactic(auto, using(crate::proofs::Lengths::moved, crate::proofs::Lengths::all_moved, crate::proofs::Lengths::stays_put))]
     pub fn drop_front(&mut self)
         ensures { self.new ≡ after_first w16 self.old }
     {
-        if self.bytes.len() < self.awaited {
+        let waiting = self.bytes.len();
+        if waiting < self.awaited {
             return;
         }
-        self.bytes.drop_front(self.awaited);
+        // A handshake's frame is mostly all that waits, and then none behind it has to move up later.
+        if waiting == self.awaited {
+            self.bytes.clear();
+        } else {
+            self.bytes.drop_front(self.awaited);
+        }
         self.awaited = frame_len(self.bytes.as_slice());
     }
 
@@ -71,9 +77,9 @@ impl ShortQueue {
         ensures ok { OnOk result (self.new ≡ self.old ++ more.now) }
         ensures err { OnErr result (self.new ≡ self.old) }
     {
-        let has_length = self.bytes.len() >= 2;
         self.bytes.extend(more)?;
-        if !has_length {
+        // So few are awaited until the length has come, and by a body of no bytes.
+        if self.awaited == 2 {
             self.awaited = frame_len(self.bytes.as_slice());
         }
         Ok(())

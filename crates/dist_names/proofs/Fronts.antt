@@ -1,6 +1,8 @@
 -- Where the numbers of two texts' first bytes differ, they order the texts.
-use Rattle.std.proofs.Common.{◌≡◌, ◌≢◌, ℕ, zero, suc, ◌+◌, ◌*◌, ◌^◌, ◌<◌, ◌≤◌, Bool, true, false, List, [], ◌∷◌, length, refl, sym, ap, ◌∙◌, arith}
+use Rattle.std.proofs.Common.{◌≡◌, ◌≢◌, ℕ, zero, suc, ◌+◌, ◌*◌, ◌^◌, ◌<◌, ◌≤◌, Bool, true, false, List, [], ◌∷◌, length, take, refl, sym, ap, ◌∙◌, arith}
 use Rattle.std.specs.Prelude.{◌==◌}
+use Rattle.std.specs.Array.{IsFirstChunk}
+use Rattle.std.specs.Int.{w64, from_be_bytes}
 use Rattle.std.specs.declared.cmp.Ordering.TheVariants.{Less}
 use Rattle.std.specs.Ordering.{nat_cmp, ordering_then, ordering_reverse}
 use Rattle.std.proofs.Math.ListN.{drop_of_length-le}
@@ -53,6 +55,15 @@ are_fronts (a ∷ b ∷ c ∷ d ∷ e ∷ f ∷ g ∷ h ∷ i ∷ j ∷ k ∷ l 
 are_fronts (a ∷ b ∷ c ∷ d ∷ e ∷ f ∷ g ∷ h ∷ i ∷ j ∷ k ∷ l ∷ m ∷ n ∷ []) = omega arith
 are_fronts (a ∷ b ∷ c ∷ d ∷ e ∷ f ∷ g ∷ h ∷ i ∷ j ∷ k ∷ l ∷ m ∷ n ∷ o ∷ []) = omega arith
 are_fronts (a ∷ b ∷ c ∷ d ∷ e ∷ f ∷ g ∷ h ∷ i ∷ j ∷ k ∷ l ∷ m ∷ n ∷ o ∷ p ∷ text) = omega arith
+
+front-take : (k : ℕ) (text : List ℕ) → front k (take k text) ≡ front k text
+front-take zero text = refl
+front-take (suc k) [] = refl
+front-take (suc k) (b ∷ text) = ap (λ n. b * 256 ^ k + n) (front-take k text)
+
+-- the number of the first eight bytes alone
+pub of_eight : (text eight : List ℕ) → IsFirstChunk text eight 8 → from_be_bytes w64 eight ≡ front_number text
+of_eight text eight h = ap front_number h.same ∙ is_front (take 8 text) ∙ front-take 8 text ∙ sym (is_front text)
 
 -- where the text ends with the first eight bytes
 pub nothing_next : (text : List ℕ) → length text ≤ 8 → 0 ≡ next_number text

@@ -12,8 +12,8 @@ fn byte_or_zero(text: &[u8], place: usize) -> u8
     text.get(place).copied().unwrap_or(0)
 }
 
-/// The first eight bytes as one number: the first byte is the highest, and zeros stand behind a shorter text.
-pub(crate) fn front_number(text: &[u8]) -> u64
+// The first eight bytes as one number, where there may be fewer.
+fn short_front(text: &[u8]) -> u64
     ensures { result ≡ front_number text.now }
 {
     u64::from_be_bytes([
@@ -26,6 +26,17 @@ pub(crate) fn front_number(text: &[u8]) -> u64
         byte_or_zero(text, 6),
         byte_or_zero(text, 7),
     ])
+}
+
+/// The first eight bytes as one number: the first byte is the highest, and zeros stand behind a shorter text.
+#[tactic(auto, using(crate::proofs::Fronts::of_eight))]
+pub(crate) fn front_number(text: &[u8]) -> u64
+    ensures { result ≡ front_number text.now }
+{
+    match text.first_chunk::<8>() {
+        Some(eight) => u64::from_be_bytes(*eight),
+        None => short_front(text),
+    }
 }
 
 /// The eight bytes behind the first eight, in the same way.

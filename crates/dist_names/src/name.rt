@@ -49,12 +49,19 @@ fn name_text(bytes: &[u8]) -> Option<&str>
     }
 }
 
+// What stands behind the first separator is the host, in which none stands. What is left of the bytes is the short name.
+#[tactic(auto, using(crate::proofs::Places::no_host, crate::proofs::Places::no_short))]
 fn is_two_parts(bytes: &[u8]) -> bool
     ensures { result ≡ has_two_parts bytes.now }
 {
-    bytes.iter().filter(|byte| **byte == b'@').count() == 1
-        && !short_part(bytes).is_empty()
-        && !host_part(bytes).is_empty()
+    let host = host_part(bytes);
+    if host.is_empty() {
+        return false;
+    }
+    if host.len() + 1 >= bytes.len() {
+        return false;
+    }
+    !host.contains(&b'@')
 }
 
 impl NodeName {

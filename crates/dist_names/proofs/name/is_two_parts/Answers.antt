@@ -1,5 +1,6 @@
 use Rattle.std.proofs.Common.{rules}
+use Rattle.dist_names.proofs.Places.{two_parts}
 use Rattle.dist_names.proofs.name.is_two_parts.Goals as goal
 
-pub returns-then-not-is_empty : goal.returns-then-not-is_empty
-returns-then-not-is_empty c = search rules
+pub returns : goal.returns
+returns c = two_parts c.args.bytes.now c.host_part-host.result.now c.contains.result c.host_part-host.ensures c.contains.ensures.value (search rules) (search rules)
