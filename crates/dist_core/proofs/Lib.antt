@@ -11,3 +11,4 @@ pub mod Numbers
 pub mod UsualCookies
 pub mod Forgetting
 pub mod Prepares
+pub mod InPlace

@@ -22,7 +22,7 @@ module _ (n : NodeState) where
   Numbered f = length (ends_after n.ends f) ≤ (let l = limits_of n in l.ends)
 
   -- an end that is there is changed
-  stays : (f : Effect) (id : EndId) (e : End) → f.reply.end_ ≡ id → slice_get n.ends id.0 ≡ Some e → length n.ends ≤ (let l = limits_of n in l.ends) → Numbered f
+  pub stays : (f : Effect) (id : EndId) (e : End) → f.reply.end_ ≡ id → slice_get n.ends id.0 ≡ Some e → length n.ends ≤ (let l = limits_of n in l.ends) → Numbered f
   stays f id e is at h =
       let within : f.reply.end_.0 < length n.ends = let P : EndId → Type 0 = λ x. x.0 < length n.ends in subst P (sym is) (slice_get_within n.ends id.0 e at) in
       omega (arith, h, length-other (put_end n.ends f.reply.end_.0 f.this) f.other, length-within n.ends f.reply.end_.0 f.this within)

@@ -13,3 +13,4 @@ pub mod Words
 pub mod Changing
 pub mod Acts
 pub mod Preparing
+pub mod Progress

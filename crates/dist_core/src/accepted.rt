@@ -1,22 +1,21 @@
 //! What each message does to an accepted end.
-ghost use Rattle.std.specs.Prelude.{◌≡◌, IfOk, true, false, Ok, Err, Some, None, slice_get};
+ghost use Rattle.std.specs.Prelude.{◌≡◌, List, IfOk, true, false, Ok, Err, Some, None, slice_get};
 ghost use Rattle.dist_core_ends.specs.Ends.{entry_in};
 ghost use Rattle.dist_core.specs.Effects.{superseded_in, superseded_end, supersedes, held_back};
+ghost use Rattle.dist_core.specs.Progress.{effect_by, HoldsOn};
 ghost use Rattle.dist_core.specs.Accepted.{in_await_true, in_await_complement, in_await_reply, name_taken, verdict_text};
 
-use crate::effect::{
-    Effect, FrameStep, attempt_in, closes, comes_up, goes_on, record_of, reply_phase, shuts,
-    shuts_other,
-};
+use crate::effect::{Effect, attempt_in, goes_on, record_of, reply_phase, shuts, shuts_other};
 use crate::node::Node;
+use crate::progress::{Progress, refusal};
 use crate::reply::Note;
-use dist_core_ends::{Attempt, End, Ends, Phase, Why};
+use dist_core_ends::{Attempt, End, Ends, Phase, Stage, Why};
 use dist_core_setup::{
     Setup, ack_frame, challenge_frame, greeting, own_digest, required_of, status_frame,
 };
 use dist_messages::{Form, Message, Status};
 use dist_names::{ByteString, Flags, NodeName};
-use dist_peers::{EndId, Verdict, replaced_end};
+use dist_peers::{EndId, Verdict};
 use std::alloc::{AllocError, Global};
 
 // What stands for an end that a crossing name supersedes.
@@ -176,25 +175,27 @@ impl Node {
 pub fn in_await_true(
     alloc: Global,
     setup: &Setup,
-    step: FrameStep,
+    fresh: u32,
     attempt: &Attempt,
     message: &Message,
-) -> Result<Effect, AllocError>
-    ensures { IfOk result (λ f. f ≡ in_await_true setup.now step.id step.fresh attempt.now message.now) }
+) -> Result<Progress, AllocError>
+    requires { attempt.now.phase ≡ Phase.AwaitTrue }
+    ensures effect { (es : List End) (id : EndId) → IfOk result (λ p. effect_by es id attempt.now p
+        ≡ in_await_true setup.now id fresh attempt.now message.now) }
+    ensures holds { IfOk result (HoldsOn attempt.now) }
 {
     match message {
         Message::Status(Status::True) => {
-            let say = challenge_frame(alloc, setup, attempt.form, step.fresh)?;
-            let copy = attempt.try_clone(alloc)?;
-            let attempt = Attempt {
+            let say = challenge_frame(alloc, setup, attempt.form, fresh)?;
+            let to = Stage {
                 phase: reply_phase(attempt.form),
-                challenge: step.fresh,
-                ..copy
+                challenge: fresh,
+                ..attempt.stage()
             };
-            Ok(goes_on(step.id, say, End::Attempt(attempt), Note::Nothing))
+            Ok(Progress::Goes { say, to })
         }
-        Message::Status(Status::False) => Ok(closes(alloc, step.id, Why::StatusRefused)),
-        _ => Ok(closes(alloc, step.id, Why::Unexpected)),
+        Message::Status(Status::False) => Ok(refusal(alloc, Why::StatusRefused)),
+        _ => Ok(refusal(alloc, Why::Unexpected)),
     }
 }
 
@@ -202,55 +203,55 @@ pub fn in_await_true(
 pub fn in_await_complement(
     alloc: Global,
     setup: &Setup,
-    id: EndId,
     attempt: &Attempt,
     message: &Message,
-) -> Result<Effect, AllocError>
-    ensures { IfOk result (λ f. f ≡ in_await_complement setup.now id attempt.now message.now) }
+) -> Result<Progress, AllocError>
+    requires { attempt.now.phase ≡ Phase.AwaitComplement }
+    ensures effect { (es : List End) (id : EndId) → IfOk result (λ p. effect_by es id attempt.now p
+        ≡ in_await_complement setup.now id attempt.now message.now) }
+    ensures holds { IfOk result (HoldsOn attempt.now) }
 {
     let Message::Complement { high, creation } = message else {
-        return Ok(closes(alloc, id, Why::Unexpected));
+        return Ok(refusal(alloc, Why::Unexpected));
     };
     let flags = Flags::of_halves(*high, attempt.flags.low());
     if !flags.has(required_of(setup, Form::New)) {
-        return Ok(closes(alloc, id, Why::WrongFlags));
+        return Ok(refusal(alloc, Why::WrongFlags));
     }
-    let copy = attempt.try_clone(alloc)?;
-    let attempt = Attempt {
+    let say = ByteString::new(alloc);
+    let to = Stage {
         phase: Phase::AwaitReply,
+        challenge: attempt.challenge,
         flags,
         creation: Some(*creation),
-        ..copy
     };
-    let nothing = ByteString::new(alloc);
-    Ok(goes_on(id, nothing, End::Attempt(attempt), Note::Nothing))
+    Ok(Progress::Goes { say, to })
 }
 
-impl Node {
-    // The end awaits the reply.
-    pub(crate) fn in_await_reply(
-        &self,
-        alloc: Global,
-        id: EndId,
-        attempt: &Attempt,
-        message: &Message,
-    ) -> Result<Effect, AllocError>
-        ensures { IfOk result (λ f. f ≡ in_await_reply self.now.setup (entry_in self.now.ends attempt.now.peer) id attempt.now message.now) }
-    {
-        let Message::Reply {
-            challenge,
-            digest: came,
-        } = message
-        else {
-            return Ok(closes(alloc, id, Why::Unexpected));
-        };
-        let own = own_digest(self.setup(), &attempt.peer, attempt.challenge);
-        if *came != own {
-            return Ok(closes(alloc, id, Why::WrongDigest));
-        }
-        let say = ack_frame(alloc, self.setup(), &attempt.peer, *challenge)?;
-        let kept = record_of(alloc, self.setup(), attempt, came)?;
-        let replaced = replaced_end(self.entry_of(&attempt.peer));
-        comes_up(alloc, id, say, kept, replaced)
+// The end awaits the reply.
+pub fn in_await_reply(
+    alloc: Global,
+    setup: &Setup,
+    attempt: &Attempt,
+    message: &Message,
+) -> Result<Progress, AllocError>
+    requires { attempt.now.phase ≡ Phase.AwaitReply }
+    ensures effect { (es : List End) (id : EndId) → IfOk result (λ p. effect_by es id attempt.now p
+        ≡ in_await_reply setup.now (entry_in es attempt.now.peer) id attempt.now message.now) }
+    ensures holds { IfOk result (HoldsOn attempt.now) }
+{
+    let Message::Reply {
+        challenge,
+        digest: came,
+    } = message
+    else {
+        return Ok(refusal(alloc, Why::Unexpected));
+    };
+    let own = own_digest(setup, &attempt.peer, attempt.challenge);
+    if *came != own {
+        return Ok(refusal(alloc, Why::WrongDigest));
     }
+    let say = ack_frame(alloc, setup, &attempt.peer, *challenge)?;
+    let came = record_of(alloc, setup, attempt, came)?;
+    Ok(Progress::Rises { say, came })
 }

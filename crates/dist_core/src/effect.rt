@@ -1,9 +1,10 @@
 //! What a step does, before it is done.
 ghost use Rattle.std.specs.Prelude.{◌≡◌, IfOk, Ok, Err, Some, None};
-ghost use Rattle.dist_core.specs.Effects.{form_of, reply_phase, goes_on, shuts, shuts_other, comes_up, closes, moves, record_of};
+ghost use Rattle.dist_core.specs.Effects.{form_of, reply_phase, goes_on, shuts, shuts_other, comes_up, closes, record_of};
+ghost use Rattle.dist_core_ends.specs.Ends.{kind_in};
 
 use crate::reply::{Note, Reply};
-use dist_core_ends::{Attempt, End, Phase, UpRecord, Why};
+use dist_core_ends::{Attempt, End, Kind, Phase, UpRecord, Why};
 use dist_core_setup::{Setup, announced_by};
 use dist_messages::{Form, Opening};
 use dist_names::ByteString;
@@ -97,21 +98,9 @@ pub fn attempt_in(alloc: Global, attempt: &Attempt, phase: Phase) -> Result<Atte
     Ok(Attempt { phase, ..copy })
 }
 
-pub fn moves(
-    alloc: Global,
-    id: EndId,
-    say: ByteString,
-    attempt: &Attempt,
-    to: Phase,
-) -> Result<Effect, AllocError>
-    ensures { IfOk result (λ f. f ≡ moves id say attempt.now to) }
-{
-    let attempt = attempt_in(alloc, attempt, to)?;
-    Ok(goes_on(id, say, End::Attempt(attempt), Note::Nothing))
-}
-
 pub fn reply_phase(form: Form) -> Phase
-    ensures { result ≡ reply_phase form }
+    ensures is { result ≡ reply_phase form }
+    ensures kind { kind_in (reply_phase form) ≡ Some Kind.In }
 {
     match form {
         Form::New | Form::Five => Phase::AwaitReply,

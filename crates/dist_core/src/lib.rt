@@ -10,6 +10,7 @@
 #![tactic(auto)]
 
 mod accepted;
+mod attempts;
 mod changing;
 mod comparing;
 mod copying;
@@ -22,6 +23,7 @@ mod finding;
 mod frames;
 mod node;
 mod preparing;
+mod progress;
 mod renewing;
 mod reply;
 mod step_error;

@@ -254,7 +254,9 @@ impl Node {
             Event::Tick { end_: id } => self.tick(alloc, *id),
             Event::Lost { end_: id, why } => self.lose(alloc, *id, *why),
             Event::Incoming { link } => self.come_in(alloc, *link),
-            _ => self.step_by_effect(alloc, event, fresh),
+            Event::Opened { end_: id, link } => self.take_connection(alloc, *id, *link),
+            Event::Frame { end_: id, body } => self.take_frame(alloc, event, *id, body, fresh),
+            Event::Dial { .. } => self.step_by_effect(alloc, event, fresh),
         }
     }
 
@@ -269,7 +271,7 @@ impl Node {
     // A step by its effect. It stays a call of its own, while the short steps become part of their caller: an effect is a large
     // value, and a tick or a loss would clear the room for one.
     #[inline(never)]
-    fn step_by_effect(
+    pub(crate) fn step_by_effect(
         &mut self,
         alloc: Global,
         event: &Event,
@@ -436,7 +438,7 @@ impl Node {
     }
 
     // The most steps that it makes.
-    fn most_steps(&self) -> u64
+    pub(crate) fn most_steps(&self) -> u64
         ensures most { result ≡ (let l = limits_of self.now in l.steps) }
         ensures fits { (let l = limits_of self.now in l.steps) < 2 ^ 64 }
     {

@@ -215,7 +215,7 @@ module _ (me : Name) (es : List End) (t : Table) (a : Agree (map.get t) es) wher
       (λ q k b. at-claim q k (slice_get es id.0) ∙ ap (is_claim q k) was ∙ only p c on_c q k b)
       (λ k i. ap (λ b. cond (eqb x.0 i) false (cond (eqb id.0 i) b (names k i (map.get t p)))) (ap (is_claim p k) is) ∙ here k i))
 
-same-shift : (t : Table) (me : Name) (id : EndId) (c : Option Claim) → table_after_shift t me id c c ≡ t
+pub same-shift : (t : Table) (me : Name) (id : EndId) (c : Option Claim) → table_after_shift t me id c c ≡ t
 same-shift t me id None = refl
 same-shift t me id (Some c) = by c.kind
   where

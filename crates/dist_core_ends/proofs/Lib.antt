@@ -12,3 +12,4 @@ pub mod Forgotten
 pub mod Places
 pub mod Recent
 pub mod Settled
+pub mod Progress

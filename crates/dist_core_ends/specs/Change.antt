@@ -1,6 +1,6 @@
 -- What a change of one end, and of another with it, makes of the ends and of the table of entries.
 use Rattle.std.specs.Prelude.{◌≡◌, ℕ, ◌==◌, Bool, ◌<◌, ◌≤◌, true, false, nat_lt, if◌then◌else◌}
-use Rattle.std.specs.Prelude.{List, [], ◌∷◌, ◌++◌, length, Option, Some, None, slice_get, slice_set}
+use Rattle.std.specs.Prelude.{List, [], ◌∷◌, ◌++◌, length, Option, Some, None, IsSome, slice_get, slice_set}
 use Rattle.std.specs.FinMap as map
 use Rattle.dist_names.specs.Order.{Name, same_name}
 use Rattle.dist_peers.specs.declared.entry.EndId.{EndId}
@@ -81,6 +81,11 @@ AsksShift t me id (Some d) (Some c) = AsksRaise t id c.peer d.kind c.kind
 abbrev pub claim_at : Option End → Option Claim
 claim_at None = None
 claim_at (Some e) = claim_of e
+
+-- the peer that an end holds has an entry
+abbrev pub HasEntry : Table → Option Claim → Type 0
+HasEntry t None = Unit {0}
+HasEntry t (Some c) = IsSome (entry_of t c.peer)
 
 -- the table after end id became this
 abbrev pub table_after : Name → List End → Table → EndId → End → Table

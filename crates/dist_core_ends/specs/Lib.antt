@@ -5,3 +5,4 @@ pub mod Keeping
 pub mod Kept
 pub mod Places
 pub mod Words
+pub mod Progress

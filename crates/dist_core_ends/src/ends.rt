@@ -2,17 +2,20 @@
 ghost use Rattle.std.specs.Prelude.{◌≡◌, ℕ, ◌<◌, ◌+◌, ◌^◌, [], length, IsOk, OnOk, OnErr, Ok, Err, Some, None, slice_get, count_by};
 ghost use Rattle.std.specs.Option.{option_map, option_and_then};
 ghost use Rattle.std.specs.FinMap as map;
+ghost use Rattle.dist_names.specs.Order.{Name};
+ghost use Rattle.dist_peers.specs.Table.{replaced_by};
 ghost use Rattle.dist_peers.specs.Verdicts.{is_full};
 ghost use Rattle.dist_core_ends.specs.Ends.{AreLegal, FindsUp, Finds, entry_in, table_of, is_open, is_dialing, claim_of, end_id};
 ghost use Rattle.dist_core_ends.specs.Ends.{record_in, up_from, up_pair, up_id, up_ids, oldest_pending, still_of, awaited_of, verdict_of};
 ghost use Rattle.dist_core_ends.specs.Change.{Fits, StaysClosed, with_change};
 ghost use Rattle.dist_core_ends.specs.Forgetting.{without_causes_below};
+ghost use Rattle.dist_core_ends.specs.Progress.{at_stage, replaced_end, CanAdvance, CanRise};
 
-use crate::known::{End, UpRecord};
+use crate::known::{Attempt, End, Stage, UpRecord};
 use crate::phase::{Absent, Awaited, Phase, Still};
 use crate::rows::Rows;
-use crate::slots::{find, first_waiting};
-use crate::table::{add, apply, close_end};
+use crate::slots::{change_attempt, find, first_waiting};
+use crate::table::{add, apply, close_end, connect_end};
 use crate::why::Why;
 use dist_names::NodeName;
 use dist_peers::{EndId, Entry, Peers, Verdict};
@@ -255,6 +258,32 @@ impl Ends {
         ensures { self.new ≡ with_change self.old id (End.Closed why) None }
     {
         close_end(&mut self.peers, &mut self.rows, &mut self.slots, id, why);
+    }
+
+    /// An attempt goes on to another stage, at which it holds its peer as it did. It changes in its place, and no memory is taken.
+    #[inline(always)]
+    pub fn advance(&mut self, id: EndId, to: Stage)
+        // It holds where the phases before and after are both of a dialled end that is not superseded, or both of an accepted one.
+        requires { CanAdvance (slice_get self.old id.0) to }
+        ensures { (a : Attempt) → slice_get self.old id.0 ≡ Some (End.Attempt a)
+            → self.new ≡ with_change self.old id (End.Attempt (at_stage a to)) None }
+    {
+        change_attempt(&self.rows, &mut self.slots, id, to);
+    }
+
+    /// An attempt comes up with this record. The end that it replaces, where one is, is closed and returned. No memory is taken,
+    /// and the entries are searched once.
+    pub fn rise(&mut self, id: EndId, kept: &UpRecord) -> Option<EndId>
+        // The end is an attempt with the record's peer, dialled and not superseded, or accepted.
+        requires attempt { CanRise (slice_get self.old id.0) kept.now.peer }
+
+        // It holds of every end that holds its peer, at a node of any name.
+        requires fits { (me : Name) × (AreLegal self.old
+            → Fits me self.old (table_of self.old) id (End.Up kept.now) (replaced_end (replaced_by (entry_in self.old kept.now.peer)))) }
+        ensures replaced { result ≡ replaced_by (entry_in self.old kept.now.peer) }
+        ensures ends { self.new ≡ with_change self.old id (End.Up kept.now) (replaced_end (replaced_by (entry_in self.old kept.now.peer))) }
+    {
+        connect_end(&mut self.peers, &mut self.rows, &mut self.slots, id, kept)
     }
 
     /// Gives out the next end, of which nothing is known yet.

@@ -1,11 +1,14 @@
 //! What a node keeps of an end.
 ghost use Rattle.std.specs.Prelude.{◌≡◌, ◌↔◌, IsTrue, IfOk};
+ghost use Rattle.dist_core_ends.specs.declared.known.Attempt.{Attempt};
+ghost use Rattle.dist_core_ends.specs.Progress.{at_stage, stage_of};
 
 use crate::phase::Phase;
 use crate::why::Why;
 use dist_messages::Form;
 use dist_names::{Creation, Flags, NodeName};
 use std::alloc::{AllocError, Global};
+use std::mem::replace;
 
 /// An end whose peer is known and that isn't up.
 #[derive(Drop)]
@@ -21,6 +24,19 @@ pub struct Attempt {
     /// The other side's flags, once they came, and none before.
     pub flags: Flags,
     /// The other side's creation, once it came. None does where one side knows version 5 alone.
+    pub creation: Option<Creation>,
+}
+
+/// Where an attempt stands: what is awaited, and what was sent and came so far.
+#[derive(Clone, Copy)]
+pub struct Stage {
+    /// What is awaited.
+    pub phase: Phase,
+    /// The own challenge, once it was sent, and 0 before.
+    pub challenge: u32,
+    /// The other side's flags, once they came, and none before.
+    pub flags: Flags,
+    /// The other side's creation, once it came.
     pub creation: Option<Creation>,
 }
 
@@ -52,7 +68,48 @@ pub enum End {
     Closed(Why),
 }
 
+impl End {
+    // An attempt goes on to another stage.
+    pub(crate) fn go_on(&mut self, to: Stage)
+        ensures { (a : Attempt) → self.old ≡ End.Attempt a → self.new ≡ End.Attempt (at_stage a to) }
+    {
+        if let End::Attempt(attempt) = self {
+            attempt.phase = to.phase;
+            attempt.challenge = to.challenge;
+            attempt.flags = to.flags;
+            attempt.creation = to.creation;
+        }
+    }
+
+    // An attempt comes up. The record is of the same peer, whose name is not copied.
+    pub(crate) fn come_up(&mut self, kept: &UpRecord)
+        ensures { (a : Attempt) → self.old ≡ End.Attempt a → a.peer ≡ kept.now.peer → self.new ≡ End.Up kept.now }
+    {
+        if let End::Attempt(attempt) = replace(self, End::Unnamed) {
+            *self = End::Up(UpRecord {
+                peer: attempt.peer,
+                common: kept.common,
+                creation: kept.creation,
+                challenge: kept.challenge,
+                digest_received: kept.digest_received,
+            });
+        }
+    }
+}
+
 impl Attempt {
+    /// The stage that it has reached.
+    pub fn stage(&self) -> Stage
+        ensures { result ≡ stage_of self.now }
+    {
+        Stage {
+            phase: self.phase,
+            challenge: self.challenge,
+            flags: self.flags,
+            creation: self.creation,
+        }
+    }
+
     /// An equal attempt.
     pub fn try_clone(&self, alloc: Global) -> Result<Attempt, AllocError>
         ensures { IfOk result (λ copy. copy ≡ self.now) }

@@ -15,7 +15,7 @@ mod table;
 mod why;
 
 pub use ends::Ends;
-pub use known::{Attempt, End, UpRecord};
+pub use known::{Attempt, End, Stage, UpRecord};
 pub use laws::{ends_after_a_change, no_ends_are_legal};
 pub use phase::{Absent, Awaited, Kind, Phase, Still};
 pub use why::Why;

@@ -2,10 +2,12 @@
 ghost use Rattle.std.specs.Prelude.{◌≡◌, ◌<◌, ◌≤◌, ◌+◌, ◌++◌, ◌∷◌, [], length, slice_get, slice_set, true, false, Ok, Err, Some, None};
 ghost use Rattle.slab.specs.Slab.{ContainsKey, HasRoomFor, slab_len};
 ghost use Rattle.dist_core_ends.specs.Ends.{is_open, Finds};
-ghost use Rattle.dist_core_ends.specs.Change.{put_end, put_other, StaysClosed, OtherStaysClosed, IsThere};
-ghost use Rattle.dist_core_ends.specs.Keeping.{ends_of_rows, AreKept, Refills, Empties, GivesRow, AreSettled, waits};
+ghost use Rattle.dist_core_ends.specs.Change.{put_end, put_other, with_change, StaysClosed, OtherStaysClosed, IsThere};
+ghost use Rattle.dist_core_ends.specs.Keeping.{ends_of_rows, in_slot, AreKept, Refills, Empties, GivesRow, AreSettled, waits};
+ghost use Rattle.dist_core_ends.specs.declared.known.Attempt.{Attempt};
+ghost use Rattle.dist_core_ends.specs.Progress.{at_stage, replaced_end, IsAttempt, IsAttemptWith};
 
-use crate::known::End;
+use crate::known::{End, Stage, UpRecord};
 use crate::phase::Absent;
 use crate::rows::Rows;
 use crate::why::Why;
@@ -47,13 +49,91 @@ fn refill(slots: &mut Slab<End>, slot: usize, end: End)
     }
 }
 
-// The slot has no end.
-#[inline(always)]
-pub fn empty(slots: &mut Slab<End>, slot: usize)
-    requires { ContainsKey slots.old slot }
-    ensures { Empties slots.old slots.new slot }
+// An attempt goes on in its slot.
+fn restage(slots: &mut Slab<End>, slot: usize, to: Stage)
+    ensures { (a : Attempt) → in_slot slots.old.slots slot ≡ Some (End.Attempt a) → Refills slots.old slots.new slot (End.Attempt (at_stage a to)) }
 {
-    let _closed = slots.try_remove(slot);
+    if let Some(end) = slots.get_mut(slot) {
+        end.go_on(to);
+    }
+}
+
+// An attempt comes up in its slot.
+fn complete(slots: &mut Slab<End>, slot: usize, kept: &UpRecord)
+    ensures { (a : Attempt) → in_slot slots.old.slots slot ≡ Some (End.Attempt a) → a.peer ≡ kept.now.peer
+        → Refills slots.old slots.new slot (End.Up kept.now) }
+{
+    if let Some(end) = slots.get_mut(slot) {
+        end.come_up(kept);
+    }
+}
+
+// The attempt of a number goes on.
+pub fn change_attempt(rows: &Rows, slots: &mut Slab<End>, id: EndId, to: Stage)
+    requires kept { AreKept rows.now.items slots.old.slots }
+    requires attempt { IsAttempt (slice_get (ends_of_rows rows.now.items slots.old.slots) id.0) }
+    ensures ends { (a : Attempt) → slice_get (ends_of_rows rows.now.items slots.old.slots) id.0 ≡ Some (End.Attempt a)
+        → ends_of_rows rows.now.items slots.new.slots ≡ slice_set (ends_of_rows rows.now.items slots.old.slots) id.0 (End.Attempt (at_stage a to)) }
+    ensures kept { AreKept rows.now.items slots.new.slots }
+{
+    if let Row::Slot(slot) = rows.at(id.0 as usize) {
+        restage(slots, slot, to);
+    }
+}
+
+// The attempt of a number comes up.
+fn put_record(rows: &Rows, slots: &mut Slab<End>, id: EndId, kept: &UpRecord)
+    requires kept { AreKept rows.now.items slots.old.slots }
+    requires attempt { IsAttemptWith (slice_get (ends_of_rows rows.now.items slots.old.slots) id.0) kept.now.peer }
+    ensures ends { ends_of_rows rows.now.items slots.new.slots ≡ slice_set (ends_of_rows rows.now.items slots.old.slots) id.0 (End.Up kept.now) }
+    ensures kept { AreKept rows.now.items slots.new.slots }
+{
+    if let Row::Slot(slot) = rows.at(id.0 as usize) {
+        complete(slots, slot, kept);
+    }
+}
+
+// The end that is replaced, where one is, is closed.
+fn close_replaced(rows: &mut Rows, slots: &mut Slab<End>, replaced: Option<EndId>)
+    requires there { IsThere (ends_of_rows rows.old.items slots.old.slots) (replaced_end replaced) }
+    requires kept { AreKept rows.old.items slots.old.slots }
+    requires stays { OtherStaysClosed (ends_of_rows rows.old.items slots.old.slots) (replaced_end replaced) }
+    ensures ends { ends_of_rows rows.new.items slots.new.slots ≡ put_other (ends_of_rows rows.old.items slots.old.slots) (replaced_end replaced) }
+    ensures kept { AreKept rows.new.items slots.new.slots }
+{
+    if let Some(x) = replaced {
+        close(rows, slots, x.0 as usize, Why::Replaced);
+    }
+}
+
+// The attempt of a number comes up, and the end that it replaces, where one is, is closed.
+pub fn put_up(
+    rows: &mut Rows,
+    slots: &mut Slab<End>,
+    id: EndId,
+    kept: &UpRecord,
+    replaced: Option<EndId>,
+)
+    requires kept { AreKept rows.old.items slots.old.slots }
+    requires attempt { IsAttemptWith (slice_get (ends_of_rows rows.old.items slots.old.slots) id.0) kept.now.peer }
+    requires there { IsThere (ends_of_rows rows.old.items slots.old.slots) (replaced_end replaced) }
+    requires stays { OtherStaysClosed (put_end (ends_of_rows rows.old.items slots.old.slots) id.0 (End.Up kept.now)) (replaced_end replaced) }
+    ensures ends { ends_of_rows rows.new.items slots.new.slots
+        ≡ with_change (ends_of_rows rows.old.items slots.old.slots) id (End.Up kept.now) (replaced_end replaced) }
+    ensures kept { AreKept rows.new.items slots.new.slots }
+{
+    put_record(rows, slots, id, kept);
+    close_replaced(rows, slots, replaced);
+}
+
+// The slot has no end, and what it had is returned.
+#[inline(always)]
+pub fn empty(slots: &mut Slab<End>, slot: usize) -> Option<End>
+    requires { ContainsKey slots.old slot }
+    ensures was { result ≡ in_slot slots.old.slots slot }
+    ensures empty { Empties slots.old slots.new slot }
+{
+    slots.try_remove(slot)
 }
 
 // Closes the end of a number, or leaves it closed for the cause that it had.
@@ -66,7 +146,7 @@ pub fn close(rows: &mut Rows, slots: &mut Slab<End>, i: usize, why: Why)
     ensures len { length rows.new.items ≡ length rows.old.items }
 {
     if let Row::Slot(slot) = rows.at(i) {
-        empty(slots, slot);
+        let _closed = empty(slots, slot);
         rows.close(i, why);
     }
 }

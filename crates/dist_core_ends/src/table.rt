@@ -2,18 +2,21 @@
 ghost use Rattle.std.specs.Prelude.{◌≡◌, ◌≤◌, ◌<◌, ◌+◌, ◌^◌, ◌++◌, ◌∷◌, [], length, slice_get, count_by};
 ghost use Rattle.std.specs.Prelude.{IfOk, IsOk, OnOk, OnErr, true, false, Ok, Err, Some, None};
 ghost use Rattle.std.specs.Option.{option_map};
+ghost use Rattle.std.specs.FinMap as map;
+ghost use Rattle.dist_peers.specs.Table.{entry_of, is_waiting, replaced_by};
+ghost use Rattle.dist_core_ends.specs.Progress.{replaced_end, IsAttemptWith};
 ghost use Rattle.dist_core_ends.specs.Ends.{Claim, claim_of, kind_in, end_id};
 ghost use Rattle.dist_core_ends.specs.Keeping.{ends_of_rows, AreKept};
 ghost use Rattle.dist_core_ends.specs.Change.{put_end, put_other, with_change, claim_at, IsThere, StaysClosed, OtherStaysClosed};
-ghost use Rattle.dist_core_ends.specs.Change.{table_after_shift, AsksShift, table_after_entry, AsksEnter, table_after_rise, AsksRaise};
+ghost use Rattle.dist_core_ends.specs.Change.{table_after_shift, HasEntry, AsksShift, table_after_entry, AsksEnter, table_after_rise, AsksRaise};
 
-use crate::known::End;
+use crate::known::{Attempt, End, UpRecord};
 use crate::phase::{Kind, Phase};
 use crate::rows::Rows;
-use crate::slots::{Row, empty, find, keep, put, put_second};
+use crate::slots::{Row, empty, find, keep, put, put_second, put_up};
 use crate::why::Why;
 use dist_names::NodeName;
-use dist_peers::{EndId, Peers};
+use dist_peers::{EndId, Entry, Peers};
 use slab::Slab;
 use std::alloc::AllocError;
 
@@ -101,13 +104,50 @@ fn raise(peers: &mut Peers, id: EndId, was: Kind, is: Kind, peer: &NodeName)
     }
 }
 
-// What an end held is held no longer.
+// What an end held that is let go is held no longer. One that holds no peer, as most that are lost early, costs no call.
 #[inline(always)]
-fn leave(peers: &mut Peers, id: EndId, old: &End)
-    ensures { peers.new ≡ table_after_shift peers.old [] id (claim_of old.now) None }
+fn leave(peers: &mut Peers, id: EndId, closed: Option<End>)
+    requires { HasEntry peers.old (claim_at closed) }
+    ensures { peers.new ≡ table_after_shift peers.old [] id (claim_at closed) None }
 {
-    if let Some((_, peer)) = claim(old) {
-        peers.lost(peer, id);
+    if knows_peer(&closed) {
+        leave_peer(peers, id, closed);
+    }
+}
+
+// Whether it knows its peer. Where it does not, it holds none.
+#[inline(always)]
+fn knows_peer(end: &Option<End>) -> bool
+    ensures { result ≡ false → claim_at end.now ≡ None }
+{
+    match end {
+        Some(End::Up(_)) => true,
+        Some(End::Attempt(_)) => true,
+        _ => false,
+    }
+}
+
+// The same of an end that knows its peer: the table is searched once, by the name that the end had.
+#[inline(never)]
+fn leave_peer(peers: &mut Peers, id: EndId, closed: Option<End>)
+    requires { HasEntry peers.old (claim_at closed) }
+    ensures { peers.new ≡ table_after_shift peers.old [] id (claim_at closed) None }
+{
+    match closed {
+        Some(End::Up(record)) => peers.let_go(record.peer, id),
+        Some(End::Attempt(attempt)) => leave_attempt(peers, id, attempt),
+        _ => {}
+    }
+}
+
+// The same of an attempt.
+fn leave_attempt(peers: &mut Peers, id: EndId, attempt: Attempt)
+    requires { HasEntry peers.old (claim_of (End.Attempt attempt)) }
+    ensures { peers.new ≡ table_after_shift peers.old [] id (claim_of (End.Attempt attempt)) None }
+{
+    match kind(attempt.phase) {
+        Some(_) => peers.let_go(attempt.peer, id),
+        None => {}
     }
 }
 
@@ -116,6 +156,7 @@ fn leave(peers: &mut Peers, id: EndId, old: &End)
 pub fn close_end(peers: &mut Peers, rows: &mut Rows, slots: &mut Slab<End>, id: EndId, why: Why)
     requires place { id.0 < length rows.old.items }
     requires stays { StaysClosed (slice_get (ends_of_rows rows.old.items slots.old.slots) id.0) (End.Closed why) }
+    requires held { HasEntry peers.old (claim_at (slice_get (ends_of_rows rows.old.items slots.old.slots) id.0)) }
     requires kept { AreKept rows.old.items slots.old.slots }
     ensures peers { peers.new ≡ table_after_shift peers.old [] id (claim_at (slice_get (ends_of_rows rows.old.items slots.old.slots) id.0)) None }
     ensures ends { ends_of_rows rows.new.items slots.new.slots ≡ with_change (ends_of_rows rows.old.items slots.old.slots) id (End.Closed why) None }
@@ -123,10 +164,35 @@ pub fn close_end(peers: &mut Peers, rows: &mut Rows, slots: &mut Slab<End>, id: 
 {
     let i = id.0 as usize;
     if let Row::Slot(slot) = rows.at(i) {
-        leave(peers, id, &slots[slot]);
-        empty(slots, slot);
+        let closed = empty(slots, slot);
         rows.close(i, why);
+        leave(peers, id, closed);
     }
+}
+
+// An attempt comes up. The end that it replaces, where one is, is closed and returned. The table is searched once.
+pub fn connect_end(
+    peers: &mut Peers,
+    rows: &mut Rows,
+    slots: &mut Slab<End>,
+    id: EndId,
+    kept: &UpRecord,
+) -> Option<EndId>
+    requires kept { AreKept rows.old.items slots.old.slots }
+    requires attempt { IsAttemptWith (slice_get (ends_of_rows rows.old.items slots.old.slots) id.0) kept.now.peer }
+    requires waits { is_waiting id (entry_of peers.old kept.now.peer) ≡ true }
+    requires there { IsThere (ends_of_rows rows.old.items slots.old.slots) (replaced_end (replaced_by (entry_of peers.old kept.now.peer))) }
+    requires stays { OtherStaysClosed (put_end (ends_of_rows rows.old.items slots.old.slots) id.0 (End.Up kept.now))
+        (replaced_end (replaced_by (entry_of peers.old kept.now.peer))) }
+    ensures replaced { result ≡ replaced_by (entry_of peers.old kept.now.peer) }
+    ensures peers { peers.new ≡ map.insert peers.old kept.now.peer (Entry.Up id) }
+    ensures ends { ends_of_rows rows.new.items slots.new.slots
+        ≡ with_change (ends_of_rows rows.old.items slots.old.slots) id (End.Up kept.now) (replaced_end (replaced_by (entry_of peers.old kept.now.peer))) }
+    ensures kept { AreKept rows.new.items slots.new.slots }
+{
+    let replaced = peers.came_up(&kept.peer, id);
+    put_up(rows, slots, id, kept, replaced);
+    replaced
 }
 
 // Adds an end of which nothing is known.

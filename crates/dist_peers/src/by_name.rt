@@ -1,15 +1,17 @@
 //! Entries by name, in an ordered map.
 
-ghost use Rattle.std.specs.Prelude.{◌≡◌, IfOk, OnOk, OnErr, IsOk, IsSome, is_some, Some, None, slice_get, length, ◌+◌, if◌then◌else◌};
+ghost use Rattle.std.specs.Prelude.{◌≡◌, cond, IfOk, OnOk, OnErr, IsOk, IsSome, is_some, Some, None, slice_get, length, ◌+◌, if◌then◌else◌};
 ghost use Rattle.std.specs.Option.{option_map};
-ghost use Rattle.std.specs.BTreeMap.{get, Updates, IsUnchanged, IsOrdered, btree_map_len};
-ghost use Rattle.dist_names.specs.Order.{name_cmp};
-ghost use Rattle.dist_peers.specs.Table.{up_ids};
+ghost use Rattle.std.specs.BTreeMap.{get, is_at, Updates, IsUnchanged, IsOrdered, btree_map_len};
+ghost use Rattle.dist_names.specs.Order.{Name, name_cmp};
+ghost use Rattle.dist_peers.specs.Table.{left_by, up_ids};
 
 use crate::entry::{EndId, Entry};
+use crate::verdict::left_over;
 use dist_names::NodeName;
 use std::alloc::{AllocError, Global};
 use std::collections::BTreeMap;
+use std::collections::btree_map::Entry as Place;
 
 /// The entry of a name.
 pub fn entry_in(entries: &BTreeMap<NodeName, Entry>, name: &NodeName) -> Option<Entry>
@@ -99,4 +101,29 @@ pub fn drop_row(entries: &mut BTreeMap<NodeName, Entry>, name: &NodeName)
     ensures ordered { IsOrdered name_cmp entries.new }
 {
     let _ = entries.remove(name);
+}
+
+/// Makes the entry of a name that has one what is left of it once this end is lost. The map is searched once, by a name that is
+/// the caller's to let go. It takes no memory.
+pub fn leave_row(entries: &mut BTreeMap<NodeName, Entry>, name: NodeName, id: EndId)
+    requires there { IsSome (get name_cmp entries.old name) }
+    ensures changed { (q : Name) → get name_cmp entries.new q
+        ≡ cond (is_at (name_cmp name) q) (left_by id (get name_cmp entries.old name)) (get name_cmp entries.old q) }
+    ensures ordered { IsOrdered name_cmp entries.new }
+{
+    let place = match entries.entry(name) {
+        Ok(place) => place,
+        Err(_absent) => return,
+    };
+    match place {
+        Place::Occupied(mut row) => match left_over(Some(*row.get()), id) {
+            Some(entry) => {
+                let _ = row.insert(entry);
+            }
+            None => {
+                let _ = row.remove();
+            }
+        },
+        Place::Vacant(_place) => {}
+    }
 }

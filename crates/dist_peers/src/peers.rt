@@ -5,7 +5,9 @@ ghost use Rattle.dist_names.specs.Order.{same_name};
 ghost use Rattle.dist_peers.specs.Table.{entry_of, is_waiting, replaced_by, left_by, with_entry, up_ids, OthersStay};
 ghost use Rattle.dist_peers.specs.Verdicts.{is_full, is_greater, ruling, table_after_dial, table_after_name, verdict_on, Does};
 
-use crate::by_name::{change_row, drop_row, entry_in, put_row, row_at, set_row, up_count, up_in};
+use crate::by_name::{
+    change_row, drop_row, entry_in, leave_row, put_row, row_at, set_row, up_count, up_in,
+};
 use crate::entry::{EndId, Entry, PeersError, Verdict};
 use crate::verdict::{left_over, replaced_end, ruling_of, verdict_by, waits_for};
 use dist_names::NodeName;
@@ -228,6 +230,15 @@ impl Peers {
             Some(entry) => self.set(peer, entry),
             None => self.remove(peer),
         }
+    }
+
+    /// The same as `lost`, of a peer that has an entry, and by a caller that lets its name go: the table is searched once.
+    pub fn let_go(&mut self, peer: NodeName, id: EndId)
+        // An end that holds a peer makes its entry; `entry` is the test.
+        requires { IsSome (entry_of self.old peer) }
+        ensures { self.new ≡ with_entry self.old peer (left_by id (entry_of self.old peer)) }
+    {
+        leave_row(&mut self.by_name, peer, id);
     }
 
     // Gives a peer an entry, and returns the one that it had.

@@ -5,18 +5,18 @@ use Rattle.dist_core_ends.specs.Keeping.{ends_of_rows, AreKept}
 use Rattle.dist_core_ends.proofs.Keeping.{has-slot, emptied-shown, emptied, finds-closed, same-cause, set-same}
 use Rattle.dist_core_ends.proofs.slots.close.Goals as goal
 
-pub empty-requires : goal.empty-requires
-empty-requires c = has-slot c.args.rows.now.items c.args.slots.now c.args.i c.in-Slot.slot c.at.result c.requires.kept c.at.ensures c.in-Slot.is
+pub empty-closed-requires : goal.empty-closed-requires
+empty-closed-requires c = has-slot c.args.rows.now.items c.args.slots.now c.args.i c.in-Slot.slot c.at.result c.requires.kept c.at.ensures c.in-Slot.is
 
 pub returns-in-Slot-clause-ends : goal.returns-in-Slot-clause-ends
 returns-in-Slot-clause-ends c =
-    ap (λ (rs : List Row). ends_of_rows rs c.empty.new.slots.slots) c.close.ensures
-    ∙ emptied-shown c.args.rows.now.items c.args.slots.now.slots c.empty.new.slots.slots c.requires.kept c.args.i c.in-Slot.slot c.args.why (c.at.ensures ∙ ap Some c.in-Slot.is) (c.empty.ensures.0)
+    ap (λ (rs : List Row). ends_of_rows rs c.empty-closed.new.slots.slots) c.close.ensures
+    ∙ emptied-shown c.args.rows.now.items c.args.slots.now.slots c.empty-closed.new.slots.slots c.requires.kept c.args.i c.in-Slot.slot c.args.why (c.at.ensures ∙ ap Some c.in-Slot.is) (c.empty-closed.ensures.empty.0)
 
 pub returns-in-Slot-clause-kept : goal.returns-in-Slot-clause-kept
 returns-in-Slot-clause-kept c =
-    let P : List Row → Type 0 = λ rs. AreKept rs c.empty.new.slots.slots in
-    subst P (sym c.close.ensures) (emptied c.args.rows.now.items c.args.slots.now.slots c.empty.new.slots.slots c.requires.kept c.args.i c.in-Slot.slot c.args.why (c.at.ensures ∙ ap Some c.in-Slot.is) (c.empty.ensures.0) (c.empty.ensures.1))
+    let P : List Row → Type 0 = λ rs. AreKept rs c.empty-closed.new.slots.slots in
+    subst P (sym c.close.ensures) (emptied c.args.rows.now.items c.args.slots.now.slots c.empty-closed.new.slots.slots c.requires.kept c.args.i c.in-Slot.slot c.args.why (c.at.ensures ∙ ap Some c.in-Slot.is) (c.empty-closed.ensures.empty.0) (c.empty-closed.ensures.empty.1))
 
 pub returns-in_default-clause-ends : goal.returns-in_default-clause-ends
 returns-in_default-clause-ends c =

@@ -1,24 +1,15 @@
-use Rattle.std.proofs.Common.{◌≡◌, ◌≤◌, length, arith, List, Option, Result, Ok, Err, OnOk, OnErr, sym, ap, subst}
+use Rattle.std.proofs.Common.{◌≡◌, ◌≤◌, length, arith, List, Result, Ok, Err, OnOk, OnErr, ap}
 use Rattle.std.specs.FinMap as map
-use Rattle.dist_names.specs.Order.{Name}
 use Rattle.dist_peers.specs.Table.{Table}
-use Rattle.dist_peers.specs.declared.entry.EndId.{EndId}
 use Rattle.dist_core_ends.specs.declared.known.End.{End}
 use Rattle.dist_core_ends.specs.Keeping.{ends_of_rows}
 use Rattle.dist_core_ends.proofs.Keeping.{shown-length}
-use Rattle.dist_core_ends.specs.Ends.{Agree, AreLegal, table_of}
-use Rattle.dist_core_ends.specs.Change.{Fits, with_change}
+use Rattle.dist_core_ends.specs.Ends.{Agree}
+use Rattle.dist_core_ends.specs.Change.{with_change}
 use Rattle.dist_core_ends.proofs.Settled.{changed-settled, changed-longer, either-settled, either-longer}
-use Rattle.dist_core_ends.proofs.Legal.{legal, agreed}
-use Rattle.dist_core_ends.proofs.Tables.{table-agreed}
+use Rattle.dist_core_ends.proofs.Legal.{agreed}
+use Rattle.dist_core_ends.proofs.Progress.{fit-kept}
 use Rattle.dist_core_ends.proofs.ends.Ends.change.Goals as goal
-
--- the requirement, at the table that is kept
-fit : (me : Name) (fs es : List End) (t : Table) (id : EndId) (this : End) (other : Option (EndId × End)) → es ≡ fs → (AreLegal fs → Fits me fs (table_of fs) id this other) → Agree (map.get t) es → Fits me es t id this other
-fit me fs es t id this other e h a =
-    let P : List End → Type 0 = λ xs. AreLegal xs → Fits me xs (table_of xs) id this other in
-    let Q : Table → Type 0 = λ u. Fits me es u id this other in
-    subst Q (sym (table-agreed t es a)) (subst P (sym e) h (legal (map.get t) es a))
 
 -- the ends agree with the entries after a change, and after one for which memory ran out
 agrees : {X E : Type 0} (r : Result X E) (t u v : Table) (es fs new : List End) → Agree (map.get t) es → Agree (map.get u) fs → OnOk r (v ≡ u) → OnOk r (new ≡ fs) → OnErr r ((v ≡ t) × (new ≡ es)) → Agree (map.get v) new
@@ -31,28 +22,28 @@ ends-stay (Err x) t v es new h = h.1
 
 pub apply-requires-clause-place : goal.apply-requires-clause-place
 apply-requires-clause-place c =
-    let h = fit c.args.me.now c.args.self.now _ c.self.inside.peers c.args.id c.args.this c.args.other c.self.view_is c.requires.fits c.self.invariant.agree in
+    let h = fit-kept c.args.me.now c.args.self.now _ c.self.inside.peers c.args.id c.args.this c.args.other c.self.view_is c.requires.fits c.self.invariant.agree in
     let n = shown-length c.self.inside.rows.items c.self.inside.slots.slots in
     omega (arith, n, h.place)
 
 pub apply-requires-clause-other : goal.apply-requires-clause-other
 apply-requires-clause-other c =
-    let h = fit c.args.me.now c.args.self.now _ c.self.inside.peers c.args.id c.args.this c.args.other c.self.view_is c.requires.fits c.self.invariant.agree in
+    let h = fit-kept c.args.me.now c.args.self.now _ c.self.inside.peers c.args.id c.args.this c.args.other c.self.view_is c.requires.fits c.self.invariant.agree in
     h.other_there
 
 pub apply-requires-clause-stays : goal.apply-requires-clause-stays
 apply-requires-clause-stays c =
-    let h = fit c.args.me.now c.args.self.now _ c.self.inside.peers c.args.id c.args.this c.args.other c.self.view_is c.requires.fits c.self.invariant.agree in
+    let h = fit-kept c.args.me.now c.args.self.now _ c.self.inside.peers c.args.id c.args.this c.args.other c.self.view_is c.requires.fits c.self.invariant.agree in
     h.stays
 
 pub apply-requires-clause-other_stays : goal.apply-requires-clause-other_stays
 apply-requires-clause-other_stays c =
-    let h = fit c.args.me.now c.args.self.now _ c.self.inside.peers c.args.id c.args.this c.args.other c.self.view_is c.requires.fits c.self.invariant.agree in
+    let h = fit-kept c.args.me.now c.args.self.now _ c.self.inside.peers c.args.id c.args.this c.args.other c.self.view_is c.requires.fits c.self.invariant.agree in
     h.other_stays
 
 pub apply-requires-clause-asks : goal.apply-requires-clause-asks
 apply-requires-clause-asks c =
-    let h = fit c.args.me.now c.args.self.now _ c.self.inside.peers c.args.id c.args.this c.args.other c.self.view_is c.requires.fits c.self.invariant.agree in
+    let h = fit-kept c.args.me.now c.args.self.now _ c.self.inside.peers c.args.id c.args.this c.args.other c.self.view_is c.requires.fits c.self.invariant.agree in
     h.asks
 
 pub apply-requires-clause-few : goal.apply-requires-clause-few
@@ -67,7 +58,7 @@ returns-clause-loss c claimless within =
 
 pub invariant_of-self : goal.invariant_of-self
 invariant_of-self c =
-    let h = fit c.args.me.now c.args.self.now _ c.self.inside.peers c.args.id c.args.this c.args.other c.self.view_is c.requires.fits c.self.invariant.agree in
+    let h = fit-kept c.args.me.now c.args.self.now _ c.self.inside.peers c.args.id c.args.this c.args.other c.self.view_is c.requires.fits c.self.invariant.agree in
     let rows = c.self.inside.rows.items in
     let slots = c.self.inside.slots.slots in
     let es = ends_of_rows rows slots in

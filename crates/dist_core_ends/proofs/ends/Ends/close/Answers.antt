@@ -7,12 +7,16 @@ use Rattle.dist_core_ends.proofs.Fitting.{fit-closes}
 use Rattle.dist_core_ends.specs.declared.known.End.{End}
 use Rattle.dist_core_ends.proofs.Settled.{changed-settled, changed-longer}
 use Rattle.dist_core_ends.proofs.Legal.{agreed}
+use Rattle.dist_core_ends.proofs.Progress.{held-entry}
 use Rattle.dist_core_ends.proofs.ends.Ends.close.Goals as goal
 
 pub close_end-requires-clause-place : goal.close_end-requires-clause-place
 close_end-requires-clause-place c =
     let n = shown-length c.self.inside.rows.items c.self.inside.slots.slots in
     omega (arith, n, ap length c.self.view_is, c.requires.there)
+
+pub close_end-requires-clause-held : goal.close_end-requires-clause-held
+close_end-requires-clause-held c = held-entry (ends_of_rows c.self.inside.rows.items c.self.inside.slots.slots) c.self.inside.peers c.self.invariant.agree c.args.id
 
 pub close_end-requires-clause-stays : goal.close_end-requires-clause-stays
 close_end-requires-clause-stays c =

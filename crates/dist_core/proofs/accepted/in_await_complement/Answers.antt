@@ -1,8 +1,0 @@
-use Rattle.std.proofs.Common.{rules}
-use Rattle.dist_core.proofs.accepted.in_await_complement.Goals as goal
-
-pub returns-then-not-has : goal.returns-then-not-has
-returns-then-not-has c = search rules
-
-pub returns : goal.returns
-returns c = search rules
