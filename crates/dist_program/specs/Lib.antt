@@ -1,2 +1,4 @@
+pub mod Budgets
 pub mod CookieFile
 pub mod PortTexts
+pub mod Sentences

@@ -1,5 +1,2 @@
-pub mod OneEnd
-pub mod Showing
-pub mod Members
-pub mod ObjectLine
-pub mod Naming
+mod Apart
+mod Order

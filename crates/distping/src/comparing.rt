@@ -2,35 +2,25 @@
 //! a summary.
 
 ghost use Rattle.std.specs.Prelude.{◌≡◌, ◌||◌, ◌<◌, ◌↔◌, IsTrue, length};
-ghost use Rattle.distping.specs.Faults.{first_of};
-ghost use Rattle.distping.specs.Pairs.{is_bad};
+ghost use Rattle.dist_cluster.specs.Pairs.{is_bad};
 
-use crate::fault::Fault;
-use crate::lines::Lines;
-use crate::objects::pair_object;
-use crate::pairs::{Half, Pairing, pairing_of};
-use crate::reports::summary_object;
-use crate::summary::Summary;
-
-/// The first of two statuses, unless it is 0.
-pub fn first_of(first: u8, second: u8) -> u8
-    ensures { result ≡ first_of first second }
-{
-    if first == 0 { second } else { first }
-}
+use dist_cluster::{Half, Pairing, Summary, first_of, pairing_of};
+use distping_json::{pair_object, summary_object};
+use distping_report::Lines;
+use distping_words::Fault;
 
 // Which pairs are printed, and where.
 #[derive(Clone, Copy)]
-struct Pairs {
-    lines: Lines,
+struct Pairs<'p> {
+    lines: Lines<'p>,
     // Also those against which nothing speaks.
     all: bool,
 }
 
-impl Pairs {
+impl Pairs<'_> {
     // Whether a pair is printed.
     fn shows(self, pairing: Pairing) -> bool
-        ensures { result ≡ (self.all || is_bad pairing) }
+        ensures { result ≡ (self.entry.all || is_bad pairing) }
     {
         self.all || pairing.is_bad()
     }
@@ -38,7 +28,7 @@ impl Pairs {
 
 // Prints what can be said of two nodes.
 fn put_pair(
-    lines: Lines,
+    lines: Lines<'_>,
     first: &Half<'_>,
     second: &Half<'_>,
     pairing: Pairing,
@@ -51,7 +41,7 @@ fn put_pair(
 }
 
 // Prints what can be said of two nodes, where that is printed, and returns the status of it.
-fn pair_one(pairs: Pairs, first: &Half<'_>, second: &Half<'_>) -> Result<u8, Fault> {
+fn pair_one(pairs: Pairs<'_>, first: &Half<'_>, second: &Half<'_>) -> Result<u8, Fault> {
     let pairing = pairing_of(first, second);
     if pairs.shows(pairing) {
         put_pair(pairs.lines, first, second, pairing)?;
@@ -60,7 +50,7 @@ fn pair_one(pairs: Pairs, first: &Half<'_>, second: &Half<'_>) -> Result<u8, Fau
 }
 
 // Prints what can be said of one node and each of others, and returns the first status that is not 0.
-fn pair_with(pairs: Pairs, first: &Half<'_>, others: &[Half<'_>]) -> Result<u8, Fault> {
+fn pair_with(pairs: Pairs<'_>, first: &Half<'_>, others: &[Half<'_>]) -> Result<u8, Fault> {
     let mut status = 0;
     for second in others {
         status = first_of(status, pair_one(pairs, first, second)?);
@@ -69,7 +59,7 @@ fn pair_with(pairs: Pairs, first: &Half<'_>, others: &[Half<'_>]) -> Result<u8, 
 }
 
 // Prints what can be said of each two nodes, and returns the first status that is not 0.
-fn pair_all(pairs: Pairs, halves: &[Half<'_>]) -> Result<u8, Fault> {
+fn pair_all(pairs: Pairs<'_>, halves: &[Half<'_>]) -> Result<u8, Fault> {
     let mut status = 0;
     let mut rest = halves;
     for first in halves {
@@ -94,7 +84,7 @@ fn are_many(halves: &[Half<'_>]) -> bool
 }
 
 // Prints how many nodes came to which verdict, and how many pairs have which word.
-fn put_summary(lines: Lines, halves: &[Half<'_>], status: u8) -> Result<(), Fault> {
+fn put_summary(lines: Lines<'_>, halves: &[Half<'_>], status: u8) -> Result<(), Fault> {
     let summary = Summary::of_nodes(lines.alloc, halves)?;
     if lines.quiet {
         lines.write_made(summary_object(lines.alloc, &summary, status))
@@ -106,7 +96,7 @@ fn put_summary(lines: Lines, halves: &[Half<'_>], status: u8) -> Result<(), Faul
 /// Prints what can be said of these nodes together, and returns the first status that is not 0. `status` is that of the nodes, and
 /// with `all_pairs` each pair is printed, however many there are.
 pub fn compare(
-    lines: Lines,
+    lines: Lines<'_>,
     all_pairs: bool,
     halves: &[Half<'_>],
     status: u8,

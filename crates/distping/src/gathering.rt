@@ -1,17 +1,14 @@
-//! The nodes that are dialled: those that are named, and those that the port mappers of hosts know.
+//! The nodes that are dialled: those that are named, and those that the port mappers of hosts know, which are asked one after another.
 
-use crate::census::{Census, ask_census, empty_host, name_in_line};
-use crate::command::Wanted;
-use crate::comparing::first_of;
-use crate::fault::Fault;
-use crate::lines::Lines;
-use crate::objects::group_object;
-use crate::probing::{Dial, Outcome};
-use crate::reports::left_out_object;
+use crate::grouping::is_among;
 use crate::rounds::{Round, addresses_of};
-use crate::targets::{Group, MOST_NODES, Target};
+use dist_cluster::{Group, MOST_NODES, Target, first_of, name_in_line};
 use dist_names::{NameError, NodeName};
 use dist_program::Resolving;
+use distping_dial::{Census, ask_census, empty_host};
+use distping_json::{group_object, left_out_object};
+use distping_report::{Dial, Lines, Outcome};
+use distping_words::{Fault, Wanted};
 
 // One more node, of as many as are dialled.
 fn push_node(nodes: &mut Vec<NodeName>, node: NodeName) -> Result<(), Fault> {
@@ -20,11 +17,6 @@ fn push_node(nodes: &mut Vec<NodeName>, node: NodeName) -> Result<(), Fault> {
     }
     nodes.push(node)?;
     Ok(())
-}
-
-// Whether one of these is the node.
-fn is_among(nodes: &[NodeName], node: &NodeName) -> bool {
-    nodes.iter().any(|other| other.is_same(node))
 }
 
 // Whether the command line, or the file, names this node itself.
@@ -38,13 +30,13 @@ fn is_named(targets: &[Target], node: &NodeName) -> bool {
 // A group, and what its nodes are gathered with.
 #[derive(Clone, Copy)]
 struct Site<'a> {
-    lines: Lines,
+    lines: Lines<'a>,
     wanted: &'a Wanted<'a>,
     group: &'a Group,
 }
 
 // Prints that what the port mapper has in a line is no node's name.
-fn put_left_out(lines: Lines, group: &Group, text: &[u8]) -> Result<(), Fault> {
+fn put_left_out(lines: Lines<'_>, group: &Group, text: &[u8]) -> Result<(), Fault> {
     if lines.quiet {
         lines.write_made(left_out_object(lines.alloc, group, text))
     } else {
@@ -101,7 +93,7 @@ fn push_lines(site: Site<'_>, text: &[u8], nodes: &mut Vec<NodeName>) -> Result<
 }
 
 // Prints what a host that gave no node comes to, and returns the status of it.
-fn tell_nobody(lines: Lines, group: &Group, outcome: &Outcome) -> Result<u8, Fault> {
+fn tell_nobody(lines: Lines<'_>, group: &Group, outcome: &Outcome) -> Result<u8, Fault> {
     if lines.quiet {
         lines.write_made(group_object(lines.alloc, group, outcome))?;
     } else {
@@ -136,18 +128,19 @@ fn push_group<'x, R: Resolving>(
     group: &'x Group,
     nodes: &mut Vec<NodeName>,
 ) -> Result<u8, Fault> {
-    round.lines.put_heading(group.word())?;
+    let lines = round.screen();
+    lines.put_heading(group.word())?;
     let addresses = addresses_of(round, &group.own);
     let dial = Dial {
         rt: round.rt,
-        lines: round.lines,
+        lines,
         own: &group.own,
         node: &group.own,
         cookie: None,
         choices: round.wanted.choices,
     };
     let site = Site {
-        lines: round.lines,
+        lines,
         wanted: round.wanted,
         group,
     };
@@ -160,7 +153,7 @@ pub fn gather<R: Resolving>(round: &Round<'_, R>, nodes: &mut Vec<NodeName>) -> 
     let mut status = 0;
     for target in &round.wanted.targets {
         match target {
-            Target::Node(name) => push_node(nodes, name.try_clone(round.lines.alloc)?)?,
+            Target::Node(name) => push_node(nodes, name.try_clone(round.rt.alloc())?)?,
             Target::Group(group) => status = first_of(status, push_group(round, group, nodes)?),
         }
     }

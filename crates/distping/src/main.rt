@@ -1,46 +1,26 @@
 //! The program: dials a live node, and prints what happens, step by step, with the cause and what can be done.
 //!
-//! What it means is found by the crate of verdicts; here is what asks the system: the host's name, sockets, the cookie's
-//! file, random bytes, the command line, and what is printed.
+//! What it means is found by the crate of verdicts, how a node is dialled or a connection taken by crates of their own, and so are
+//! the words of the command line and what is printed. Here is what puts these together: which nodes are dialled, several at
+//! once or again and again, and what is said of them.
 #![tactic(auto)]
 
-mod accepting;
-mod budget;
-mod census;
-mod command;
 mod comparing;
-mod cookie;
-mod dialling;
-mod fault;
 mod gathering;
-mod lines;
-mod listening;
-mod moment;
-mod objects;
-mod pairs;
-mod probing;
-mod refusal;
-mod refusing;
-mod reports;
-mod roster;
+mod grouping;
+mod reply;
 mod rounds;
-mod summary;
-mod targets;
-mod waiting;
+mod together;
 mod watching;
 
-use command::{Instead, Wanted, wanted_of};
-use cookie::cookie_of;
 use dist_names::NodeName;
 use dist_program::{HostError, Resolving, lookup_host, mapper_port, words_of};
 use dist_secret::Cookie;
-use fault::Fault;
-use lines::Lines;
-use listening::{Caller, Listen, Taken, take_connection};
-use objects::caller_object;
-use probing::{draw_challenge, setup_of};
-use refusal::Refusal;
-use roster::read_roster;
+use distping_dial::{draw_challenge, setup_of};
+use distping_json::caller_object;
+use distping_listen::take_connection;
+use distping_report::{Caller, Lines, Listen, Taken};
+use distping_words::{Fault, Instead, Refusal, Wanted, cookie_of, read_roster, wanted_of};
 use rounds::{Round, dial_all};
 use std::net::SocketAddr;
 use std::process::ExitCode;
@@ -93,14 +73,14 @@ fn main(rt: HostRuntime) -> ExitCode {
 }
 
 // Does what the command line asks for. The second handle is the same: what may wait for a thread.
-fn perform<R: Resolving>(rt: &HostRuntime, resolver: &R) -> Result<u8, Refusal> {
+fn perform<R: Resolving + Sync>(rt: &HostRuntime, resolver: &R) -> Result<u8, Refusal> {
     let words = words_of(rt)?;
     let mapper_port = mapper_port(rt)?;
     obey(rt, resolver, &words, mapper_port)
 }
 
 // Does what these words ask for. `mapper_port` is the port mapper's port where they name none.
-fn obey<R: Resolving>(
+fn obey<R: Resolving + Sync>(
     rt: &HostRuntime,
     resolver: &R,
     words: &[String],
@@ -114,23 +94,14 @@ fn obey<R: Resolving>(
     }
 }
 
-// Where steps are printed, unless it is to be quiet.
-fn lines_of(rt: &HostRuntime, quiet: bool) -> Lines {
-    Lines {
-        alloc: rt.alloc(),
-        out: rt.stdout(),
-        quiet,
-    }
-}
-
 // Writes a text that was asked for.
 fn print(rt: &HostRuntime, text: &str) -> Result<u8, Fault> {
-    lines_of(rt, false).write(text)?;
+    Lines::on_screen(rt, false).write(text)?;
     Ok(0)
 }
 
 // Does what is asked for, with the cookie that is, once the file of names is read.
-fn follow<R: Resolving>(
+fn follow<R: Resolving + Sync>(
     rt: &HostRuntime,
     resolver: &R,
     wanted: &mut Wanted<'_>,
@@ -153,7 +124,7 @@ fn read_names(rt: &HostRuntime, wanted: &mut Wanted<'_>) -> Result<(), Refusal> 
 }
 
 // Does what is asked for, with this cookie.
-fn follow_with<R: Resolving>(
+fn follow_with<R: Resolving + Sync>(
     rt: &HostRuntime,
     resolver: &R,
     wanted: &Wanted<'_>,
@@ -176,7 +147,6 @@ fn follow_with<R: Resolving>(
         _ => dial_all(&Round {
             rt,
             resolver,
-            lines: lines_of(rt, wanted.choices.json),
             wanted,
             cookie,
         }),
@@ -227,11 +197,11 @@ fn take_one(
         seconds: choices.seconds,
         turns: choices.turns(),
     };
-    listen(rt, &one, lines_of(rt, choices.json))
+    listen(rt, &one, Lines::on_screen(rt, choices.json))
 }
 
 // Takes one connection, prints what came of it, and returns its status.
-fn listen(rt: &HostRuntime, one: &Listen<'_>, lines: Lines) -> Result<u8, Fault> {
+fn listen(rt: &HostRuntime, one: &Listen<'_>, lines: Lines<'_>) -> Result<u8, Fault> {
     let mut caller = Caller::nobody();
     let taken = take_connection(rt, one, lines, &mut caller)?;
     tell_outcome(one, lines, &caller, taken)?;
@@ -241,7 +211,7 @@ fn listen(rt: &HostRuntime, one: &Listen<'_>, lines: Lines) -> Result<u8, Fault>
 // Prints what came of a connection.
 fn tell_outcome(
     one: &Listen<'_>,
-    lines: Lines,
+    lines: Lines<'_>,
     caller: &Caller,
     taken: Taken,
 ) -> Result<(), Fault> {

@@ -1,19 +1,20 @@
-//! All nodes are dialled, one behind the other, and each two of them are compared.
+//! One node is dialled; all nodes are, and each two of them are compared.
 
-use crate::command::{Wanted, parse_name};
-use crate::comparing::{compare, first_of};
-use crate::fault::Fault;
+ghost use Rattle.std.specs.Prelude.{◌≡◌, IfOk};
+
+use crate::comparing::compare;
 use crate::gathering::gather;
-use crate::lines::Lines;
-use crate::objects::object_of;
-use crate::pairs::Half;
-use crate::probing::{Dial, Found, Outcome, probe};
-use crate::targets::{Target, USUAL};
+use crate::together::dial_each;
 use crate::watching::watch_all;
+use dist_cluster::{Half, Target, USUAL, first_of};
 use dist_names::NodeName;
 use dist_probe::Verdict;
 use dist_program::{Addresses, Resolving, lookup_host};
 use dist_secret::Cookie;
+use distping_dial::probe;
+use distping_json::object_of;
+use distping_report::{Dial, Found, Lines, Outcome};
+use distping_words::{Fault, Wanted, parse_name};
 use std::alloc::Global;
 
 /// What all nodes are dialled with.
@@ -23,12 +24,17 @@ pub struct Round<'a, R: Resolving> {
     pub rt: &'a HostRuntime,
     /// What may wait for the resolver.
     pub resolver: &'a R,
-    /// Where the steps are printed.
-    pub lines: Lines,
     /// What the command line asks for.
     pub wanted: &'a Wanted<'a>,
     /// The cookie that is tried.
     pub cookie: Option<&'a Cookie>,
+}
+
+impl<R: Resolving> Round<'_, R> {
+    /// Lines on the screen: those of objects alone, where these are asked for.
+    pub fn screen(&self) -> Lines<'static> {
+        Lines::on_screen(self.rt, self.wanted.choices.json)
+    }
 }
 
 // The own name: the one that is given, else one at the node's host, so that it is as long or short as the node's.
@@ -61,7 +67,7 @@ fn tell(dial: &Dial<'_>, outcome: &Outcome) -> Result<(), Fault> {
 }
 
 // Prints which address got furthest, where several were tried.
-fn tell_furthest(lines: Lines, outcome: &Outcome) -> Result<(), Fault> {
+fn tell_furthest(lines: Lines<'_>, outcome: &Outcome) -> Result<(), Fault> {
     let count = u32::try_from(outcome.verdicts.len()).unwrap_or(u32::MAX);
     match &outcome.found.address {
         Some(address) if count > 1 => lines.put_furthest(address, count),
@@ -81,12 +87,18 @@ pub fn addresses_of<R: Resolving>(round: &Round<'_, R>, node: &NodeName) -> Addr
 }
 
 // Dials one node, and returns what is left of it.
-fn dial_one<'n, R: Resolving>(round: &Round<'_, R>, node: &'n NodeName) -> Result<Half<'n>, Fault> {
-    let own = own_name(round.lines.alloc, round.wanted, node)?;
+fn dial_one<'n, R: Resolving>(
+    round: &Round<'_, R>,
+    lines: Lines<'_>,
+    node: &'n NodeName,
+) -> Result<Half<'n>, Fault>
+    ensures { IfOk result (λ half. half.node.now ≡ node.now) }
+{
+    let own = own_name(lines.alloc, round.wanted, node)?;
     let addresses = addresses_of(round, node);
     let dial = Dial {
         rt: round.rt,
-        lines: round.lines,
+        lines,
         own: &own,
         node,
         cookie: round.cookie,
@@ -97,11 +109,12 @@ fn dial_one<'n, R: Resolving>(round: &Round<'_, R>, node: &'n NodeName) -> Resul
 
 /// The verdict upon a node, with no step printed.
 pub fn verdict_upon<R: Resolving>(round: &Round<'_, R>, node: &NodeName) -> Result<Verdict, Fault> {
-    let own = own_name(round.lines.alloc, round.wanted, node)?;
+    let lines = Lines::on_screen(round.rt, true);
+    let own = own_name(lines.alloc, round.wanted, node)?;
     let addresses = addresses_of(round, node);
     let dial = Dial {
         rt: round.rt,
-        lines: round.lines.quietly(),
+        lines,
         own: &own,
         node,
         cookie: round.cookie,
@@ -115,14 +128,18 @@ fn probe_one<'n>(
     dial: &Dial<'_>,
     node: &'n NodeName,
     addresses: Addresses,
-) -> Result<Half<'n>, Fault> {
+) -> Result<Half<'n>, Fault>
+    ensures { IfOk result (λ half. half.node.now ≡ node.now) }
+{
     let outcome = probe(dial, addresses)?;
     tell(dial, &outcome)?;
     Ok(half_of(node, &outcome.found, outcome.verdict))
 }
 
 // What is left of a node. What another node said of itself is nothing of it.
-fn half_of<'n>(node: &'n NodeName, found: &Found, verdict: Verdict) -> Half<'n> {
+fn half_of<'n>(node: &'n NodeName, found: &Found, verdict: Verdict) -> Half<'n>
+    ensures { result.node.now ≡ node.now }
+{
     let flags = match (verdict, &found.peer) {
         (Verdict::OtherName, _) | (_, None) => None,
         (_, Some(peer)) => Some(peer.flags),
@@ -134,53 +151,44 @@ fn half_of<'n>(node: &'n NodeName, found: &Found, verdict: Verdict) -> Half<'n> 
     }
 }
 
-// Dials one node, keeps what is left of it, and returns its status.
-fn dial_next<'n, R: Resolving>(
-    round: &Round<'_, R>,
-    node: &'n NodeName,
-    halves: &mut Vec<Half<'n>>,
-) -> Result<u8, Fault> {
-    let half = dial_one(round, node)?;
-    halves.push(half)?;
-    Ok(half.verdict.status())
-}
-
 // Whether each node has a heading: not the one that alone is asked for.
 fn has_headings(targets: &[Target]) -> bool {
     !matches!(targets, [Target::Node(_)])
 }
 
-// Dials all nodes, one behind the other, and returns the first status that is not 0, and what is left of them.
-fn dial_each<'n, R: Resolving>(
+/// Dials one node behind its heading, where it has one, and returns what is left of it.
+pub fn dial_headed<'n, R: Resolving>(
     round: &Round<'_, R>,
-    nodes: &'n [NodeName],
-    halves: &mut Vec<Half<'n>>,
-) -> Result<u8, Fault> {
-    let mut status = 0;
-    let has_headings = has_headings(&round.wanted.targets);
-    for node in nodes {
-        if has_headings {
-            round.lines.put_heading(node.bytes())?;
-        }
-        status = first_of(status, dial_next(round, node, halves)?);
+    lines: Lines<'_>,
+    node: &'n NodeName,
+) -> Result<Half<'n>, Fault>
+    ensures { IfOk result (λ half. half.node.now ≡ node.now) }
+{
+    if has_headings(&round.wanted.targets) {
+        lines.put_heading(node.bytes())?;
     }
-    Ok(status)
+    dial_one(round, lines, node)
 }
 
 // Dials all nodes, and prints what can be said of each two of them. `status` is that of what was done before.
-fn dial_and_compare<R: Resolving>(
+fn dial_and_compare<R: Resolving + Sync>(
     round: &Round<'_, R>,
     nodes: &[NodeName],
     status: u8,
 ) -> Result<u8, Fault> {
-    let mut halves = Vec::new(round.lines.alloc);
+    let mut halves = Vec::new(round.rt.alloc());
     let status = first_of(status, dial_each(round, nodes, &mut halves)?);
-    compare(round.lines, round.wanted.choices.all_pairs, &halves, status)
+    compare(
+        round.screen(),
+        round.wanted.choices.all_pairs,
+        &halves,
+        status,
+    )
 }
 
 /// Dials all nodes, and prints what can be said of each two of them, or watches them.
-pub fn dial_all<R: Resolving>(round: &Round<'_, R>) -> Result<u8, Fault> {
-    let mut nodes = Vec::new(round.lines.alloc);
+pub fn dial_all<R: Resolving + Sync>(round: &Round<'_, R>) -> Result<u8, Fault> {
+    let mut nodes = Vec::new(round.rt.alloc());
     let status = gather(round, &mut nodes)?;
     match round.wanted.choices.watch {
         Some(rhythm) if !nodes.is_empty() => watch_all(round, &nodes, rhythm),

@@ -1,46 +1,21 @@
-//! All nodes are probed again and again, and what changes is printed.
+//! All nodes are probed again and again, several at once, and what changes is printed in their order.
 
-use crate::command::Rhythm;
-use crate::fault::Fault;
-use crate::lines::Lines;
-use crate::moment::{now_seconds, utc_text};
-use crate::reports::{change_object, latency_object};
+use crate::grouping::split_group;
 use crate::rounds::{Round, verdict_upon};
+use dist_cluster::{Change, Latencies, Observation, Watch};
 use dist_names::{ByteString, NodeName};
 use dist_probe::Verdict;
 use dist_program::{Resolving, deadline_in};
 use dist_stream::time_left;
-use dist_watch::{Change, Latencies, Observation, Summary, Watch, WatchError};
+use distping_json::{change_object, latency_object};
+use distping_report::{Answers, Lines, Seen, now_seconds, utc_text, verdict_word_in};
+use distping_words::{Fault, Rhythm};
 use std::alloc::{AllocError, Global};
-use std::thread;
-use std::time::{Duration, Instant};
+use std::thread::{self, map_indices};
+use std::time::Instant;
 
 /// The status where something changed after the first round.
 const CHANGED: u8 = 11;
-
-/// What a probe of a watched node came to.
-#[derive(Clone, Copy)]
-pub struct Seen<'a> {
-    /// The node.
-    pub node: &'a NodeName,
-    /// The verdict upon it.
-    pub verdict: Verdict,
-    /// How long the probe took, in milliseconds.
-    pub latency: u64,
-    /// When it was done, in seconds since 1970.
-    pub at: u64,
-}
-
-/// What a watched node's answers took, in milliseconds.
-#[derive(Clone, Copy)]
-pub struct Answers<'a> {
-    /// The node.
-    pub node: &'a NodeName,
-    /// How often it was probed.
-    pub rounds: u64,
-    /// What its answers took, where it gave any.
-    pub summary: Option<Summary>,
-}
 
 // What is kept of all nodes from round to round.
 #[derive(Drop)]
@@ -50,27 +25,12 @@ struct Course {
     has_changed: bool,
 }
 
-impl From<WatchError> for Fault {
-    fn from(_error: WatchError) -> Fault {
-        Fault::NoMemory
-    }
-}
-
 // The text by which two verdicts are one: the word and the cause.
 fn verdict_text(alloc: Global, verdict: Verdict) -> Result<ByteString, AllocError> {
     let mut text = Vec::from_slice(alloc, verdict.name().as_bytes())?;
     text.extend_from_slice(b": ")?;
     text.extend_from_slice(verdict.cause().as_bytes())?;
     Ok(ByteString::from_vec(text))
-}
-
-/// The word in the text of a verdict.
-pub fn verdict_word_in(text: &ByteString) -> &[u8] {
-    let bytes = text.as_slice();
-    match bytes.iter().position(|byte| *byte == b':') {
-        Some(place) => &bytes[..place],
-        None => bytes,
-    }
 }
 
 // A course of so many nodes, of which none was probed.
@@ -123,7 +83,7 @@ fn word_before(change: &Change) -> &[u8] {
 }
 
 // Prints a change.
-fn put_change(lines: Lines, seen: &Seen<'_>, change: &Change) -> Result<(), Fault> {
+fn put_change(lines: Lines<'_>, seen: &Seen<'_>, change: &Change) -> Result<(), Fault> {
     let time = utc_text(lines.alloc, change.at)?;
     if lines.quiet {
         lines.write_made(change_object(lines.alloc, &time, seen, change))
@@ -142,7 +102,7 @@ impl Course {
     }
 
     // Takes what a probe came to, and prints it where it is a change.
-    fn take_in(&mut self, lines: Lines, target: usize, seen: &Seen<'_>) -> Result<(), Fault> {
+    fn take_in(&mut self, lines: Lines<'_>, target: usize, seen: &Seen<'_>) -> Result<(), Fault> {
         if seen.verdict.status() == 0 {
             self.note_latency(target, seen.latency)?;
         }
@@ -164,17 +124,58 @@ impl Course {
     }
 }
 
+// Probes the nodes of a group at once, each in a thread, and returns what each came to, in their order.
+fn look_at_group<'n, R: Resolving + Sync>(
+    round: &Round<'_, R>,
+    group: &'n [NodeName],
+) -> Result<Vec<Result<Seen<'n>, Fault>>, Fault> {
+    let all = map_indices(
+        round.resolver,
+        round.rt.alloc(),
+        group.len(),
+        &|place| look_at(round, &group[place]),
+    )?;
+    Ok(all)
+}
+
+// Takes what the probes of a group came to, in the order of its nodes. The first has this place among all nodes.
+fn take_group(
+    lines: Lines<'_>,
+    front: usize,
+    all: Vec<Result<Seen<'_>, Fault>>,
+    course: &mut Course,
+) -> Result<(), Fault> {
+    let mut target = front;
+    for seen in all {
+        course.take_in(lines, target, &seen?)?;
+        target = target.saturating_add(1);
+    }
+    Ok(())
+}
+
+// Probes these nodes once, group by group. The first has this place among all nodes.
+fn play_behind<R: Resolving + Sync>(
+    round: &Round<'_, R>,
+    front: usize,
+    nodes: &[NodeName],
+    course: &mut Course,
+) -> Result<(), Fault> {
+    if nodes.is_empty() {
+        return Ok(());
+    }
+    let (group, others) = split_group(nodes);
+    let all = look_at_group(round, group)?;
+    take_group(round.screen(), front, all, course)?;
+    play_behind(round, front.saturating_add(group.len()), others, course)
+}
+
 // Probes all nodes once.
-fn play_round<R: Resolving>(
+fn play_round<R: Resolving + Sync>(
     round: &Round<'_, R>,
     nodes: &[NodeName],
     course: &mut Course,
 ) -> Result<(), Fault> {
-    for (target, node) in nodes.iter().enumerate() {
-        let seen = look_at(round, node)?;
-        course.take_in(round.lines, target, &seen)?;
-    }
-    Ok(())
+    play_behind(round, 0, nodes, course)
 }
 
 // Waits until this time.
@@ -194,7 +195,7 @@ fn next_round(rt: &HostRuntime, seconds: u16) -> Result<Instant, Fault> {
 }
 
 // Probes all nodes again and again: a round begins so many seconds behind the one before, or as soon as that is over.
-fn play_rounds<R: Resolving>(
+fn play_rounds<R: Resolving + Sync>(
     round: &Round<'_, R>,
     nodes: &[NodeName],
     rhythm: Rhythm,
@@ -211,7 +212,7 @@ fn play_rounds<R: Resolving>(
 }
 
 // Prints how long a node's answers took.
-fn put_answers(lines: Lines, answers: &Answers<'_>) -> Result<(), Fault> {
+fn put_answers(lines: Lines<'_>, answers: &Answers<'_>) -> Result<(), Fault> {
     if lines.quiet {
         lines.write_made(latency_object(lines.alloc, answers))
     } else {
@@ -221,7 +222,7 @@ fn put_answers(lines: Lines, answers: &Answers<'_>) -> Result<(), Fault> {
 
 // Prints how long each node's answers took.
 fn put_all_answers(
-    lines: Lines,
+    lines: Lines<'_>,
     nodes: &[NodeName],
     rounds: u64,
     course: &Course,
@@ -242,13 +243,13 @@ fn put_all_answers(
 
 /// Probes all nodes again and again, prints what changes, and at the end how long their answers took. The status is 11 where
 /// something changed after the first round.
-pub fn watch_all<R: Resolving>(
+pub fn watch_all<R: Resolving + Sync>(
     round: &Round<'_, R>,
     nodes: &[NodeName],
     rhythm: Rhythm,
 ) -> Result<u8, Fault> {
-    let mut course = new_course(round.lines.alloc, nodes.len())?;
+    let mut course = new_course(round.rt.alloc(), nodes.len())?;
     play_rounds(round, nodes, rhythm, &mut course)?;
-    put_all_answers(round.lines, nodes, rhythm.rounds(), &course)?;
+    put_all_answers(round.screen(), nodes, rhythm.rounds(), &course)?;
     Ok(course.status())
 }

@@ -1,2 +1,1 @@
-pub mod Budgets
 pub mod Faults

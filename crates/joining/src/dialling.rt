@@ -1,11 +1,10 @@
 //! How a node is joined: at each address of its host the port mapper is asked where it listens, a connection is made, and the
 //! handshake driven, until it is found at one. Each of these has its time by the clock.
 
-use crate::budget::{Budget, Step};
 use crate::fault::Fault;
 use crate::handshake::shake_hands;
 use crate::link::Link;
-use dist_program::{CONNECT_SECONDS, HostError, at_port, draw, one_turn};
+use dist_program::{Budget, CONNECT_SECONDS, HostError, Step, at_port, draw, one_turn};
 use distribution::{
     DeadlineStream, EndId, Event, Node, NodeName, Opening, Packets, PortInfo, Setup, SocketStream,
     connect_by, deadline_after, lookup, opening_for, time_left,

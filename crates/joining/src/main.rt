@@ -5,7 +5,6 @@
 //! terminates.
 #![tactic(auto)]
 
-mod budget;
 mod command;
 mod cookie;
 mod dialling;

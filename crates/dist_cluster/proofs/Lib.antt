@@ -1,0 +1,5 @@
+pub mod Naming
+pub mod Lasts
+pub mod Watches
+pub mod Reports
+pub mod Tallies

@@ -1,0 +1,69 @@
+-- What can be said of two nodes from outside.
+use Rattle.std.specs.Prelude.{ℕ, ◌==◌, ◌&&◌, Bool, true, false, List, Option, Some, codes, if◌then◌else◌}
+use Rattle.dist_names.specs.Order.{same_name}
+use Rattle.dist_names.specs.declared.flags.Flags.{Flags}
+use Rattle.dist_flags.specs.Releases.{missing, release_of, required_by}
+use Rattle.dist_probe.specs.declared.verdict.Verdict.{Verdict}
+use Rattle.dist_probe.specs.declared.verdict.Verdict.TheVariants as verdict
+use Rattle.dist_probe.specs.declared.names.NameStyle.{NameStyle}
+use Rattle.dist_probe.specs.declared.names.NameStyle.TheVariants as style
+use Rattle.dist_probe.specs.Styles.{style_of}
+use Rattle.dist_cluster.specs.declared.pairs.Half.{Half}
+use Rattle.dist_cluster.specs.declared.pairs.Pairing.{Pairing}
+use Rattle.dist_cluster.specs.declared.pairs.Pairing.TheVariants as pairing
+
+-- which flags the first lacks of those that the second's release asks for
+abbrev pub lacks : Flags → Flags → Flags
+lacks first second = record { 0 = missing first.0 (required_by (release_of second.0)) }
+
+-- what the cookies show: certain is a difference alone, where one takes what the other does not
+abbrev pub behind_cookies : Verdict → Verdict → Pairing
+behind_cookies verdict.Up verdict.Up = pairing.Agree
+behind_cookies verdict.Up verdict.WrongCookie = pairing.OtherCookies
+behind_cookies verdict.WrongCookie verdict.Up = pairing.OtherCookies
+behind_cookies first second = pairing.Unsure
+
+-- what the flags show, and behind them the cookies
+abbrev pub behind_flags : Option Flags → Option Flags → Pairing → Pairing
+behind_flags (Some first) (Some second) cookies = if ((lacks first second).0 == 0) && ((lacks second first).0 == 0) then cookies
+    else pairing.LacksFlags (lacks first second) (lacks second first)
+behind_flags first second cookies = pairing.NotReached
+
+abbrev pub same_style : NameStyle → NameStyle → Bool
+same_style style.Long style.Long = true
+same_style style.Short style.Short = true
+same_style first second = false
+
+-- the first that holds: one name, a long and a short one, one that was not reached, missing flags, other cookies
+abbrev pub pairing_of : Half → Half → Pairing
+pairing_of first second =
+    if same_name first.node.now second.node.now then pairing.SameName else
+    if same_style (style_of first.node.now) (style_of second.node.now)
+    then behind_flags first.flags second.flags (behind_cookies first.verdict second.verdict) else pairing.LongAndShort
+
+-- the word of what can be said of two nodes
+abbrev pub pair_word : Pairing → List ℕ
+pair_word pairing.SameName = codes "SameName"
+pair_word pairing.LongAndShort = codes "LongAndShort"
+pair_word pairing.NotReached = codes "NotReached"
+pair_word (pairing.LacksFlags first second) = codes "LacksFlags"
+pair_word pairing.OtherCookies = codes "OtherCookies"
+pair_word pairing.Unsure = codes "Unsure"
+pair_word pairing.Agree = codes "Agree"
+
+-- something speaks against the two: the pair has a status of its own
+abbrev pub is_bad : Pairing → Bool
+is_bad pairing.NotReached = false
+is_bad pairing.Unsure = false
+is_bad pairing.Agree = false
+is_bad other = true
+
+-- the exit status: the place to look at
+abbrev pub pair_status : Pairing → ℕ
+pair_status pairing.SameName = 8
+pair_status pairing.LongAndShort = 9
+pair_status pairing.NotReached = 0
+pair_status (pairing.LacksFlags first second) = 8
+pair_status pairing.OtherCookies = 10
+pair_status pairing.Unsure = 0
+pair_status pairing.Agree = 0

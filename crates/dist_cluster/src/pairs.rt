@@ -1,0 +1,148 @@
+//! What can be said of two nodes from outside, once both were dialled.
+
+ghost use Rattle.std.specs.Prelude.{◌≡◌, ◌≢◌, ◌↔◌, IsTrue};
+ghost use Rattle.dist_probe.specs.Styles.{style_of};
+ghost use Rattle.dist_names.specs.Order.{same_name};
+ghost use Rattle.dist_cluster.specs.Pairs.{behind_cookies, behind_flags, is_bad, lacks, pairing_of, pair_status, pair_word};
+
+use dist_flags::{missing, release_of};
+use dist_names::{Flags, NodeName};
+use dist_probe::{Verdict, style_of};
+
+/// What a probe left of one node.
+#[derive(Clone, Copy)]
+pub struct Half<'a> {
+    /// Its name.
+    pub node: &'a NodeName,
+    /// The flags that it announces, where it sent them under that name.
+    pub flags: Option<Flags>,
+    /// What the probe came to.
+    pub verdict: Verdict,
+}
+
+/// What can be said of two nodes from outside: the first of these that holds.
+#[derive(Clone, Copy)]
+pub enum Pairing {
+    /// Both have one name.
+    SameName,
+    /// One has a long name, the other a short one.
+    LongAndShort,
+    /// One of the two at least did not send its flags.
+    NotReached,
+    /// The first lacks flags that the second's release asks for, or the other way round.
+    LacksFlags(Flags, Flags),
+    /// One takes the cookie that was tried, and the other does not.
+    OtherCookies,
+    /// Nothing stands between the two, and the cookie was not taken by both.
+    Unsure,
+    /// Nothing stands between the two, and both take one cookie.
+    Agree,
+}
+
+// Which flags the first lacks of those that the second's release asks for.
+fn lacks(first: Flags, second: Flags) -> Flags
+    ensures { result ≡ lacks first second }
+{
+    missing(first, release_of(second).required())
+}
+
+// What the cookies show.
+fn behind_cookies(first: Verdict, second: Verdict) -> Pairing
+    ensures { result ≡ behind_cookies first second }
+{
+    match (first, second) {
+        (Verdict::Up, Verdict::Up) => Pairing::Agree,
+        (Verdict::Up, Verdict::WrongCookie) | (Verdict::WrongCookie, Verdict::Up) => {
+            Pairing::OtherCookies
+        }
+        _ => Pairing::Unsure,
+    }
+}
+
+// What the flags show, and behind them the cookies.
+fn behind_flags(first: Option<Flags>, second: Option<Flags>, cookies: Pairing) -> Pairing
+    ensures { result ≡ behind_flags first second cookies }
+{
+    let (Some(first), Some(second)) = (first, second) else {
+        return Pairing::NotReached;
+    };
+    let (of_first, of_second) = (lacks(first, second), lacks(second, first));
+    if of_first.0 == 0 && of_second.0 == 0 {
+        cookies
+    } else {
+        Pairing::LacksFlags(of_first, of_second)
+    }
+}
+
+/// What can be said of two nodes.
+pub fn pairing_of(first: &Half<'_>, second: &Half<'_>) -> Pairing
+    ensures { result ≡ pairing_of first.now second.now }
+{
+    if first.node.is_same(second.node) {
+        return Pairing::SameName;
+    }
+    if style_of(first.node) != style_of(second.node) {
+        return Pairing::LongAndShort;
+    }
+    let cookies = behind_cookies(first.verdict, second.verdict);
+    behind_flags(first.flags, second.flags, cookies)
+}
+
+impl Pairing {
+    /// Its word.
+    pub fn name(self) -> &'static str
+        ensures { result.now ≡ pair_word self }
+    {
+        match self {
+            Pairing::SameName => "SameName",
+            Pairing::LongAndShort => "LongAndShort",
+            Pairing::NotReached => "NotReached",
+            Pairing::LacksFlags(..) => "LacksFlags",
+            Pairing::OtherCookies => "OtherCookies",
+            Pairing::Unsure => "Unsure",
+            Pairing::Agree => "Agree",
+        }
+    }
+
+    // What it means, in a sentence without a full stop.
+    fn cause(self) -> &'static str {
+        match self {
+            Pairing::SameName => "two nodes of one name never connect",
+            Pairing::LongAndShort => "a node of -name and one of -sname never connect",
+            Pairing::NotReached => "not both answered, so nothing is known of the pair",
+            Pairing::LacksFlags(..) => "one lacks flags that the other's release asks for",
+            Pairing::OtherCookies =>
+                "they have different cookies: one takes ours, the other does not",
+            Pairing::Unsure =>
+                "names and flags agree; not both took our cookie, so theirs are not compared",
+            Pairing::Agree => "names, flags and cookie agree",
+        }
+    }
+
+    /// Its word, and what it means, in a sentence without a full stop.
+    pub fn texts(self) -> (&'static str, &'static str)
+        ensures { result.0.now ≡ pair_word self }
+    {
+        (self.name(), self.cause())
+    }
+
+    /// Whether something speaks against the two: not where they agree, nor where nothing is known.
+    pub fn is_bad(self) -> bool
+        ensures cases { result ≡ is_bad self }
+        ensures status { IsTrue result ↔ (pair_status self ≢ 0) }
+    {
+        self.status() != 0
+    }
+
+    /// The exit status: 0 where nothing speaks against the pair, else the place to look at, as that of a verdict.
+    pub fn status(self) -> u8
+        ensures { result ≡ pair_status self }
+    {
+        match self {
+            Pairing::NotReached | Pairing::Unsure | Pairing::Agree => 0,
+            Pairing::SameName | Pairing::LacksFlags(..) => 8,
+            Pairing::LongAndShort => 9,
+            Pairing::OtherCookies => 10,
+        }
+    }
+}

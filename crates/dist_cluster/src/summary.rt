@@ -1,0 +1,162 @@
+//! What is said of many nodes in few words: how many came to which verdict, and how many pairs to which word.
+
+ghost use Rattle.std.specs.Prelude.{◌≡◌, ◌^◌, ◌-◌, min, count_by};
+ghost use Rattle.dist_cluster.specs.Summary.{comes_to, makes_pair, pair_count};
+
+use crate::pairs::{Half, pairing_of};
+use dist_names::is_same_text;
+use std::alloc::{AllocError, Global};
+
+/// The words of verdicts, in the order of their variants.
+const VERDICTS: [&str; 25] = [
+    "Up",
+    "Reached",
+    "NoHost",
+    "ResolverSilent",
+    "MapperRefused",
+    "MapperUnreachable",
+    "MapperFault",
+    "NotRegistered",
+    "PortRefused",
+    "PortUnreachable",
+    "Silent",
+    "Gone",
+    "Reset",
+    "Foreign",
+    "Unexpected",
+    "OwnName",
+    "Busy",
+    "LacksFlags",
+    "NotOnList",
+    "AlreadyUp",
+    "OtherName",
+    "Version5",
+    "WrongCookie",
+    "WrongAck",
+    "NoMemory",
+];
+
+/// The words of pairs, in the order in which they are looked for.
+const PAIRS: [&str; 7] = [
+    "SameName",
+    "LongAndShort",
+    "NotReached",
+    "LacksFlags",
+    "OtherCookies",
+    "Unsure",
+    "Agree",
+];
+
+/// A word, and how many have it.
+#[derive(Clone, Copy)]
+pub struct WordCount {
+    /// The word.
+    pub word: &'static str,
+    /// How many have it, one at least.
+    pub count: u64,
+}
+
+/// What all nodes came to.
+#[derive(Drop)]
+pub struct Summary {
+    /// How many nodes were dialled.
+    pub nodes: u64,
+    /// The words of their verdicts.
+    pub verdicts: Vec<WordCount>,
+    /// How many pairs they make.
+    pub pairs: u64,
+    /// The words of those pairs.
+    pub pairings: Vec<WordCount>,
+}
+
+// Whether a probe came to this word.
+fn comes_to(half: &Half<'_>, word: &str) -> bool
+    ensures { result ≡ comes_to word.now half.now }
+{
+    is_same_text(half.verdict.name().as_bytes(), word.as_bytes())
+}
+
+// Whether two nodes make a pair of this word.
+fn makes_pair(first: &Half<'_>, second: &Half<'_>, word: &str) -> bool
+    ensures { result ≡ makes_pair word.now first.now second.now }
+{
+    is_same_text(pairing_of(first, second).name().as_bytes(), word.as_bytes())
+}
+
+// How many nodes came to this word.
+fn count_verdicts(halves: &[Half<'_>], word: &str) -> usize
+    ensures { result ≡ count_by (comes_to word.now) halves.now }
+{
+    halves.iter().filter(|half| comes_to(half, word)).count()
+}
+
+// With how many others a node makes a pair of this word.
+fn count_with(first: &Half<'_>, others: &[Half<'_>], word: &str) -> usize
+    ensures { result ≡ count_by (makes_pair word.now first.now) others.now }
+{
+    others
+        .iter()
+        .filter(|second| makes_pair(first, second, word))
+        .count()
+}
+
+// How many pairs of this word the nodes make, up to the greatest number of 64 bits.
+fn count_pairs(halves: &[Half<'_>], word: &str) -> u64
+    ensures { result ≡ min (pair_count (makes_pair word.now) halves.now) (2 ^ 64 - 1) }
+{
+    match halves.split_first() {
+        None => 0,
+        Some((first, others)) => {
+            let count = count_with(first, others, word) as u64;
+            count.saturating_add(count_pairs(others, word))
+        }
+    }
+}
+
+// One more word, where some have it.
+fn push_tally(
+    tallies: &mut Vec<WordCount>,
+    word: &'static str,
+    count: u64,
+) -> Result<(), AllocError> {
+    if count > 0 {
+        tallies.push(WordCount { word, count })?;
+    }
+    Ok(())
+}
+
+// The words of the nodes' verdicts.
+fn tally_verdicts(alloc: Global, halves: &[Half<'_>]) -> Result<Vec<WordCount>, AllocError> {
+    let mut tallies = Vec::new(alloc);
+    for word in &VERDICTS {
+        push_tally(&mut tallies, word, count_verdicts(halves, word) as u64)?;
+    }
+    Ok(tallies)
+}
+
+// The words of the pairs that the nodes make.
+fn tally_pairs(alloc: Global, halves: &[Half<'_>]) -> Result<Vec<WordCount>, AllocError> {
+    let mut tallies = Vec::new(alloc);
+    for word in &PAIRS {
+        push_tally(&mut tallies, word, count_pairs(halves, word))?;
+    }
+    Ok(tallies)
+}
+
+// How many pairs so many nodes make.
+fn pairs_among(nodes: u64) -> u64 {
+    nodes.saturating_mul(nodes.saturating_sub(1)) / 2
+}
+
+impl Summary {
+    /// What these nodes came to.
+    pub fn of_nodes(alloc: Global, halves: &[Half<'_>]) -> Result<Summary, AllocError> {
+        let nodes = halves.len() as u64;
+        Ok(Summary {
+            nodes,
+            verdicts: tally_verdicts(alloc, halves)?,
+            pairs: pairs_among(nodes),
+            pairings: tally_pairs(alloc, halves)?,
+        })
+    }
+}

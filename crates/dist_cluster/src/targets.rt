@@ -1,0 +1,123 @@
+//! What is to be dialled: nodes by their names, and all nodes of a host by `@HOST`.
+
+ghost use Rattle.std.specs.Prelude.{◌≡◌, ◌∷◌, ◌++◌, true, false};
+ghost use Rattle.std.specs.List.{before_first, position, position_or_len};
+ghost use Rattle.std.specs.Str.{IsTrimAscii};
+ghost use Rattle.dist_names.specs.NodeName.{host_of};
+ghost use Rattle.dist_cluster.specs.Targets.{Names, NamesTarget, begins_with_at, is_hash, name_behind, usual_prefix};
+
+use dist_names::{NameError, NodeName};
+use std::alloc::Global;
+
+/// The most nodes that are dialled in one run. Each two of them are compared. Our own choice.
+pub const MOST_NODES: usize = 1024;
+
+/// What stands before the `@` in the probe's usual name.
+pub const USUAL: &[u8] = b"distping";
+
+/// What a word of the command line, or a line of a file, names.
+#[derive(Drop)]
+pub enum Target {
+    /// This node.
+    Node(NodeName),
+    /// Each node that the port mapper of a host knows.
+    Group(Group),
+}
+
+/// Each node that the port mapper of a host knows, `@HOST`.
+#[derive(Drop)]
+pub struct Group {
+    /// The usual name of the probe at that host: `distping@HOST`.
+    pub own: NodeName,
+}
+
+impl Group {
+    /// The word that names it, `@HOST`.
+    pub fn word(&self) -> &[u8] {
+        self.own.bytes().strip_prefix(USUAL).unwrap_or(b"")
+    }
+
+    /// The name of a node at that host, from the part before its `@`, or why it is none.
+    pub fn member(&self, alloc: Global, short: &[u8]) -> Result<NodeName, NameError>
+        ensures { Names result (short.now ++ 0x40 ∷ host_of self.now.own) }
+    {
+        let mut back = Vec::from_slice(alloc, b"@")?;
+        back.extend_from_slice(self.own.host())?;
+        name_of_parts(alloc, short, &back)
+    }
+}
+
+// The name that these bytes are, one behind the other.
+#[tactic(auto, using(crate::proofs::Naming::named))]
+fn name_of_parts(alloc: Global, front: &[u8], back: &[u8]) -> Result<NodeName, NameError>
+    ensures { Names result (front.now ++ back.now) }
+{
+    let mut bytes = Vec::from_slice(alloc, front)?;
+    bytes.extend_from_slice(back)?;
+    NodeName::new(alloc, &bytes)
+}
+
+// Whether a word names a host, and all nodes there.
+fn begins_with_at(word: &[u8]) -> bool
+    ensures { result ≡ begins_with_at word.now }
+{
+    matches!(word, [b'@', ..])
+}
+
+// All nodes of the host that a word names.
+fn group_of(alloc: Global, word: &[u8]) -> Result<Target, NameError>
+    ensures { NamesTarget result (usual_prefix ++ word.now) true }
+{
+    let own = name_of_parts(alloc, USUAL, word)?;
+    Ok(Target::Group(Group { own }))
+}
+
+// The node that a word names.
+#[tactic(auto, using(crate::proofs::Naming::named))]
+fn named_node(alloc: Global, word: &[u8]) -> Result<Target, NameError>
+    ensures { NamesTarget result word.now false }
+{
+    let name = NodeName::new(alloc, word)?;
+    Ok(Target::Node(name))
+}
+
+/// What a word names: `NAME@HOST`, or `@HOST`. The refusals are those of the node's name, else of the probe's usual name at that
+/// host.
+pub fn target_of(alloc: Global, word: &[u8]) -> Result<Target, NameError>
+    ensures { NamesTarget result (name_behind word.now) (begins_with_at word.now) }
+{
+    if begins_with_at(word) {
+        group_of(alloc, word)
+    } else {
+        named_node(alloc, word)
+    }
+}
+
+// Where the first `#` of a line stands, or its length where there is none.
+#[tactic(auto, using(dist_names::proofs::Places::place_or_length))]
+fn hash_place(line: &[u8]) -> usize
+    ensures { result ≡ position_or_len is_hash line.now }
+{
+    first_hash(line).unwrap_or(line.len())
+}
+
+fn first_hash(line: &[u8]) -> Option<usize>
+    ensures { result ≡ position is_hash line.now }
+{
+    line.iter().position(|byte| *byte == b'#')
+}
+
+// What stands before the first `#` of a line.
+fn before_hash(line: &[u8]) -> &[u8]
+    ensures { result.now ≡ before_first is_hash line.now }
+{
+    &line[..hash_place(line)]
+}
+
+/// The word in a line of a file: what stands before the first `#`, without blanks at its ends. It is empty where the line names
+/// nothing.
+pub fn word_in(line: &[u8]) -> &[u8]
+    ensures { IsTrimAscii (before_first is_hash line.now) result.now }
+{
+    before_hash(line).trim_ascii()
+}

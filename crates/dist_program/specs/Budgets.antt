@@ -1,0 +1,22 @@
+-- The time of each step on the way to a node, for all addresses of its host together.
+use Rattle.std.specs.Prelude.{ℕ, ◌/◌, ◌-◌, ◌==◌, if◌then◌else◌}
+use Rattle.std.specs.declared.time.Duration.{Duration}
+use Rattle.std.specs.Duration.{as_nanos}
+use Rattle.dist_program.specs.declared.budget.Budget.{Budget}
+use Rattle.dist_program.specs.declared.budget.Step.{Step}
+use Rattle.dist_program.specs.declared.budget.Step.TheVariants as step
+
+-- what is left of the time of a step
+abbrev pub left_of : Budget → Step → Duration
+left_of b step.Mapper = b.mapper
+left_of b step.Lookup = b.lookup
+left_of b step.Port = b.port
+left_of b step.Talk = b.talk
+
+-- an equal part for each address that is still to be tried
+abbrev pub share_of : ℕ → ℕ → ℕ
+share_of left addresses = if addresses == 0 then 0 else left / addresses
+
+-- what a step took of its share, in nanoseconds, where so many were unused
+abbrev pub spent_of : Budget → Step → ℕ → ℕ
+spent_of b step unused = share_of (as_nanos (left_of b step)) b.addresses - unused

@@ -1,0 +1,113 @@
+//! How long each step on the way to a node may take, where its host has several addresses: the time of a step is for all of them
+//! together.
+
+ghost use Rattle.std.specs.Prelude.{◌≡◌, ◌-◌, ◌≤◌};
+ghost use Rattle.std.specs.Duration.{as_nanos};
+ghost use Rattle.dist_program.specs.Budgets.{left_of, share_of, spent_of};
+
+use std::time::Duration;
+
+/// A step that has a limit of its own.
+#[derive(Clone, Copy)]
+pub enum Step {
+    /// The connect to the port mapper's port.
+    Mapper,
+    /// The lookup.
+    Lookup,
+    /// The connect to the node's port.
+    Port,
+    /// What is said with the node: the handshake, or a probe's part of it.
+    Talk,
+}
+
+/// What is left of the time of each step.
+#[derive(Clone, Copy)]
+pub struct Budget {
+    /// For connects to the port mapper's port.
+    pub mapper: Duration,
+    /// For lookups.
+    pub lookup: Duration,
+    /// For connects to the node's port.
+    pub port: Duration,
+    /// For talks.
+    pub talk: Duration,
+    /// How many addresses are still to be tried, with that of now.
+    pub addresses: u32,
+}
+
+// What is left of a time once so much of it is spent.
+fn less(left: Duration, spent: Duration) -> Duration
+    ensures { as_nanos result ≡ as_nanos left - as_nanos spent }
+{
+    left.saturating_sub(spent)
+}
+
+impl Budget {
+    /// So many seconds for each step, at so many addresses in all.
+    pub fn new(seconds: u16, addresses: u32) -> Budget
+        ensures count { result.addresses ≡ addresses }
+    {
+        let each = Duration::from_secs(u64::from(seconds));
+        Budget {
+            mapper: each,
+            lookup: each,
+            port: each,
+            talk: each,
+            addresses,
+        }
+    }
+
+    // What is left of the time of this step.
+    fn left(&self, step: Step) -> Duration
+        ensures { result ≡ left_of self.now step }
+    {
+        match step {
+            Step::Mapper => self.mapper,
+            Step::Lookup => self.lookup,
+            Step::Port => self.port,
+            Step::Talk => self.talk,
+        }
+    }
+
+    /// How long this step may take at the address of now: an equal part of what is left, for each address that is still to be tried.
+    pub fn share(&self, step: Step) -> Duration
+        ensures share { as_nanos result ≡ share_of (as_nanos (left_of self.now step)) self.now.addresses }
+    {
+        if self.addresses == 0 {
+            return Duration::ZERO;
+        }
+        match self.left(step).checked_div(self.addresses) {
+            Some(part) => part,
+            None => Duration::ZERO,
+        }
+    }
+
+    // So much of the time of this step is spent.
+    fn spend(&mut self, step: Step, spent: Duration)
+        ensures spent { as_nanos (left_of self.new step) ≡ as_nanos (left_of self.old step) - as_nanos spent }
+        ensures count { self.new.addresses ≡ self.old.addresses }
+    {
+        match step {
+            Step::Mapper => self.mapper = less(self.mapper, spent),
+            Step::Lookup => self.lookup = less(self.lookup, spent),
+            Step::Port => self.port = less(self.port, spent),
+            Step::Talk => self.talk = less(self.talk, spent),
+        }
+    }
+
+    /// This step has ended where so much of its share was unused: the rest of the share is spent.
+    pub fn settle(&mut self, step: Step, unused: Duration)
+        ensures left { as_nanos (left_of self.new step) ≡ as_nanos (left_of self.old step) - spent_of self.old step (as_nanos unused) }
+        ensures count { self.new.addresses ≡ self.old.addresses }
+    {
+        let spent = less(self.share(step), unused);
+        self.spend(step, spent)
+    }
+
+    /// The address of now is done with.
+    pub fn go_on(&mut self)
+        ensures { self.new.addresses ≡ self.old.addresses - 1 }
+    {
+        self.addresses = self.addresses.saturating_sub(1);
+    }
+}

@@ -1,0 +1,51 @@
+//! The sentences that refuse a word of the command line, with that word in them: between double quotes or escaped, so that all of it
+//! is safe to print. They are one for all programs that take their words in this way.
+
+ghost use Rattle.std.specs.Prelude.{◌≡◌, ◌++◌, IfOk, string_bytes};
+ghost use Rattle.dist_names.specs.Escaped.{in_double_quotes};
+ghost use Rattle.dist_program.specs.Sentences.{name_sentence};
+
+use dist_names::{escape, quote};
+use std::alloc::{AllocError, Global};
+
+/// A text, and a word behind it between double quotes.
+pub fn with_word(alloc: Global, text: &str, word: &str) -> Result<String, AllocError>
+    ensures { IfOk result (λ sentence. string_bytes sentence ≡ text.now ++ in_double_quotes word.now) }
+{
+    let mut sentence = String::from_str(alloc, text)?;
+    sentence.push_str(&quote(alloc, word.as_bytes())?)?;
+    Ok(sentence)
+}
+
+/// The sentence of a word that should be a node's name.
+pub fn name_sentence(alloc: Global, word: &str) -> Result<String, AllocError>
+    ensures { IfOk result (λ sentence. string_bytes sentence ≡ name_sentence word.now) }
+{
+    let text = "a node's name has one @, something on both sides, and 3 to 255 bytes: ";
+    with_word(alloc, text, word)
+}
+
+/// The sentence of a word that should be a number, behind the option `--ID`.
+pub fn number_sentence(
+    alloc: Global,
+    program: &str,
+    id: &str,
+    word: &str,
+) -> Result<String, AllocError> {
+    let quoted = quote(alloc, word.as_bytes())?;
+    format!(in alloc;
+        "bad command line: --{id} takes a number from 1 to 65535: {quoted} ({program} --help)"
+    )
+}
+
+// What the parser says, in its first line, behind `error: `.
+fn parser_text(text: &str) -> &str {
+    let line = text.lines().next().unwrap_or("");
+    line.strip_prefix("error: ").unwrap_or(line)
+}
+
+/// The sentence of words that the parser of command lines does not take, of which it says this.
+pub fn parser_sentence(alloc: Global, program: &str, text: &str) -> Result<String, AllocError> {
+    let escaped = escape(alloc, parser_text(text).as_bytes())?;
+    format!(in alloc; "bad command line: {escaped} ({program} --help)")
+}

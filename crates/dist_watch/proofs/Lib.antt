@@ -1,4 +1,0 @@
-pub mod Lasts
-pub mod Watches
-pub mod Reports
-pub mod Tallies

@@ -1,5 +1,0 @@
-use Rattle.dist_watch.proofs.Reports.{reports-last}
-use Rattle.dist_watch.proofs.laws.reports_show_how_things_stand.Goals as goal
-
-pub returns : goal.returns
-returns c = reports-last

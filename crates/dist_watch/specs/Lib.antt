@@ -1,3 +1,0 @@
-pub mod Watching
-pub mod History
-pub mod Latency

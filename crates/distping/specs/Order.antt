@@ -1,0 +1,12 @@
+-- The order of what came of nodes that were dialled at once.
+use Rattle.std.specs.Prelude.{ℕ, List, map}
+use Rattle.dist_cluster.specs.declared.pairs.Half.{Half}
+use Rattle.distping.specs.declared.reply.Reply.{Reply}
+
+-- the names of the nodes of which this is left
+abbrev pub names_of : List Half → List (List ℕ)
+names_of halves = map (λ h. h.node.now) halves
+
+-- the names of the nodes that were dialled
+abbrev pub names_in : List Reply → List (List ℕ)
+names_in replies = map (λ r. r.node.now) replies

@@ -1,0 +1,129 @@
+//! Several nodes are dialled at once, each in a thread, and what comes of them is printed in their order.
+//!
+//! The lines of the first node of a group go to the screen step by step; those of each other node stand on a page until the group is
+//! done, since two that are printed at once would mix. A fault ends all where it would have ended them one after another: what
+//! stands before it is printed.
+
+ghost use Rattle.std.specs.Prelude.{◌≡◌, ◌++◌, ◌∷◌, [], ◌<◌, length, IfOk, OnOk, slice_index_or};
+ghost use Rattle.distping.specs.Order.{names_in, names_of};
+
+use crate::grouping::split_group;
+use crate::reply::Reply;
+use crate::rounds::{Round, dial_headed};
+use dist_cluster::{Half, first_of};
+use dist_names::NodeName;
+use dist_program::Resolving;
+use distping_report::{Lines, Page};
+use distping_words::Fault;
+use std::thread::map_indices;
+
+// Dials a node, with its lines on the screen.
+fn dial_on_screen<'n, R: Resolving>(round: &Round<'_, R>, node: &'n NodeName) -> Reply<'n>
+    ensures { result.node.now ≡ node.now }
+{
+    let half = dial_headed(round, round.screen(), node);
+    Reply {
+        node,
+        text: String::new(round.rt.alloc()),
+        half,
+    }
+}
+
+// Dials a node, with its lines on a page.
+fn dial_on_page<'n, R: Resolving>(round: &Round<'_, R>, node: &'n NodeName) -> Reply<'n>
+    ensures { result.node.now ≡ node.now }
+{
+    let page = Page::new(round.rt.alloc());
+    let half = dial_headed(round, round.screen().on_page(&page), node);
+    Reply {
+        node,
+        text: page.into_text(),
+        half,
+    }
+}
+
+// Dials a node at this place of its group.
+fn dial_at<'n, R: Resolving>(round: &Round<'_, R>, place: usize, node: &'n NodeName) -> Reply<'n>
+    ensures { result.node.now ≡ node.now }
+{
+    if place == 0 {
+        dial_on_screen(round, node)
+    } else {
+        dial_on_page(round, node)
+    }
+}
+
+// Dials the nodes of a group at once, each in a thread, and returns what came of each, in their order.
+fn dial_group<'n, R: Resolving + Sync>(
+    round: &Round<'_, R>,
+    group: &'n [NodeName],
+) -> Result<Vec<Reply<'n>>, Fault>
+    ensures { IfOk result (λ replies. names_in replies.items ≡ group.now) }
+{
+    let replies = map_indices(
+        round.resolver,
+        round.rt.alloc(),
+        group.len(),
+        &|place: usize| -> Reply<'_>
+            requires { place < length group.now }
+            ensures { result.node.now ≡ slice_index_or group.entry.now place [] }
+        { dial_at(round, place, &group[place]) },
+    )?;
+    Ok(replies)
+}
+
+// Prints what is still to be printed.
+fn put_text(lines: Lines<'_>, text: &str) -> Result<(), Fault> {
+    if text.is_empty() {
+        return Ok(());
+    }
+    lines.write(text)
+}
+
+// Prints what is still to be printed of a node, keeps what is left of it, and returns its status.
+fn take_reply<'n>(
+    lines: Lines<'_>,
+    reply: Reply<'n>,
+    halves: &mut Vec<Half<'n>>,
+) -> Result<u8, Fault>
+    ensures { OnOk result (names_of halves.new.items ≡ names_of halves.old.items ++ reply.entry.node.now ∷ []) }
+{
+    let Reply { text, half, .. } = reply;
+    put_text(lines, &text)?;
+    let half = half?;
+    halves.push(half)?;
+    Ok(half.verdict.status())
+}
+
+// Takes what came of each node of a group, in their order, and returns the first status that is not 0.
+fn take_replies<'n>(
+    lines: Lines<'_>,
+    replies: Vec<Reply<'n>>,
+    halves: &mut Vec<Half<'n>>,
+) -> Result<u8, Fault>
+    ensures { OnOk result (names_of halves.new.items ≡ names_of halves.old.items ++ names_in replies.entry.items) }
+{
+    let mut status = 0;
+    for reply in replies {
+        status = first_of(status, take_reply(lines, reply, halves)?);
+    }
+    Ok(status)
+}
+
+/// Dials all nodes, group by group, prints what comes of them, puts what is left of each behind these, in the order of the nodes,
+/// and returns the first status that is not 0.
+pub fn dial_each<'n, R: Resolving + Sync>(
+    round: &Round<'_, R>,
+    nodes: &'n [NodeName],
+    halves: &mut Vec<Half<'n>>,
+) -> Result<u8, Fault>
+    ensures { OnOk result (names_of halves.new.items ≡ names_of halves.old.items ++ nodes.now) }
+{
+    if nodes.is_empty() {
+        return Ok(0);
+    }
+    let (group, others) = split_group(nodes);
+    let replies = dial_group(round, group)?;
+    let status = take_replies(round.screen(), replies, halves)?;
+    Ok(first_of(status, dial_each(round, others, halves)?))
+}

@@ -1,0 +1,79 @@
+//! What was found of a connection that was taken, as one object in a line.
+
+ghost use Rattle.std.specs.Prelude.{IfOk, OnOk, string_bytes};
+ghost use Rattle.distping_json.specs.Layouts.{call_layout, caller_layout, taken_layout};
+ghost use Rattle.distping_json.specs.Objects.{IsObjectLine, PutsMembers};
+
+use crate::member::{Value, begin_line, end_line, put_members};
+use crate::parts::{peer_lacks, put_peer_or_null};
+use crate::values::{address_or_null, small_number};
+use dist_names::Flags;
+use distping_report::{Caller, Listen, Taken};
+use json::Writer;
+use std::alloc::{AllocError, Global};
+
+// Writes the own name, and where a caller came from and to.
+fn put_call(
+    alloc: Global,
+    out: &mut Writer,
+    listen: &Listen<'_>,
+    caller: &Caller,
+) -> Result<(), AllocError>
+    ensures { OnOk result (PutsMembers (call_layout listen.now) out.old out.new) }
+{
+    let members = [
+        ("name", Value::Name(listen.setup.name.bytes())),
+        ("address", address_or_null(caller.address)),
+        ("port", small_number(listen.port)),
+    ];
+    put_members(alloc, out, &members)
+}
+
+// Writes what came of a caller.
+fn put_taken(
+    alloc: Global,
+    out: &mut Writer,
+    lacking: Flags,
+    taken: Taken,
+) -> Result<(), AllocError>
+    ensures { OnOk result (PutsMembers (taken_layout taken) out.old out.new) }
+{
+    let (name, cause) = taken.texts();
+    let members = [
+        ("lacking", Value::Names(lacking)),
+        ("verdict", Value::Text(name)),
+        ("cause", Value::Text(cause)),
+        ("exit", small_number(u16::from(taken.status()))),
+    ];
+    put_members(alloc, out, &members)
+}
+
+// Writes what was found of a caller, and what came of it.
+fn put_caller(
+    alloc: Global,
+    out: &mut Writer,
+    listen: &Listen<'_>,
+    caller: &Caller,
+    taken: Taken,
+) -> Result<(), AllocError>
+    ensures { OnOk result (PutsMembers (caller_layout listen.now caller.now taken) out.old out.new) }
+{
+    put_call(alloc, out, listen, caller)?;
+    put_peer_or_null(alloc, out, &caller.peer)?;
+    put_taken(alloc, out, peer_lacks(&caller.peer), taken)
+}
+
+/// What was found of a caller, and what came of it, as one line.
+pub fn caller_object(
+    alloc: Global,
+    listen: &Listen<'_>,
+    caller: &Caller,
+    taken: Taken,
+) -> Result<String, AllocError>
+    ensures { IfOk result
+        (λ line. IsObjectLine (caller_layout listen.now caller.now taken) (string_bytes line)) }
+{
+    let mut out = begin_line(alloc)?;
+    put_caller(alloc, &mut out, listen, caller, taken)?;
+    end_line(out)
+}

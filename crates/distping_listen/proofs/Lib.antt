@@ -1,0 +1,2 @@
+pub mod OneEnd
+pub mod Showing

@@ -1,0 +1,186 @@
+//! One connection is taken as a node takes it, and what the other side sends is printed.
+
+ghost use Rattle.std.specs.Prelude.{◌≡◌};
+ghost use Rattle.dist_messages.specs.Reading.{read};
+ghost use Rattle.dist_messages.specs.declared.message.Side.TheVariants.{Dialler};
+ghost use Rattle.distping_listen.specs.Accepting.{AwaitsName, content_as};
+ghost use Rattle.distping_listen.specs.Listening.{behind_left, is_probe, wants_name};
+
+use crate::accepting::{Content, END, Inbound, hear, open_node, refusal_verdict, talk};
+use crate::waiting::{Arrival, await_caller, bind_listener};
+use dist_core::Node;
+use dist_names::Flags;
+use dist_probe::Peer;
+use dist_program::talk_over;
+use dist_stream::{DeadlineStream, Limited, SocketStream};
+use distping_report::{Caller, Lines, Listen, Taken};
+use distping_words::Fault;
+use std::net::{TcpListener, TcpStream};
+
+/// A connection that is quiet once its time is over.
+type Connection = DeadlineStream<HostRuntime>;
+
+// Listens, and waits for one connection. None where nobody dialled in time.
+fn accept(
+    rt: &HostRuntime,
+    listen: &Listen<'_>,
+    lines: Lines<'_>,
+    caller: &mut Caller,
+) -> Result<Option<Connection>, Fault> {
+    match bind_listener(rt, listen.place, listen.port) {
+        Ok(listener) => accept_from(rt, &listener, listen, lines, caller),
+        Err(error) => Err(Fault::ListenFailed(error.kind())),
+    }
+}
+
+// The same at this listener.
+fn accept_from(
+    rt: &HostRuntime,
+    listener: &TcpListener,
+    listen: &Listen<'_>,
+    lines: Lines<'_>,
+    caller: &mut Caller,
+) -> Result<Option<Connection>, Fault> {
+    lines.put_listening(listen.port, &listen.setup.name)?;
+    match await_caller(rt, listener, listen.patience) {
+        Ok(Some(arrival)) => {
+            caller.address = Some(arrival.from);
+            lines.put_taken(&arrival.from)?;
+            Ok(Some(limit_arrival(rt, arrival, listen.seconds)?))
+        }
+        Ok(None) => Ok(None),
+        Err(error) => Err(Fault::ListenFailed(error.kind())),
+    }
+}
+
+// The stream of who dialled, for a talk of so many seconds.
+fn limit_arrival(rt: &HostRuntime, arrival: Arrival, seconds: u16) -> Result<Connection, Fault> {
+    let Arrival { socket, from: _ } = arrival;
+    limit_talk(rt, socket, seconds)
+}
+
+// The stream over a socket, for a talk of so many seconds.
+fn limit_talk(rt: &HostRuntime, socket: TcpStream, seconds: u16) -> Result<Connection, Fault> {
+    match talk_over(*rt, SocketStream::new(socket), seconds) {
+        Ok(stream) => Ok(stream),
+        Err(error) => Err(Fault::ListenFailed(error.kind())),
+    }
+}
+
+// Whether a node asks for a name, in place of saying its own.
+fn wants_name(content: &Content) -> bool
+    ensures { result ≡ wants_name content.now }
+{
+    match content {
+        Content::Name(peer) => peer.flags.has(Flags::NAME_ME),
+        _ => false,
+    }
+}
+
+// Whether this is the name that a probe gives itself, where it is not told another.
+fn is_probe(content: &Content) -> bool
+    ensures { result ≡ is_probe content.now }
+{
+    match content {
+        Content::Name(peer) => peer.name.as_slice().starts_with(b"distping@"),
+        _ => false,
+    }
+}
+
+// What came of who left, where it may be a probe that tries no cookie.
+fn behind_left(taken: Taken, content: &Content) -> Taken
+    ensures { result ≡ behind_left taken content.now }
+{
+    match taken {
+        Taken::Left if is_probe(content) => Taken::Stopped,
+        other => other,
+    }
+}
+
+// Tells what a node says of itself, where it does.
+fn put_content(lines: Lines<'_>, content: &Content) -> Result<(), Fault> {
+    match content {
+        Content::Name(peer) => lines.put_peer(peer),
+        _ => Ok(()),
+    }
+}
+
+// What a node said of itself, where it did.
+fn peer_in(content: Content) -> Option<Peer> {
+    match content {
+        Content::Name(peer) => Some(peer),
+        _ => None,
+    }
+}
+
+// Tells what the first body says, and goes on from there.
+fn greet(
+    limited: &mut Limited<'_, Connection>,
+    node: &mut Node,
+    listen: &Listen<'_>,
+    lines: Lines<'_>,
+    inbound: Inbound,
+    caller: &mut Caller,
+) -> Result<Taken, Fault>
+    // The node is one that `open_node` gave, and `hear` gave what came.
+    requires opened { AwaitsName listen.now.setup.now node.old }
+    requires content { inbound.content ≡ content_as (read Dialler inbound.body) }
+{
+    let Inbound { body, content } = inbound;
+    put_content(lines, &content)?;
+    let taken = if wants_name(&content) {
+        Taken::WantsName
+    } else {
+        let taken = talk(lines.alloc, limited, node, listen, body, &content);
+        behind_left(taken, &content)
+    };
+    caller.peer = peer_in(content);
+    Ok(taken)
+}
+
+// Hears the first body, and goes on from there.
+fn attend(
+    limited: &mut Limited<'_, Connection>,
+    node: &mut Node,
+    listen: &Listen<'_>,
+    lines: Lines<'_>,
+    caller: &mut Caller,
+) -> Result<Taken, Fault>
+    // The node is one that `open_node` gave.
+    requires { AwaitsName listen.now.setup.now node.old }
+{
+    match hear(lines.alloc, limited, node.awaits(END)) {
+        Ok(inbound) => greet(limited, node, listen, lines, inbound, caller),
+        Err(taken) => Ok(taken),
+    }
+}
+
+// Talks with who dialled, and returns what came of it.
+fn attend_caller(
+    stream: &mut Connection,
+    listen: &Listen<'_>,
+    lines: Lines<'_>,
+    caller: &mut Caller,
+) -> Result<Taken, Fault> {
+    let mut limited = Limited {
+        stream,
+        left: listen.turns,
+    };
+    match open_node(lines.alloc, listen.setup) {
+        Ok(mut node) => attend(&mut limited, &mut node, listen, lines, caller),
+        Err(error) => Ok(refusal_verdict(error)),
+    }
+}
+
+/// Takes one connection, prints what the other side sends, and returns what came of it. What was found stands in `caller`.
+pub fn take_connection(
+    rt: &HostRuntime,
+    listen: &Listen<'_>,
+    lines: Lines<'_>,
+    caller: &mut Caller,
+) -> Result<Taken, Fault> {
+    match accept(rt, listen, lines, caller)? {
+        Some(mut stream) => attend_caller(&mut stream, listen, lines, caller),
+        None => Ok(Taken::NoCaller),
+    }
+}

@@ -1,0 +1,243 @@
+//! The lines of the steps of a probe, and of a connection that is taken.
+
+use crate::lines::Lines;
+use crate::marks::release_texts;
+use crate::piece::{Piece, static_text};
+use dist_epmd::PortInfo;
+use dist_epmd_calls::LookupError;
+use dist_flags::{Dflag, Release, Told, missing, told_by};
+use dist_messages::Status;
+use dist_names::{Flags, NodeName, escape_lines};
+use dist_probe::{Peer, Unreached, Verdict, style_of};
+use distping_words::Fault;
+use std::net::SocketAddr;
+
+// What stands before the release that the flags show, and the release.
+fn told_texts(flags: Flags) -> (&'static str, &'static str) {
+    let (before, release) = match told_by(flags) {
+        Told::Just(release) => (": ", release),
+        Told::UpTo(release) => (": up to those of ", release),
+    };
+    let (text, _) = release_texts(release);
+    (before, text)
+}
+
+// The mark before a status.
+fn status_mark(status: Status) -> &'static str {
+    match status {
+        Status::Ok | Status::OkSimultaneous => "✓",
+        _ => "✗",
+    }
+}
+
+// Whether a peer is hidden, behind its name and before its creation.
+fn kind_of(flags: Flags) -> &'static str {
+    if flags.has(Dflag::Published.flags()) {
+        ", published, creation "
+    } else {
+        ", hidden, creation "
+    }
+}
+
+// What became of the cookie, in the line of that step. Empty where none was tried.
+fn cookie_text(verdict: Verdict) -> &'static str {
+    match verdict {
+        Verdict::Up => "✓  cookie    the node took our digest, and its own is right\n",
+        Verdict::WrongCookie => "✗  cookie    the node closed the connection upon our digest\n",
+        Verdict::WrongAck => "✗  cookie    the node's digest is wrong\n",
+        _ => "",
+    }
+}
+
+// What stands before and behind an address of this kind of a host.
+fn address_texts(is_ipv4: bool, has_ipv4: bool) -> (&'static str, &'static str) {
+    if is_ipv4 {
+        ("✓  host      ", "\n")
+    } else if has_ipv4 {
+        (
+            "✓  host      ",
+            ": nodes dial it with -proto_dist inet6_tcp alone\n",
+        )
+    } else {
+        (
+            "!  host      ",
+            ", and has no IPv4 address: nodes dial it with -proto_dist inet6_tcp alone\n",
+        )
+    }
+}
+
+impl Lines<'_> {
+    /// A warning where the two names could not dial each other.
+    pub fn put_styles(self, own: &NodeName, node: &NodeName) -> Result<(), Fault> {
+        if style_of(own) == style_of(node) {
+            return Ok(());
+        }
+        self.put(&[Piece::Text(
+            "!  names     one host part has a dot, the other has none: nodes of -name and of -sname never dial each other\n",
+        )])
+    }
+
+    /// The host has this address, and one of IPv4 at least or none.
+    pub fn put_address(
+        self,
+        host: &str,
+        address: &SocketAddr,
+        has_ipv4: bool,
+    ) -> Result<(), Fault> {
+        let (front, hint) = address_texts(address.is_ipv4(), has_ipv4);
+        self.put(&[
+            Piece::Text(front),
+            Piece::Foreign(host.as_bytes()),
+            Piece::Text(" is "),
+            Piece::Host(address.ip()),
+            Piece::Text(hint),
+        ])
+    }
+
+    /// The port mapper has this registration.
+    pub fn put_registration(self, mapper_port: u16, info: &PortInfo) -> Result<(), Fault> {
+        self.put(&[
+            Piece::Text("✓  epmd      port "),
+            Piece::Number(u32::from(mapper_port)),
+            Piece::Text(" answers: "),
+            Piece::Name(info.name.as_slice()),
+            Piece::Text(" listens at port "),
+            Piece::Number(u32::from(info.port)),
+            Piece::Text(", versions "),
+            Piece::Number(u32::from(info.lowest)),
+            Piece::Text(" to "),
+            Piece::Number(u32::from(info.highest)),
+            Piece::Text("\n"),
+        ])
+    }
+
+    /// A place was not reached.
+    pub fn put_unreached(
+        self,
+        step: &'static str,
+        port: u16,
+        place: Unreached,
+    ) -> Result<(), Fault> {
+        self.put(&[
+            Piece::Text("✗  "),
+            Piece::Text(step),
+            Piece::Text(" port "),
+            Piece::Number(u32::from(port)),
+            Piece::Text(": "),
+            Piece::Text(place.text()),
+            Piece::Text("\n"),
+        ])
+    }
+
+    /// The lookup went wrong.
+    pub fn put_no_answer(self, mapper_port: u16, error: LookupError) -> Result<(), Fault> {
+        self.put(&[
+            Piece::Text("✗  epmd      port "),
+            Piece::Number(u32::from(mapper_port)),
+            Piece::Text(": "),
+            Piece::Lookup(error),
+            Piece::Text("\n"),
+        ])
+    }
+
+    /// The port mapper knows these names, which stand in lines.
+    pub fn put_names(self, names: &[u8]) -> Result<(), Fault> {
+        if names.is_empty() {
+            return self.put(&[Piece::Text("   epmd      no node at all is registered there\n")]);
+        }
+        let text = escape_lines(self.alloc, names)?;
+        for line in text.lines() {
+            self.put(&[
+                Piece::Text("   epmd      "),
+                Piece::Escaped(line),
+                Piece::Text("\n"),
+            ])?;
+        }
+        Ok(())
+    }
+
+    /// The node's port took the connection.
+    pub fn put_connected(self, address: &SocketAddr, port: u16) -> Result<(), Fault> {
+        self.put(&[
+            Piece::Text("✓  connect   "),
+            Piece::Host(address.ip()),
+            Piece::Text(" port "),
+            Piece::Number(u32::from(port)),
+            Piece::Text("\n"),
+        ])
+    }
+
+    /// The status that the node sent upon the own name.
+    pub fn put_status(self, own: &NodeName, flags: Flags, status: Status) -> Result<(), Fault> {
+        self.put(&[
+            Piece::Text(status_mark(status)),
+            Piece::Text("  name      said "),
+            Piece::Name(own.bytes()),
+            Piece::Text(" with flags "),
+            Piece::Digits(flags.announced()),
+            Piece::Text("; the node says "),
+            Piece::Text(static_text(status.text())),
+            Piece::Text("\n"),
+        ])
+    }
+
+    // The line of what a node said of itself.
+    fn put_peer_line(self, peer: &Peer) -> Result<(), Fault> {
+        let (before, release) = told_texts(peer.flags);
+        self.put(&[
+            Piece::Text("✓  node      "),
+            Piece::Name(peer.name.as_slice()),
+            Piece::Text(kind_of(peer.flags)),
+            Piece::Number(peer.creation.0),
+            Piece::Text(", flags "),
+            Piece::Digits(peer.flags),
+            Piece::Text(before),
+            Piece::Text(release),
+            Piece::Text("\n"),
+        ])
+    }
+
+    // The flags that releases from 26 on ask for and that are missing here.
+    fn put_lacking(self, flags: Flags) -> Result<(), Fault> {
+        let lacking = missing(flags, Release::Otp28.required());
+        if lacking.0 == 0 {
+            return Ok(());
+        }
+        self.put_flags(
+            "!  flags     a node of OTP 26 or newer refuses this one, since these lack:",
+            lacking,
+        )
+    }
+
+    /// What the node said of itself.
+    pub fn put_peer(self, peer: &Peer) -> Result<(), Fault> {
+        self.put_peer_line(peer)?;
+        self.put_flags("   flags    ", peer.flags)?;
+        self.put_lacking(peer.flags)
+    }
+
+    /// What became of the cookie.
+    pub fn put_cookie(self, verdict: Verdict) -> Result<(), Fault> {
+        self.put(&[Piece::Text(cookie_text(verdict))])
+    }
+
+    /// A connection is waited for.
+    pub fn put_listening(self, port: u16, name: &NodeName) -> Result<(), Fault> {
+        self.put(&[
+            Piece::Text("✓  listen    port "),
+            Piece::Number(u32::from(port)),
+            Piece::Text(", as "),
+            Piece::Name(name.bytes()),
+            Piece::Text(": waiting for one connection\n"),
+        ])
+    }
+
+    /// A connection was taken.
+    pub fn put_taken(self, address: &SocketAddr) -> Result<(), Fault> {
+        self.put(&[
+            Piece::Text("✓  taken     from "),
+            Piece::Host(address.ip()),
+            Piece::Text("\n"),
+        ])
+    }
+}

@@ -1,0 +1,114 @@
+//! What came of a connection that was taken.
+
+ghost use Rattle.std.specs.Prelude.{◌≡◌};
+ghost use Rattle.distping_report.specs.TakenStatus.{taken_status};
+
+use dist_probe::{Peer, Service};
+use std::net::SocketAddr;
+
+/// What came of a connection that was taken.
+#[derive(Clone, Copy)]
+pub enum Taken {
+    /// The digest in the reply is that of our cookie, and it was acknowledged.
+    Up,
+    /// A reply came, and there is no cookie to compare its digest with.
+    Answered,
+    /// The digest in the reply is not that of our cookie.
+    WrongCookie,
+    /// The connection was closed, or broke, before a name.
+    NoName,
+    /// The connection was closed, or broke, upon our challenge.
+    Left,
+    /// The same, by who has the name of a probe.
+    Stopped,
+    /// The node asks for a name.
+    WantsName,
+    /// Nobody dialled in time.
+    NoCaller,
+    /// Nothing whole came in time.
+    Silent,
+    /// A message came out of turn, an older form of the name among them, or a body that is none.
+    Unexpected,
+    /// What dials is no node.
+    Foreign(Service),
+    /// Memory ran out here.
+    NoMemory,
+}
+
+// What dials, where it is no node.
+fn what_dials(service: Service) -> &'static str {
+    match service {
+        Service::Tls => {
+            "what dials speaks TLS: a node started with -proto_dist inet_tls, or another client; this listener speaks none"
+        }
+        _ => "what dials is no node",
+    }
+}
+
+impl Taken {
+    /// Its word, and what it means, in a sentence without a full stop.
+    pub fn texts(self) -> (&'static str, &'static str) {
+        match self {
+            Taken::Up => ("Up", "the node reaches us, and has our cookie"),
+            Taken::Answered => (
+                "Answered",
+                "the node reaches us and took our name; no cookie was compared",
+            ),
+            Taken::WrongCookie => ("WrongCookie", "the node reaches us, and has another cookie"),
+            Taken::NoName => ("NoName", "the connection ended before a name was said"),
+            Taken::Left => (
+                "Left",
+                "the node closed the connection upon our challenge: it dialled another name than --name, or is a probe without a cookie",
+            ),
+            Taken::Stopped => (
+                "Stopped",
+                "a distping reaches us, and stopped at our challenge: it tries no cookie, or it dialled another name than --name",
+            ),
+            Taken::WantsName => (
+                "WantsName",
+                "the node reaches us, and asks for a name (a dynamic name, -name undefined), which this listener does not give",
+            ),
+            Taken::NoCaller => ("NoCaller", "nobody dialled in the time of --seconds"),
+            Taken::Silent => ("Silent", "nothing whole came in time"),
+            Taken::Unexpected => (
+                "Unexpected",
+                "what came is none that a node of OTP 23 or newer says at this place",
+            ),
+            Taken::Foreign(service) => ("Foreign", what_dials(service)),
+            Taken::NoMemory => ("NoMemory", "memory ran out here"),
+        }
+    }
+
+    /// The exit status: the place to look at, as that of a verdict.
+    pub fn status(self) -> u8
+        ensures { result ≡ taken_status self }
+    {
+        match self {
+            Taken::Up | Taken::Answered | Taken::Stopped => 0,
+            Taken::NoMemory => 1,
+            Taken::NoCaller => 6,
+            Taken::NoName | Taken::Silent | Taken::Unexpected | Taken::Foreign(_) => 7,
+            Taken::Left | Taken::WantsName => 9,
+            Taken::WrongCookie => 10,
+        }
+    }
+}
+
+/// What was found of who dialled.
+#[derive(Drop)]
+pub struct Caller {
+    /// The address that it dialled from.
+    pub address: Option<SocketAddr>,
+    /// What it said of itself.
+    pub peer: Option<Peer>,
+}
+
+impl Caller {
+    /// Nothing so far.
+    pub fn nobody() -> Caller {
+        Caller {
+            address: None,
+            peer: None,
+        }
+    }
+}

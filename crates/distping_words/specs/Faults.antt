@@ -1,0 +1,26 @@
+-- The exit status of a fault.
+use Rattle.std.specs.Prelude.{ℕ}
+use Rattle.distping_words.specs.declared.fault.Fault.{Fault}
+use Rattle.distping_words.specs.declared.fault.Fault.TheVariants as fault
+use Rattle.dist_program.specs.PortTexts.{port_error_status}
+use Rattle.distping_words.specs.declared.refusal.Refusal.{Refusal}
+use Rattle.distping_words.specs.declared.refusal.Refusal.TheVariants as refusal
+
+-- 2 where the command line is at fault, else 1
+abbrev pub fault_status : Fault → ℕ
+fault_status fault.BadCommandLine = 2
+fault_status fault.BadName = 2
+fault_status fault.NoNode = 2
+fault_status fault.TwoCookies = 2
+fault_status fault.OneNodeAlone = 2
+fault_status fault.TooManyNodes = 2
+fault_status fault.CountAlone = 2
+fault_status fault.ListenAlone = 2
+fault_status other = 1
+
+-- the same of all that ends the program
+abbrev pub refusal_status : Refusal → ℕ
+refusal_status (refusal.BadMapperPort error) = port_error_status error
+refusal_status (refusal.NotPrivate file) = 1
+refusal_status (refusal.BadWord sentence) = 2
+refusal_status (refusal.Fault fault) = fault_status fault

@@ -1,0 +1,445 @@
+//! What the command line asks for.
+
+use crate::fault::Fault;
+use crate::refusal::Refusal;
+use crate::refusing::{bad_flags, bad_group, bad_name, bad_number, bad_words};
+use crate::roster::push_target;
+use clap::error::ErrorKind;
+use clap::{Arg, ArgAction, ArgMatches, Command, Error};
+use dist_cluster::{Target, target_of};
+use dist_flags::{Dflag, Release};
+use dist_names::{Flags, NameError, NodeName, number_16, number_in};
+use dist_program::CONNECT_SECONDS;
+use std::alloc::{AllocError, Global};
+use std::time::Duration;
+
+// The turns of a talk beside those that pass in quiet seconds. A port mapper writes each line of its names by itself, so as
+// many reads may be needed as it knows nodes. Our own choice.
+const TURNS_IN_PLENTY: usize = 4096;
+
+/// What is done in place of dialling.
+#[derive(Drop)]
+pub enum Instead {
+    /// How the program is called is printed.
+    Help,
+    /// Which version it is is printed.
+    Version,
+    /// The words ask for nothing.
+    Refusal(Refusal),
+}
+
+impl From<Refusal> for Instead {
+    fn from(refusal: Refusal) -> Instead {
+        Instead::Refusal(refusal)
+    }
+}
+
+impl From<AllocError> for Instead {
+    fn from(_error: AllocError) -> Instead {
+        Instead::Refusal(Refusal::Fault(Fault::NoMemory))
+    }
+}
+
+/// Which cookie is to be tried.
+#[derive(Clone, Copy)]
+pub enum CookieSource<'a> {
+    /// That of the user's home folder, where there is one.
+    Home,
+    /// That of this file.
+    File(&'a str),
+    /// None: the talk stops at the node's challenge.
+    Nowhere,
+}
+
+/// What is to be dialled, and how.
+#[derive(Drop)]
+pub struct Wanted<'a> {
+    /// What is dialled: one at least unless it is listened, or a file names more.
+    pub targets: Vec<Target>,
+    /// The name that the probe gives itself, where one is given.
+    pub name: Option<NodeName>,
+    /// The rest.
+    pub choices: Choices<'a>,
+}
+
+/// What is chosen beside names.
+#[derive(Clone, Copy)]
+pub struct Choices<'a> {
+    /// The cookie.
+    pub cookie: CookieSource<'a>,
+    /// What the probe announces.
+    pub flags: Flags,
+    /// The port of the port mapper.
+    pub mapper_port: u16,
+    /// The node's port, where the port mapper is not to be asked.
+    pub port: Option<u16>,
+    /// The host to connect to, where it is not that of the node's name.
+    pub address: Option<&'a str>,
+    /// How many seconds a connect, a lookup and a talk may take each, one at least.
+    pub seconds: u16,
+    /// The command line says so, and a connection is waited for as long.
+    pub has_limit: bool,
+    /// The port at which one connection is taken, in place of dialling.
+    pub listen: Option<u16>,
+    /// An object of JSON is printed for each node, in place of the lines.
+    pub json: bool,
+    /// The cookie's file is read even where others than its owner may use it.
+    pub takes_any_file: bool,
+    /// The file that names more nodes.
+    pub roster: Option<&'a str>,
+    /// Each pair is printed, also those of more than two nodes against which nothing speaks.
+    pub all_pairs: bool,
+    /// The nodes are probed again and again, and what changes is printed.
+    pub watch: Option<Rhythm>,
+}
+
+/// How often nodes are probed that are watched.
+#[derive(Clone, Copy)]
+pub struct Rhythm {
+    /// How many seconds are between the beginnings of two rounds.
+    pub seconds: u16,
+    /// How many rounds there are, where the command line says so.
+    pub count: Option<u16>,
+}
+
+impl Rhythm {
+    /// How many rounds there are: more than any run lasts, where the command line does not say.
+    pub fn rounds(self) -> u64 {
+        match self.count {
+            Some(count) => u64::from(count),
+            None => u64::MAX,
+        }
+    }
+}
+
+impl<'a> Choices<'a> {
+    /// The host to connect to for a node.
+    pub fn host<'b>(&'b self, node: &'b NodeName) -> &'b str {
+        match self.address {
+            Some(host) => host,
+            None => std::str::from_utf8(node.host()).unwrap_or(""),
+        }
+    }
+
+    /// How long the resolver may take.
+    pub fn limit(&self) -> Duration {
+        Duration::from_secs(u64::from(self.seconds))
+    }
+
+    /// How many seconds a connection is waited for, where the command line says so.
+    pub fn patience(&self) -> Option<u16> {
+        if self.has_limit {
+            Some(self.seconds)
+        } else {
+            None
+        }
+    }
+
+    /// How many reads and writes a lookup or a talk may take. The clock ends it before: a quiet one waits for a second, and
+    /// beside those there are turns in plenty. An answer of the port mapper, of 4,096 bytes a turn, is bounded by them.
+    pub fn turns(&self) -> usize {
+        self.seconds as usize + TURNS_IN_PLENTY
+    }
+}
+
+// The program's words that stand by themselves.
+const SWITCHES: [&str; 4] = ["no-cookie", "json", "cookie-unsafe", "all-pairs"];
+
+// The program's words that a value stands behind.
+const VALUES: [&str; 11] = [
+    "name",
+    "cookie",
+    "flags",
+    "epmd-port",
+    "port",
+    "address",
+    "seconds",
+    "listen",
+    "nodes",
+    "watch",
+    "count",
+];
+
+// The program with the names of the nodes alone.
+fn bare<'a>(alloc: Global) -> Result<Command<'a>, AllocError> {
+    let nodes = Arg::new(alloc, "node")
+        .num_args(1..)
+        .action(ArgAction::Append);
+    Command::new(alloc, "distping")
+        .no_binary_name(true)
+        .version("0")
+        .arg(nodes)
+}
+
+// The program with one more word.
+fn with_word<'a>(
+    alloc: Global,
+    program: Command<'a>,
+    word: &'a str,
+    action: ArgAction,
+) -> Result<Command<'a>, AllocError> {
+    program.arg(Arg::new(alloc, word).long(word).action(action))
+}
+
+// The program with more words, which are all given in this way.
+fn with_words<'a>(
+    alloc: Global,
+    bare: Command<'a>,
+    words: &[&'a str],
+    action: ArgAction,
+) -> Result<Command<'a>, AllocError> {
+    let mut program = bare;
+    for word in words {
+        program = with_word(alloc, program, word, action)?;
+    }
+    Ok(program)
+}
+
+fn program<'a>(alloc: Global) -> Result<Command<'a>, AllocError> {
+    let program = with_words(alloc, bare(alloc)?, &SWITCHES, ArgAction::SetTrue)?;
+    with_words(alloc, program, &VALUES, ArgAction::Set)
+}
+
+// The flags of a list of names, else of hexadecimal digits.
+fn flags_of(text: &str) -> Option<Flags> {
+    let mut flags = Flags(0);
+    for word in text.split(',') {
+        match Dflag::of_name(word.as_bytes()) {
+            Some(flag) => flags = Flags(flags.0 | flag.flags().0),
+            None => return number_in(text.as_bytes(), 16).map(Flags),
+        }
+    }
+    Some(flags)
+}
+
+// The flags of a text, which are none of a node that asks for a name: the probe has one.
+fn own_flags_of(alloc: Global, text: &str) -> Result<Flags, Refusal> {
+    match flags_of(text) {
+        Some(flags) if !flags.has(Flags::NAME_ME) => Ok(flags),
+        _ => Err(bad_flags(alloc, text)),
+    }
+}
+
+// What the probe announces: what OTP 23 to 29 take, unless the command line says otherwise.
+fn flags_in(alloc: Global, matches: &ArgMatches<'_>) -> Result<Flags, Refusal> {
+    match matches.get_str("flags") {
+        None => Ok(Release::Otp28.required()),
+        Some(text) => own_flags_of(alloc, text),
+    }
+}
+
+// The program's words whose value is a number.
+const NUMBERS: [&str; 6] = ["epmd-port", "port", "listen", "seconds", "watch", "count"];
+
+// A number of 16 bits that is not 0.
+fn number_named(word: &str) -> Option<u16> {
+    match number_16(word.as_bytes()) {
+        Some(0) | None => None,
+        number => number,
+    }
+}
+
+// A port, or another number from 1 to 65,535, where one is given.
+fn number_of(alloc: Global, matches: &ArgMatches<'_>, id: &str) -> Result<Option<u16>, Refusal> {
+    let Some(word) = matches.get_str(id) else {
+        return Ok(None);
+    };
+    match number_named(word) {
+        Some(number) => Ok(Some(number)),
+        None => Err(bad_number(alloc, id, word)),
+    }
+}
+
+// The numbers, each where it is given.
+fn numbers_in(alloc: Global, matches: &ArgMatches<'_>) -> Result<[Option<u16>; 6], Refusal> {
+    let mut numbers = [None; 6];
+    for at in 0..6 {
+        numbers[at] = number_of(alloc, matches, NUMBERS[at])?;
+    }
+    Ok(numbers)
+}
+
+/// The name that these bytes are.
+pub fn parse_name(alloc: Global, bytes: &[u8]) -> Result<NodeName, Fault> {
+    match NodeName::new(alloc, bytes) {
+        Ok(name) => Ok(name),
+        Err(NameError::NoMemory) => Err(Fault::NoMemory),
+        Err(_) => Err(Fault::BadName),
+    }
+}
+
+// The name that a word of the command line is.
+fn name_in(alloc: Global, word: &str) -> Result<NodeName, Refusal> {
+    match parse_name(alloc, word.as_bytes()) {
+        Ok(name) => Ok(name),
+        Err(Fault::BadName) => Err(bad_name(alloc, word)),
+        Err(fault) => Err(Refusal::Fault(fault)),
+    }
+}
+
+// The refusal of a word that names no target.
+fn bad_target(alloc: Global, word: &str) -> Refusal {
+    if word.starts_with('@') {
+        bad_group(alloc, word)
+    } else {
+        bad_name(alloc, word)
+    }
+}
+
+// What a word of the command line names.
+fn target_in(alloc: Global, word: &str) -> Result<Target, Refusal> {
+    match target_of(alloc, word.as_bytes()) {
+        Ok(target) => Ok(target),
+        Err(NameError::NoMemory) => Err(Refusal::Fault(Fault::NoMemory)),
+        Err(_) => Err(bad_target(alloc, word)),
+    }
+}
+
+// What the words of the command line name.
+fn targets_in(alloc: Global, matches: &ArgMatches<'_>) -> Result<Vec<Target>, Refusal> {
+    let mut targets = Vec::new(alloc);
+    for word in matches.get_strs("node").unwrap_or(&[]) {
+        let target = target_in(alloc, word)?;
+        push_target(&mut targets, target)?;
+    }
+    Ok(targets)
+}
+
+// The own name that is given.
+fn own_name_in(alloc: Global, matches: &ArgMatches<'_>) -> Result<Option<NodeName>, Refusal> {
+    match matches.get_str("name") {
+        None => Ok(None),
+        Some(word) => Ok(Some(name_in(alloc, word)?)),
+    }
+}
+
+fn cookie_in<'a>(matches: &ArgMatches<'a>) -> Result<CookieSource<'a>, Fault> {
+    match (matches.get_flag("no-cookie"), matches.get_str("cookie")) {
+        (true, Some(_)) => Err(Fault::TwoCookies),
+        (true, None) => Ok(CookieSource::Nowhere),
+        (false, Some(file)) => Ok(CookieSource::File(file)),
+        (false, None) => Ok(CookieSource::Home),
+    }
+}
+
+// How often nodes are probed, where they are watched.
+fn rhythm_in(watch: Option<u16>, count: Option<u16>) -> Result<Option<Rhythm>, Fault> {
+    match (watch, count) {
+        (Some(seconds), count) => Ok(Some(Rhythm { seconds, count })),
+        (None, None) => Ok(None),
+        (None, Some(_)) => Err(Fault::CountAlone),
+    }
+}
+
+// What the parser matched beside names.
+fn choices_in<'a>(
+    alloc: Global,
+    matches: &ArgMatches<'a>,
+    usual_port: u16,
+) -> Result<Choices<'a>, Refusal> {
+    let cookie = cookie_in(matches)?;
+    let flags = flags_in(alloc, matches)?;
+    let [mapper_port, port, listen, seconds, watch, count] = numbers_in(alloc, matches)?;
+    Ok(Choices {
+        cookie,
+        flags,
+        mapper_port: mapper_port.unwrap_or(usual_port),
+        port,
+        address: matches.get_str("address"),
+        seconds: seconds.unwrap_or(CONNECT_SECONDS),
+        has_limit: seconds.is_some(),
+        listen,
+        json: matches.get_flag("json"),
+        takes_any_file: matches.get_flag("cookie-unsafe"),
+        roster: matches.get_str("nodes"),
+        all_pairs: matches.get_flag("all-pairs"),
+        watch: rhythm_in(watch, count)?,
+    })
+}
+
+// What the parser matched.
+fn read_in<'a>(
+    alloc: Global,
+    matches: &ArgMatches<'a>,
+    usual_port: u16,
+) -> Result<Wanted<'a>, Refusal> {
+    let choices = choices_in(alloc, matches, usual_port)?;
+    let name = own_name_in(alloc, matches)?;
+    Ok(Wanted {
+        targets: targets_in(alloc, matches)?,
+        name,
+        choices,
+    })
+}
+
+// Whether one node alone is dialled.
+fn is_one_node(wanted: &Wanted<'_>) -> bool {
+    matches!(wanted.targets.as_slice(), [Target::Node(_)]) && wanted.choices.roster.is_none()
+}
+
+// What does not go together where it is listened.
+fn listening_fault(wanted: &Wanted<'_>) -> Option<Fault> {
+    let choices = &wanted.choices;
+    let is_alone = wanted.targets.is_empty() && choices.roster.is_none() && choices.watch.is_none();
+    if is_alone && wanted.name.is_some() {
+        None
+    } else {
+        Some(Fault::ListenAlone)
+    }
+}
+
+// What does not go together where nodes are dialled.
+fn dialling_fault(wanted: &Wanted<'_>) -> Option<Fault> {
+    let choices = &wanted.choices;
+    if wanted.targets.is_empty() && choices.roster.is_none() {
+        Some(Fault::NoNode)
+    } else if !is_one_node(wanted) && (choices.port.is_some() || choices.address.is_some()) {
+        Some(Fault::OneNodeAlone)
+    } else {
+        None
+    }
+}
+
+// What does not go together.
+fn fault_in(wanted: &Wanted<'_>) -> Option<Fault> {
+    if wanted.choices.listen.is_some() {
+        listening_fault(wanted)
+    } else {
+        dialling_fault(wanted)
+    }
+}
+
+// What the parser matched, where that goes together.
+fn wanted_in<'a>(
+    alloc: Global,
+    matches: &ArgMatches<'a>,
+    usual_port: u16,
+) -> Result<Wanted<'a>, Instead> {
+    let wanted = read_in(alloc, matches, usual_port)?;
+    match fault_in(&wanted) {
+        Some(fault) => Err(Instead::Refusal(Refusal::Fault(fault))),
+        None => Ok(wanted),
+    }
+}
+
+// What is done where the parser matched nothing.
+fn instead_of(alloc: Global, error: &Error) -> Instead {
+    match error.kind() {
+        ErrorKind::DisplayHelp => Instead::Help,
+        ErrorKind::DisplayVersion => Instead::Version,
+        ErrorKind::OutOfMemory => Instead::Refusal(Refusal::Fault(Fault::NoMemory)),
+        _ => Instead::Refusal(bad_words(alloc, error)),
+    }
+}
+
+/// What these words ask for. `usual_port` is the port mapper's port where they name none.
+pub fn wanted_of<'a>(
+    alloc: Global,
+    words: &'a [String],
+    usual_port: u16,
+) -> Result<Wanted<'a>, Instead> {
+    match program(alloc)?.try_get_matches_from(words) {
+        Ok(matches) => wanted_in(alloc, &matches, usual_port),
+        Err(error) => Err(instead_of(alloc, &error)),
+    }
+}

@@ -1,0 +1,137 @@
+//! What stops the program before a verdict, and how that is reported.
+
+ghost use Rattle.std.specs.Prelude.{◌≡◌};
+ghost use Rattle.distping_words.specs.Faults.{fault_status};
+
+use dist_cluster::WatchError;
+use dist_secret::CookieError;
+use std::alloc::{AllocError, AllocFailed};
+use std::io::ErrorKind;
+use std::{fmt, io};
+
+/// What ends the program before a verdict, beside what `Refusal` has. Its `Display` is what stands after `distping: ` on standard
+/// error.
+#[derive(Clone, Copy)]
+pub enum Fault {
+    /// One of the words of the command line is no UTF-8.
+    BadCommandLine,
+    /// No node is named.
+    NoNode,
+    /// `--cookie` and `--no-cookie` stand side by side.
+    TwoCookies,
+    /// A text that should be a node's name is none.
+    BadName,
+    /// `--port` or `--address` stand beside several nodes.
+    OneNodeAlone,
+    /// The cookie's file could not be opened.
+    OpenFailed,
+    /// The cookie's file has no cookie.
+    NoCookie(CookieError),
+    /// The file of names could not be opened.
+    RosterClosed,
+    /// The file of names could not be read.
+    RosterUnread,
+    /// The file of names is too long.
+    RosterTooLong,
+    /// There are more nodes than are dialled in one run.
+    TooManyNodes,
+    /// `--count` stands without `--watch`.
+    CountAlone,
+    /// The system gave no time.
+    NoTime,
+    /// The port could not be listened at, or no connection be taken, for this cause.
+    ListenFailed(ErrorKind),
+    /// The host of `--address` gives no address to listen at.
+    NoListenAddress,
+    /// `--listen` wants a name to listen under, and no other node.
+    ListenAlone,
+    /// The output could not be written.
+    WriteFailed,
+    /// The system gave no random bytes.
+    NoRandomBytes,
+    /// No memory was left.
+    NoMemory,
+}
+
+impl fmt::Display for Fault {
+    fn fmt<W: fmt::Write>(&self, f: &mut fmt::Formatter<W>) -> fmt::Result {
+        match self {
+            Fault::NoCookie(error) => write!(f, "{}: {error}", error.name()),
+            Fault::ListenFailed(kind) => write!(f, "ListenFailed: {kind}"),
+            other => f.write_str(other.text()),
+        }
+    }
+}
+
+impl From<io::Error> for Fault {
+    fn from(error: io::Error) -> Fault {
+        match error.kind() {
+            ErrorKind::OutOfMemory => Fault::NoMemory,
+            _ => Fault::WriteFailed,
+        }
+    }
+}
+
+impl From<AllocError> for Fault {
+    fn from(_error: AllocError) -> Fault {
+        Fault::NoMemory
+    }
+}
+
+impl From<WatchError> for Fault {
+    fn from(_error: WatchError) -> Fault {
+        Fault::NoMemory
+    }
+}
+
+impl<T: Drop> From<AllocFailed<T>> for Fault {
+    fn from(_error: AllocFailed<T>) -> Fault {
+        Fault::NoMemory
+    }
+}
+
+impl Fault {
+    // What is printed of it, in a word or a sentence.
+    fn text(self) -> &'static str {
+        match self {
+            Fault::BadCommandLine => "bad command line: a word is no UTF-8 (distping --help)",
+            Fault::NoNode => "bad command line: no NODE is named (distping --help)",
+            Fault::TwoCookies =>
+                "bad command line: --cookie and --no-cookie exclude each other (distping --help)",
+            Fault::BadName =>
+                "a node's name has one @, something on both sides, and 3 to 255 bytes",
+            Fault::OneNodeAlone => "--port and --address go with one NODE alone",
+            Fault::CountAlone => "--count goes with --watch",
+            Fault::NoTime => "ReadFailed: the system's clock",
+            Fault::RosterClosed => "OpenFailed: the file of --nodes",
+            Fault::RosterUnread => "ReadFailed: the file of --nodes",
+            Fault::RosterTooLong => "TooLong: the file of --nodes has more than 1048576 bytes",
+            Fault::TooManyNodes => "more than 1024 nodes are named, or known to the port mappers",
+            Fault::OpenFailed => "OpenFailed: the cookie's file",
+            Fault::NoCookie(error) => error.name(),
+            Fault::ListenFailed(_) => "ListenFailed",
+            Fault::NoListenAddress => "ListenFailed: the host of --address has no address",
+            Fault::ListenAlone => "--listen goes with --name, and with no NODE",
+            Fault::WriteFailed => "WriteFailed",
+            Fault::NoRandomBytes => "ReadFailed: no random bytes",
+            Fault::NoMemory => "NoMemory",
+        }
+    }
+
+    /// The exit status: 2 where the command line is at fault, else 1.
+    pub fn status(self) -> u8
+        ensures { result ≡ fault_status self }
+    {
+        match self {
+            Fault::BadCommandLine
+            | Fault::NoNode
+            | Fault::TwoCookies
+            | Fault::BadName
+            | Fault::OneNodeAlone
+            | Fault::TooManyNodes
+            | Fault::CountAlone
+            | Fault::ListenAlone => 2,
+            _ => 1,
+        }
+    }
+}

@@ -1,0 +1,85 @@
+//! What ends the program, with what another than the program wrote in the line that tells it.
+
+ghost use Rattle.std.specs.Prelude.{◌≡◌};
+ghost use Rattle.distping_words.specs.Faults.{refusal_status};
+
+use crate::fault::Fault;
+use dist_program::{PortError, TextError, report};
+use std::alloc::AllocError;
+use std::fmt;
+use std::io::Write;
+
+/// What ends the program before a verdict. Its `Display` is what stands after `distping: ` on standard error.
+#[derive(Drop)]
+pub enum Refusal {
+    /// ERL_EPMD_PORT names no port.
+    BadMapperPort(PortError),
+    /// Others than its owner may use the file of this name, which stands between double quotes and is safe to print.
+    NotPrivate(String),
+    /// A word of the command line is bad: the sentence that says so, safe to print.
+    BadWord(String),
+    /// Another fault.
+    Fault(Fault),
+}
+
+impl fmt::Display for Refusal {
+    fn fmt<W: fmt::Write>(&self, f: &mut fmt::Formatter<W>) -> fmt::Result {
+        match self {
+            Refusal::BadMapperPort(error) => write!(f, "{error}"),
+            Refusal::NotPrivate(file) => write!(
+                f,
+                "NotPrivate: cookie file {file} must be accessible by owner only: chmod 600 {file}, or --cookie-unsafe takes it"
+            ),
+            Refusal::BadWord(sentence) => f.write_str(sentence.as_str()),
+            Refusal::Fault(fault) => write!(f, "{fault}"),
+        }
+    }
+}
+
+impl Refusal {
+    // The exit status.
+    fn status(&self) -> u8
+        ensures { result ≡ refusal_status self.now }
+    {
+        match self {
+            Refusal::BadMapperPort(error) => error.status(),
+            Refusal::NotPrivate(_) => 1,
+            Refusal::BadWord(_) => 2,
+            Refusal::Fault(fault) => fault.status(),
+        }
+    }
+
+    /// Tells the refusal on standard error, and answers the exit status. Where it cannot be told nothing is lost but the text.
+    pub fn tell<E: Write>(&self, err: &mut E) -> u8
+        ensures { result ≡ refusal_status self.now }
+    {
+        report(err, "distping", self, self.status())
+    }
+}
+
+impl From<Fault> for Refusal {
+    fn from(fault: Fault) -> Refusal {
+        Refusal::Fault(fault)
+    }
+}
+
+impl From<PortError> for Refusal {
+    fn from(error: PortError) -> Refusal {
+        Refusal::BadMapperPort(error)
+    }
+}
+
+impl From<TextError> for Refusal {
+    fn from(error: TextError) -> Refusal {
+        Refusal::Fault(match error {
+            TextError::NoText => Fault::BadCommandLine,
+            TextError::NoMemory => Fault::NoMemory,
+        })
+    }
+}
+
+impl From<AllocError> for Refusal {
+    fn from(_error: AllocError) -> Refusal {
+        Refusal::Fault(Fault::NoMemory)
+    }
+}
