@@ -5,7 +5,8 @@ defmodule Mix.Tasks.Compile.DistnodeNif do
 
   def run(_arguments) do
     case System.cmd("make", ["nif"], stderr_to_stdout: true, into: IO.stream()) do
-      {_, 0} -> :ok
+      # Before this the folder priv may not have been there, and mix has linked what was.
+      {_, 0} -> Mix.Project.build_structure()
       _ -> {:error, []}
     end
   end

@@ -61,7 +61,8 @@ cases(Mapper) ->
      {"numbers_run_out", fun numbers_run_out/0},
      {"embedded_release", fun embedded_release/0},
      {"killed_core", fun killed_core/0},
-     {"unfit_library", fun unfit_library/0}].
+     {"unfit_library", fun unfit_library/0},
+     {"unfit_archive", fun unfit_archive/0}].
 
 %% ---- what the cases stand on
 
@@ -590,3 +591,56 @@ unfit_library() ->
          true = test_nodes:has_logged(Node, "distnode: the library distnode_nif can't be loaded")
      end || {Short, Bytes} <- [{"a", none}, {"b", <<Head/binary, (Machine bxor 16#ff), Rest/binary>>}, {"c", Head}]],
     ok.
+
+%% make refuses a library of another version, a folder without an archive, and an archive for another machine. It makes the module anew
+%% where the header is another one, although that is the older file.
+unfit_archive() ->
+    Build = filename:join(os:getenv("LOGS"), "build"),
+    Library = filename:join(os:getenv("LOGS"), "library"),
+    Header = filename:join([Library, "include", "distnode.h"]),
+    Archive = filename:join([Library, "lib", "libdistnode.a"]),
+    Module = filename:join([Build, "priv", "distnode_nif.so"]),
+    [ok = copy(filename:join([os:getenv("EBIN"), "..", Part]), filename:join(Build, Part)) || Part <- ["src", "c_src"]],
+    {ok, _} = file:copy(filename:join([os:getenv("EBIN"), "..", "Makefile"]), filename:join(Build, "Makefile")),
+    ok = copy(filename:join(os:getenv("LIBRARY"), "include"), filename:dirname(Header)),
+    {ok, Head} = file:read_file(Header),
+    refuses(Build, Library, Module, "no libdistnode.a in "),
+    [From | _] = filelib:wildcard(filename:join(os:getenv("LIBRARY"), "lib/**/libdistnode.a")),
+    {ok, Bytes} = file:read_file(From),
+    ok = filelib:ensure_dir(Archive),
+    ok = file:write_file(Archive, lists:foldl(fun({At, _}, Now) -> of_another_machine(At, Now) end, Bytes, binary:matches(Bytes, <<16#7f, "ELF">>))),
+    refuses(Build, Library, Module, "libdistnode.a"),
+    ok = file:write_file(Archive, Bytes),
+    ok = file:write_file(Header, string:replace(Head, "#define DN_VERSION \"0.2.0\"", "#define DN_VERSION \"other\"")),
+    refuses(Build, Library, Module, "is of version other, and this application wants 0.2.0"),
+    ok = file:write_file(Header, Head),
+    {0, _} = make(Build, Library),
+    First = made_at(Module),
+    {0, _} = make(Build, Library),
+    First = made_at(Module),
+    ok = file:write_file(Header, [Head, "/* other */\n"]),
+    ok = file:change_time(Header, {{2020, 1, 1}, {0, 0, 0}}),
+    {0, _} = make(Build, Library),
+    true = First =/= made_at(Module).
+
+of_another_machine(At, Bytes) ->
+    <<Before:(At + 18)/binary, Machine, Rest/binary>> = Bytes,
+    <<Before/binary, (Machine bxor 16#ff), Rest/binary>>.
+
+refuses(Build, Library, Module, Text) ->
+    {Status, Said} = make(Build, Library),
+    true = Status =/= 0 andalso string:find(Said, Text) =/= nomatch andalso not filelib:is_file(Module).
+
+make(Build, Library) ->
+    Port = open_port({spawn_executable, os:find_executable("make")},
+                     [{args, ["-s", "-C", Build, "nif", "DISTNODE=" ++ Library]}, exit_status, stderr_to_stdout]),
+    made(Port, []).
+
+made(Port, Said) ->
+    receive
+        {Port, {data, More}} -> made(Port, [Said, More]);
+        {Port, {exit_status, Status}} -> {Status, lists:flatten(Said)}
+    end.
+
+%% To the nanosecond.
+made_at(File) -> os:cmd("stat -c %y " ++ File).

@@ -16,7 +16,7 @@ main([Seconds | Words]) ->
             {"no_descriptors", fun() -> no_descriptors(Mapper) end},
             {"impostor", fun() -> impostor(Mapper) end},
             {"reconnects", fun() -> reconnects(72000) end},
-            {"connect_times", fun() -> connect_times(10, 100) end},
+            {"connect_times", fun() -> connect_times(5) end},
             {"messages", fun() -> messages(5, 200000) end}],
     Failed = [Name || {Name, Run} <- Runs, Words =:= [] orelse lists:member(Name, Words), not passes(Name, Run)],
     os:cmd("kill " ++ integer_to_list(OsPid)),
@@ -175,16 +175,33 @@ reconnect(A, B, N) ->
     true = is_integer(lists:last(Times)),
     median(Times).
 
-%% net_kernel:connect_node, in turns with OTP's own carrier.
-connect_times(Rounds, N) ->
-    with([{"a", ours, ?QUIET}, {"b", ours, ?QUIET}, {"o", otp, ?QUIET}, {"p", otp, ?QUIET}],
+%% net_kernel:connect_node, so many thousand times, beside OTP's own carrier: in turns of 20 each, and who is first changes. Nobody
+%% connects but by that call: what a node still sends to one that has just gone would dial it, too.
+connect_times(Thousands) ->
+    Quiet = ["-kernel", "dist_auto_connect", "never" | ?QUIET],
+    with([{"a", ours, Quiet}, {"b", ours, Quiet}, {"o", otp, Quiet}, {"p", otp, Quiet}],
          fun([A, B, O, P]) ->
-                 _ = [c(X, test_agent, reconnect, [n(Y), N]) || {X, Y} <- [{A, B}, {O, P}]],
-                 Both = [{c(A, test_agent, reconnect, [n(B), N]), c(O, test_agent, reconnect, [n(P), N])} || _ <- lists:seq(1, Rounds)],
-                 {Ours, Otp} = {lists:append([X || {X, _} <- Both]), lists:append([X || {_, X} <- Both])},
-                 io_lib:format("median of ~b: ~b us and ~b refused, OTP's own carrier ~b us and ~b refused, ~.2f of it",
-                               [Rounds * N, median(Ours), refused(Ours), median(Otp), refused(Otp), median(Ours) / median(Otp)])
+                 _ = turns({A, B}, {O, P}, 10),
+                 Seen = [turns({A, B}, {O, P}, 50) || _ <- lists:seq(1, Thousands)],
+                 All = {lists:append([Ours || {Ours, _} <- Seen]), lists:append([Otp || {_, Otp} <- Seen])},
+                 io_lib:format("ours and OTP's own, in microseconds, and ours by OTP's~n~ts  all ~b: ~ts~n  least tenth ~ts~n  refused ~w",
+                               [[["  median of 1000: ", beside(2, Pair), $\n] || Pair <- Seen], length(element(1, All)),
+                                beside(2, All), beside(10, All), [refused(Times) || Times <- tuple_to_list(All)]])
          end).
+
+turns(Ours, Otp, N) -> turns(Ours, Otp, N, [], []).
+
+turns(_, _, 0, Ours, Otp) -> {lists:append(Ours), lists:append(Otp)};
+turns({A, B}, {O, P}, N, Ours, Otp) when N rem 2 =:= 0 ->
+    Mine = c(A, test_agent, reconnect, [n(B), 20]),
+    turns({A, B}, {O, P}, N - 1, [Mine | Ours], [c(O, test_agent, reconnect, [n(P), 20]) | Otp]);
+turns({A, B}, {O, P}, N, Ours, Otp) ->
+    Theirs = c(O, test_agent, reconnect, [n(P), 20]),
+    turns({A, B}, {O, P}, N - 1, [c(A, test_agent, reconnect, [n(B), 20]) | Ours], [Theirs | Otp]).
+
+beside(Part, {Ours, Otp}) ->
+    [X, Y] = [lists:nth(length(Times) div Part, lists:sort(Times)) || Times <- [Ours, Otp]],
+    io_lib:format("~b ~b ~.3f", [X, Y, X / Y]).
 
 refused(Times) -> length([refused || refused <- Times]).
 
