@@ -633,11 +633,11 @@ fn main() {
             bench.lost(end);
         }),
         "dialled" => (0..turns).for_each(|_| bench.dialled(&peer, &challenge, &ack)),
-        "incoming_lost" => (0..turns).for_each(|_| {
+        "incoming_lost" | "incoming_lost_step" => (0..turns).for_each(|_| {
             let end = bench.incoming();
             bench.lost(end);
         }),
-        "tick" => (0..turns).for_each(|turn| bench.tick(turn % peers)),
+        "tick" | "tick_step" => (0..turns).for_each(|turn| bench.tick(turn % peers)),
         "bytes" => (0..turns).for_each(|_| {
             for piece in whole.chunks(1) {
                 bench.sum += reader.body(black_box(piece)).map_or(0, |body| body.len() as u64);

@@ -12,3 +12,4 @@ pub mod UsualCookies
 pub mod Forgetting
 pub mod Prepares
 pub mod InPlace
+pub mod Doing

@@ -1,10 +1,11 @@
 -- What a call returns for a loss.
-use Rattle.std.proofs.Common.{◌≡◌, true, Option, Some, None, Result, Ok, Err, slice_get, List, refl, ap, subst}
+use Rattle.std.proofs.Common.{◌≡◌, true, Option, Some, None, Result, Ok, Err, slice_get, List, refl, sym, ap, subst}
 use Rattle.std.specs.Prelude.{IsOk, IfOk, IfErr, IsTrue}
 use Rattle.dist_peers.specs.declared.entry.EndId.{EndId}
 use Rattle.dist_core_ends.specs.declared.why.Why.{Why}
 use Rattle.dist_core_ends.specs.declared.known.End.{End}
 use Rattle.dist_core_ends.specs.declared.known.End.TheVariants as ends
+use Rattle.dist_core.specs.declared.effect.Effect.{Effect}
 use Rattle.dist_core.specs.declared.event.Event.{Event}
 use Rattle.dist_core.specs.declared.event.Event.TheVariants as event
 use Rattle.dist_core.specs.declared.reply.Reply.{Reply}
@@ -13,6 +14,7 @@ use Rattle.dist_core.specs.declared.step_error.StepError.TheVariants as error
 use Rattle.dist_core_ends.specs.Ends.{is_open}
 use Rattle.dist_core.specs.Clauses.{end_of, loss_reply}
 use Rattle.dist_core.specs.Losses.{IsGone, IsSilent, is_loss}
+use Rattle.dist_core.specs.Step.{at_end}
 
 abbrev bad : StepError → Result Reply StepError
 bad e = Err e
@@ -66,3 +68,14 @@ answer_silent (event.Opened x link) r h silent = absurd cc
 answer_silent (event.Incoming link) r h silent = absurd cc
 answer_silent (event.Frame x body) r h silent = absurd cc
 answer_silent (event.Tick x) r h silent = absurd cc
+
+err_is : (e f : StepError) → (let r : Result Effect StepError = Err e in r) ≡ Err f → f ≡ e
+err_is e f h = cc
+
+-- no end is found there but one that was never given out, or is closed
+pub gone_at : (o : Option End) (e : StepError) → ((f : End → Result Effect StepError) → at_end o f ≡ Err e) → IsGone e
+gone_at (Some (ends.Closed w)) e h = subst IsGone (err_is e (error.Gone w) (sym (h (λ _. Err error.NoSuchEnd)))) tt
+gone_at None e h = subst IsGone (err_is e error.NoSuchEnd (sym (h (λ _. Err error.NoSuchEnd)))) tt
+gone_at (Some ends.Unnamed) e h = subst IsGone (err_is e error.NoSuchEnd (sym (h (λ _. Err error.NoSuchEnd)))) tt
+gone_at (Some (ends.Attempt a)) e h = subst IsGone (err_is e error.NoSuchEnd (sym (h (λ _. Err error.NoSuchEnd)))) tt
+gone_at (Some (ends.Up r)) e h = subst IsGone (err_is e error.NoSuchEnd (sym (h (λ _. Err error.NoSuchEnd)))) tt

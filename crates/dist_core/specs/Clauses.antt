@@ -9,6 +9,7 @@ use Rattle.dist_core_ends.specs.declared.known.Attempt.{Attempt}
 use Rattle.dist_core_ends.specs.declared.known.UpRecord.{UpRecord}
 use Rattle.dist_core_ends.specs.declared.known.End.TheVariants as ends
 use Rattle.dist_core_setup.specs.Rules.{own_digest, same_bytes}
+use Rattle.dist_core_setup.specs.Saying.{tick_text}
 use Rattle.dist_core.specs.declared.event.Event.{Event}
 use Rattle.dist_core.specs.declared.event.Event.TheVariants as event
 use Rattle.dist_core.specs.declared.reply.Reply.{Reply}
@@ -45,6 +46,14 @@ end_of (event.Incoming link) = None
 end_of (event.Frame x body) = Some x
 end_of (event.Lost x w) = Some x
 end_of (event.Tick x) = Some x
+
+-- what is returned where nothing is sent, and nothing else is reported
+abbrev pub silent_reply : EndId → Reply
+silent_reply x = record { end_ = x; say = []; closed = None; up = None; note = note.Nothing }
+
+-- what is returned for a tick
+abbrev pub tick_reply : EndId → Reply
+tick_reply x = record { end_ = x; say = tick_text; closed = None; up = None; note = note.Nothing }
 
 -- what is returned for a loss
 abbrev pub loss_reply : EndId → Why → Reply

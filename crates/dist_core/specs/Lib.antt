@@ -1,11 +1,13 @@
 pub mod Node
 pub mod Effects
 pub mod Accepted
+pub mod Arrival
 pub mod Dialled
 pub mod Step
 pub mod Answers
 pub mod Rows
 pub mod Fitting
+pub mod Doing
 pub mod Runs
 pub mod Clauses
 pub mod Losses

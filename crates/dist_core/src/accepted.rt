@@ -1,5 +1,6 @@
 //! What each message does to an accepted end.
 ghost use Rattle.std.specs.Prelude.{◌≡◌, List, IfOk, true, false, Ok, Err, Some, None, slice_get};
+ghost use Rattle.dist_messages.specs.Views.{message_of};
 ghost use Rattle.dist_core_ends.specs.Ends.{entry_in};
 ghost use Rattle.dist_core.specs.Effects.{superseded_in, superseded_end, supersedes, held_back};
 ghost use Rattle.dist_core.specs.Progress.{effect_by, HoldsOn};
@@ -13,7 +14,7 @@ use dist_core_ends::{Attempt, End, Ends, Phase, Stage, Why};
 use dist_core_setup::{
     Setup, ack_frame, challenge_frame, greeting, own_digest, required_of, status_frame,
 };
-use dist_messages::{Form, Message, Status};
+use dist_messages::{Form, MessageView, Status};
 use dist_names::{ByteString, Flags, NodeName};
 use dist_peers::{EndId, Verdict};
 use std::alloc::{AllocError, Global};
@@ -94,7 +95,7 @@ fn wait_for_true(attempt: Attempt) -> Attempt
 }
 
 // What is noted of a name that passed all checks and dooms no end.
-fn note_of_name(peer: NodeName) -> Note
+pub fn note_of_name(peer: NodeName) -> Note
     ensures { result ≡ Note.NameTaken peer None }
 {
     Note::NameTaken { peer, dooms: None }
@@ -177,15 +178,15 @@ pub fn in_await_true(
     setup: &Setup,
     fresh: u32,
     attempt: &Attempt,
-    message: &Message,
+    message: &MessageView,
 ) -> Result<Progress, AllocError>
     requires { attempt.now.phase ≡ Phase.AwaitTrue }
     ensures effect { (es : List End) (id : EndId) → IfOk result (λ p. effect_by es id attempt.now p
-        ≡ in_await_true setup.now id fresh attempt.now message.now) }
+        ≡ in_await_true setup.now id fresh attempt.now (message_of message.now)) }
     ensures holds { IfOk result (HoldsOn attempt.now) }
 {
     match message {
-        Message::Status(Status::True) => {
+        MessageView::Status(Status::True) => {
             let say = challenge_frame(alloc, setup, attempt.form, fresh)?;
             let to = Stage {
                 phase: reply_phase(attempt.form),
@@ -194,7 +195,7 @@ pub fn in_await_true(
             };
             Ok(Progress::Goes { say, to })
         }
-        Message::Status(Status::False) => Ok(refusal(alloc, Why::StatusRefused)),
+        MessageView::Status(Status::False) => Ok(refusal(alloc, Why::StatusRefused)),
         _ => Ok(refusal(alloc, Why::Unexpected)),
     }
 }
@@ -204,14 +205,14 @@ pub fn in_await_complement(
     alloc: Global,
     setup: &Setup,
     attempt: &Attempt,
-    message: &Message,
+    message: &MessageView,
 ) -> Result<Progress, AllocError>
     requires { attempt.now.phase ≡ Phase.AwaitComplement }
     ensures effect { (es : List End) (id : EndId) → IfOk result (λ p. effect_by es id attempt.now p
-        ≡ in_await_complement setup.now id attempt.now message.now) }
+        ≡ in_await_complement setup.now id attempt.now (message_of message.now)) }
     ensures holds { IfOk result (HoldsOn attempt.now) }
 {
-    let Message::Complement { high, creation } = message else {
+    let MessageView::Complement { high, creation } = message else {
         return Ok(refusal(alloc, Why::Unexpected));
     };
     let flags = Flags::of_halves(*high, attempt.flags.low());
@@ -233,14 +234,14 @@ pub fn in_await_reply(
     alloc: Global,
     setup: &Setup,
     attempt: &Attempt,
-    message: &Message,
+    message: &MessageView,
 ) -> Result<Progress, AllocError>
     requires { attempt.now.phase ≡ Phase.AwaitReply }
     ensures effect { (es : List End) (id : EndId) → IfOk result (λ p. effect_by es id attempt.now p
-        ≡ in_await_reply setup.now (entry_in es attempt.now.peer) id attempt.now message.now) }
+        ≡ in_await_reply setup.now (entry_in es attempt.now.peer) id attempt.now (message_of message.now)) }
     ensures holds { IfOk result (HoldsOn attempt.now) }
 {
-    let Message::Reply {
+    let MessageView::Reply {
         challenge,
         digest: came,
     } = message

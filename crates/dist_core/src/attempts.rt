@@ -51,6 +51,7 @@ fn reply_of_end(id: EndId, say: ByteString, why: Why) -> Reply
 }
 
 // Does to the attempt of an end what becomes of it. It takes no memory.
+#[inline(always)]
 fn put_progress(ends: &mut Ends, id: EndId, progress: Progress) -> Reply
     requires { CanProgress ends.old id progress }
     ensures reply { (a : Attempt) → slice_get ends.old id.0 ≡ Some (End.Attempt a) → let f = effect_by ends.old id a progress in result ≡ f.reply }
@@ -80,6 +81,7 @@ fn put_progress(ends: &mut Ends, id: EndId, progress: Progress) -> Reply
 
 impl Node {
     // Makes a step of which it is known what becomes of its attempt. It takes no memory.
+    #[inline(always)]
     fn make_progress(&mut self, id: EndId, progress: Progress) -> Reply
         requires can { CanProgress self.old.ends id progress }
         requires left { self.old.steps + 1 ≤ (let l = limits_of self.old in l.steps) }
@@ -120,12 +122,10 @@ impl Node {
     pub(crate) fn take_frame(
         &mut self,
         alloc: Global,
-        event: &Event,
         id: EndId,
         body: &ByteString,
         fresh: u32,
     ) -> Result<Reply, StepError>
-        requires { event.now ≡ Event.Frame id body.now }
         ensures { IsStep result (step_result self.old (Event.Frame id body.now)
             (at_end (slice_get self.old.ends id.0) (λ e. framed_from self.old id fresh body.now e (sender_to e)))) self.old self.new }
     {
@@ -138,7 +138,8 @@ impl Node {
                 let progress = self.progress_of_frame(alloc, fresh, body, attempt)?;
                 Ok(self.make_progress(id, progress))
             }
-            _ => self.step_by_effect(alloc, event, fresh),
+            End::Unnamed => self.take_first_frame(alloc, id, body, fresh),
+            _ => Err(StepError::WrongPhase),
         }
     }
 }

@@ -2,6 +2,7 @@
 ghost use Rattle.std.specs.Prelude.{◌≡◌, List, IfOk, Ok, Err, Some, None};
 ghost use Rattle.dist_peers.specs.declared.entry.EndId.{EndId};
 ghost use Rattle.dist_core_ends.specs.declared.known.End.{End};
+ghost use Rattle.dist_messages.specs.Views.{message_of};
 ghost use Rattle.dist_core_ends.specs.Ends.{entry_in};
 ghost use Rattle.dist_core_setup.specs.Saying.{reply_text};
 ghost use Rattle.dist_core.specs.Progress.{effect_by, HoldsOn};
@@ -13,7 +14,7 @@ use dist_core_ends::{Attempt, Phase, Stage, Why};
 use dist_core_setup::{
     Setup, knows_six, opens_new, own_digest, reply_frame, required_of, status_frame,
 };
-use dist_messages::{Form, Message, Status};
+use dist_messages::{Form, MessageView, Status};
 use dist_names::{ByteString, Creation, Flags};
 use std::alloc::{AllocError, Global};
 
@@ -21,23 +22,23 @@ use std::alloc::{AllocError, Global};
 pub fn in_await_status(
     alloc: Global,
     attempt: &Attempt,
-    message: &Message,
+    message: &MessageView,
 ) -> Result<Progress, AllocError>
     requires { attempt.now.phase ≡ Phase.AwaitStatus }
     ensures effect { (es : List End) (id : EndId) → IfOk result (λ p. effect_by es id attempt.now p
-        ≡ in_await_status id attempt.now message.now) }
+        ≡ in_await_status id attempt.now (message_of message.now)) }
     ensures holds { IfOk result (HoldsOn attempt.now) }
 {
     match message {
-        Message::Status(Status::Ok) | Message::Status(Status::OkSimultaneous) => {
+        MessageView::Status(Status::Ok) | MessageView::Status(Status::OkSimultaneous) => {
             let nothing = ByteString::new(alloc);
             Ok(moves(nothing, attempt, Phase::AwaitChallenge))
         }
-        Message::Status(Status::Alive) => {
+        MessageView::Status(Status::Alive) => {
             let say = status_frame(alloc, Status::True)?;
             Ok(moves(say, attempt, Phase::AwaitChallenge))
         }
-        Message::Status(Status::Nok) | Message::Status(Status::NotAllowed) => {
+        MessageView::Status(Status::Nok) | MessageView::Status(Status::NotAllowed) => {
             Ok(refusal(alloc, Why::StatusRefused))
         }
         _ => Ok(refusal(alloc, Why::Unexpected)),
@@ -45,19 +46,19 @@ pub fn in_await_status(
 }
 
 // The end is superseded, and awaits the status.
-pub fn in_doomed(alloc: Global, message: &Message) -> Result<Progress, AllocError>
-    ensures effect { (es : List End) (id : EndId) (a : Attempt) → IfOk result (λ p. effect_by es id a p ≡ in_doomed id message.now) }
+pub fn in_doomed(alloc: Global, message: &MessageView) -> Result<Progress, AllocError>
+    ensures effect { (es : List End) (id : EndId) (a : Attempt) → IfOk result (λ p. effect_by es id a p ≡ in_doomed id (message_of message.now)) }
     ensures holds { (a : Attempt) → IfOk result (HoldsOn a) }
 {
     match message {
-        Message::Status(Status::Alive) => {
+        MessageView::Status(Status::Alive) => {
             let say = status_frame(alloc, Status::False)?;
             Ok(Progress::Shuts {
                 say,
                 why: Why::Crossed,
             })
         }
-        Message::Status(_) => Ok(refusal(alloc, Why::Crossed)),
+        MessageView::Status(_) => Ok(refusal(alloc, Why::Crossed)),
         _ => Ok(refusal(alloc, Why::Unexpected)),
     }
 }
@@ -65,7 +66,7 @@ pub fn in_doomed(alloc: Global, message: &Message) -> Result<Progress, AllocErro
 // What a challenge that is understood says, in which form it is answered, and which flags are asked for.
 #[derive(Clone, Copy)]
 struct Challenge<'a> {
-    name: &'a ByteString,
+    name: &'a [u8],
     form: Form,
     required: Flags,
     flags: Flags,
@@ -114,7 +115,7 @@ fn answer_challenge(
         came.entry.form came.entry.required.0 came.entry.flags came.entry.challenge came.entry.creation came.entry.name.now) }
     ensures holds { IfOk result (HoldsOn attempt.now) }
 {
-    if !attempt.peer.has_bytes(came.name.as_slice()) {
+    if !attempt.peer.has_bytes(came.name) {
         return Ok(refusal(alloc, Why::WrongName));
     }
     if !came.flags.has(came.required) {
@@ -129,22 +130,22 @@ pub fn in_await_challenge(
     setup: &Setup,
     fresh: u32,
     attempt: &Attempt,
-    message: &Message,
+    message: &MessageView,
 ) -> Result<Progress, AllocError>
     requires { attempt.now.phase ≡ Phase.AwaitChallenge }
     ensures effect { (es : List End) (id : EndId) → IfOk result (λ p. effect_by es id attempt.now p
-        ≡ in_await_challenge setup.now id fresh attempt.now message.now) }
+        ≡ in_await_challenge setup.now id fresh attempt.now (message_of message.now)) }
     ensures holds { IfOk result (HoldsOn attempt.now) }
 {
     match message {
-        Message::NewChallenge {
+        MessageView::NewChallenge {
             flags,
             challenge,
             creation,
             name,
         } if knows_six(setup) => {
             let came = Challenge {
-                name,
+                name: *name,
                 form: attempt.form,
                 required: required_of(setup, Form::New),
                 flags: *flags,
@@ -153,13 +154,13 @@ pub fn in_await_challenge(
             };
             answer_challenge(alloc, setup, fresh, attempt, came)
         }
-        Message::OldChallenge {
+        MessageView::OldChallenge {
             flags,
             challenge,
             name,
         } if !opens_new(setup, attempt.form) => {
             let came = Challenge {
-                name,
+                name: *name,
                 form: Form::Five,
                 required: required_of(setup, Form::Five),
                 flags: Flags(*flags as u64),
@@ -177,14 +178,14 @@ pub fn in_await_ack(
     alloc: Global,
     setup: &Setup,
     attempt: &Attempt,
-    message: &Message,
+    message: &MessageView,
 ) -> Result<Progress, AllocError>
     requires { attempt.now.phase ≡ Phase.AwaitAck }
     ensures effect { (es : List End) (id : EndId) → IfOk result (λ p. effect_by es id attempt.now p
-        ≡ in_await_ack setup.now (entry_in es attempt.now.peer) id attempt.now message.now) }
+        ≡ in_await_ack setup.now (entry_in es attempt.now.peer) id attempt.now (message_of message.now)) }
     ensures holds { IfOk result (HoldsOn attempt.now) }
 {
-    let Message::Ack { digest: came } = message else {
+    let MessageView::Ack { digest: came } = message else {
         return Ok(refusal(alloc, Why::Unexpected));
     };
     let own = own_digest(setup, &attempt.peer, attempt.challenge);

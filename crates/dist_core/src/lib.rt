@@ -10,6 +10,7 @@
 #![tactic(auto)]
 
 mod accepted;
+mod arrival;
 mod attempts;
 mod changing;
 mod comparing;
@@ -21,6 +22,7 @@ mod event;
 mod events;
 mod finding;
 mod frames;
+mod naming;
 mod node;
 mod preparing;
 mod progress;

@@ -7,14 +7,15 @@ ghost use Rattle.dist_core_ends.specs.Ends.{AreLegal, Finds, FindsUp, entry_in, 
 ghost use Rattle.dist_core_ends.specs.Ends.{oldest_pending, record_in, up_from, up_pair, up_ids, still_of, awaited_of};
 ghost use Rattle.dist_core_ends.specs.Forgetting.{without_causes_below};
 ghost use Rattle.dist_core.specs.Node.{NodeState, ends_after, is_crowded, is_full_for, is_given_out, is_spent, limits_of, new_id};
-ghost use Rattle.dist_core.specs.Clauses.{ClosesOnReply, end_of, loss_reply};
+ghost use Rattle.dist_core.specs.Clauses.{ClosesOnReply, end_of, loss_reply, silent_reply, tick_reply};
+ghost use Rattle.dist_core.specs.Doing.{TakesTick};
 ghost use Rattle.dist_core.specs.Losses.{IsGone, IsSilent, is_loss};
 ghost use Rattle.dist_core.specs.Fitting.{FitsNodeTable};
 ghost use Rattle.dist_core_setup.specs.Saying.{name_text, tick_text};
 ghost use Rattle.dist_core.specs.Effects.{moves, goes_on, closes};
 ghost use Rattle.dist_core.specs.Accepted.{verdict_in, name_taken};
 ghost use Rattle.dist_core.specs.Step.{effect_of, step, step_result, at_end, opening_effect, tick_effect, dial_effect, came_in, cost_of};
-ghost use Rattle.dist_core.specs.Answers.{IsStep, Gives, GivesReply};
+ghost use Rattle.dist_core.specs.Answers.{IsStep, Gives, GivesReply, Refuses};
 
 use crate::effect::{Effect, FrameStep, closes};
 use crate::event::Event;
@@ -226,6 +227,60 @@ impl Node {
         self.make_step(alloc, event, fresh)
     }
 
+    /// A connection came: gives out its end. The step of [`Event::Incoming`], whose reply says nothing else.
+    #[tactic(auto, unfolding(crate::specs::Step::effect_of))]
+    #[inline(always)]
+    pub fn accept(&mut self) -> Result<EndId, StepError>
+        ensures ok { (link fresh : ℕ) → IfOk result (λ id. step self.old (Event.Incoming link) fresh ≡ Ok (silent_reply id, self.new)) }
+        ensures err { (link fresh : ℕ) → IfErr result (λ e. Refuses e (step self.old (Event.Incoming link) fresh)) }
+        ensures unchanged { OnErr result (self.new ≡ self.old) }
+    {
+        self.show_legal();
+        if self.gives_no_end() {
+            return Err(StepError::Spent);
+        }
+        if self.is_crowded() {
+            return Err(StepError::Full);
+        }
+        let id = self.new_id();
+        let _ = self.most_ends();
+        if self.ends.add().is_err() {
+            return Err(StepError::NoMemory);
+        }
+        self.steps += 1;
+        Ok(id)
+    }
+
+    /// The connection of this end is lost, or is given up. The step of [`Event::Lost`], whose reply says nothing else. It takes no
+    /// memory, and fails only where the end is unknown or closed.
+    #[tactic(auto, unfolding(crate::specs::Step::effect_of))]
+    #[inline(always)]
+    pub fn lose(&mut self, id: EndId, why: Why) -> Result<(), StepError>
+        ensures ok { (fresh : ℕ) → OnOk result (step self.old (Event.Lost id why) fresh ≡ Ok (loss_reply id why, self.new)) }
+        ensures err { (fresh : ℕ) → IfErr result (λ e. step self.old (Event.Lost id why) fresh ≡ Err e) }
+        ensures gone { IfErr result IsGone }
+        ensures unchanged { OnErr result (self.new ≡ self.old) }
+    {
+        self.show_legal();
+        let _end = open_end(&self.ends, id)?;
+        self.ends.close(id, why);
+        Ok(())
+    }
+
+    /// A tick is due on this end: whoever carries its connection sends a packet of no bytes, which is [`dist_frames::tick`]. The
+    /// step of [`Event::Tick`], whose reply says nothing else. It takes no memory.
+    #[tactic(auto, unfolding(crate::specs::Step::effect_of), using(crate::proofs::Ticks::ticks))]
+    #[inline(always)]
+    pub fn tick(&mut self, id: EndId) -> Result<(), StepError>
+        ensures ok { (fresh : ℕ) → OnOk result (step self.old (Event.Tick id) fresh ≡ Ok (tick_reply id, self.new)) }
+        ensures err { (fresh : ℕ) → IfErr result (λ e. step self.old (Event.Tick id) fresh ≡ Err e) }
+        ensures unchanged { OnErr result (self.new ≡ self.old) }
+    {
+        self.check_tick(id)?;
+        self.steps += 1;
+        Ok(())
+    }
+
     /// What `step` would return, or `NoMemory` where memory runs out for the answer itself. It changes nothing.
     pub fn answer(&self, alloc: Global, event: &Event, fresh: u32) -> Result<Reply, StepError>
         ensures answer { GivesReply result (step self.now event.now fresh) }
@@ -251,12 +306,12 @@ impl Node {
     {
         self.show_legal();
         match event {
-            Event::Tick { end_: id } => self.tick(alloc, *id),
-            Event::Lost { end_: id, why } => self.lose(alloc, *id, *why),
-            Event::Incoming { link } => self.come_in(alloc, *link),
+            Event::Tick { end_: id } => self.send_tick(alloc, *id),
+            Event::Lost { end_: id, why } => self.report_loss(alloc, *id, *why),
+            Event::Incoming { link } => self.report_incoming(alloc, *link),
             Event::Opened { end_: id, link } => self.take_connection(alloc, *id, *link),
-            Event::Frame { end_: id, body } => self.take_frame(alloc, event, *id, body, fresh),
-            Event::Dial { .. } => self.step_by_effect(alloc, event, fresh),
+            Event::Frame { end_: id, body } => self.take_frame(alloc, *id, body, fresh),
+            Event::Dial { peer, opening } => self.take_dial(alloc, peer, *opening),
         }
     }
 
@@ -268,34 +323,13 @@ impl Node {
         let _ = self.open_ends();
     }
 
-    // A step by its effect. It stays a call of its own, while the short steps become part of their caller: an effect is a large
-    // value, and a tick or a loss would clear the room for one.
-    #[inline(never)]
-    pub(crate) fn step_by_effect(
-        &mut self,
-        alloc: Global,
-        event: &Event,
-        fresh: u32,
-    ) -> Result<Reply, StepError>
-        ensures step { IsStep result (step self.old event.now fresh) self.old self.new }
-        ensures loss { IsTrue (is_loss event.now) → result ≢ Err StepError.NoMemory }
-        ensures legal { AreLegal self.old.ends }
-    {
-        self.show_legal();
-        let effect = self.effect(alloc, event, fresh)?;
-        self.apply_effect(effect, cost(event))
-    }
-
     // A loss, which closes its end and sends nothing.
     #[inline(always)]
-    fn lose(&mut self, alloc: Global, id: EndId, why: Why) -> Result<Reply, StepError>
-        ensures step { IsStep result (step_result self.old (Event.Lost id why) (at_end (slice_get self.old.ends id.0) (λ e. Ok (closes id why))))
-            self.old self.new }
+    fn report_loss(&mut self, alloc: Global, id: EndId, why: Why) -> Result<Reply, StepError>
+        ensures step { (fresh : ℕ) → IsStep result (step self.old (Event.Lost id why) fresh) self.old self.new }
         ensures loss { result ≢ Err StepError.NoMemory }
     {
-        self.show_legal();
-        let _end = open_end(&self.ends, id)?;
-        self.ends.close(id, why);
+        self.lose(id, why)?;
         let mut reply = reply_that_says(id, ByteString::new(alloc));
         reply.closed = Some((id, why));
         Ok(reply)
@@ -303,30 +337,33 @@ impl Node {
 
     // A connection that came, which gives out the next end.
     #[inline(always)]
-    fn come_in(&mut self, alloc: Global, _link: u64) -> Result<Reply, StepError>
-        ensures { IsStep result (step_result self.old (Event.Incoming _link) (came_in self.old)) self.old self.new }
+    fn report_incoming(&mut self, alloc: Global, _link: u64) -> Result<Reply, StepError>
+        ensures { (fresh : ℕ) → IsStep result (step self.old (Event.Incoming _link) fresh) self.old self.new }
     {
-        self.show_legal();
-        if self.gives_no_end() {
-            return Err(StepError::Spent);
-        }
-        if self.is_crowded() {
-            return Err(StepError::Full);
-        }
-        let id = self.new_id();
-        let _ = self.most_ends();
-        if self.ends.add().is_err() {
-            return Err(StepError::NoMemory);
-        }
-        self.steps += 1;
+        let id = self.accept()?;
         Ok(reply_that_says(id, ByteString::new(alloc)))
     }
 
-    // A tick, which leaves all ends as they are.
+    // A tick, with the packet that is sent.
     #[tactic(auto, using(crate::proofs::Ticks::ticks))]
     #[inline(always)]
-    fn tick(&mut self, alloc: Global, id: EndId) -> Result<Reply, StepError>
+    fn send_tick(&mut self, alloc: Global, id: EndId) -> Result<Reply, StepError>
         ensures { IsStep result (step_result self.old (Event.Tick id) (at_end (slice_get self.old.ends id.0) (tick_effect self.old id))) self.old self.new }
+    {
+        self.check_tick(id)?;
+        let Ok(say) = ByteString::from_slice(alloc, &tick()) else {
+            return Err(StepError::NoMemory);
+        };
+        self.steps += 1;
+        Ok(reply_that_says(id, say))
+    }
+
+    // Whether a tick is taken: it leaves all ends as they are.
+    #[inline(always)]
+    pub(crate) fn check_tick(&self, id: EndId) -> Result<(), StepError>
+        ensures ok { OnOk result (TakesTick self.now id) }
+        ensures left { OnOk result (self.now.steps + 1 < 2 ^ 64) }
+        ensures err { IfErr result (λ e. (e ≢ StepError.NoMemory) × (at_end (slice_get self.now.ends id.0) (tick_effect self.now id) ≡ Err e)) }
     {
         let End::Up(_) = open_end(&self.ends, id)? else {
             return Err(StepError::WrongPhase);
@@ -334,11 +371,7 @@ impl Node {
         if self.is_spent() {
             return Err(StepError::Spent);
         }
-        let Ok(say) = ByteString::from_slice(alloc, &tick()) else {
-            return Err(StepError::NoMemory);
-        };
-        self.steps += 1;
-        Ok(reply_that_says(id, say))
+        Ok(())
     }
 
     // An answer, with what is shown of it at once.
@@ -454,7 +487,7 @@ impl Node {
     }
 
     // The most ends that it gives out: each has a number.
-    fn most_ends(&self) -> u32
+    pub(crate) fn most_ends(&self) -> u32
         ensures most { result ≡ (let l = limits_of self.now in l.ends) }
         ensures few { length self.now.ends < 2 ^ 32 }
     {
@@ -484,7 +517,7 @@ impl Node {
     }
 
     // The verdict on a name.
-    fn verdict(&self, peer: &NodeName, id: EndId) -> Verdict
+    pub(crate) fn verdict(&self, peer: &NodeName, id: EndId) -> Verdict
         ensures { result ≡ verdict_in self.now id peer.now }
     {
         self.ends.verdict(&self.setup.name, peer, id)

@@ -10,7 +10,7 @@ ghost use Rattle.dist_core.specs.Preparing.{IsPrepared, FitsNode, GivesPrepared,
 use crate::effect::Effect;
 use crate::end_change::EndChange;
 use crate::event::Event;
-use crate::finding::{cost, open_end};
+use crate::finding::cost;
 use crate::node::{Node, reply_that_says};
 use crate::reply::Reply;
 use crate::step_error::StepError;
@@ -137,12 +137,7 @@ impl Node {
     fn work_out_tick(&self, alloc: Global, id: EndId) -> Result<Prepared, StepError>
         ensures { GivesPrepared result self.now.ends 1 (at_end (slice_get self.now.ends id.0) (tick_effect self.now id)) }
     {
-        let End::Up(_) = open_end(&self.ends, id)? else {
-            return Err(StepError::WrongPhase);
-        };
-        if self.is_spent() {
-            return Err(StepError::Spent);
-        }
+        self.check_tick(id)?;
         let Ok(say) = ByteString::from_slice(alloc, &tick()) else {
             return Err(StepError::NoMemory);
         };

@@ -18,7 +18,8 @@ use Rattle.dist_messages.specs.Spelling.{Spells, Fits, text_of, is_said_by}
 use Rattle.dist_messages.specs.Canonical.{own_spelling}
 use Rattle.dist_names.specs.Bytes.{IsBytes}
 use Rattle.dist_names.proofs.Bytes.{IsBytes-rest}
-use Rattle.dist_messages.specs.Reading.{read, old_name, new_name, old_challenge, new_challenge, complement, reply, ack, status_of, status_message}
+use Rattle.dist_messages.specs.Reading.{read, old_name, new_name, old_challenge, new_challenge, complement, reply, ack, status_of, status_message, has_name_tag}
+use Rattle.dist_messages.specs.Views.{has_name}
 use Rattle.dist_messages.proofs.FieldLaws.{ok_is}
 use Rattle.dist_messages.proofs.Bodies.{Reads, old_name_again, new_name_again, old_challenge_again, new_challenge_again, complement_again, reply_again, ack_again, old_name_takes, new_name_takes, old_challenge_takes, new_challenge_takes, complement_takes, reply_takes, ack_takes}
 
@@ -205,3 +206,24 @@ found_from side body (Err e) fits given = tt
 
 pub only_from : (side : Side) (body : List ℕ) (r : Result Message MessageError) (m : Message) → Answers (λ m. m) r (read side body) → Fits m → Spells side m body → Answers (λ m. m) r (Ok m)
 only_from side body r m given f s = subst (λ (x : Result Message MessageError). Answers (λ m. m) r x) (spelled_is_read side m body f s) given
+
+-- ---- which bodies have a name
+
+-- a message with a name has the tag of one
+tag_of_named : (side : Side) (m : Message) (body : List ℕ) → Spells side m body → IsTrue (has_name m) → IsTrue (has_name_tag body)
+tag_of_named Dialler (message.OldName flags name) body (version, v, e) h = rw e refl
+tag_of_named Dialler (message.NewName flags creation name) body (ignored, l, e) h = rw e refl
+tag_of_named Acceptor (message.OldChallenge flags challenge name) body (version, v, e) h = rw e refl
+tag_of_named Acceptor (message.NewChallenge flags challenge creation name) body (ignored, l, e) h = rw e refl
+tag_of_named Dialler (message.OldChallenge flags challenge name) body e h = absurd e
+tag_of_named Dialler (message.NewChallenge flags challenge creation name) body e h = absurd e
+tag_of_named Acceptor (message.OldName flags name) body e h = absurd e
+tag_of_named Acceptor (message.NewName flags creation name) body e h = absurd e
+tag_of_named side (message.Status s) body e h = absurd cc
+tag_of_named side (message.Complement high creation) body e h = absurd cc
+tag_of_named side (message.Reply challenge digest) body e h = absurd cc
+tag_of_named side (message.Ack digest) body e h = absurd cc
+
+-- the same of a message that was read
+pub named_has_tag : (side : Side) (body : List ℕ) (m : Message) → IsBytes body → read side body ≡ Ok m → IsTrue (has_name m) → IsTrue (has_name_tag body)
+named_has_tag side body m fits e = tag_of_named side m body (read_is_spelled side body m fits e).0

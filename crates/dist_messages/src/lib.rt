@@ -1,5 +1,7 @@
 //! The messages of the distribution handshake, as values and as the bodies of frames: `decode` and `encode`.
 //!
+//! `read_in_place` reads a body without a copy of its name and without memory.
+//!
 //! `put_..` append the same bodies to bytes that are there, as to the frame before, without a copy of the name.
 //!
 //! It reads and writes bodies alone: no length before them, no name's form, no state of a connection, no input or output.
@@ -11,6 +13,7 @@ mod form;
 mod laws;
 mod message;
 mod message_error;
+mod message_view;
 mod opening;
 mod pieces;
 mod reading;
@@ -23,7 +26,8 @@ pub use form::Form;
 pub use laws::{causes_of_refusals, causes_of_writing, one_message, written_is_read};
 pub use message::{Message, Side, Status};
 pub use message_error::MessageError;
+pub use message_view::MessageView;
 pub use opening::Opening;
-pub use reading::decode;
+pub use reading::{decode, read_in_place};
 pub use writing::{encode, put_ack, put_complement, put_reply, put_status};
 pub use writing_named::{put_new_challenge, put_new_name, put_old_challenge, put_old_name};

@@ -5,19 +5,21 @@ ghost use Rattle.dist_messages.specs.Spelling.{Spells, Fits};
 ghost use Rattle.dist_messages.specs.Causes.{IsCause};
 ghost use Rattle.dist_messages.specs.declared.message.Message.{Message};
 ghost use Rattle.dist_messages.specs.Answer.{Answers};
+ghost use Rattle.dist_messages.specs.Views.{message_of};
 ghost use Rattle.dist_messages.specs.Reading.{complement, reply, ack, status_of, has_name_tag, read};
 
 use crate::fields::{digest_at, u32_at};
 use crate::message::{Message, Side};
 use crate::message_error::MessageError;
+use crate::message_view::MessageView;
 use crate::reading_named::{read_new_challenge, read_new_name, read_old_challenge, read_old_name};
 use crate::status::{acceptors_status, diallers_status};
 use dist_names::Creation;
 use std::alloc::Global;
 
 #[tactic(auto, unfolding(crate::specs::Reading::complement))]
-fn read_complement(bytes: &[u8]) -> Result<Message, MessageError>
-    ensures exact { Answers (λ m. m) result (complement bytes.now) }
+fn read_complement(bytes: &[u8]) -> Result<MessageView<'_>, MessageError>
+    ensures exact { Answers message_of result (complement bytes.now) }
     ensures memory { ¬ (IsErrOf result MessageError.NoMemory) }
 {
     let (high, rest) = u32_at(bytes)?;
@@ -25,15 +27,15 @@ fn read_complement(bytes: &[u8]) -> Result<Message, MessageError>
     if !behind.is_empty() {
         return Err(MessageError::Long);
     }
-    Ok(Message::Complement {
+    Ok(MessageView::Complement {
         high,
         creation: Creation(creation),
     })
 }
 
 #[tactic(auto, unfolding(crate::specs::Reading::reply))]
-fn read_reply(bytes: &[u8]) -> Result<Message, MessageError>
-    ensures exact { Answers (λ m. m) result (reply bytes.now) }
+fn read_reply(bytes: &[u8]) -> Result<MessageView<'_>, MessageError>
+    ensures exact { Answers message_of result (reply bytes.now) }
     ensures memory { ¬ (IsErrOf result MessageError.NoMemory) }
 {
     let (challenge, rest) = u32_at(bytes)?;
@@ -41,51 +43,69 @@ fn read_reply(bytes: &[u8]) -> Result<Message, MessageError>
     if !behind.is_empty() {
         return Err(MessageError::Long);
     }
-    Ok(Message::Reply { challenge, digest })
+    Ok(MessageView::Reply { challenge, digest })
 }
 
 #[tactic(auto, unfolding(crate::specs::Reading::ack))]
-fn read_ack(bytes: &[u8]) -> Result<Message, MessageError>
-    ensures exact { Answers (λ m. m) result (ack bytes.now) }
+fn read_ack(bytes: &[u8]) -> Result<MessageView<'_>, MessageError>
+    ensures exact { Answers message_of result (ack bytes.now) }
     ensures memory { ¬ (IsErrOf result MessageError.NoMemory) }
 {
     let (digest, behind) = digest_at(bytes)?;
     if !behind.is_empty() {
         return Err(MessageError::Long);
     }
-    Ok(Message::Ack { digest })
+    Ok(MessageView::Ack { digest })
 }
 
 #[tactic(auto, unfolding(crate::specs::Reading::status_of))]
-fn read_status(side: Side, text: &[u8]) -> Result<Message, MessageError>
-    ensures exact { Answers (λ m. m) result (status_of side text.now) }
+fn read_status(side: Side, text: &[u8]) -> Result<MessageView<'_>, MessageError>
+    ensures exact { Answers message_of result (status_of side text.now) }
     ensures memory { ¬ (IsErrOf result MessageError.NoMemory) }
 {
     let status = match side {
         Side::Dialler => diallers_status(text),
         Side::Acceptor => acceptors_status(text),
     };
-    Ok(Message::Status(status.ok_or(MessageError::UnknownStatus)?))
+    Ok(MessageView::Status(status.ok_or(MessageError::UnknownStatus)?))
 }
 
+/// The message that a body of this side spells, read in place: the same as [`decode`] answers, without a copy of the name. It
+/// takes no memory, so that the answer is never `NoMemory`.
+///
+/// Refusals, in this order: `Empty`, `UnknownTag` (also for a tag of the other side), `Short`, `Long`, `UnknownStatus` (also for
+/// a status of the other side).
 #[tactic(auto, unfolding(crate::specs::Reading::read))]
-fn read_message(alloc: Global, side: Side, body: &[u8]) -> Result<Message, MessageError>
-    ensures exact { Answers (λ m. m) result (read side body.now) }
-    ensures memory { IsErrOf result MessageError.NoMemory → IsTrue (has_name_tag body.now) }
+pub fn read_in_place(side: Side, body: &[u8]) -> Result<MessageView<'_>, MessageError>
+    // No memory is needed.
+    ensures memory { ¬ (IsErrOf result MessageError.NoMemory) }
+
+    // Which of the messages it is, computed from left to right.
+    ensures exact { Answers message_of result (read side body.now) }
 {
     let [tag, rest @ ..] = body else {
         return Err(MessageError::Empty);
     };
     match (side, *tag) {
         (_, b's') => read_status(side, rest),
-        (Side::Dialler, b'n') => read_old_name(alloc, rest),
-        (Side::Dialler, b'N') => read_new_name(alloc, rest),
+        (Side::Dialler, b'n') => read_old_name(rest),
+        (Side::Dialler, b'N') => read_new_name(rest),
         (Side::Dialler, b'c') => read_complement(rest),
         (Side::Dialler, b'r') => read_reply(rest),
-        (Side::Acceptor, b'n') => read_old_challenge(alloc, rest),
-        (Side::Acceptor, b'N') => read_new_challenge(alloc, rest),
+        (Side::Acceptor, b'n') => read_old_challenge(rest),
+        (Side::Acceptor, b'N') => read_new_challenge(rest),
         (Side::Acceptor, b'a') => read_ack(rest),
         _ => Err(MessageError::UnknownTag),
+    }
+}
+
+fn read_message(alloc: Global, side: Side, body: &[u8]) -> Result<Message, MessageError>
+    ensures exact { Answers (λ m. m) result (read side body.now) }
+    ensures memory { IsErrOf result MessageError.NoMemory → IsTrue (has_name_tag body.now) }
+{
+    match read_in_place(side, body) {
+        Ok(view) => Ok(view.to_message(alloc)?),
+        Err(error) => Err(error),
     }
 }
 

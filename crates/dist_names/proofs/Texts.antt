@@ -1,10 +1,8 @@
--- The bytes of a name are text.
+-- The bytes of a name are ASCII.
 use Rattle.std.proofs.Common.{◌≡◌, ℕ, zero, suc, ◌<◌, ◌≤◌, true, List, [], ◌∷◌, get_or, arith}
 use Rattle.std.specs.Prelude.{nat_le}
-use Rattle.std.specs.Str.{IsUtf8}
 use Rattle.std.specs.List.{list_all}
 use Rattle.std.proofs.lemmas.Bool.{and_parts, leb-true}
-use Rattle.std.proofs.lemmas.Str.{IsUtf8-from_ascii}
 use Rattle.dist_names.specs.Bytes.{is_visible}
 
 below : (byte : ℕ) → is_visible byte ≡ true → byte < 128
@@ -17,7 +15,3 @@ pub all_below : (bytes : List ℕ) → list_all is_visible bytes ≡ true → (i
 all_below [] h i = omega arith
 all_below (b ∷ bytes) h zero = below b (and_parts (is_visible b) (list_all is_visible bytes) h).0
 all_below (b ∷ bytes) h (suc i) = all_below bytes (and_parts (is_visible b) (list_all is_visible bytes) h).1 i
-
--- bytes that may stand in a name are ASCII, and so UTF-8
-pub name_bytes_are_text : (bytes : List ℕ) → list_all is_visible bytes ≡ true → IsUtf8 bytes
-name_bytes_are_text bytes h = IsUtf8-from_ascii bytes (all_below bytes h)

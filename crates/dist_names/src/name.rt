@@ -11,43 +11,31 @@ use crate::name_error::NameError;
 use crate::plain::{are_visible, host_part, is_same_text, short_part};
 use std::alloc::{AllocError, Global};
 use std::marker::Model;
-use std::str;
+use std::sync::Arc;
 
 /// The name of a node, as `a@127.0.0.1`: 3 to 255 bytes, each from 0x21 to 0x7E, one `@` among them, and neither part
-/// empty. Contracts see it as its bytes, and whoever holds one need not test it again.
+/// empty. Contracts see it as its bytes, and whoever holds one need not test it again. Equal copies share their bytes, so a
+/// copy takes no further memory.
 #[derive(Debug, Drop)]
 pub struct NodeName {
-    text: KeyedText,
+    text: Arc<KeyedText>,
 }
 
 impl Model for NodeName {
     ghost use Rattle.std.specs.Prelude.{ℕ, List};
+    ghost use Rattle.std.specs.Arc.{arc_value};
     ghost use Rattle.dist_names.specs.NodeName.{IsNodeName};
 
     ghost Value = { List ℕ };
 
-    ghost view = { λ n. n.text };
+    ghost view = { λ n. arc_value n.text };
 
-    ghost invariant = { λ n. IsNodeName n.text };
+    ghost invariant = { λ n. IsNodeName (arc_value n.text) };
 }
 
 const LEAST: usize = 3;
 
 const MOST: usize = 255;
-
-// The bytes as text, where each may stand in a name.
-#[tactic(auto, using(crate::proofs::Texts::name_bytes_are_text))]
-fn name_text(bytes: &[u8]) -> Option<&str>
-    ensures { option_copied result ≡ (if list_all is_visible bytes.now then Some bytes.now else None) }
-{
-    if !are_visible(bytes) {
-        return None;
-    }
-    match str::from_utf8(bytes) {
-        Ok(text) => Some(text),
-        Err(_) => unreachable!(),
-    }
-}
 
 // What stands behind the first separator is the host, in which none stands. What is left of the bytes is the short name.
 #[tactic(auto, using(crate::proofs::Places::no_host, crate::proofs::Places::no_short))]
@@ -79,22 +67,23 @@ impl NodeName {
         if bytes.len() > MOST {
             return Err(NameError::TooLong);
         }
-        let Some(text) = name_text(bytes) else {
+        if !are_visible(bytes) {
             return Err(NameError::BadByte);
-        };
+        }
         if !is_two_parts(bytes) {
             return Err(NameError::BadAt);
         }
-        Ok(NodeName::from_text(alloc, text)?)
+        Ok(NodeName::of_good(alloc, bytes)?)
     }
 
-    // A text that is a name.
-    fn from_text(alloc: Global, text: &str) -> Result<NodeName, AllocError>
-        requires { IsNodeName text.now }
-        ensures { IfOk result (λ name. name ≡ text.now) }
+    // Bytes that are a name.
+    fn of_good(alloc: Global, bytes: &[u8]) -> Result<NodeName, AllocError>
+        requires { IsNodeName bytes.now }
+        ensures { IfOk result (λ name. name ≡ bytes.now) }
     {
+        let text = KeyedText::new(alloc, bytes)?;
         Ok(NodeName {
-            text: KeyedText::new(alloc, text)?,
+            text: Arc::new(alloc, text)?,
         })
     }
 
@@ -103,13 +92,7 @@ impl NodeName {
         ensures same { result.now ≡ self.now }
         ensures good { IsNodeName self.now }
     {
-        self.text.as_str().as_bytes()
-    }
-
-    pub(crate) fn text(&self) -> &str
-        ensures { result.now ≡ self.now }
-    {
-        self.text.as_str()
+        self.text.bytes()
     }
 
     // Its first bytes as a number.
@@ -142,12 +125,12 @@ impl NodeName {
         host_part(self.bytes())
     }
 
-    /// An equal name.
-    pub fn try_clone(&self, alloc: Global) -> Result<NodeName, AllocError>
+    /// An equal name, which shares its bytes with this one. It fails only where there are 2^63 of them.
+    pub fn try_clone(&self, _alloc: Global) -> Result<NodeName, AllocError>
         ensures { IfOk result (λ copy. copy ≡ self.now) }
     {
         Ok(NodeName {
-            text: self.text.try_clone(alloc)?,
+            text: Arc::try_clone(&self.text)?,
         })
     }
 

@@ -17,7 +17,7 @@ impl PartialEq for NodeName {
     ghost laws = { Prim.search (comparing, rules) };
 
     fn eq(&self, other: &NodeName) -> bool {
-        self.front() == other.front() && self.text() == other.text()
+        self.front() == other.front() && self.bytes() == other.bytes()
     }
 }
 
@@ -43,7 +43,7 @@ impl Ord for NodeName {
         if our_next != their_next {
             return our_next.cmp(&their_next);
         }
-        self.text().cmp(other.text())
+        self.bytes().cmp(other.bytes())
     }
 }
 

@@ -1,5 +1,6 @@
 -- What is printed in parts.
-use Rattle.std.proofs.Common.{◌≡◌, ◌∙◌, ℕ, zero, suc, ◌+◌, ◌<◌, ◌≤◌, List, [], ◌∷◌, ◌++◌, codes, Option, slice_get, get_or, length, take, take_all, refl, sym, ap, subst, arith, append-nil, append_assoc}
+use Rattle.std.proofs.Common.{◌≡◌, ◌∙◌, ℕ, zero, suc, ◌+◌, ◌<◌, ◌≤◌, List, [], ◌∷◌, ◌++◌, codes, Option, Result, Ok, Err, OnOk, slice_get, get_or, length, take, take_all, refl, sym, ap, subst, arith, append-nil, append_assoc}
+use Rattle.std.specs.List.{concat}
 use Rattle.std.specs.Io.KnownBytes.{Appends}
 use Rattle.std.proofs.KnownBytes.{Appends-nil, Appends-trans}
 use Rattle.dist_names.specs.Order.{Name}
@@ -22,6 +23,32 @@ in_two a b c x y p q = Appends-trans a b c x y p q
 -- three parts
 pub in_three : (a b c d : Option (List ℕ)) (x y z : List ℕ) → Appends a b x → Appends b c y → Appends c d z → Appends a d (x ++ y ++ z)
 in_three a b c d x y z p q r = Appends-trans a c d (x ++ y) z (Appends-trans a b c x y p q) r
+
+-- four parts
+pub in_four : (a b c d e : Option (List ℕ)) (x y z w : List ℕ) → Appends a b x → Appends b c y → Appends c d z → Appends d e w → Appends a e (x ++ y ++ z ++ w)
+in_four a b c d e x y z w p q r s = Appends-trans a d e (x ++ y ++ z) w (in_three a b c d x y z p q r) s
+
+-- a part, and two that are put together
+pub two_by_two : (a b c : Option (List ℕ)) (x y z : List ℕ) → Appends a b x → Appends b c (y ++ z) → Appends a c (x ++ y ++ z)
+two_by_two a b c x y z p q = subst (λ t. Appends a c t) (sym (append_assoc x y z)) (Appends-trans a b c x (y ++ z) p q)
+
+-- a list of five parts
+pub listed_five : (a b c d e f : Option (List ℕ)) (x y z w v : List ℕ) → Appends a b x → Appends b c y → Appends c d z → Appends d e w → Appends e f v
+    → Appends a f (concat (x ∷ y ∷ z ∷ w ∷ v ∷ []))
+listed_five a b c d e f x y z w v p q r s t =
+    Appends-trans a b f x _ p (Appends-trans b c f y _ q (Appends-trans c d f z _ r (Appends-trans d e f w _ s (subst (λ l. Appends e f l) (sym (append-nil v)) t))))
+
+-- the same where the last of them may fail
+pub last_of_five : {X E : Type 0} (o : Result X E) (a b c d e f : Option (List ℕ)) (x y z w v : List ℕ) → Appends a b x → Appends b c y → Appends c d z → Appends d e w → OnOk o (Appends e f v)
+    → OnOk o (Appends a f (concat (x ∷ y ∷ z ∷ w ∷ v ∷ [])))
+last_of_five (Ok u) a b c d e f x y z w v p q r s t = listed_five a b c d e f x y z w v p q r s t
+last_of_five (Err u) a b c d e f x y z w v p q r s t = tt
+
+-- a list of seven parts
+pub listed_seven : (a b c d e f g h : Option (List ℕ)) (k l x y z w v : List ℕ) → Appends a b k → Appends b c l → Appends c d x → Appends d e y → Appends e f z → Appends f g w → Appends g h v
+    → Appends a h (concat (k ∷ l ∷ x ∷ y ∷ z ∷ w ∷ v ∷ []))
+listed_seven a b c d e f g h k l x y z w v m n p q r s t =
+    Appends-trans a b h k _ m (Appends-trans b c h l _ n (listed_five c d e f g h x y z w v p q r s t))
 
 -- ---- the rows of a table
 

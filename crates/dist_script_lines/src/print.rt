@@ -1,6 +1,6 @@
 //! The lines that a script prints: what a node answers, which ends a world closes, and how all stand at the end.
 
-ghost use Rattle.std.specs.Prelude.{◌≡◌, ◌++◌, decimal, option_copied, slice_get, OnOk, Some};
+ghost use Rattle.std.specs.Prelude.{◌≡◌, ◌++◌, codes, decimal, option_copied, slice_get, OnOk, Some};
 ghost use Rattle.std.specs.FinMap as map;
 ghost use Rattle.std.specs.Io.KnownBytes.{Appends};
 ghost use Rattle.dist_peers.specs.Table.{up_id};
@@ -15,21 +15,23 @@ ghost use Rattle.dist_script_lines.specs.Lines.{node_text, closed_line, applied_
 use dist_core::{Node, Reply, StepError, UpRecord, Why};
 use dist_names::{Creation, NodeName};
 use dist_peers::{EndId, Entry};
-use dist_script_words::{Piece, put};
+use dist_script_words::{Piece, put, put_bytes, put_digits, put_flags, put_number};
 use dist_world::Agreement;
 use std::io;
 use std::io::Write;
 
-fn end_number(id: EndId) -> Piece<'static>
-    ensures { text_of result ≡ decimal id.0 }
+// The number of an end.
+fn put_end<W: Write>(out: &mut W, id: EndId) -> io::Result<()>
+    ensures { OnOk result (Appends (W.contents out.old) (W.contents out.new) (decimal id.0)) }
 {
-    Piece::Number(u64::from(id.0))
+    put_number(out, u64::from(id.0))
 }
 
-fn why_name(why: Why) -> Piece<'static>
-    ensures { text_of result ≡ why_word why }
+// The name of a cause.
+fn put_why<W: Write>(out: &mut W, why: Why) -> io::Result<()>
+    ensures { OnOk result (Appends (W.contents out.old) (W.contents out.new) (why_word why)) }
 {
-    Piece::Text(why.name().as_bytes())
+    put_bytes(out, why.name().as_bytes())
 }
 
 // A creation, where it is known.
@@ -42,79 +44,115 @@ fn creation(creation: Option<Creation>) -> Piece<'static>
     }
 }
 
-fn said_piece(say: &[u8]) -> Piece<'_>
-    ensures { text_of result ≡ said_text say.now }
+fn put_creation<W: Write>(out: &mut W, creation: Option<Creation>) -> io::Result<()>
+    ensures { OnOk result (Appends (W.contents out.old) (W.contents out.new) (creation_text creation)) }
+{
+    match creation {
+        Some(creation) => put_number(out, u64::from(creation.0)),
+        None => put_bytes(out, b"unknown"),
+    }
+}
+
+fn put_said<W: Write>(out: &mut W, say: &[u8]) -> io::Result<()>
+    ensures { OnOk result (Appends (W.contents out.old) (W.contents out.new) (said_text say.now)) }
 {
     if say.is_empty() {
-        Piece::Text(b"-")
+        put_bytes(out, b"-")
     } else {
-        Piece::Digits(say)
+        put_digits(out, say)
     }
+}
+
+// The end that a step closed, and why.
+#[tactic(auto, using(crate::proofs::Printing::in_four))]
+fn put_closing<W: Write>(out: &mut W, id: EndId, why: Why) -> io::Result<()>
+    ensures { OnOk result (Appends (W.contents out.old) (W.contents out.new) (codes " closed " ++ decimal id.0 ++ codes " " ++ why_word why)) }
+{
+    put_bytes(out, b" closed ")?;
+    put_end(out, id)?;
+    put_bytes(out, b" ")?;
+    put_why(out, why)
 }
 
 fn write_closed<W: Write>(out: &mut W, closed: Option<(EndId, Why)>) -> io::Result<()>
     ensures { OnOk result (Appends (W.contents out.old) (W.contents out.new) (closed_text closed)) }
 {
     match closed {
-        Some((id, why)) => put(
-            out,
-            &[
-                Piece::Text(b" closed "),
-                end_number(id),
-                Piece::Text(b" "),
-                why_name(why),
-            ],
-        ),
-        None => out.write_all(b" closed -"),
+        Some((id, why)) => put_closing(out, id, why),
+        None => put_bytes(out, b" closed -"),
     }
+}
+
+// The record of the end that came up, and the end of the line.
+#[tactic(auto, using(crate::proofs::Printing::listed_seven))]
+fn put_rise<W: Write>(out: &mut W, found: &UpRecord) -> io::Result<()>
+    ensures { OnOk result (Appends (W.contents out.old) (W.contents out.new) (up_text (Some found.now))) }
+{
+    put_bytes(out, b" up ")?;
+    put_bytes(out, found.peer.bytes())?;
+    put_bytes(out, b" ")?;
+    put_flags(out, found.common)?;
+    put_bytes(out, b" ")?;
+    put_creation(out, found.creation)?;
+    put_bytes(out, b"\n")
 }
 
 fn came_up<W: Write>(out: &mut W, up: Option<&UpRecord>) -> io::Result<()>
     ensures { OnOk result (Appends (W.contents out.old) (W.contents out.new) (up_text (option_copied up.entry))) }
 {
     match up {
-        Some(record) => put(
-            out,
-            &[
-                Piece::Text(b" up "),
-                Piece::Text(record.peer.bytes()),
-                Piece::Text(b" "),
-                Piece::Flags(record.common),
-                Piece::Text(b" "),
-                creation(record.creation),
-                Piece::Text(b"\n"),
-            ],
-        ),
-        None => out.write_all(b" up -\n"),
+        Some(found) => put_rise(out, found),
+        None => put_bytes(out, b" up -\n"),
     }
 }
 
+// The end of a reply, and what it says.
+#[tactic(auto, using(crate::proofs::Printing::in_four))]
+fn put_saying<W: Write>(out: &mut W, id: EndId, say: &[u8]) -> io::Result<()>
+    ensures { OnOk result (Appends (W.contents out.old) (W.contents out.new) (codes "end " ++ decimal id.0 ++ codes " say " ++ said_text say.now)) }
+{
+    put_bytes(out, b"end ")?;
+    put_end(out, id)?;
+    put_bytes(out, b" say ")?;
+    put_said(out, say)
+}
+
+// What a step closed and what came up: most steps do neither.
+#[tactic(auto, using(crate::proofs::Printing::in_two))]
+fn put_outcome<W: Write>(
+    out: &mut W,
+    closed: Option<(EndId, Why)>,
+    up: Option<&UpRecord>,
+) -> io::Result<()>
+    ensures { OnOk result (Appends (W.contents out.old) (W.contents out.new) (closed_text closed ++ up_text (option_copied up.entry))) }
+{
+    if closed.is_none() && up.is_none() {
+        return put_bytes(out, b" closed - up -\n");
+    }
+    write_closed(out, closed)?;
+    came_up(out, up)
+}
+
 /// What a step returned.
-#[tactic(auto, using(crate::proofs::Printing::in_three))]
+#[tactic(auto, using(crate::proofs::Printing::two_by_two))]
 pub fn reply<W: Write>(out: &mut W, reply: &Reply) -> io::Result<()>
     ensures { OnOk result (Appends (W.contents out.old) (W.contents out.new) (reply_line reply.now)) }
 {
-    put(
-        out,
-        &[
-            Piece::Text(b"end "),
-            end_number(reply.end_),
-            Piece::Text(b" say "),
-            said_piece(reply.say.as_slice()),
-        ],
-    )?;
-    write_closed(out, reply.closed)?;
-    came_up(out, reply.up.as_ref())
+    put_saying(out, reply.end_, reply.say.as_slice())?;
+    put_outcome(out, reply.closed, reply.up.as_ref())
 }
 
 // The number of an end behind a word.
+#[tactic(auto, using(crate::proofs::Printing::in_two))]
 fn end_behind<W: Write>(out: &mut W, word: &[u8], id: EndId) -> io::Result<()>
     ensures { OnOk result (Appends (W.contents out.old) (W.contents out.new) (word.now ++ decimal id.0)) }
 {
-    put(out, &[Piece::Text(word), end_number(id)])
+    put_bytes(out, word)?;
+    put_end(out, id)
 }
 
 // The number of the end that is up behind a word, and that of the end by which it is challenged behind another.
+#[tactic(auto, using(crate::proofs::Printing::in_four))]
 fn ends_behind<W: Write>(
     out: &mut W,
     word: &'static [u8],
@@ -124,15 +162,10 @@ fn ends_behind<W: Write>(
 ) -> io::Result<()>
     ensures { OnOk result (Appends (W.contents out.old) (W.contents out.new) (word.now ++ decimal up.0 ++ behind.now ++ decimal by_.0)) }
 {
-    put(
-        out,
-        &[
-            Piece::Text(word),
-            end_number(up),
-            Piece::Text(behind),
-            end_number(by_),
-        ],
-    )
+    put_bytes(out, word)?;
+    put_end(out, up)?;
+    put_bytes(out, behind)?;
+    put_end(out, by_)
 }
 
 fn busy<W: Write>(out: &mut W, entry: Entry) -> io::Result<()>
@@ -146,20 +179,17 @@ fn busy<W: Write>(out: &mut W, entry: Entry) -> io::Result<()>
     }
 }
 
-fn refusal(error: StepError) -> Piece<'static>
-    ensures { text_of result ≡ refusal_name error }
-{
-    Piece::Text(error.name().as_bytes())
-}
-
 // What stands behind the name of a refusal.
-#[tactic(auto, using(crate::proofs::Printing::nothing))]
+#[tactic(auto, using(crate::proofs::Printing::nothing, crate::proofs::Printing::in_two))]
 fn detail<W: Write>(out: &mut W, error: StepError) -> io::Result<()>
     ensures { OnOk result (Appends (W.contents out.old) (W.contents out.new) (detail_text error)) }
 {
     match error {
         StepError::Busy(entry) => busy(out, entry),
-        StepError::Gone(why) => put(out, &[Piece::Text(b" "), why_name(why)]),
+        StepError::Gone(why) => {
+            put_bytes(out, b" ")?;
+            put_why(out, why)
+        }
         StepError::NoSuchEnd
         | StepError::WrongPhase
         | StepError::Spent
@@ -169,13 +199,14 @@ fn detail<W: Write>(out: &mut W, error: StepError) -> io::Result<()>
 }
 
 /// Why a step was refused.
-#[tactic(auto, using(crate::proofs::Printing::in_three))]
+#[tactic(auto, using(crate::proofs::Printing::in_four))]
 pub fn write_refused<W: Write>(out: &mut W, error: StepError) -> io::Result<()>
     ensures { OnOk result (Appends (W.contents out.old) (W.contents out.new) (refused_line error)) }
 {
-    put(out, &[Piece::Text(b"refused "), refusal(error)])?;
+    put_bytes(out, b"refused ")?;
+    put_bytes(out, error.name().as_bytes())?;
     detail(out, error)?;
-    out.write_all(b"\n")
+    put_bytes(out, b"\n")
 }
 
 /// How many packets of a linked stream ended.
@@ -203,22 +234,25 @@ fn standing<W: Write>(out: &mut W, entry: Entry) -> io::Result<()>
     }
 }
 
-// The record of the end that is up, where the peer has one, and the end of the line.
+// The record of an end that is up, and the end of the line.
+#[tactic(auto, using(crate::proofs::Printing::listed_five))]
+fn put_known<W: Write>(out: &mut W, found: &UpRecord) -> io::Result<()>
+    ensures { OnOk result (Appends (W.contents out.old) (W.contents out.new) (record_text (Some found.now))) }
+{
+    put_bytes(out, b" common ")?;
+    put_flags(out, found.common)?;
+    put_bytes(out, b" creation ")?;
+    put_creation(out, found.creation)?;
+    put_bytes(out, b"\n")
+}
+
+// The same where the peer has one.
 fn record<W: Write>(out: &mut W, kept: Option<&UpRecord>) -> io::Result<()>
     ensures { OnOk result (Appends (W.contents out.old) (W.contents out.new) (record_text (option_copied kept.entry))) }
 {
     match kept {
-        Some(found) => put(
-            out,
-            &[
-                Piece::Text(b" common "),
-                Piece::Flags(found.common),
-                Piece::Text(b" creation "),
-                creation(found.creation),
-                Piece::Text(b"\n"),
-            ],
-        ),
-        None => out.write_all(b"\n"),
+        Some(found) => put_known(out, found),
+        None => put_bytes(out, b"\n"),
     }
 }
 
@@ -234,7 +268,7 @@ fn up_record(node: &Node, entry: Entry) -> Option<&UpRecord>
 fn write_row<W: Write>(out: &mut W, node: &Node, peer: &NodeName, entry: Entry) -> io::Result<()>
     ensures { OnOk result (Appends (W.contents out.old) (W.contents out.new) (row_text node.now (peer.now, entry))) }
 {
-    out.write_all(peer.bytes())?;
+    put_bytes(out, peer.bytes())?;
     standing(out, entry)?;
     record(out, up_record(node, entry))
 }
@@ -256,7 +290,7 @@ pub fn table<W: Write>(out: &mut W, node: &Node) -> io::Result<()>
     ensures { OnOk result (Appends (W.contents out.old) (W.contents out.new) (table_text node.now)) }
 {
     if node.entries() == 0 {
-        return out.write_all(b"no peers\n");
+        return put_bytes(out, b"no peers\n");
     }
     for place in 0..node.entries() {
         write_nth_row(out, node, place)?;
@@ -274,9 +308,9 @@ pub fn closed_end<W: Write>(out: &mut W, node: usize, id: EndId, why: Why) -> io
             Piece::Text(b"closed "),
             Piece::Number(node as u64),
             Piece::Text(b" "),
-            end_number(id),
+            Piece::Number(u64::from(id.0)),
             Piece::Text(b" "),
-            why_name(why),
+            Piece::Text(why.name().as_bytes()),
             Piece::Text(b"\n"),
         ],
     )

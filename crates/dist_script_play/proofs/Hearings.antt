@@ -55,16 +55,16 @@ pub none_yet : (x : EndId) (fresh : ℕ) (old : Option (List ℕ)) (s : Standing
 none_yet x fresh old s r = record { done = []; put = Appends-nil old; any = refl; rest = refl }
 
 -- one more
-pub one_more : (x : EndId) (fresh : ℕ) (all : Hearing) (any : Bool) (old mid new : Option (List ℕ)) (s : Standing) (r r1 : Reader) (body : List ℕ) (reply : Option Reply) (s2 : Standing) (r2 : Reader)
+pub one_more : (x : EndId) (fresh : ℕ) (all : Hearing) (any : Bool) (old mid new : Option (List ℕ)) (s : Standing) (r r1 : Reader) (body : List ℕ) (t1 : Then) (s2 : Standing) (r2 : Reader)
     → SoFar x fresh all any old mid s r → to_come r ≡ body ∷ to_come r1 → r1 ≡ without_next r
-    → Appends mid new (step_text (step s.node (event.Frame x body) fresh)) → reply ≡ reply_in (step s.node (event.Frame x body) fresh)
-    → s2 ≡ after_step s (step s.node (event.Frame x body) fresh) → r2 ≡ reader_on (then_on x reply) r1
+    → Appends mid new (step_text (step s.node (event.Frame x body) fresh)) → t1 ≡ then_on x (reply_in (step s.node (event.Frame x body) fresh))
+    → s2 ≡ after_step s (step s.node (event.Frame x body) fresh) → r2 ≡ reader_on t1 r1
     → SoFar x fresh all true old new s2 r2
-one_more x fresh all any old mid new s r r1 body reply s2 r2 so first without put is_reply is_after is_reader =
+one_more x fresh all any old mid new s r r1 body t1 s2 r2 so first without put is_then is_after is_reader =
     let made = step s.node (event.Frame x body) fresh in
     let t = then_on x (reply_in made) in
     let after = after_step s made in
-    let next : r2 ≡ reader_on t r1 = is_reader ∙ ap (λ o. reader_on (then_on x o) r1) is_reply in
+    let next : r2 ≡ reader_on t r1 = is_reader ∙ ap (λ o. reader_on o r1) is_then in
     let step1 : hearing_of_frames x fresh (to_come r2) s2 r2 ≡ hearing_of_frames x fresh (to_come (reader_on t r1)) after (reader_on t r1) =
     ap (λ q. hearing_of_frames x fresh (to_come q) s2 q) next ∙ ap (λ z. hearing_of_frames x fresh (to_come (reader_on t r1)) z (reader_on t r1)) is_after in
     let step2 : hearing_of_frames x fresh (to_come (reader_on t r1)) after (reader_on t r1) ≡ heard_on t after (without_next r) (hearing_of_frames x fresh (to_come r1) after (without_next r)) =

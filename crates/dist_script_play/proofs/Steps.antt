@@ -1,13 +1,15 @@
 -- Steps that were refused.
-use Rattle.std.proofs.Common.{◌≡◌, ◌∙◌, ℕ, List, Option, None, Result, Err, refl, sym, ap, subst}
+use Rattle.std.proofs.Common.{◌≡◌, ◌∙◌, ℕ, List, Option, Result, Err, refl, sym, ap, subst}
 use Rattle.std.specs.Io.KnownBytes.{Appends}
+use Rattle.dist_peers.specs.declared.entry.EndId.{EndId}
 use Rattle.dist_core.specs.declared.reply.Reply.{Reply}
 use Rattle.dist_core.specs.declared.step_error.StepError.{StepError}
 use Rattle.dist_core.specs.declared.step_error.StepError.TheVariants as error
 use Rattle.dist_core.specs.Node.{NodeState}
 use Rattle.dist_core.specs.Answers.{Refuses}
 use Rattle.dist_script_lines.specs.Lines.{refused_line}
-use Rattle.dist_script_play.specs.Played.{Standing, step_text, reply_in, after_step}
+use Rattle.dist_script_play.specs.declared.scene.Then.TheVariants as then
+use Rattle.dist_script_play.specs.Played.{Standing, step_text, reply_in, after_step, then_on}
 
 -- where memory suffices, a refusal is the definition's
 refused : (e : StepError) (s : Result (Reply × NodeState) StepError) → Refuses e s → (e ≡ error.NoMemory → ⊥) → s ≡ Err e
@@ -25,5 +27,6 @@ refused_text a b e s r n p = subst (λ x. Appends a b (step_text x)) (sym (refus
 pub refused_after : (x y : Standing) (e : StepError) (s : Result (Reply × NodeState) StepError) → Refuses e s → (e ≡ error.NoMemory → ⊥) → y ≡ x → y ≡ after_step x s
 refused_after x y e s r n p = p ∙ ap (after_step x) (sym (refused e s r n))
 
-pub refused_reply : (e : StepError) (s : Result (Reply × NodeState) StepError) → Refuses e s → (e ≡ error.NoMemory → ⊥) → None ≡ reply_in s
-refused_reply e s r n = ap reply_in (sym (refused e s r n))
+-- nothing follows a frame that was refused
+pub refused_then : (x : EndId) (e : StepError) (s : Result (Reply × NodeState) StepError) → Refuses e s → (e ≡ error.NoMemory → ⊥) → then.Stops ≡ then_on x (reply_in s)
+refused_then x e s r n = ap (λ m. then_on x (reply_in m)) (sym (refused e s r n))

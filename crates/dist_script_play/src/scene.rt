@@ -69,15 +69,6 @@ fn then_after(end_: EndId, reply: &Reply) -> Then
     }
 }
 
-fn then_on(end_: EndId, reply: &Option<Reply>) -> Then
-    ensures { result ≡ then_on end_ reply.now }
-{
-    match reply {
-        Some(reply) => then_after(end_, reply),
-        None => Then::Stops,
-    }
-}
-
 // Prints why a step was refused. Out of memory stops the run.
 fn print_refusal<W: Write>(error: StepError, out: &mut W) -> Result<(), ScriptFault>
     ensures text { OnOk result (Appends (W.contents out.old) (W.contents out.new) (refused_line error)) }
@@ -148,10 +139,7 @@ impl Scene {
         ensures after { OnOk result (self.new ≡ after_line self.old line.now) }
     {
         match line {
-            Line::Event(event) => {
-                self.step(alloc, event, 0, out)?;
-                Ok(())
-            }
+            Line::Event(event) => self.step(alloc, event, out),
             Line::Bytes { end_, bytes, fresh } => match self.node.still(*end_) {
                 Still::NoSuchEnd => print_refusal(StepError::NoSuchEnd, out),
                 Still::Gone(why) => print_refusal(StepError::Gone(why), out),
@@ -167,27 +155,47 @@ impl Scene {
         or_write_failed(print::table(out, &self.node))
     }
 
-    // Makes a step and prints what comes of it. Returns its reply, and `None` where it was refused.
-    #[tactic(auto, using(crate::proofs::Steps::refused_text, crate::proofs::Steps::refused_after, crate::proofs::Steps::refused_reply))]
+    // Makes a step and prints what comes of it.
+    #[tactic(auto, using(crate::proofs::Steps::refused_text, crate::proofs::Steps::refused_after))]
     fn step<W: Write>(
         &mut self,
         alloc: Global,
         event: &Event,
+        out: &mut W,
+    ) -> Result<(), ScriptFault>
+        ensures text { OnOk result (Appends (W.contents out.old) (W.contents out.new) (step_text (step self.old.node event.now 0))) }
+        ensures after { OnOk result (self.new ≡ after_step self.old (step self.old.node event.now 0)) }
+    {
+        let made = self.node.step(alloc, event, 0);
+        match &made {
+            Ok(reply) => self.print_reply(reply, out),
+            Err(error) => print_refusal(*error, out),
+        }
+    }
+
+    // Makes a step by a frame of this end and prints what comes of it. Returns what follows the frame.
+    #[tactic(auto, using(crate::proofs::Steps::refused_text, crate::proofs::Steps::refused_after, crate::proofs::Steps::refused_then))]
+    fn take<W: Write>(
+        &mut self,
+        alloc: Global,
+        end_: EndId,
+        event: &Event,
         fresh: u32,
         out: &mut W,
-    ) -> Result<Option<Reply>, ScriptFault>
+    ) -> Result<Then, ScriptFault>
         ensures text { OnOk result (Appends (W.contents out.old) (W.contents out.new) (step_text (step self.old.node event.now fresh))) }
         ensures after { OnOk result (self.new ≡ after_step self.old (step self.old.node event.now fresh)) }
-        ensures reply { IfOk result (λ reply. reply ≡ reply_in (step self.old.node event.now fresh)) }
+        ensures follows { IfOk result (λ then. then ≡ then_on end_ (reply_in (step self.old.node event.now fresh))) }
     {
-        match self.node.step(alloc, event, fresh) {
+        let made = self.node.step(alloc, event, fresh);
+        match &made {
             Ok(reply) => {
-                self.print_reply(&reply, out)?;
-                Ok(Some(reply))
+                self.print_reply(reply, out)?;
+                Ok(then_after(end_, reply))
             }
             Err(error) => {
-                print_refusal(error, out)?;
-                Ok(None)
+                print_refusal(*error, out)?;
+                Ok(Then::Stops)
             }
         }
     }
@@ -260,8 +268,8 @@ impl Scene {
         while let Some(body) = next_body(reader)? {
             any = true;
             let event = Event::Frame { end_, body };
-            let reply = self.step(alloc, &event, fresh, out)?;
-            go_on(alloc, reader, then_on(end_, &reply));
+            let then = self.take(alloc, end_, &event, fresh, out)?;
+            go_on(alloc, reader, then);
         }
         Ok(any)
     }

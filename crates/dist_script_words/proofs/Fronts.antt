@@ -74,6 +74,17 @@ part_put a b c text rest so keeps =
 pub stopped_put : (a b : Option (List ℕ)) (text rest : List ℕ) → PutSoFar text a b rest → PutsFront text a b
 stopped_put a b text rest so = record { front = so.done; begins = starts text so.done rest so.text_is; put = so.put }
 
+-- what was left of the bytes was put behind what was put of them
+pub rest_put : {X E : Type 0} (r : Result X E) (a b c : Option (List ℕ)) (text rest : List ℕ) → PutSoFar text a b rest → OnOk r (Appends b c rest) → OnOk r (Appends a c text)
+rest_put (Ok x) a b c text rest so put = subst (Appends a c) so.text_is (Appends-trans a b c so.done rest so.put put)
+rest_put (Err e) a b c text rest so put = tt
+
+-- a beginning of it was
+pub rest_cut : {X E : Type 0} (r : Result X E) (a b c : Option (List ℕ)) (text rest : List ℕ) → PutSoFar text a b rest → OnErr r (PutsFront rest b c) → OnErr r (PutsFront text a c)
+rest_cut (Ok x) a b c text rest so cut = tt
+rest_cut (Err e) a b c text rest so cut =
+    front_behind a b c so.done rest [] text so.put cut (ap (λ l. so.done ++ l) (append-nil rest) ∙ so.text_is)
+
 -- no byte was written
 pub interrupted : (a b : Option (List ℕ)) → Keeps a b → Appends a b []
 interrupted a b keeps = Appends-kept a a b [] (Appends-nil a) keeps

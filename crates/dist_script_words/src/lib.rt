@@ -15,5 +15,5 @@ pub use digits::{bytes_of, write_digits};
 pub use fault::{ScriptFault, or_write_failed};
 pub use input::read_text;
 pub use lines::{first_line, is_skipped};
-pub use pieces::{Piece, put, put_bytes};
+pub use pieces::{Piece, put, put_bytes, put_digits, put_flags, put_number};
 pub use words::{LineFault, Words};

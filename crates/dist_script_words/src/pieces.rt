@@ -3,15 +3,17 @@
 ghost use Rattle.std.specs.Prelude.{◌≤◌, ◌≡◌, length, take, decimal, OnOk, OnErr, IfOk};
 ghost use Rattle.std.specs.Io.KnownBytes.{Appends, Keeps};
 ghost use Rattle.hex.specs.Hex.{encode_lower};
-ghost use Rattle.dist_script_words.specs.Texts.{text_of, texts_of, PutsFront};
+ghost use Rattle.dist_script_words.specs.Texts.{flags_text, text_of, texts_of, PutsFront};
 
 use crate::digits::write_digits;
 use dist_names::Flags;
-use itoa::Buffer;
 use std::io::{self, ErrorKind, Write};
 
 /// The most bytes whose digits are written at once.
 const MOST_BYTES: usize = 32;
+
+/// The most decimal digits of a number below 2^64.
+const MOST_DECIMALS: usize = 20;
 
 /// A piece of a printed line.
 #[derive(Clone, Copy)]
@@ -44,23 +46,35 @@ fn put_piece<W: Write>(out: &mut W, piece: Piece<'_>) -> io::Result<()>
 {
     match piece {
         Piece::Text(text) => put_bytes(out, text),
-        Piece::Number(value) => number(out, value),
-        Piece::Flags(flags) => short_hex(out, &flags.0.to_be_bytes()),
-        Piece::Digits(bytes) => lower_hex(out, bytes),
+        Piece::Number(value) => put_number(out, value),
+        Piece::Flags(flags) => put_flags(out, flags),
+        Piece::Digits(bytes) => put_digits(out, bytes),
     }
 }
 
-// A number in decimal digits.
-fn number<W: Write>(out: &mut W, number: u64) -> io::Result<()>
+/// Writes a number in decimal digits. Where a write fails, what was written is a beginning of them.
+#[inline(never)]
+pub fn put_number<W: Write>(out: &mut W, number: u64) -> io::Result<()>
     ensures text { OnOk result (Appends (W.contents out.old) (W.contents out.new) (decimal number)) }
     ensures cut { OnErr result (PutsFront (decimal number) (W.contents out.old) (W.contents out.new)) }
 {
-    let mut room = Buffer::new();
-    put_bytes(out, room.format(number).as_bytes())
+    let mut room = [0u8; MOST_DECIMALS];
+    let start = itoa::write_digits(number, &mut room, MOST_DECIMALS);
+    put_bytes(out, &room[start..])
 }
 
-// The bytes as lower-case hexadecimal digits.
-fn lower_hex<W: Write>(out: &mut W, bytes: &[u8]) -> io::Result<()>
+/// Writes flags in 16 hexadecimal digits of lower case. Where a write fails, what was written is a beginning of them.
+#[inline(never)]
+pub fn put_flags<W: Write>(out: &mut W, flags: Flags) -> io::Result<()>
+    ensures text { OnOk result (Appends (W.contents out.old) (W.contents out.new) (flags_text flags)) }
+    ensures cut { OnErr result (PutsFront (flags_text flags) (W.contents out.old) (W.contents out.new)) }
+{
+    short_hex(out, &flags.0.to_be_bytes())
+}
+
+/// Writes bytes as hexadecimal digits of lower case. Where a write fails, what was written is a beginning of them.
+#[inline(never)]
+pub fn put_digits<W: Write>(out: &mut W, bytes: &[u8]) -> io::Result<()>
     ensures text { OnOk result (Appends (W.contents out.old) (W.contents out.new) (encode_lower bytes.now)) }
     ensures cut { OnErr result (PutsFront (encode_lower bytes.now) (W.contents out.old) (W.contents out.new)) }
 {
@@ -85,8 +99,25 @@ fn short_hex<W: Write>(out: &mut W, bytes: &[u8]) -> io::Result<()>
 }
 
 /// Writes these bytes. Where a write fails, what was written is a beginning of them, which `write_all` doesn't say.
-#[tactic(auto, using(crate::proofs::Fronts::none_put))]
+#[inline(always)]
 pub fn put_bytes<W: Write>(out: &mut W, bytes: &[u8]) -> io::Result<()>
+    ensures text { OnOk result (Appends (W.contents out.old) (W.contents out.new) bytes.now) }
+    ensures cut { OnErr result (PutsFront bytes.now (W.contents out.old) (W.contents out.new)) }
+{
+    if bytes.is_empty() {
+        return Ok(());
+    }
+    let (_, rest) = bytes.split_at(put_some(out, bytes)?);
+    if rest.is_empty() {
+        return Ok(());
+    }
+    put_rest(out, rest)
+}
+
+// Writes what one write left of some bytes, by as many further writes as it takes.
+#[inline(never)]
+#[tactic(auto, using(crate::proofs::Fronts::none_put))]
+fn put_rest<W: Write>(out: &mut W, bytes: &[u8]) -> io::Result<()>
     ensures text { OnOk result (Appends (W.contents out.old) (W.contents out.new) bytes.now) }
     ensures cut { OnErr result (PutsFront bytes.now (W.contents out.old) (W.contents out.new)) }
 {
@@ -102,6 +133,7 @@ pub fn put_bytes<W: Write>(out: &mut W, bytes: &[u8]) -> io::Result<()>
 }
 
 // One write of these bytes, of which there are some. Returns how many of them were written: none where it was interrupted.
+#[inline(always)]
 #[tactic(auto, using(crate::proofs::Fronts::interrupted))]
 fn put_some<W: Write>(out: &mut W, bytes: &[u8]) -> io::Result<usize>
     ensures few { IfOk result (λ count. count ≤ length bytes.now) }

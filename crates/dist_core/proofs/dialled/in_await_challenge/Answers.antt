@@ -1,5 +1,7 @@
 use Rattle.std.proofs.Common.{◌≡◌, ◌∙◌, ℕ, Bool, true, false, cond, Some, None, IfOk, sym, ap, subst}
 use Rattle.dist_messages.specs.declared.form.Form.TheVariants as form
+use Rattle.dist_messages.specs.declared.message_view.MessageView.{MessageView}
+use Rattle.dist_messages.specs.Views.{message_of}
 use Rattle.dist_core_ends.specs.declared.why.Why.TheVariants as why
 use Rattle.dist_core_setup.specs.Rules.{knows_six, opens_new, required_of}
 use Rattle.dist_core.specs.declared.effect.Effect.{Effect}
@@ -16,9 +18,9 @@ returns-in-NewChallenge-clause-effect c es id =
     let six : knows_six s ≡ true = sym c.knows_six.ensures ∙ c.if-knows_six.true in
     let P : Effect → Type 0 = λ f. IfOk c.answer_challenge.result (λ p. effect_by es id a p ≡ f) in
     subst P
-    (ap (λ (r : ℕ). challenge_effect s id c.args.fresh a a.form r m.flags m.challenge (Some m.creation) m.name) c.required_of.ensures
-    ∙ ap (λ (b : Bool). cond b (challenge_effect s id c.args.fresh a a.form (required_of s form.New) m.flags m.challenge (Some m.creation) m.name) (closes id why.Unexpected)) (sym six)
-    ∙ ap (in_await_challenge s id c.args.fresh a) (sym m.is))
+    (ap (λ (r : ℕ). challenge_effect s id c.args.fresh a a.form r m.flags m.challenge (Some m.creation) m.name.now) c.required_of.ensures
+    ∙ ap (λ (b : Bool). cond b (challenge_effect s id c.args.fresh a a.form (required_of s form.New) m.flags m.challenge (Some m.creation) m.name.now) (closes id why.Unexpected)) (sym six)
+    ∙ ap (λ (v : MessageView). in_await_challenge s id c.args.fresh a (message_of v)) (sym m.is))
     (c.answer_challenge.ensures.effect es id)
 
 pub returns-in-OldChallenge-clause-effect : goal.returns-in-OldChallenge-clause-effect
@@ -29,7 +31,7 @@ returns-in-OldChallenge-clause-effect c es id =
     let old : opens_new s a.form ≡ false = sym c.opens_new.ensures ∙ c.if-not-opens_new.true in
     let P : Effect → Type 0 = λ f. IfOk c.answer_challenge-in-OldChallenge.result (λ p. effect_by es id a p ≡ f) in
     subst P
-    (ap (λ (r : ℕ). challenge_effect s id c.args.fresh a form.Five r (record { 0 = m.flags }) m.challenge None m.name) c.required_of-in-OldChallenge.ensures
-    ∙ ap (λ (b : Bool). cond b (closes id why.Unexpected) (challenge_effect s id c.args.fresh a form.Five (required_of s form.Five) (record { 0 = m.flags }) m.challenge None m.name)) (sym old)
-    ∙ ap (in_await_challenge s id c.args.fresh a) (sym m.is))
+    (ap (λ (r : ℕ). challenge_effect s id c.args.fresh a form.Five r (record { 0 = m.flags }) m.challenge None m.name.now) c.required_of-in-OldChallenge.ensures
+    ∙ ap (λ (b : Bool). cond b (closes id why.Unexpected) (challenge_effect s id c.args.fresh a form.Five (required_of s form.Five) (record { 0 = m.flags }) m.challenge None m.name.now)) (sym old)
+    ∙ ap (λ (v : MessageView). in_await_challenge s id c.args.fresh a (message_of v)) (sym m.is))
     (c.answer_challenge-in-OldChallenge.ensures.effect es id)

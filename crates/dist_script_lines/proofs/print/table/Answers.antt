@@ -14,7 +14,7 @@ rows_of n = map.entries (table_of n.ends)
 pub returns-then-entries-eq0 : goal.returns-then-entries-eq0
 returns-then-entries-eq0 g c =
     let n = c.args.node.now in
-    subst (λ t. OnOk c.write_all.result (Appends (g.W.Write.contents c.args.out.now) (g.W.Write.contents c.write_all.new.self) t)) (no_rows n (rows_of n) (omega (arith, c.entries.ensures, map.len-entries (table_of n.ends)))) c.write_all.ensures.bytes
+    subst (λ t. OnOk c.put_bytes.result (Appends (g.W.Write.contents c.args.out.now) (g.W.Write.contents c.put_bytes.new.out) t)) (no_rows n (rows_of n) (omega (arith, c.entries.ensures, map.len-entries (table_of n.ends)))) c.put_bytes.ensures.text
 
 pub loop-place-preserved : goal.loop-place-preserved
 loop-place-preserved g c =

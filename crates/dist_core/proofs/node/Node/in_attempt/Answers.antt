@@ -1,4 +1,5 @@
 use Rattle.std.proofs.Common.{◌≡◌, ◌∙◌, IfOk, sym, ap, subst}
+use Rattle.dist_messages.specs.Views.{message_of}
 use Rattle.dist_core_ends.specs.Ends.{entry_in}
 use Rattle.dist_core_ends.specs.declared.phase.Phase.{Phase}
 use Rattle.dist_core_setup.specs.declared.setup.Setup.{Setup}
@@ -13,7 +14,7 @@ pub returns-in-Doomed-clause-effect : goal.returns-in-Doomed-clause-effect
 returns-in-Doomed-clause-effect c id =
     let n = c.args.self.now in
     let a = c.args.attempt.now in
-    let m = c.args.message.now in
+    let m = message_of c.args.message.now in
     let P : Effect → Type 0 = λ f. IfOk c.in_doomed.result (λ p. effect_by n.ends id a p ≡ f) in
     subst P (ap (λ (h : Phase). in_attempt n id c.args.fresh a h m) (sym c.in-Doomed.is)) (c.in_doomed.ensures.effect n.ends id a)
 
@@ -24,7 +25,7 @@ pub returns-in-AwaitChallenge-clause-effect : goal.returns-in-AwaitChallenge-cla
 returns-in-AwaitChallenge-clause-effect c id =
     let n = c.args.self.now in
     let a = c.args.attempt.now in
-    let m = c.args.message.now in
+    let m = message_of c.args.message.now in
     let P : Effect → Type 0 = λ f. IfOk c.in_await_challenge.result (λ p. effect_by n.ends id a p ≡ f) in
     subst P (ap (λ (s : Setup). in_await_challenge s id c.args.fresh a m) c.setup.ensures ∙ ap (λ (h : Phase). in_attempt n id c.args.fresh a h m) (sym c.in-AwaitChallenge.is)) (c.in_await_challenge.ensures.effect n.ends id)
 
@@ -32,7 +33,7 @@ pub returns-in-AwaitAck-clause-effect : goal.returns-in-AwaitAck-clause-effect
 returns-in-AwaitAck-clause-effect c id =
     let n = c.args.self.now in
     let a = c.args.attempt.now in
-    let m = c.args.message.now in
+    let m = message_of c.args.message.now in
     let P : Effect → Type 0 = λ f. IfOk c.in_await_ack.result (λ p. effect_by n.ends id a p ≡ f) in
     subst P (ap (λ (s : Setup). in_await_ack s (entry_in n.ends a.peer) id a m) c.setup-in-AwaitAck.ensures ∙ ap (λ (h : Phase). in_attempt n id c.args.fresh a h m) (sym c.in-AwaitAck.is)) (c.in_await_ack.ensures.effect n.ends id)
 
@@ -40,6 +41,6 @@ pub returns-in-AwaitReply-clause-effect : goal.returns-in-AwaitReply-clause-effe
 returns-in-AwaitReply-clause-effect c id =
     let n = c.args.self.now in
     let a = c.args.attempt.now in
-    let m = c.args.message.now in
+    let m = message_of c.args.message.now in
     let P : Effect → Type 0 = λ f. IfOk c.in_await_reply.result (λ p. effect_by n.ends id a p ≡ f) in
     subst P (ap (λ (s : Setup). in_await_reply s (entry_in n.ends a.peer) id a m) c.setup-in-AwaitReply.ensures ∙ ap (λ (h : Phase). in_attempt n id c.args.fresh a h m) (sym c.in-AwaitReply.is)) (c.in_await_reply.ensures.effect n.ends id)

@@ -1,13 +1,15 @@
-use Rattle.std.proofs.Common.{◌≡◌, ◌∙◌, true, Option, Some, Ok, refl, sym, length, ap, arith, slice_get}
+use Rattle.std.proofs.Common.{rules, ◌≡◌, ◌∙◌, true, Option, Some, Ok, refl, sym, length, ap, arith, slice_get}
 use Rattle.std.proofs.lemmas.Option.{slice_get_within}
 use Rattle.dist_core_ends.specs.declared.known.End.{End}
 use Rattle.dist_core_ends.specs.declared.known.End.TheVariants as ends
 use Rattle.dist_core_ends.specs.Ends.{is_open}
 use Rattle.dist_core.specs.declared.effect.Effect.{Effect}
+use Rattle.dist_core.specs.Losses.{IsGone}
 use Rattle.dist_core.specs.Step.{at_end}
 use Rattle.dist_core.specs.Effects.{closes}
 use Rattle.dist_core_ends.proofs.Fitting.{stays-closing}
 use Rattle.dist_core.proofs.Counts.{length-within}
+use Rattle.dist_core.proofs.Losses.{gone_at}
 use Rattle.dist_core.proofs.node.Node.lose.Goals as goal
 
 pub close-requires-clause-there : goal.close-requires-clause-there
@@ -35,3 +37,8 @@ invariant_of-self c =
       bounded = c.self.invariant.bounded;
       numbered = omega (arith, ap length c.close.ensures, length-within es c.args.id.0 (ends.Closed c.args.why) within, c.self.invariant.numbered);
     }
+
+pub returns-in_err-_end-clause-gone : goal.returns-in_err-_end-clause-gone
+returns-in_err-_end-clause-gone c =
+    let gone : IsGone c.in_err-_end.field-0.0 = gone_at (slice_get c.self.inside.ends c.args.id.0) c.in_err-_end.field-0.0 c.in_err-_end.ensures.1 in
+    search (rules, gone)

@@ -1,5 +1,6 @@
 use Rattle.std.proofs.Common.{◌≡◌, ◌∙◌, Result, Ok, IfOk, sym, ap, subst}
 use Rattle.dist_messages.specs.Reading.{read}
+use Rattle.dist_messages.specs.Views.{message_of}
 use Rattle.dist_messages.specs.declared.message.Message.{Message}
 use Rattle.dist_messages.specs.declared.message_error.MessageError.{MessageError}
 use Rattle.dist_core_ends.specs.declared.known.End.TheVariants as ends
@@ -13,5 +14,5 @@ returns-in-Ok-clause-effect c id =
     let n = c.args.self.now in
     let a = c.args.attempt.now in
     let P : Effect → Type 0 = λ f. IfOk c.in_attempt.result (λ p. effect_by n.ends id a p ≡ f) in
-    let is : read c.args.body.side c.args.body.bytes.now ≡ Ok c.in-Ok.message = ap (read c.args.body.side) (sym c.as_slice.ensures) ∙ c.in-Ok.ensures.exact in
+    let is : read c.args.body.side c.args.body.bytes.now ≡ Ok (message_of c.in-Ok.message) = ap (read c.args.body.side) (sym c.as_slice.ensures) ∙ c.in-Ok.ensures.exact in
     subst P (ap (λ (r : Result Message MessageError). message_effect n id c.args.fresh (ends.Attempt a) r) (sym is)) (c.in_attempt.ensures.effect id)

@@ -1,14 +1,10 @@
-use Rattle.std.proofs.Common.{◌≡◌, ◌∙◌, Option, Some, Ok, sym, ap, slice_get, Result, subst}
+use Rattle.std.proofs.Common.{◌≡◌, ◌∙◌, Option, Some, Ok, sym, ap, slice_get}
 use Rattle.dist_core_ends.specs.declared.known.End.{End}
 use Rattle.dist_core_ends.specs.declared.known.End.TheVariants as ends
 use Rattle.dist_core.specs.declared.event.Event.TheVariants as event
-use Rattle.dist_core.specs.declared.event.Event.{Event}
-use Rattle.dist_core.specs.declared.reply.Reply.{Reply}
-use Rattle.dist_core.specs.declared.step_error.StepError.{StepError}
-use Rattle.dist_core.specs.Answers.{IsStep}
 use Rattle.dist_core.specs.Node.{NodeState}
 use Rattle.dist_core.specs.Progress.{effect_by}
-use Rattle.dist_core.specs.Step.{effect_of, at_end, step, step_result, framed_from, sender_to}
+use Rattle.dist_core.specs.Step.{effect_of, at_end, framed_from, sender_to}
 use Rattle.dist_core.proofs.InPlace.{can-be, left-by, frame-effect}
 use Rattle.dist_core.proofs.node.Node.take_frame.Goals as goal
 
@@ -29,9 +25,3 @@ make_progress-requires-clause-left c =
     let here : slice_get n.ends c.args.id.0 ≡ Some (ends.Attempt a) = ap (λ (m : NodeState). slice_get m.ends c.args.id.0) (sym c.self.view_is) ∙ c.in_ok-end.ensures.0 ∙ ap Some c.in-Attempt.is in
     let is : effect_of n (event.Frame c.args.id c.args.body.now) c.args.fresh ≡ Ok (effect_by n.ends c.args.id a p) = frame-effect n c.args.id c.args.body.now c.args.fresh ∙ ap (λ (o : Option End). at_end o (λ e. framed_from n c.args.id c.args.fresh c.args.body.now e (sender_to e))) here ∙ c.in_ok-progress-in-Attempt.ensures.effect c.args.id in
     left-by n (event.Frame c.args.id c.args.body.now) c.args.fresh c.args.id a p is c.counted_steps.ensures.bounded
-
-pub returns-in_default : goal.returns-in_default
-returns-in_default c =
-    let n = c.args.self.now in
-    let P : Result (Reply × NodeState) StepError → Type 0 = λ s. IsStep c.step_by_effect.result s n c.step_by_effect.new.self in
-    subst P (ap (λ (v : Event). step n v c.args.fresh) c.requires ∙ ap (step_result n (event.Frame c.args.id c.args.body.now)) (frame-effect n c.args.id c.args.body.now c.args.fresh)) c.step_by_effect.ensures.step

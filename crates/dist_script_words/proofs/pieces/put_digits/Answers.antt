@@ -1,7 +1,7 @@
 use Rattle.std.proofs.Common.{arith}
 use Rattle.dist_script_words.proofs.Printing.{hex_more, hex_part, hex_done}
 use Rattle.dist_script_words.proofs.Fronts.{on_err}
-use Rattle.dist_script_words.proofs.pieces.lower_hex.Goals as goal
+use Rattle.dist_script_words.proofs.pieces.put_digits.Goals as goal
 
 pub loop-rest-preserved : goal.loop-rest-preserved
 loop-rest-preserved g c =

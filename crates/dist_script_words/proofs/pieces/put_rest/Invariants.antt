@@ -1,5 +1,5 @@
 use Rattle.dist_script_words.proofs.Fronts.{PutSoFar}
-use Rattle.dist_script_words.proofs.pieces.put_bytes.Given as goal
+use Rattle.dist_script_words.proofs.pieces.put_rest.Given as goal
 
 -- what was written and what is left are the bytes
 abbrev pub invariant-writes : goal.invariant-writes
