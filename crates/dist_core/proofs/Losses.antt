@@ -1,5 +1,5 @@
 -- What a call returns for a loss.
-use Rattle.std.proofs.Common.{◌≡◌, true, Option, Some, None, Result, Ok, Err, slice_get, List, refl, sym, ap, subst}
+use Rattle.std.proofs.Common.{◌≡◌, true, Option, Some, None, Result, Ok, Err, slice_get, List, refl, sym, ap, ◌∙◌, subst}
 use Rattle.std.specs.Prelude.{IsOk, IfOk, IfErr, IsTrue}
 use Rattle.dist_peers.specs.declared.entry.EndId.{EndId}
 use Rattle.dist_core_ends.specs.declared.why.Why.{Why}
@@ -79,3 +79,13 @@ gone_at None e h = subst IsGone (err_is e error.NoSuchEnd (sym (h (λ _. Err err
 gone_at (Some ends.Unnamed) e h = subst IsGone (err_is e error.NoSuchEnd (sym (h (λ _. Err error.NoSuchEnd)))) tt
 gone_at (Some (ends.Attempt a)) e h = subst IsGone (err_is e error.NoSuchEnd (sym (h (λ _. Err error.NoSuchEnd)))) tt
 gone_at (Some (ends.Up r)) e h = subst IsGone (err_is e error.NoSuchEnd (sym (h (λ _. Err error.NoSuchEnd)))) tt
+
+open_at : (e : End) (x : Effect) (r : StepError) → is_open e ≡ true → at_end (Some e) (λ _. Ok x) ≡ Err r → ⊥
+open_at ends.Unnamed x r opened h = cc
+open_at (ends.Attempt a) x r opened h = cc
+open_at (ends.Up k) x r opened h = cc
+open_at (ends.Closed w) x r opened h = cc
+
+-- an end that is open is found
+pub open_found : (o : Option End) (e : End) (x : Effect) (r : StepError) → o ≡ Some e → is_open e ≡ true → ((f : End → Result Effect StepError) → at_end o f ≡ Err r) → ⊥
+open_found o e x r at opened h = open_at e x r opened (sym (ap (λ (p : Option End). at_end p (λ _. Ok x)) at) ∙ h (λ _. Ok x))

@@ -2,11 +2,15 @@
 use Rattle.std.specs.Prelude.{IsTrue}
 use Rattle.std.proofs.Common.{◌≡◌, ℕ, ◌+◌, ◌<◌, ◌≤◌, false, cond, length, List, Option, Some, None, Result, Ok, Err, IfOk, IfErr, IsOk, refl, sym, ap, ◌∙◌, subst, slice_get, arith}
 use Rattle.dist_peers.specs.declared.entry.EndId.{EndId}
+use Rattle.dist_peers.specs.Table.{replaced_by}
+use Rattle.dist_core_ends.specs.declared.known.Attempt.{Attempt}
+use Rattle.dist_core_ends.specs.declared.known.Stage.{Stage}
 use Rattle.dist_core_ends.specs.declared.known.UpRecord.{UpRecord}
 use Rattle.dist_core_ends.specs.declared.known.End.{End}
 use Rattle.dist_core_ends.specs.declared.known.End.TheVariants as ends
-use Rattle.dist_core_ends.specs.Ends.{AreLegal, claim_of, table_of}
-use Rattle.dist_core_ends.specs.Change.{put_end, put_other, with_change}
+use Rattle.dist_core_ends.specs.Ends.{AreLegal, claim_of, entry_in, table_of}
+use Rattle.dist_core_ends.specs.Change.{Fits, put_end, put_other, with_change}
+use Rattle.dist_core_ends.specs.Progress.{CanAdvance, CanRise, replaced_end}
 use Rattle.dist_core_ends.proofs.Legal.{table-legal}
 use Rattle.dist_core_setup.specs.Saying.{tick_text}
 use Rattle.dist_core.specs.declared.event.Event.{Event}
@@ -17,14 +21,17 @@ use Rattle.dist_core.specs.declared.end_change.EndChange.{EndChange}
 use Rattle.dist_core.specs.declared.end_change.EndChange.TheVariants as change
 use Rattle.dist_core.specs.declared.step_error.StepError.{StepError}
 use Rattle.dist_core.specs.declared.step_error.StepError.TheVariants as error
-use Rattle.dist_core.specs.Node.{NodeState, is_spent, ends_after, limits_of}
+use Rattle.dist_core.specs.declared.progress.Progress.{Progress}
+use Rattle.dist_core.specs.declared.progress.Progress.TheVariants as progress
+use Rattle.dist_core.specs.Node.{NodeState, IsKept, is_spent, ends_after, limits_of}
 use Rattle.dist_core.specs.Effects.{goes_on}
 use Rattle.dist_core.specs.Fitting.{FitsNodeTable}
 use Rattle.dist_core.specs.Step.{effect_of, at_end, tick_effect, step, step_result, cost_of}
 use Rattle.dist_core.specs.Answers.{GivesReply, Refuses, reply_of, IsStep}
 use Rattle.dist_core.specs.Losses.{is_loss}
+use Rattle.dist_core.specs.Progress.{HoldsOn, effect_by}
 use Rattle.dist_core.specs.Rows.{StepRow}
-use Rattle.dist_core.specs.Preparing.{PreparedStep, Prepares, IsPrepared, FitsNode, GivesPrepared, MakesChange, ends_by, after_commit}
+use Rattle.dist_core.specs.Preparing.{PreparedStep, Prepares, IsPrepared, FitsNode, GivesPrepared, MakesChange, RisesWith, change_by, ends_by, with_rise, with_stage, after_commit}
 use Rattle.dist_core.proofs.Counts.{counts, loses, of_ok}
 use Rattle.dist_core.proofs.Numbers.{numbered}
 use Rattle.dist_core.proofs.Rows.{row_of}
@@ -46,6 +53,23 @@ ticks_prepared n id r at sp = record {
 -- an effect that is to be had
 pub effect-prepared : (es : List End) (cost : ℕ) (given : Result Effect StepError) (f : Effect) (p : PreparedStep) → given ≡ Ok f → p ≡ record { reply = f.reply; change = change.Become f.this f.other; cost = cost } → Prepares es cost given p
 effect-prepared es cost given f p is e = let P : PreparedStep → Type 0 = λ p. Prepares es cost given p in subst P (sym e) (record { effect = f; given_ = is; reply = refl; change = (refl, refl); cost_ = refl })
+
+-- an attempt can have what becomes of it
+makes : (es : List End) (id : EndId) (a : Attempt) (p : Progress) → slice_get es id.0 ≡ Some (ends.Attempt a) → HoldsOn a p → MakesChange es (change_by p) (effect_by es id a p)
+makes es id a (progress.Goes say to) at h = (a, at, h, refl, refl)
+makes es id a (progress.Replies say to) at h = (a, at, h, refl, refl)
+makes es id a (progress.Rises say r) at h = (r, (a, at, h.0, h.1), refl, refl, refl)
+makes es id a (progress.Shuts say w) at h = (refl, refl)
+
+-- what becomes of an attempt
+pub progress_prepared : (es : List End) (id : EndId) (a : Attempt) (p : Progress) (given : Result Effect StepError) (r : PreparedStep) → slice_get es id.0 ≡ Some (ends.Attempt a) → HoldsOn a p → given ≡ Ok (effect_by es id a p) → r.reply ≡ (let f = effect_by es id a p in f.reply) → r.change ≡ change_by p → r.cost ≡ 1 → Prepares es 1 given r
+progress_prepared es id a p given r at holds is reply change cost = record {
+  effect = effect_by es id a p;
+  given_ = is;
+  reply = sym reply;
+  change = subst (λ (k : EndChange). MakesChange es k (effect_by es id a p)) (sym change) (makes es id a p at holds);
+  cost_ = sym cost;
+}
 
 -- ---- what a caller learns
 
@@ -114,13 +138,15 @@ for-error P (Err e) h = h
 
 -- ---- what is made
 
-ends-is : (es : List End) (f : Effect) (k : EndChange) → MakesChange es k f → ends_after es f ≡ ends_by es f.reply.end_ k
+ends-is : (es : List End) (f : Effect) (k : EndChange) → MakesChange es k f → ends_after es f ≡ ends_by es f.reply k
 ends-is es f change.Stay h = ap (put_other (put_end es f.reply.end_.0 f.this)) h.1 ∙ put-same es f.reply.end_.0 f.this h.0
 ends-is es f (change.Become this other) h = λ i. with_change es f.reply.end_ (h.0 i) (h.1 i)
+ends-is es f (change.Advance to) h = (λ i. with_change es f.reply.end_ (h.3 i) (h.4 i)) ∙ sym (ap (with_stage es f.reply.end_ to) h.1)
+ends-is es f change.Rise h = (λ i. with_change es f.reply.end_ (h.3 i) (h.4 i)) ∙ sym (ap (with_rise es f.reply.end_) h.2)
 
 pub step-is : (n : NodeState) (v : Event) (fresh : ℕ) (p : PreparedStep) → IsPrepared n v fresh p → step n v fresh ≡ Ok (p.reply, after_commit n p)
 step-is n v fresh p h =
-    let at : ends_after n.ends h.effect ≡ ends_by n.ends p.reply.end_ p.change = ends-is n.ends h.effect p.change h.change ∙ ap (λ (r : Reply). ends_by n.ends r.end_ p.change) h.reply in
+    let at : ends_after n.ends h.effect ≡ ends_by n.ends p.reply p.change = ends-is n.ends h.effect p.change h.change ∙ ap (λ (r : Reply). ends_by n.ends r p.change) h.reply in
     ap (step_result n v) h.given_ ∙ (λ i. Ok (h.reply i, record { setup = n.setup; steps = n.steps + h.cost_ i; ends = at i }))
 
 abbrev becoming : Reply → End → Option (EndId × End) → ℕ → PreparedStep
@@ -152,6 +178,36 @@ bounded-made n p h b =
     let it = of_ok (λ (f : Effect). (n.steps + cost_of h.0 ≤ (let l = limits_of n in l.steps)) × (length (ends_after n.ends f) ≤ length n.ends + cost_of h.0)) _ _ h.2.given_ (counts n b h.0 h.1) in
     let same : cost_of h.0 ≡ p.cost = h.2.cost_ in
     omega (arith, it.0, same)
+
+-- the attempt that was prepared to go on can
+pub advances : (n : NodeState) (r : Reply) (to : Stage) (cost : ℕ) → FitsNode n (record { reply = r; change = change.Advance to; cost = cost }) → CanAdvance (slice_get n.ends r.end_.0) to
+advances n r to cost h = let k = h.2.change in subst (λ (x : Reply). CanAdvance (slice_get n.ends x.end_.0) to) h.2.reply (k.0, k.1, k.2)
+
+-- the attempt that was prepared to come up can
+pub rises : (n : NodeState) (r : Reply) (cost : ℕ) → FitsNode n (record { reply = r; change = change.Rise; cost = cost }) → RisesWith n.ends r.end_ r.up
+rises n r cost h =
+    let k = h.2.change.0 in
+    let P : Reply → Type 0 = λ x. CanRise (slice_get n.ends x.end_.0) k.peer in
+    let Q : EndId × End × Option (EndId × End) → Type 0 = λ x. Fits n.setup.name n.ends (table_of n.ends) x.0 x.1 x.2 in
+    let other = replaced_end (replaced_by (entry_in n.ends k.peer)) in
+    let made : AreLegal n.ends → Fits n.setup.name n.ends (table_of n.ends) r.end_ (ends.Up k) other =
+    λ legal. subst Q (λ i. (ap (λ (x : Reply). x.end_) h.2.reply i, h.2.change.3 i, h.2.change.4 i)) (fits n (table_of n.ends) (table-legal n.ends legal) h.0 h.1 h.2.effect h.2.given_) in
+    let up : Some k ≡ r.up = sym h.2.change.2 ∙ ap (λ (x : Reply). x.up) h.2.reply in
+    subst (RisesWith n.ends r.end_) up (subst P h.2.reply h.2.change.1, (n.setup.name, made))
+
+-- what every node keeps stays so
+pub kept-made : (n : NodeState) (p : PreparedStep) → FitsNode n p → IsKept (let s = n.setup in s.limits) n.ends n.steps → IsKept (let s = n.setup in s.limits) (ends_by n.ends p.reply p.change) (n.steps + p.cost)
+kept-made n p h kept =
+    let f = h.2.effect in
+    let is : ends_after n.ends f ≡ ends_by n.ends p.reply p.change = ends-is n.ends f p.change h.2.change ∙ ap (λ (r : Reply). ends_by n.ends r p.change) h.2.reply in
+    let it = of_ok (λ (g : Effect). (n.steps + cost_of h.0 ≤ (let l = limits_of n in l.steps)) × (length (ends_after n.ends g) ≤ length n.ends + cost_of h.0)) _ _ h.2.given_ (counts n kept.bounded h.0 h.1) in
+    let same : cost_of h.0 ≡ p.cost = h.2.cost_ in
+    let M : List End → Type 0 = λ xs. length xs ≤ (let l = limits_of n in l.ends) in
+    record {
+      few = omega (arith, ap length is, it.1, kept.few, same);
+      bounded = omega (arith, it.0, same);
+      numbered = subst M is (numbered n h.0 h.1 f (of_ok (StepRow n h.0 h.1) _ _ h.2.given_ (row_of n h.0 h.1)) kept.numbered);
+    }
 
 -- a loss that was prepared takes no memory
 pub loss-made : (n : NodeState) (v : Event) (fresh : ℕ) (r : Reply) (this : End) (other : Option (EndId × End)) (cost : ℕ) → IsPrepared n v fresh (becoming r this other cost) → IsTrue (is_loss v) → (claim_of this ≡ None) × (r.end_.0 < length n.ends)

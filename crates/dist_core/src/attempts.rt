@@ -29,7 +29,7 @@ fn closing(replaced: Option<EndId>) -> Option<(EndId, Why)>
 }
 
 // The reply of a step that brings its end up.
-fn reply_of_rise(id: EndId, say: ByteString, came: UpRecord, replaced: Option<EndId>) -> Reply
+pub fn reply_of_rise(id: EndId, say: ByteString, came: UpRecord, replaced: Option<EndId>) -> Reply
     ensures { result ≡ record { end_ = id; say = say; closed = option_map (λ x. (x, Why.Replaced)) replaced; up = Some came; note = Note.Nothing } }
 {
     Reply {
@@ -42,7 +42,7 @@ fn reply_of_rise(id: EndId, say: ByteString, came: UpRecord, replaced: Option<En
 }
 
 // The reply of a step that closes its end.
-fn reply_of_end(id: EndId, say: ByteString, why: Why) -> Reply
+pub fn reply_of_end(id: EndId, say: ByteString, why: Why) -> Reply
     ensures { result ≡ record { end_ = id; say = say; closed = Some (id, why); up = None; note = Note.Nothing } }
 {
     let mut reply = reply_that_says(id, say);

@@ -1,6 +1,6 @@
 //! What a step does, before it is done.
 ghost use Rattle.std.specs.Prelude.{◌≡◌, IfOk, Ok, Err, Some, None};
-ghost use Rattle.dist_core.specs.Effects.{form_of, reply_phase, goes_on, shuts, shuts_other, comes_up, closes, record_of};
+ghost use Rattle.dist_core.specs.Effects.{form_of, reply_phase, goes_on, shuts, shuts_other, closes, record_of};
 ghost use Rattle.dist_core_ends.specs.Ends.{kind_in};
 
 use crate::reply::{Note, Reply};
@@ -20,13 +20,6 @@ pub struct Effect {
     pub this: End,
     /// Another end that changes, and what it is afterwards.
     pub other: Option<(EndId, End)>,
-}
-
-/// The step of a frame: on which end it came, and the number that was drawn for the step.
-#[derive(Clone, Copy)]
-pub struct FrameStep {
-    pub id: EndId,
-    pub fresh: u32,
 }
 
 pub fn goes_on(id: EndId, say: ByteString, this: End, note: Note) -> Effect
@@ -67,25 +60,6 @@ pub fn shuts_other(id: EndId, say: ByteString, this: End, other: (EndId, Why), n
     effect.reply.closed = Some(other);
     effect.other = Some((other.0, End::Closed(other.1)));
     effect
-}
-
-pub fn comes_up(
-    alloc: Global,
-    id: EndId,
-    say: ByteString,
-    came: UpRecord,
-    replaced: Option<EndId>,
-) -> Result<Effect, AllocError>
-    ensures { IfOk result (λ f. f ≡ comes_up id say came replaced) }
-{
-    let copy = came.try_clone(alloc)?;
-    let this = End::Up(came);
-    let mut effect = match replaced {
-        None => goes_on(id, say, this, Note::Nothing),
-        Some(x) => shuts_other(id, say, this, (x, Why::Replaced), Note::Nothing),
-    };
-    effect.reply.up = Some(copy);
-    Ok(effect)
 }
 
 // ---- attempts

@@ -1,6 +1,6 @@
 //! What becomes of the ends in a step.
 
-use dist_core_ends::End;
+use dist_core_ends::{End, Stage};
 use dist_peers::EndId;
 
 /// What becomes of the ends. A word of the contracts: no public call takes or gives it.
@@ -13,4 +13,8 @@ pub enum EndChange {
         this: End,
         other: Option<(EndId, End)>,
     },
+    /// The attempt of the event's end goes on to this stage, in its place.
+    Advance(Stage),
+    /// The attempt of the event's end comes up, with the record that the reply has. The end that it replaces, if one, is closed.
+    Rise,
 }

@@ -17,9 +17,9 @@ ghost use Rattle.dist_core.specs.Accepted.{verdict_in, name_taken};
 ghost use Rattle.dist_core.specs.Step.{effect_of, step, step_result, at_end, opening_effect, tick_effect, dial_effect, came_in, cost_of};
 ghost use Rattle.dist_core.specs.Answers.{IsStep, Gives, GivesReply, Refuses};
 
-use crate::effect::{Effect, FrameStep, closes};
+use crate::effect::Effect;
 use crate::event::Event;
-use crate::finding::{cost, open_end};
+use crate::finding::open_end;
 use crate::reply::{Note, Reply};
 use crate::step_error::StepError;
 use dist_core_ends::{Absent, Attempt, Awaited, End, Ends, Still, UpRecord, Why};
@@ -259,6 +259,7 @@ impl Node {
         ensures ok { (fresh : ℕ) → OnOk result (step self.old (Event.Lost id why) fresh ≡ Ok (loss_reply id why, self.new)) }
         ensures err { (fresh : ℕ) → IfErr result (λ e. step self.old (Event.Lost id why) fresh ≡ Err e) }
         ensures gone { IfErr result IsGone }
+        ensures open_end { (e : End) → slice_get self.old.ends id.0 ≡ Some e → is_open e ≡ true → IsOk result }
         ensures unchanged { OnErr result (self.new ≡ self.old) }
     {
         self.show_legal();
@@ -424,42 +425,6 @@ impl Node {
         ensures numbered { length self.now.ends ≤ (let l = limits_of self.now in l.ends) }
     {
         self.steps
-    }
-
-    // What an event does, or the first refusal.
-    #[tactic(auto, unfolding(crate::specs::Step::effect_of))]
-    pub(crate) fn effect(
-        &self,
-        alloc: Global,
-        event: &Event,
-        fresh: u32,
-    ) -> Result<Effect, StepError>
-        ensures effect { Gives result (effect_of self.now event.now fresh) }
-        ensures loss { IsTrue (is_loss event.now) → result ≢ Err StepError.NoMemory }
-        ensures few { length self.now.ends ≤ self.now.steps }
-        ensures bounded { self.now.steps ≤ (let l = limits_of self.now in l.steps) }
-        ensures numbered { length self.now.ends ≤ (let l = limits_of self.now in l.ends) }
-    {
-        match event {
-            Event::Dial { peer, opening } => self.effect_of_dial(alloc, peer, *opening),
-            Event::Incoming { link: _ } => self.effect_of_incoming(alloc),
-            Event::Opened { end_: id, link: _ } => {
-                let end = open_end(&self.ends, *id)?;
-                self.effect_of_opened(alloc, *id, end)
-            }
-            Event::Frame { end_: id, body } => {
-                let end = open_end(&self.ends, *id)?;
-                self.effect_of_frame(alloc, FrameStep { id: *id, fresh }, body, end)
-            }
-            Event::Lost { end_: id, why } => {
-                let _end = open_end(&self.ends, *id)?;
-                Ok(closes(alloc, *id, *why))
-            }
-            Event::Tick { end_: id } => {
-                let end = open_end(&self.ends, *id)?;
-                self.effect_of_tick(alloc, *id, end)
-            }
-        }
     }
 
     // All steps were made.

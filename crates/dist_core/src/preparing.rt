@@ -1,23 +1,30 @@
 //! A step in two halves: what it will do, and that it is made.
-ghost use Rattle.std.specs.Prelude.{◌≡◌, ◌≢◌, ℕ, true, slice_get, IfOk, IfErr, IsOk, OnErr, Ok, Err, Some, None, IsTrue};
-ghost use Rattle.dist_core_ends.specs.Ends.{AreLegal, is_open};
+ghost use Rattle.std.specs.Prelude.{◌≡◌, ◌≢◌, ℕ, ◌+◌, ◌≤◌, true, slice_get, IfOk, IfErr, IsOk, OnErr, Ok, Err, Some, None, IsTrue};
+ghost use Rattle.dist_core_ends.specs.declared.known.Attempt.{Attempt};
+ghost use Rattle.dist_core_ends.specs.Ends.{AreLegal, entry_in, is_open};
 ghost use Rattle.dist_core.specs.Clauses.{end_of, loss_reply};
+ghost use Rattle.dist_core.specs.Effects.{closes};
+ghost use Rattle.dist_core.specs.Node.{limits_of};
 ghost use Rattle.dist_core.specs.Losses.{IsGone, IsSilent, is_loss};
-ghost use Rattle.dist_core.specs.Step.{effect_of, step, cost_of, at_end, tick_effect};
+ghost use Rattle.dist_core.specs.Step.{effect_of, step, cost_of, at_end, came_in, dial_effect, framed_from, opening_effect, sender_to, tick_effect};
 ghost use Rattle.dist_core.specs.Answers.{IsStep, Refuses, reply_of};
-ghost use Rattle.dist_core.specs.Preparing.{IsPrepared, FitsNode, GivesPrepared, after_commit};
+ghost use Rattle.dist_core.specs.Progress.{effect_by};
+ghost use Rattle.dist_core.specs.Preparing.{IsPrepared, FitsNode, GivesPrepared, RisesWith, after_commit, change_by, with_rise};
 
-use crate::effect::Effect;
+use crate::attempts::{reply_of_end, reply_of_rise};
+use crate::effect::{Effect, closes};
 use crate::end_change::EndChange;
 use crate::event::Event;
-use crate::finding::cost;
+use crate::finding::open_end;
 use crate::node::{Node, reply_that_says};
-use crate::reply::Reply;
+use crate::progress::Progress;
+use crate::reply::{Note, Reply};
 use crate::step_error::StepError;
-use dist_core_ends::{End, Why};
+use dist_core_ends::{End, Ends, Stage, Why};
 use dist_frames::tick;
-use dist_names::ByteString;
-use dist_peers::EndId;
+use dist_messages::Opening;
+use dist_names::{ByteString, NodeName};
+use dist_peers::{EndId, replaced_end};
 use std::alloc::Global;
 use std::marker::Model;
 
@@ -68,6 +75,48 @@ fn of_effect(effect: Effect, cost: u64) -> Prepared
         reply,
         change: EndChange::Become { this, other },
         cost,
+    }
+}
+
+// What becomes of the attempt of an end. It takes no memory.
+fn of_progress(ends: &Ends, id: EndId, progress: Progress) -> Prepared
+    ensures reply { (a : Attempt) → let f = effect_by ends.now id a progress in result.reply ≡ f.reply }
+    ensures change { result.change ≡ change_by progress }
+    ensures cost { result.cost ≡ 1 }
+{
+    let (reply, change) = match progress {
+        Progress::Goes { say, to } => (reply_that_says(id, say), EndChange::Advance(to)),
+        Progress::Replies { say, to } => {
+            let mut reply = reply_that_says(id, say);
+            reply.note = Note::ReplySaid;
+            (reply, EndChange::Advance(to))
+        }
+        Progress::Rises { say, came } => {
+            let replaced = replaced_end(ends.entry_of(&came.peer));
+            (reply_of_rise(id, say, came, replaced), EndChange::Rise)
+        }
+        Progress::Shuts { say, why } => {
+            let (this, other) = (End::Closed(why), None);
+            (
+                reply_of_end(id, say, why),
+                EndChange::Become { this, other },
+            )
+        }
+    };
+    Prepared {
+        reply,
+        change,
+        cost: 1,
+    }
+}
+
+// The attempt of the reply's end comes up with the record of the reply.
+fn rise(ends: &mut Ends, reply: &Reply)
+    requires { RisesWith ends.old reply.now.end_ reply.now.up }
+    ensures { ends.new ≡ with_rise ends.old reply.now.end_ reply.now.up }
+{
+    if let Some(came) = &reply.up {
+        let _replaced = ends.rise(reply.end_, came);
     }
 }
 
@@ -127,8 +176,12 @@ impl Node {
         ensures loss { IsTrue (is_loss event.now) → result ≢ Err StepError.NoMemory }
     {
         match event {
+            Event::Dial { peer, opening } => self.work_out_dial(alloc, peer, *opening),
+            Event::Incoming { link: _ } => self.work_out_incoming(alloc),
+            Event::Opened { end_: id, link: _ } => self.work_out_opened(alloc, *id),
+            Event::Frame { end_: id, body } => self.work_out_frame(alloc, *id, body, fresh),
+            Event::Lost { end_: id, why } => self.work_out_loss(alloc, *id, *why),
             Event::Tick { end_: id } => self.work_out_tick(alloc, *id),
-            _ => self.work_out_change(alloc, event, fresh),
         }
     }
 
@@ -148,18 +201,71 @@ impl Node {
         })
     }
 
-    // What an event will do that is no tick.
-    fn work_out_change(
+    // What a dial will do.
+    fn work_out_dial(
         &self,
         alloc: Global,
-        event: &Event,
+        peer: &NodeName,
+        opening: Opening,
+    ) -> Result<Prepared, StepError>
+        ensures { GivesPrepared result self.now.ends 1 (dial_effect self.now peer.now opening (entry_in self.now.ends peer.now)) }
+    {
+        let effect = self.effect_of_dial(alloc, peer, opening)?;
+        Ok(of_effect(effect, 1))
+    }
+
+    // What a connection that came will do.
+    fn work_out_incoming(&self, alloc: Global) -> Result<Prepared, StepError>
+        ensures { GivesPrepared result self.now.ends 1 (came_in self.now) }
+    {
+        let effect = self.effect_of_incoming(alloc)?;
+        Ok(of_effect(effect, 1))
+    }
+
+    // What the connection of a dialled end will do.
+    #[tactic(auto, using(crate::proofs::Prepares::progress_prepared))]
+    fn work_out_opened(&self, alloc: Global, id: EndId) -> Result<Prepared, StepError>
+        ensures { GivesPrepared result self.now.ends 1 (at_end (slice_get self.now.ends id.0) (opening_effect self.now id)) }
+    {
+        let End::Attempt(attempt) = open_end(&self.ends, id)? else {
+            return Err(StepError::WrongPhase);
+        };
+        let progress = self.progress_of_opened(alloc, attempt)?;
+        Ok(of_progress(&self.ends, id, progress))
+    }
+
+    // What a frame will do.
+    #[tactic(auto, using(crate::proofs::Prepares::progress_prepared))]
+    fn work_out_frame(
+        &self,
+        alloc: Global,
+        id: EndId,
+        body: &ByteString,
         fresh: u32,
     ) -> Result<Prepared, StepError>
-        ensures prepared { GivesPrepared result self.now.ends (cost_of event.now) (effect_of self.now event.now fresh) }
-        ensures loss { IsTrue (is_loss event.now) → result ≢ Err StepError.NoMemory }
+        ensures { GivesPrepared result self.now.ends 1
+            (at_end (slice_get self.now.ends id.0) (λ e. framed_from self.now id fresh body.now e (sender_to e))) }
     {
-        let effect = self.effect(alloc, event, fresh)?;
-        Ok(of_effect(effect, cost(event)))
+        match open_end(&self.ends, id)? {
+            End::Attempt(attempt) => {
+                let progress = self.progress_of_frame(alloc, fresh, body, attempt)?;
+                Ok(of_progress(&self.ends, id, progress))
+            }
+            End::Unnamed => {
+                let effect = self.effect_of_first_frame(alloc, id, body, fresh)?;
+                Ok(of_effect(effect, 1))
+            }
+            _ => Err(StepError::WrongPhase),
+        }
+    }
+
+    // What a loss will do. It takes no memory.
+    fn work_out_loss(&self, alloc: Global, id: EndId, why: Why) -> Result<Prepared, StepError>
+        ensures prepared { GivesPrepared result self.now.ends 0 (at_end (slice_get self.now.ends id.0) (λ _. Ok (closes id why))) }
+        ensures loss { result ≢ Err StepError.NoMemory }
+    {
+        let _end = open_end(&self.ends, id)?;
+        Ok(of_effect(closes(alloc, id, why), 0))
     }
 
     // Makes a step of which it is known what it does.
@@ -182,6 +288,40 @@ impl Node {
                 Effect { reply, this, other },
                 cost,
             ),
+            EndChange::Advance(to) => {
+                self.advance(&reply, to, cost);
+                Ok(reply)
+            }
+            EndChange::Rise => {
+                self.bring_up(&reply, cost);
+                Ok(reply)
+            }
         }
+    }
+
+    // The attempt of the reply's end goes on, as was prepared. It takes no memory.
+    fn advance(&mut self, reply: &Reply, to: Stage, cost: u64)
+        requires left { self.old.steps + cost ≤ (let l = limits_of self.old in l.steps) }
+        requires fits { FitsNode self.old (record { reply = reply.now; change = EndChange.Advance to; cost = cost }) }
+        ensures { self.new ≡ after_commit self.old (record { reply = reply.now; change = EndChange.Advance to; cost = cost }) }
+    {
+        // These show what every node keeps.
+        let _ = self.counted_steps();
+        let _ = self.most_steps();
+        self.ends.advance(reply.end_, to);
+        self.steps += cost;
+    }
+
+    // The attempt of the reply's end comes up, as was prepared. It takes no memory.
+    fn bring_up(&mut self, reply: &Reply, cost: u64)
+        requires left { self.old.steps + cost ≤ (let l = limits_of self.old in l.steps) }
+        requires fits { FitsNode self.old (record { reply = reply.now; change = EndChange.Rise; cost = cost }) }
+        ensures { self.new ≡ after_commit self.old (record { reply = reply.now; change = EndChange.Rise; cost = cost }) }
+    {
+        // These show what every node keeps.
+        let _ = self.counted_steps();
+        let _ = self.most_steps();
+        rise(&mut self.ends, reply);
+        self.steps += cost;
     }
 }

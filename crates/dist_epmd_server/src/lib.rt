@@ -2,10 +2,12 @@
 //! is ready is read, given to the clients' table, answered and closed.
 //!
 //! No client is waited for. One that sends nothing is closed after a time, or earlier where its place is needed. What moves
-//! bytes is generic over the stream; sockets stand in `server` and `serving` alone.
+//! bytes is generic over the stream; sockets stand in `server`, `newest`, `waiting` and `serving`
+//! alone.
 #![tactic(auto)]
 
 mod attending;
+mod newest;
 mod owed;
 mod owing;
 mod places;
@@ -13,6 +15,7 @@ mod saying;
 mod server;
 mod serving;
 mod turns;
+mod waiting;
 
 pub use attending::{Watch, attend};
 pub use owed::Owed;

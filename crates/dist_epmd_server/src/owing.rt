@@ -109,6 +109,14 @@ impl<S: Drop> Owing<S> {
         }
     }
 
+    /// Drops what is owed on a connection, and closes it.
+    pub fn close(&mut self, conn: u64)
+        ensures gone { owed_to self.new conn ≡ None }
+        ensures others { OthersOwed conn self.old self.new }
+    {
+        let _ = self.owed.remove(&conn);
+    }
+
     /// Drops what is owed on the oldest connection, and closes it. Returns whether there was one.
     pub fn drop_first(&mut self) -> bool
         ensures dropped { all_owed self.new ≡ drop 1 (all_owed self.old) }

@@ -18,12 +18,11 @@ use dist_epmd_clients::Clients;
 use dist_stream::{SocketStream, Stream};
 use mio::net::{TcpListener, TcpStream};
 use mio::unix::SourceFd;
-use mio::{Events, Interest, Poll, Token};
+use mio::{Interest, Poll, Token};
 use std::alloc::Global;
 use std::io::{self, ErrorKind};
 use std::net::{self, IpAddr, Net};
 use std::os::fd::AsRawFd;
-use std::time::Duration;
 
 // The most connections that are accepted at one listener before the others are looked at.
 const ACCEPTS: usize = 256;
@@ -47,16 +46,24 @@ pub struct Limits {
 #[derive(Drop)]
 pub struct Server {
     alloc: Global,
-    poll: Poll,
-    listeners: Vec<TcpListener>,
-    clients: Clients<SocketStream>,
+    pub(crate) poll: Poll,
+    pub(crate) listeners: Vec<TcpListener>,
+    pub(crate) clients: Clients<SocketStream>,
     // What is sent to those that have left.
-    owing: Owing<SocketStream>,
+    pub(crate) owing: Owing<SocketStream>,
     limits: Limits,
     // Connections may wait at a listener, and none could be accepted.
     stuck: bool,
     // When the clients were looked through for late ones.
     swept: u64,
+    // At the last wait one socket alone was ready, beside the newest client's.
+    pub(crate) is_alone: bool,
+    // The client that came last, where the system does not keep its socket among those that it watches.
+    pub(crate) newest: Option<u64>,
+    // At the last wait that client's socket was ready.
+    pub(crate) is_newest_ready: bool,
+    // The listener at which that client came, where connections may wait that the system does not report again.
+    pub(crate) unsure: Option<usize>,
 }
 
 // Whether a client at this address is on this host. At a socket for addresses of both kinds one of IPv4 comes as one of IPv6.
@@ -68,6 +75,11 @@ fn is_local(stream: &TcpStream, from: IpAddr) -> bool {
         Ok(own) => own.ip() == from,
         Err(_) => false,
     }
+}
+
+// The token of a listener.
+pub(crate) fn token_of_listener(place: usize) -> Token {
+    Token(usize::MAX.saturating_sub(place))
 }
 
 // Which listener a token is of.
@@ -112,6 +124,10 @@ impl Server {
             limits,
             stuck: false,
             swept: 0,
+            is_alone: false,
+            newest: None,
+            is_newest_ready: false,
+            unsure: None,
         })
     }
 
@@ -171,7 +187,7 @@ impl Server {
         if place >= LISTENERS {
             return Err(io::Error::from(ErrorKind::InvalidInput));
         }
-        let token = Token(usize::MAX - place);
+        let token = token_of_listener(place);
         self.poll
             .registry()
             .register(&mut listener, token, Interest::READABLE)?;
@@ -179,16 +195,11 @@ impl Server {
         Ok(())
     }
 
-    /// Waits until something is ready, and puts that into the events.
-    pub fn wait(&mut self, events: &mut Events, most: Duration) -> io::Result<()> {
-        self.poll.poll(events, Some(most))
-    }
-
     // Asks to be notified again of a listener at which connections may wait.
-    fn rearm(&self, place: usize) {
+    pub(crate) fn rearm(&self, place: usize) {
         if let Some(listener) = self.listeners.get(place) {
             let fd = listener.as_raw_fd();
-            let token = Token(usize::MAX - place);
+            let token = token_of_listener(place);
             let registry = self.poll.registry();
             let _ = registry.reregister(&mut SourceFd(&fd), token, Interest::READABLE);
         }
@@ -219,44 +230,84 @@ impl Server {
         let Some(conn) = take_in(clients, owing, self.alloc, newcomer, most) else {
             return;
         };
-        if !self.watch(fd, conn) {
+        if self.is_alone {
+            self.newest = Some(conn);
+        } else if !self.watch(fd, conn, Interest::READABLE) {
             let _ = self.clients.close(conn);
         }
     }
 
-    fn watch(&self, fd: i32, conn: u64) -> bool {
+    // Asks to be notified when a connection is ready for this. Returns whether the system does so.
+    pub(crate) fn watch(&self, fd: i32, conn: u64, interest: Interest) -> bool {
         match token_of(conn) {
             Some(token) => self
                 .poll
                 .registry()
-                .register(&mut SourceFd(&fd), token, Interest::READABLE)
+                .register(&mut SourceFd(&fd), token, interest)
                 .is_ok(),
             None => false,
         }
     }
 
-    // Accepts what waits at a listener.
-    fn accept_all(&mut self, place: usize, now: u64) {
-        for _ in 0..ACCEPTS {
-            let Some(listener) = self.listeners.get(place) else {
-                return;
-            };
-            match listener.accept() {
-                Ok((stream, from)) => self.admit(stream, from.ip(), now),
-                Err(error) => match error.kind() {
-                    ErrorKind::WouldBlock => return,
-                    ErrorKind::Interrupted | ErrorKind::ConnectionAborted => {}
-                    // No descriptor is left, or no memory.
-                    _ => {
-                        if !self.drop_oldest() {
-                            self.stuck = true;
-                            return;
-                        }
-                    }
-                },
+    // The socket of a connection, and what it is to be ready for: to be read where its client is here, to be written where
+    // something is owed on it.
+    pub(crate) fn socket_of(&self, conn: u64) -> Option<(i32, Interest)> {
+        if let Some(stream) = self.clients.stream(conn) {
+            return Some((stream.get_ref().as_raw_fd(), Interest::READABLE));
+        }
+        let stream = self.owing.stream(conn)?;
+        Some((stream.get_ref().as_raw_fd(), Interest::WRITABLE))
+    }
+
+    // None was accepted, for this reason. Returns whether one more try may find a connection.
+    fn recover(&mut self, kind: ErrorKind) -> bool {
+        match kind {
+            ErrorKind::WouldBlock => false,
+            ErrorKind::Interrupted | ErrorKind::ConnectionAborted => true,
+            // No descriptor is left, or no memory.
+            _ => {
+                let has_room = self.drop_oldest();
+                self.stuck = self.stuck || !has_room;
+                has_room
             }
         }
-        self.rearm(place);
+    }
+
+    // Accepts the next connection that waits at a listener. Returns whether one more try may find another.
+    fn accept_next(&mut self, place: usize, now: u64) -> bool {
+        let Some(listener) = self.listeners.get(place) else {
+            return false;
+        };
+        match listener.accept() {
+            Ok((stream, from)) => {
+                self.admit(stream, from.ip(), now);
+                true
+            }
+            Err(error) => self.recover(error.kind()),
+        }
+    }
+
+    // How many connections are accepted at a listener before the others are looked at. A try that finds none costs the system as
+    // much as one that finds one. So where nothing else is ready, it is one connection, and no such try: what waits behind it is
+    // found by the next wait.
+    fn most_accepts(&self) -> usize {
+        if self.is_alone { 1 } else { ACCEPTS }
+    }
+
+    // Accepts what waits at a listener. A single connection is that of the newest client from then on: most ask at once and
+    // leave, and the system need not keep their sockets. Whether others wait behind it is looked at with it.
+    pub(crate) fn accept_all(&mut self, place: usize, now: u64) {
+        self.release_newest();
+        self.rearm_unsure();
+        for _ in 0..self.most_accepts() {
+            if !self.accept_next(place, now) {
+                return;
+            }
+        }
+        self.unsure = Some(place);
+        if self.newest.is_none() {
+            self.rearm_unsure();
+        }
     }
 
     // Asks to be notified, also again, when a connection is ready for this.
@@ -269,37 +320,31 @@ impl Server {
 
     // Asks for what a connection is to be watched for.
     fn watch_again(&self, conn: u64, watch: Watch) {
-        match watch {
-            Watch::Nothing => {}
-            Watch::Reading => {
-                if let Some(stream) = self.clients.stream(conn) {
-                    self.reregister(conn, stream.get_ref().as_raw_fd(), Interest::READABLE);
-                }
-            }
-            Watch::Writing => {
-                if let Some(stream) = self.owing.stream(conn) {
-                    self.reregister(conn, stream.get_ref().as_raw_fd(), Interest::WRITABLE);
-                }
-            }
+        if watch == Watch::Nothing {
+            return;
+        }
+        if let Some((fd, interest)) = self.socket_of(conn) {
+            self.reregister(conn, fd, interest);
         }
     }
 
-    // Does what is to be done for a connection that is ready.
-    fn attend(&mut self, conn: u64, room: &mut [u8], now: u64)
-        ensures { (watch : Watch) × Attends ⟦<SocketStream as Stream>⟧.meaning conn now
-            (clients_at self.old) (clients_at self.new) (owing_at self.old) (owing_at self.new) watch }
+    // Does what is to be done for a connection that is ready. Returns what it is to be watched for.
+    pub(crate) fn attend(&mut self, conn: u64, room: &mut [u8], now: u64) -> Watch
+        ensures { Attends ⟦<SocketStream as Stream>⟧.meaning conn now
+            (clients_at self.old) (clients_at self.new) (owing_at self.old) (owing_at self.new) result }
     {
         let (clients, owing) = (&mut self.clients, &mut self.owing);
         let ready = Ready { conn, second: now };
-        let watch = attend(clients, owing, self.alloc, ready, room);
-        self.watch_again(conn, watch);
+        attend(clients, owing, self.alloc, ready, room)
     }
 
     /// Serves the clients among what is ready. They come before the listeners: the end of a connection is noticed before a
     /// later connection asks.
     pub fn serve_client(&mut self, token: Token, room: &mut [u8], now: u64) {
         if listener_of(token).is_none() && other_of(token).is_none() {
-            self.attend(token.0 as u64, room, now);
+            let conn = token.0 as u64;
+            let watch = self.attend(conn, room, now);
+            self.watch_again(conn, watch);
         }
     }
 

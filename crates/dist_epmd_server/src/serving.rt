@@ -26,9 +26,10 @@ fn serve_listeners(server: &mut Server, events: &Events, now: u64) {
     }
 }
 
-/// One round, in this second: the clients among what is ready, then the listeners, then whoever is late.
+/// One round, in this second: the clients among what is ready, then the one that came last, then the listeners, then whoever is late.
 pub fn serve_ready(server: &mut Server, events: &Events, room: &mut [u8], now: u64) {
     serve_clients(server, events, room, now);
+    server.serve_newest(room, now);
     serve_listeners(server, events, now);
     server.sweep(now);
 }

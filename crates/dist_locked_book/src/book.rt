@@ -1,21 +1,20 @@
 ghost use Rattle.std.specs.Prelude.{◌≡◌, ◌≢◌, ◌<◌, ◌+◌, ◌≤◌, ◌∷◌, [], ◌++◌, length, vec_len, vec_capacity, true, false, MatchBool, IsTrue};
-ghost use Rattle.std.specs.Prelude.{Ok, Err, IfOk, IfErr, OnOk, OnErr, IsOk, Some, slice_get};
-ghost use Rattle.dist_peers.specs.declared.entry.EndId.{EndId};
-ghost use Rattle.dist_core_ends.specs.declared.why.Why.{Why};
+ghost use Rattle.std.specs.Prelude.{Ok, Err, IfOk, IfErr, OnOk, OnErr, IsOk, Some, None, slice_get};
 ghost use Rattle.dist_core_ends.specs.declared.known.End.{End};
 ghost use Rattle.dist_core.specs.declared.event.Event.TheVariants as Event;
-ghost use Rattle.dist_core.specs.Losses.{is_loss, IsGone, IsSilent};
+ghost use Rattle.dist_core.specs.Losses.{is_loss, IsGone};
 ghost use Rattle.dist_core.specs.Runs.{opening};
 ghost use Rattle.dist_core.specs.Step.{step};
 ghost use Rattle.dist_core.specs.Answers.{Refuses};
-ghost use Rattle.dist_core.specs.Preparing.{IsPrepared};
 ghost use Rattle.dist_core_ends.specs.Ends.{is_open};
 ghost use Rattle.dist_locked_book.specs.History.{IsAnswered, IsLegal, IsReplay, ends_in_loss};
 
 use super::line::{Line, Receipt};
 use super::seat::Seat;
-use dist_core::{Event, Node, Prepared, Reply, Setup, StepError};
+use dist_core::{Event, Node, Note, Reply, Setup, StepError, Why};
 use dist_core_laws::{a_step_keeps, open_ends_after_a_step};
+use dist_names::ByteString;
+use dist_peers::EndId;
 use std::alloc::{AllocError, Global};
 use std::marker::Model;
 
@@ -91,40 +90,74 @@ impl Book {
         (node, history)
     }
 
-    // Makes a step that was prepared, and adds its line.
+    // Makes a step, and adds its line, whose event is the copy that is handed in. Returns the place of the line, and its reply
+    // twice.
     fn enter(
         &mut self,
-        ticket: u64,
-        seat: u32,
-        event: Event,
-        fresh: u32,
-        prepared: Prepared,
-    ) -> Result<usize, StepError>
-        requires { IsPrepared self.old.node event fresh prepared }
-        ensures step { OnOk result (step self.old.node event fresh ≡ Ok (prepared.reply, self.new.node)) }
-        ensures at_end { IfOk result (λ at_. at_ ≡ length self.old.history) }
-        ensures line { OnOk result (self.new.history
-            ≡ self.old.history ++ record { ticket = ticket; seat = seat; event = event; fresh = fresh; reply = prepared.reply } ∷ []) }
+        alloc: Global,
+        entry: Entry,
+        event: &Event,
+        copy: Event,
+    ) -> Result<(usize, Reply, Reply), StepError>
+        requires { copy ≡ event.now }
+        ensures step { IfOk result (λ r. step self.old.node event.now entry.fresh ≡ Ok (r.1, self.new.node)) }
+        ensures same { IfOk result (λ r. r.2 ≡ r.1) }
+        ensures at_end { IfOk result (λ r. r.0 ≡ length self.old.history) }
+        ensures line { IfOk result (λ r. self.new.history ≡ self.old.history
+            ++ record { ticket = entry.ticket; seat = entry.seat; event = event.now; fresh = entry.fresh; reply = r.1 } ∷ []) }
         ensures seats { self.new.seats ≡ self.old.seats }
+        ensures refused { IfErr result (λ e. Refuses e (step self.old.node event.now entry.fresh)) }
         ensures err { OnErr result (self.new ≡ self.old) }
-        ensures refused { IfErr result (λ e. e ≡ StepError.NoMemory) }
-        ensures lost { IsTrue (is_loss event) → IsOk result }
+        ensures gone { IsTrue (is_loss event.now) → IfErr result IsGone }
+        ensures open_end { (x : EndId) (w : Why) (e : End) → event.now ≡ Event.Lost x w
+            → slice_get self.old.node.ends x.0 ≡ Some e → is_open e ≡ true → IsOk result }
+        ensures legal { IsLegal self.old }
     {
         a_step_keeps();
         open_ends_after_a_step();
         let open_ends = self.node.open_ends();
-        make_room(&mut self.history, open_ends, event.is_lost())?;
-        let reply = self.node.commit(prepared)?;
-        let at_ = self.history.len();
-        let line = Line {
-            ticket,
-            seat,
-            event,
-            fresh,
-            reply,
+        let Ok(()) = make_room(&mut self.history, open_ends, event.is_lost()) else {
+            return Err(refusal(alloc, &self.node, event, entry.fresh));
         };
-        self.history.push_reserved(line);
-        Ok(at_)
+        let (reply, second, third) = make_step(alloc, &mut self.node, event, entry.fresh)?;
+        let at_ = self.history.len();
+        self.history.push_reserved(entry.line(copy, reply));
+        Ok((at_, second, third))
+    }
+}
+
+// What a line has beside its event and its reply.
+#[derive(Clone, Copy)]
+struct Entry {
+    ticket: u64,
+    seat: u32,
+    fresh: u32,
+}
+
+impl Entry {
+    // The line of a step.
+    #[inline(always)]
+    fn line(self, event: Event, reply: Reply) -> Line
+        ensures { result ≡ record { ticket = self.ticket; seat = self.seat; event = event; fresh = self.fresh; reply = reply } }
+    {
+        Line {
+            ticket: self.ticket,
+            seat: self.seat,
+            event,
+            fresh: self.fresh,
+            reply,
+        }
+    }
+}
+
+// Why a step is refused for which there is no room: out of memory is the last of its refusals.
+#[inline(never)]
+fn refusal(alloc: Global, node: &Node, event: &Event, fresh: u32) -> StepError
+    ensures { Refuses result (step node.now event.now fresh) }
+{
+    match node.answer(alloc, event, fresh) {
+        Ok(_) => StepError::NoMemory,
+        Err(error) => error,
     }
 }
 
@@ -178,74 +211,117 @@ pub fn step_on(
     ensures room { OnOk result (is_loss event.now ≡ false → 0 < seat.new.spare) }
     ensures room_kept { OnErr result (seat.old.spare ≤ seat.new.spare) }
 {
-    let (prepared, copies) = prepare_line(alloc, &book.node, seat, ticket, event, fresh)?;
-    let (event, receipt_line, kept_line) = copies;
-    let at_ = book.enter(ticket, seat.number(), event, fresh, prepared)?;
+    let Ok(()) = seat.make_room(event.is_lost()) else {
+        return Err(refusal(alloc, book.node(), event, fresh));
+    };
+    let Ok((copy, second, third)) = copies(alloc, event) else {
+        return Err(refusal(alloc, book.node(), event, fresh));
+    };
+    let entry = Entry {
+        ticket,
+        seat: seat.number(),
+        fresh,
+    };
+    let (at_, reply, given) = book.enter(alloc, entry, event, copy)?;
     seat.keep(Receipt {
         at_,
-        line: kept_line,
+        line: entry.line(second, reply),
     });
     Ok(Receipt {
         at_,
-        line: receipt_line,
+        line: entry.line(third, given),
     })
 }
 
-// The step, prepared, with a copy of its event and two of its line, and room for its receipt. It changes nothing but room.
-fn prepare_line(
+// An event, three times. That of a loss takes no memory.
+#[inline(always)]
+fn copies(alloc: Global, event: &Event) -> Result<(Event, Event, Event), AllocError>
+    ensures same { IfOk result (λ r. (r.0 ≡ event.now) × (r.1 ≡ event.now) × (r.2 ≡ event.now)) }
+    ensures loss { IsTrue (is_loss event.now) → IsOk result }
+{
+    let first = event.try_clone(alloc)?;
+    let second = event.try_clone(alloc)?;
+    let third = event.try_clone(alloc)?;
+    Ok((first, second, third))
+}
+
+// Makes a step of a node, and returns its reply three times.
+#[inline(always)]
+fn make_step(
     alloc: Global,
-    node: &Node,
-    seat: &mut Seat,
-    ticket: u64,
+    node: &mut Node,
     event: &Event,
     fresh: u32,
-) -> Result<(Prepared, (Event, Line, Line)), StepError>
-    ensures line { IfOk result (λ r. r.1.1 ≡ record { ticket = ticket; seat = seat.old.number; event = event.now; fresh = fresh; reply = r.0.reply }) }
-    ensures prepared { IfOk result (λ r. IsPrepared node.now event.now fresh r.0) }
-    ensures given { OnOk result (IsOk (step node.now event.now fresh)) }
-    ensures same { IfOk result (λ r. (r.1.0 ≡ event.now) × (r.1.2 ≡ r.1.1)) }
-    ensures seat { (seat.new.number ≡ seat.old.number) × (seat.new.list ≡ seat.old.list) × (seat.old.spare ≤ seat.new.spare) }
-    ensures room { OnOk result (MatchBool (is_loss event.now) (0 < seat.new.spare) (1 < seat.new.spare)) }
-
-    ensures refused { IfErr result (λ e. Refuses e (step node.now event.now fresh)) }
-    ensures gone { IsTrue (is_loss event.now) → 0 < seat.old.spare → IfErr result IsGone }
+) -> Result<(Reply, Reply, Reply), StepError>
+    ensures step { IfOk result (λ r. step node.old event.now fresh ≡ Ok (r.0, node.new)) }
+    ensures same { IfOk result (λ r. (r.1 ≡ r.0) × (r.2 ≡ r.0)) }
+    ensures refused { IfErr result (λ e. Refuses e (step node.old event.now fresh)) }
+    ensures err { OnErr result (node.new ≡ node.old) }
+    ensures gone { IsTrue (is_loss event.now) → IfErr result IsGone }
     ensures open_end { (x : EndId) (w : Why) (e : End) → event.now ≡ Event.Lost x w
-        → slice_get node.now.ends x.0 ≡ Some e → is_open e ≡ true → ends_in_loss seat.old.list ≡ false → IsOk result }
+        → slice_get node.old.ends x.0 ≡ Some e → is_open e ≡ true → IsOk result }
 {
-    let prepared = node.prepare(alloc, event, fresh)?;
-    if seat.make_room(event.is_lost()).is_err() {
-        return Err(StepError::NoMemory);
-    }
-    match copies(alloc, ticket, seat.number(), event, fresh, prepared.reply()) {
-        Ok(copies) => Ok((prepared, copies)),
-        Err(_) => Err(StepError::NoMemory),
+    match event {
+        Event::Incoming { link: _ } => {
+            let id = node.accept()?;
+            Ok((
+                quiet(alloc, id, None),
+                quiet(alloc, id, None),
+                quiet(alloc, id, None),
+            ))
+        }
+        Event::Lost { end_: id, why } => {
+            node.lose(*id, *why)?;
+            let closed = Some((*id, *why));
+            Ok((
+                quiet(alloc, *id, closed),
+                quiet(alloc, *id, closed),
+                quiet(alloc, *id, closed),
+            ))
+        }
+        _ => make_prepared_step(alloc, node, event, fresh),
     }
 }
 
-// A copy of the event, and the line of its step, twice.
-fn copies(
+// The reply of a step that sends nothing, and closes an end or none.
+#[inline(always)]
+fn quiet(alloc: Global, id: EndId, closed: Option<(EndId, Why)>) -> Reply
+    ensures { result ≡ record { end_ = id; say = []; closed = closed; up = None; note = Note.Nothing } }
+{
+    Reply {
+        end_: id,
+        say: ByteString::new(alloc),
+        closed,
+        up: None,
+        note: Note::Nothing,
+    }
+}
+
+// Makes a step whose reply may take memory: it is prepared first, so that it can be copied before the step is made.
+#[inline(never)]
+fn make_prepared_step(
     alloc: Global,
-    ticket: u64,
-    seat: u32,
+    node: &mut Node,
     event: &Event,
     fresh: u32,
-    reply: &Reply,
-) -> Result<(Event, Line, Line), AllocError>
-    ensures event { IfOk result (λ r. r.0 ≡ event.now) }
-    ensures line { IfOk result (λ r. r.1 ≡ record { ticket = ticket; seat = seat; event = event.now; fresh = fresh; reply = reply.now }) }
-    ensures same { IfOk result (λ r. r.2 ≡ r.1) }
-    ensures loss { IsTrue (is_loss event.now) → IsSilent reply.now → IsOk result }
+) -> Result<(Reply, Reply, Reply), StepError>
+    ensures step { IfOk result (λ r. step node.old event.now fresh ≡ Ok (r.0, node.new)) }
+    ensures same { IfOk result (λ r. (r.1 ≡ r.0) × (r.2 ≡ r.0)) }
+    ensures refused { IfErr result (λ e. Refuses e (step node.old event.now fresh)) }
+    ensures err { OnErr result (node.new ≡ node.old) }
 {
-    let copy = event.try_clone(alloc)?;
-    let event = event.try_clone(alloc)?;
-    let reply = reply.try_clone(alloc)?;
-    let line = Line {
-        ticket,
-        seat,
-        event,
-        fresh,
-        reply,
+    let prepared = node.prepare(alloc, event, fresh)?;
+    let Ok((second, third)) = reply_copies(alloc, prepared.reply()) else {
+        return Err(StepError::NoMemory);
     };
-    let second = line.try_clone(alloc)?;
-    Ok((copy, line, second))
+    let reply = node.commit(prepared)?;
+    Ok((reply, second, third))
+}
+
+fn reply_copies(alloc: Global, reply: &Reply) -> Result<(Reply, Reply), AllocError>
+    ensures { IfOk result (λ r. (r.0 ≡ reply.now) × (r.1 ≡ reply.now)) }
+{
+    let first = reply.try_clone(alloc)?;
+    let second = reply.try_clone(alloc)?;
+    Ok((first, second))
 }

@@ -1,12 +1,13 @@
 //! The lines that a script prints: what a node answers, which ends a world closes, and how all stand at the end.
 
-ghost use Rattle.std.specs.Prelude.{◌≡◌, ◌++◌, codes, decimal, option_copied, slice_get, OnOk, Some};
+ghost use Rattle.std.specs.Prelude.{◌≡◌, ◌++◌, codes, decimal, option_copied, slice_get, OnOk, Some, None};
 ghost use Rattle.std.specs.FinMap as map;
 ghost use Rattle.std.specs.Io.KnownBytes.{Appends};
 ghost use Rattle.dist_peers.specs.Table.{up_id};
 ghost use Rattle.dist_core_ends.specs.Ends.{table_of};
 ghost use Rattle.dist_core_ends.specs.Words.{why_word};
 ghost use Rattle.dist_core.specs.Words.{refusal_name};
+ghost use Rattle.dist_core.specs.declared.reply.Note.TheVariants as note;
 ghost use Rattle.dist_script_words.specs.Texts.{text_of};
 ghost use Rattle.dist_script_lines.specs.Lines.{creation_text, said_text, closed_text, up_text, reply_line, busy_text, detail_text};
 ghost use Rattle.dist_script_lines.specs.Lines.{refused_line, entry_text, record_at, record_text, row_text, found_text, table_text};
@@ -21,6 +22,7 @@ use std::io;
 use std::io::Write;
 
 // The number of an end.
+#[inline(always)]
 fn put_end<W: Write>(out: &mut W, id: EndId) -> io::Result<()>
     ensures { OnOk result (Appends (W.contents out.old) (W.contents out.new) (decimal id.0)) }
 {
@@ -53,6 +55,7 @@ fn put_creation<W: Write>(out: &mut W, creation: Option<Creation>) -> io::Result
     }
 }
 
+#[inline(always)]
 fn put_said<W: Write>(out: &mut W, say: &[u8]) -> io::Result<()>
     ensures { OnOk result (Appends (W.contents out.old) (W.contents out.new) (said_text say.now)) }
 {
@@ -108,6 +111,7 @@ fn came_up<W: Write>(out: &mut W, up: Option<&UpRecord>) -> io::Result<()>
 
 // The end of a reply, and what it says.
 #[tactic(auto, using(crate::proofs::Printing::in_four))]
+#[inline(always)]
 fn put_saying<W: Write>(out: &mut W, id: EndId, say: &[u8]) -> io::Result<()>
     ensures { OnOk result (Appends (W.contents out.old) (W.contents out.new) (codes "end " ++ decimal id.0 ++ codes " say " ++ said_text say.now)) }
 {
@@ -119,6 +123,7 @@ fn put_saying<W: Write>(out: &mut W, id: EndId, say: &[u8]) -> io::Result<()>
 
 // What a step closed and what came up: most steps do neither.
 #[tactic(auto, using(crate::proofs::Printing::in_two))]
+#[inline(always)]
 fn put_outcome<W: Write>(
     out: &mut W,
     closed: Option<(EndId, Why)>,
@@ -135,11 +140,28 @@ fn put_outcome<W: Write>(
 
 /// What a step returned.
 #[tactic(auto, using(crate::proofs::Printing::two_by_two))]
+#[inline(always)]
 pub fn reply<W: Write>(out: &mut W, reply: &Reply) -> io::Result<()>
     ensures { OnOk result (Appends (W.contents out.old) (W.contents out.new) (reply_line reply.now)) }
 {
     put_saying(out, reply.end_, reply.say.as_slice())?;
     put_outcome(out, reply.closed, reply.up.as_ref())
+}
+
+/// What a step returned that says this and closed this, where nothing came up and nothing is noted.
+#[tactic(auto, using(crate::proofs::Printing::two_by_two))]
+#[inline(always)]
+pub fn brief_reply<W: Write>(
+    out: &mut W,
+    id: EndId,
+    say: &[u8],
+    closed: Option<(EndId, Why)>,
+) -> io::Result<()>
+    ensures { OnOk result (Appends (W.contents out.old) (W.contents out.new)
+        (reply_line (record { end_ = id; say = say.now; closed = closed; up = None; note = note.Nothing }))) }
+{
+    put_saying(out, id, say)?;
+    put_outcome(out, closed, None)
 }
 
 // The number of an end behind a word.

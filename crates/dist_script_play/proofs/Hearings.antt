@@ -54,6 +54,10 @@ pub record SoFar (x : EndId) (fresh : ℕ) (all : Hearing) (some : Bool) (old ne
 pub none_yet : (x : EndId) (fresh : ℕ) (old : Option (List ℕ)) (s : Standing) (r : Reader) → SoFar x fresh (hearing_of_frames x fresh (to_come r) s r) false old old s r
 none_yet x fresh old s r = record { done = []; put = Appends-nil old; any = refl; rest = refl }
 
+-- where things stand as they did
+pub so_far_at : {x : EndId} {fresh : ℕ} {all : Hearing} {any : Bool} {old mid : Option (List ℕ)} {s now : Standing} {r : Reader} → now ≡ s → SoFar x fresh all any old mid s r → SoFar x fresh all any old mid now r
+so_far_at {x} {fresh} {all} {any} {old} {mid} {s} {now} {r} same so = subst (λ z. SoFar x fresh all any old mid z r) (sym same) so
+
 -- one more
 pub one_more : (x : EndId) (fresh : ℕ) (all : Hearing) (any : Bool) (old mid new : Option (List ℕ)) (s : Standing) (r r1 : Reader) (body : List ℕ) (t1 : Then) (s2 : Standing) (r2 : Reader)
     → SoFar x fresh all any old mid s r → to_come r ≡ body ∷ to_come r1 → r1 ≡ without_next r

@@ -5,3 +5,4 @@ pub mod Worlds
 pub mod Steps
 pub mod Pages
 pub mod Faults
+pub mod Kept

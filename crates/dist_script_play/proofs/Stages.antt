@@ -1,6 +1,5 @@
 -- What happenings print, in turn.
 use Rattle.std.proofs.Common.{◌≡◌, ◌∙◌, ℕ, suc, ◌+◌, ◌<◌, ◌≤◌, List, [], ◌∷◌, ◌++◌, length, take, drop, Option, Some, None, refl, sym, ap, subst, arith, append_assoc, append-nil}
-use Rattle.std.specs.Io.KnownBytes.{Appends}
 use Rattle.dist_world_model.specs.declared.happening.Happening.{Happening}
 use Rattle.dist_world_model.specs.World.{World}
 use Rattle.dist_world_model.specs.Happenings.{applied_at, happens, ticked_on}
@@ -21,9 +20,18 @@ one_closed w (h ∷ []) one =
       | Some x ↦ sym (append-nil (closed_now x.last_closed))
     ]
 
-pub one_put : (a b : Option (List ℕ)) (w w2 : World) (hs : List Happening) (k : ℕ) → length hs ≡ 1 → w2 ≡ run hs w → k ≡ count_applied hs w → Appends a b (closed_after k w2.last_closed) → Appends a b (happenings_text w hs)
-one_put a b w w2 hs k one after count put =
-    subst (Appends a b) (ap (λ v. closed_after k v.last_closed) after ∙ ap (λ n. closed_after n (run hs w).last_closed) count ∙ one_closed w hs one) put
+-- the line after one happening is its text
+one_line : (w w2 : World) (hs : List Happening) (k : ℕ) → length hs ≡ 1 → w2 ≡ run hs w → k ≡ count_applied hs w → closed_after k w2.last_closed ≡ happenings_text w hs
+one_line w w2 hs k one after count =
+    ap (λ v. closed_after k v.last_closed) after ∙ ap (λ n. closed_after n (run hs w).last_closed) count ∙ one_closed w hs one
+
+pub one_puts : (a b : Option (List ℕ)) (p q : List ℕ) (w w2 : World) (hs : List Happening) (k : ℕ) → length hs ≡ 1 → w2 ≡ run hs w → k ≡ count_applied hs w
+    → Puts (closed_after k w2.last_closed) a b p q → Puts (happenings_text w hs) a b p q
+one_puts a b p q w w2 hs k one after count put = subst (λ t. Puts t a b p q) (one_line w w2 hs k one after count) put
+
+pub one_puts_part : (a b : Option (List ℕ)) (p q : List ℕ) (w w2 : World) (hs : List Happening) (k : ℕ) (fault : ScriptFault) → length hs ≡ 1 → w2 ≡ run hs w → k ≡ count_applied hs w
+    → PutsPart (closed_after k w2.last_closed) a b p q fault → PutsPart (happenings_text w hs) a b p q fault
+one_puts_part a b p q w w2 hs k fault one after count part = subst (λ t. PutsPart t a b p q fault) (one_line w w2 hs k one after count) part
 
 -- at most all apply
 pub few_applied : (w : World) (hs : List Happening) → count_applied hs w ≤ length hs

@@ -1,5 +1,5 @@
 -- Steps that were refused.
-use Rattle.std.proofs.Common.{◌≡◌, ◌∙◌, ℕ, List, Option, Result, Err, refl, sym, ap, subst}
+use Rattle.std.proofs.Common.{◌≡◌, ◌∙◌, ℕ, List, Option, Result, Ok, Err, refl, sym, ap, subst}
 use Rattle.std.specs.Io.KnownBytes.{Appends}
 use Rattle.dist_peers.specs.declared.entry.EndId.{EndId}
 use Rattle.dist_core.specs.declared.reply.Reply.{Reply}
@@ -7,9 +7,9 @@ use Rattle.dist_core.specs.declared.step_error.StepError.{StepError}
 use Rattle.dist_core.specs.declared.step_error.StepError.TheVariants as error
 use Rattle.dist_core.specs.Node.{NodeState}
 use Rattle.dist_core.specs.Answers.{Refuses}
-use Rattle.dist_script_lines.specs.Lines.{refused_line}
+use Rattle.dist_script_lines.specs.Lines.{refused_line, reply_line}
 use Rattle.dist_script_play.specs.declared.scene.Then.TheVariants as then
-use Rattle.dist_script_play.specs.Played.{Standing, step_text, reply_in, after_step, then_on}
+use Rattle.dist_script_play.specs.Played.{Standing, step_text, reply_in, after_step, open_readers, then_on}
 
 -- where memory suffices, a refusal is the definition's
 refused : (e : StepError) (s : Result (Reply × NodeState) StepError) → Refuses e s → (e ≡ error.NoMemory → ⊥) → s ≡ Err e
@@ -30,3 +30,22 @@ refused_after x y e s r n p = p ∙ ap (after_step x) (sym (refused e s r n))
 -- nothing follows a frame that was refused
 pub refused_then : (x : EndId) (e : StepError) (s : Result (Reply × NodeState) StepError) → Refuses e s → (e ≡ error.NoMemory → ⊥) → then.Stops ≡ then_on x (reply_in s)
 refused_then x e s r n = ap (λ m. then_on x (reply_in m)) (sym (refused e s r n))
+
+-- what a step returned, by its reply and the node afterwards
+pub told_text : (a b : Option (List ℕ)) (r : Reply) (n : NodeState) (s : Result (Reply × NodeState) StepError) → s ≡ Ok (r, n) → Appends a b (reply_line r) → Appends a b (step_text s)
+told_text a b r n s is p = subst (λ x. Appends a b (step_text x)) (sym is) p
+
+pub told_after : (x y : Standing) (r : Reply) (n : NodeState) (s : Result (Reply × NodeState) StepError) → s ≡ Ok (r, n) → y ≡ record { node = n; readers = open_readers x.readers r.closed } → y ≡ after_step x s
+told_after x y r n s is p = p ∙ ap (after_step x) (sym is)
+
+-- a refusal that does not come of memory
+pub denied_text : (a b : Option (List ℕ)) (e : StepError) (s : Result (Reply × NodeState) StepError) → s ≡ Err e → Appends a b (refused_line e) → Appends a b (step_text s)
+denied_text a b e s is p = subst (λ x. Appends a b (step_text x)) (sym is) p
+
+pub denied_after : (x y : Standing) (e : StepError) (s : Result (Reply × NodeState) StepError) → s ≡ Err e → y ≡ x → y ≡ after_step x s
+denied_after x y e s is p = p ∙ ap (after_step x) (sym is)
+
+-- what is printed of a step, and how things stand after it
+pub ruleset told_or_refused = (told_text, told_after, refused_text, refused_after)
+
+pub ruleset told_or_denied = (told_text, told_after, denied_text, denied_after)

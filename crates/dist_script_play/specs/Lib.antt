@@ -1,3 +1,4 @@
 pub mod Played
 pub mod Pages
 pub mod Scenes
+pub mod Kept

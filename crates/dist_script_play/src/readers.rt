@@ -1,6 +1,10 @@
 //! The readers of frames of a node's ends.
 
-ghost use Rattle.std.specs.Prelude.{◌≡◌, [], OnOk};
+ghost use Rattle.std.specs.Prelude.{◌≡◌, [], Some, None, OnOk, MatchOption};
+ghost use Rattle.std.specs.Ordering.{nat_cmp};
+ghost use Rattle.std.specs.Map.{lookup};
+ghost use Rattle.std.specs.BTreeMap.{is_at};
+ghost use Rattle.dist_script_play.specs.Kept.{IsOfOther};
 ghost use Rattle.dist_script_play.specs.Played.{reader_of, with_reader, without_reader};
 
 use dist_frames::Frames;
@@ -13,16 +17,35 @@ use std::marker::Model;
 /// order.
 #[derive(Drop)]
 pub struct Readers {
+    // The reader that was used last, and its end's number. What comes next is mostly for the same end.
+    last: Option<(u32, Frames)>,
+    // The others.
     kept: BTreeMap<u32, Frames>,
 }
 
 impl Model for Readers {
     ghost use Rattle.std.specs.Prelude.{ℕ, List};
     ghost use Rattle.dist_frames.specs.Reader.{Reader};
+    ghost use Rattle.dist_script_play.specs.Kept.{with_last};
 
     ghost Value = { List (ℕ × Reader) };
 
-    ghost view = { λ r. r.kept.entries };
+    ghost view = { λ r. with_last r.kept.entries r.last };
+}
+
+// Takes the reader that was used last out, where it is that of this end.
+fn take_last(last: &mut Option<(u32, Frames)>, end_: EndId) -> Option<Frames>
+    ensures { MatchOption result ((last.new ≡ last.old) × IsOfOther last.old end_.0)
+        (λ reader. (last.new ≡ None) × (last.old ≡ Some (end_.0, reader))) }
+{
+    match last {
+        Some((number, _)) if *number == end_.0 => {}
+        _ => return None,
+    }
+    match last.take() {
+        Some((_, reader)) => Some(reader),
+        None => None,
+    }
 }
 
 impl Readers {
@@ -31,7 +54,22 @@ impl Readers {
         ensures { result ≡ [] }
     {
         Readers {
+            last: None,
             kept: BTreeMap::new(alloc),
+        }
+    }
+
+    // Takes the reader of this end out, where one is kept.
+    #[tactic(auto, using(crate::proofs::Kept::removed))]
+    fn remove(&mut self, end_: EndId) -> Option<Frames>
+        ensures reader { result ≡ lookup (is_at (nat_cmp end_.0)) self.old }
+        ensures rest { self.new ≡ without_reader self.old end_ }
+    {
+        let _ = self.kept.len();
+        let kept = self.kept.remove(&end_.0);
+        match take_last(&mut self.last, end_) {
+            Some(reader) => Some(reader),
+            None => kept,
         }
     }
 
@@ -40,7 +78,7 @@ impl Readers {
         ensures reader { result ≡ reader_of self.old end_ }
         ensures rest { self.new ≡ without_reader self.old end_ }
     {
-        match self.kept.remove(&end_.0) {
+        match self.remove(end_) {
             Some(reader) => reader,
             None => Frames::new(alloc),
         }
@@ -50,16 +88,19 @@ impl Readers {
     pub fn put(&mut self, end_: EndId, reader: Frames) -> Result<(), AllocError>
         ensures { OnOk result (self.new ≡ with_reader self.old end_ reader) }
     {
-        match self.kept.insert(end_.0, reader) {
-            Ok(_) => Ok(()),
-            Err(_) => Err(AllocError),
+        if let Some((number, other)) = self.last.take() {
+            if self.kept.insert(number, other).is_err() {
+                return Err(AllocError);
+            }
         }
+        self.last = Some((end_.0, reader));
+        Ok(())
     }
 
     /// Drops the reader of an end that is closed.
     pub fn forget(&mut self, end_: EndId)
         ensures { self.new ≡ without_reader self.old end_ }
     {
-        let _ = self.kept.remove(&end_.0);
+        let _ = self.remove(end_);
     }
 }

@@ -1,9 +1,10 @@
 //! A node to which a script gives events and bytes, with a reader of frames for each of its ends.
 
-ghost use Rattle.std.specs.Prelude.{◌≡◌, ◌≤◌, ℕ, List, [], ◌∷◌, length, IfOk, OnOk, MatchOption};
+ghost use Rattle.std.specs.Prelude.{◌≡◌, ◌≤◌, ℕ, List, [], ◌∷◌, length, None, IfOk, OnOk, MatchOption};
 ghost use Rattle.std.specs.Io.KnownBytes.{Appends};
 ghost use Rattle.dist_frames.specs.Reader.{to_come, without_next, with_bytes, without_count};
 ghost use Rattle.dist_core.specs.Step.{step};
+ghost use Rattle.dist_core.specs.declared.reply.Note.TheVariants as note;
 ghost use Rattle.dist_script_lines.specs.Lines.{refused_line, reply_line, table_text};
 ghost use Rattle.dist_script_play.specs.Played.{at_first, step_text, reply_in, after_step, open_readers, is_end, then_after, then_on, reader_on};
 ghost use Rattle.dist_script_play.specs.Played.{hearing_of_frames, hearing, hearing_text, after_hearing, packets_text, line_text, after_line};
@@ -11,7 +12,7 @@ ghost use Rattle.dist_script_play.specs.Scenes.{Hears, HearsBytes};
 
 use crate::readers::Readers;
 use dist_core::{Event, Node, Reply, Setup, StepError, Still, Why};
-use dist_frames::Frames;
+use dist_frames::{Frames, tick};
 use dist_names::ByteString;
 use dist_peers::EndId;
 use dist_script::Line;
@@ -20,12 +21,15 @@ use dist_script_words::{ScriptFault, or_write_failed};
 use std::alloc::Global;
 use std::io::Write;
 use std::marker::Model;
+use std::mem::replace;
 
 /// The node, and a reader for each end to which bytes came.
 #[derive(Drop)]
 pub struct Scene {
     node: Node,
     readers: Readers,
+    // Where the next body is put, so that not each of them takes memory of its own.
+    room: Vec<u8>,
 }
 
 impl Model for Scene {
@@ -80,16 +84,18 @@ fn print_refusal<W: Write>(error: StepError, out: &mut W) -> Result<(), ScriptFa
     }
 }
 
-// The next whole body, moved out of the reader.
-#[tactic(auto, using(crate::proofs::Hearings::no_next))]
-fn next_body(reader: &mut Frames) -> Result<Option<ByteString>, ScriptFault>
-    ensures { IfOk result (λ body. MatchOption body ((to_come reader.old ≡ []) × (reader.new ≡ reader.old))
-        (λ b. (to_come reader.old ≡ b ∷ to_come reader.new) × (reader.new ≡ without_next reader.old))) }
+// Prints what a step returned by which nothing came up.
+#[inline(never)]
+fn print_brief<W: Write>(
+    out: &mut W,
+    id: EndId,
+    say: &[u8],
+    closed: Option<(EndId, Why)>,
+) -> Result<(), ScriptFault>
+    ensures { OnOk result (Appends (W.contents out.old) (W.contents out.new)
+        (reply_line (record { end_ = id; say = say.now; closed = closed; up = None; note = note.Nothing }))) }
 {
-    match reader.next_short() {
-        Ok(body) => Ok(body.map(ByteString::from_vec)),
-        Err(_) => Err(ScriptFault::NoMemory),
-    }
+    or_write_failed(print::brief_reply(out, id, say, closed))
 }
 
 // What a reader does once a frame of its end was given to the node.
@@ -125,6 +131,7 @@ impl Scene {
         Scene {
             node: Node::new(alloc, setup),
             readers: Readers::new(alloc),
+            room: Vec::new(alloc),
         }
     }
 
@@ -155,9 +162,67 @@ impl Scene {
         or_write_failed(print::table(out, &self.node))
     }
 
+    // Gives the node an event and prints what comes of it.
+    fn step<W: Write>(
+        &mut self,
+        alloc: Global,
+        event: &Event,
+        out: &mut W,
+    ) -> Result<(), ScriptFault>
+        ensures text { OnOk result (Appends (W.contents out.old) (W.contents out.new) (step_text (step self.old.node event.now 0))) }
+        ensures after { OnOk result (self.new ≡ after_step self.old (step self.old.node event.now 0)) }
+    {
+        match event {
+            Event::Incoming { link } => self.accept(*link, out),
+            Event::Lost { end_, why } => self.lose(*end_, *why, out),
+            Event::Tick { end_ } => self.tick(*end_, out),
+            _ => self.print_step(alloc, event, out),
+        }
+    }
+
+    // A connection that came.
+    #[tactic(auto, using(crate::proofs::Steps::told_or_refused))]
+    fn accept<W: Write>(&mut self, _link: u64, out: &mut W) -> Result<(), ScriptFault>
+        ensures text { OnOk result (Appends (W.contents out.old) (W.contents out.new) (step_text (step self.old.node (Event.Incoming _link) 0))) }
+        ensures after { OnOk result (self.new ≡ after_step self.old (step self.old.node (Event.Incoming _link) 0)) }
+    {
+        match self.node.accept() {
+            Ok(id) => print_brief(out, id, &[], None),
+            Err(error) => print_refusal(error, out),
+        }
+    }
+
+    // The loss of an end, whose reader is dropped.
+    #[tactic(auto, using(crate::proofs::Steps::told_or_denied))]
+    fn lose<W: Write>(&mut self, end_: EndId, why: Why, out: &mut W) -> Result<(), ScriptFault>
+        ensures text { OnOk result (Appends (W.contents out.old) (W.contents out.new) (step_text (step self.old.node (Event.Lost end_ why) 0))) }
+        ensures after { OnOk result (self.new ≡ after_step self.old (step self.old.node (Event.Lost end_ why) 0)) }
+    {
+        match self.node.lose(end_, why) {
+            Ok(()) => {
+                print_brief(out, end_, &[], Some((end_, why)))?;
+                self.readers.forget(end_);
+                Ok(())
+            }
+            Err(error) => print_refusal(error, out),
+        }
+    }
+
+    // A tick of an end.
+    #[tactic(auto, using(crate::proofs::Steps::told_or_denied))]
+    fn tick<W: Write>(&mut self, end_: EndId, out: &mut W) -> Result<(), ScriptFault>
+        ensures text { OnOk result (Appends (W.contents out.old) (W.contents out.new) (step_text (step self.old.node (Event.Tick end_) 0))) }
+        ensures after { OnOk result (self.new ≡ after_step self.old (step self.old.node (Event.Tick end_) 0)) }
+    {
+        match self.node.tick(end_) {
+            Ok(()) => print_brief(out, end_, &tick(), None),
+            Err(error) => print_refusal(error, out),
+        }
+    }
+
     // Makes a step and prints what comes of it.
     #[tactic(auto, using(crate::proofs::Steps::refused_text, crate::proofs::Steps::refused_after))]
-    fn step<W: Write>(
+    fn print_step<W: Write>(
         &mut self,
         alloc: Global,
         event: &Event,
@@ -251,6 +316,35 @@ impl Scene {
         Ok(())
     }
 
+    // The next whole body, moved out of the reader.
+    fn next_body(
+        &mut self,
+        alloc: Global,
+        reader: &mut Frames,
+    ) -> Result<Option<ByteString>, ScriptFault>
+        ensures body { IfOk result (λ body. MatchOption body ((to_come reader.old ≡ []) × (reader.new ≡ reader.old))
+            (λ b. (to_come reader.old ≡ b ∷ to_come reader.new) × (reader.new ≡ without_next reader.old))) }
+        ensures same { self.new ≡ self.old }
+    {
+        let Some(body) = reader.front() else {
+            return Ok(None);
+        };
+        let mut room = replace(&mut self.room, Vec::new(alloc));
+        room.clear();
+        room.extend_from_slice(body)?;
+        reader.drop_front();
+        Ok(Some(ByteString::from_vec(room)))
+    }
+
+    // Takes back the memory of a body that was given to the node.
+    fn take_back(&mut self, event: Event)
+        ensures { self.new ≡ self.old }
+    {
+        if let Event::Frame { body, .. } = event {
+            self.room = body.into_vec();
+        }
+    }
+
     // Gives the node each whole frame, and returns whether there was one.
     #[tactic(auto, using(crate::proofs::Hearings::none_yet, crate::proofs::Hearings::one_more, crate::proofs::Hearings::no_frame_left))]
     fn hear_frames<W: Write>(
@@ -265,10 +359,11 @@ impl Scene {
             (W.contents out.old) (W.contents out.new) self.new reader.new) }
     {
         let mut any = false;
-        while let Some(body) = next_body(reader)? {
+        while let Some(body) = self.next_body(alloc, reader)? {
             any = true;
             let event = Event::Frame { end_, body };
             let then = self.take(alloc, end_, &event, fresh, out)?;
+            self.take_back(event);
             go_on(alloc, reader, then);
         }
         Ok(any)

@@ -30,49 +30,46 @@ pub fn world_of(alloc: Global, nodes: Vec<Setup>) -> Result<World, ScriptFault>
     }
 }
 
-// The end that the last happening closed, where it applied and closed one.
-fn print_closed<W: Write>(world: &World, applied: usize, out: &mut W) -> Result<(), ScriptFault>
-    ensures { OnOk result (Appends (W.contents out.old) (W.contents out.new) (closed_after applied world.now.last_closed)) }
+// Puts the end that the last happening closed on the page, where it closed one.
+#[tactic(auto, using(crate::proofs::Pages::text_put, crate::proofs::Pages::puts_none))]
+fn put_last<W: Write>(world: &World, page: &mut Page, out: &mut W) -> Result<(), ScriptFault>
+    ensures text { OnOk result (Puts (closed_now world.now.last_closed)
+        (W.contents out.old) (W.contents out.new) page.old.text.items page.new.text.items) }
+    ensures cut { IfErr result (λ fault. PutsPart (closed_now world.now.last_closed)
+        (W.contents out.old) (W.contents out.new) page.old.text.items page.new.text.items fault) }
+{
+    let Some((node, end_, why)) = world.last_closed() else {
+        return Ok(());
+    };
+    page.line.clear();
+    on_page(or_write_failed(print::closed_end(&mut page.line, node, end_, why)))?;
+    page.put_line(out)?;
+    Ok(())
+}
+
+// The same of a happening of which this many applied.
+#[tactic(auto, using(crate::proofs::Pages::puts_none))]
+fn put_closed<W: Write>(
+    world: &World,
+    applied: usize,
+    page: &mut Page,
+    out: &mut W,
+) -> Result<(), ScriptFault>
+    ensures text { OnOk result (Puts (closed_after applied world.now.last_closed)
+        (W.contents out.old) (W.contents out.new) page.old.text.items page.new.text.items) }
+    ensures cut { IfErr result (λ fault. PutsPart (closed_after applied world.now.last_closed)
+        (W.contents out.old) (W.contents out.new) page.old.text.items page.new.text.items fault) }
 {
     if applied > 0 {
-        print_last(world, out)
+        put_last(world, page, out)
     } else {
         Ok(())
     }
 }
 
-fn print_last<W: Write>(world: &World, out: &mut W) -> Result<(), ScriptFault>
-    ensures { OnOk result (Appends (W.contents out.old) (W.contents out.new) (closed_now world.now.last_closed)) }
-{
-    match world.last_closed() {
-        Some((node, end_, why)) => or_write_failed(print::closed_end(out, node, end_, why)),
-        None => Ok(()),
-    }
-}
-
-// Lets one thing happen, and prints the end that its step closed. Returns how many applied.
-#[tactic(auto, using(crate::proofs::Stages::one_put))]
+// Lets one thing happen, and puts the end that its step closed on the page. Returns how many applied.
+#[tactic(auto, using(crate::proofs::Stages::one_puts, crate::proofs::Stages::one_puts_part, crate::proofs::Pages::line_lost))]
 fn happen<W: Write>(
-    alloc: Global,
-    world: &mut World,
-    happening: &[Happening],
-    out: &mut W,
-) -> Result<usize, ScriptFault>
-    requires { length happening.now ≡ 1 }
-    ensures text { OnOk result (Appends (W.contents out.old) (W.contents out.new) (happenings_text world.old happening.now)) }
-    ensures after { OnOk result (world.new ≡ run happening.now world.old) }
-    ensures count { IfOk result (λ n. n ≡ count_applied happening.now world.old) }
-{
-    let Ok(applied) = world.run(alloc, happening) else {
-        return Err(ScriptFault::NoMemory);
-    };
-    print_closed(world, applied, out)?;
-    Ok(applied)
-}
-
-// Lets one thing happen, and puts what that prints on the page. Returns how many applied.
-#[tactic(auto, using(crate::proofs::Pages::text_put))]
-fn happen_once<W: Write>(
     alloc: Global,
     world: &mut World,
     happening: &[Happening],
@@ -87,11 +84,10 @@ fn happen_once<W: Write>(
     ensures cut { IfErr result (λ fault. PutsPart (happenings_text world.old happening.now)
         (W.contents out.old) (W.contents out.new) page.old.text.items page.new.text.items fault) }
 {
-    page.line.clear();
-    let Ok(applied) = happen(alloc, world, happening, &mut page.line) else {
+    let Ok(applied) = world.run(alloc, happening) else {
         return Err(ScriptFault::NoMemory);
     };
-    page.put_line(out)?;
+    put_closed(world, applied, page, out)?;
     Ok(applied)
 }
 
@@ -115,7 +111,7 @@ fn happen_all<W: Write>(
     let mut rest = happenings;
     while !rest.is_empty() {
         let (happening, others) = rest.split_at(1);
-        let more = happen_once(alloc, world, happening, page, out)?;
+        let more = happen(alloc, world, happening, page, out)?;
         applied += more;
         rest = others;
     }

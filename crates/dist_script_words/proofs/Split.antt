@@ -1,9 +1,11 @@
 -- A line is its first word and the words behind it.
-use Rattle.std.proofs.Common.{◌≡◌, ℕ, suc, ◌+◌, ◌-◌, ◌<◌, ◌≤◌, true, false, not, cond, List, [], ◌∷◌, length, take, drop, refl, sym, ap, subst, arith}
-use Rattle.std.specs.List.{position_or_len}
+use Rattle.std.proofs.Common.{◌≡◌, ◌++◌, ◌∙◌, ℕ, suc, ◌+◌, ◌-◌, ◌<◌, ◌≤◌, true, false, not, cond, List, [], ◌∷◌, length, take, drop, refl, sym, ap, subst, arith}
+use Rattle.std.specs.List.{position_or_len, starts_with}
 use Rattle.std.specs.Prelude.{◌==◌, slice_index}
 use Rattle.std.proofs.lemmas.List.{take_rest}
 use Rattle.std.proofs.lemmas.List.Sums.{position_or_len_is}
+use Rattle.std.proofs.lemmas.Bool.Decides.{Decides-eqb}
+use Rattle.std.proofs.lemmas.Slice.Eq.{starts_is}
 use Rattle.memchr.specs.Find.{Nowhere, NoneBefore, Passes, is_byte}
 use Rattle.dist_script_words.specs.Words.{words_of, before_first, is_space}
 
@@ -62,3 +64,28 @@ some_word (c ∷ cs) =
       | true ↦ λ e. absurd cc
       | false ↦ elim (words_of cs) as (λ ws. before_first c ws ≡ [] → ⊥) [ [] ↦ λ e. absurd cc | w ∷ ws ↦ λ e. absurd cc ]
     ]
+
+first_word : (a b : List ℕ) (more others : List (List ℕ)) → a ∷ more ≡ b ∷ others → a ≡ b
+first_word a b more others e = cc
+
+abbrev Front : List ℕ → List ℕ → Type 0
+Front line word = (behind : List ℕ) × (line ≡ word ++ behind)
+
+-- a line is its first word and what stands behind that
+word_front : (line word : List ℕ) (rest : List (List ℕ)) → words_of line ≡ word ∷ rest → Front line word
+word_front [] word rest = λ e. ([], ap (λ (w : List ℕ). w ++ []) (first_word [] word [] rest e))
+word_front (c ∷ cs) word rest =
+    elim (is_space c) as (λ v. cond v ([] ∷ words_of cs) (before_first c (words_of cs)) ≡ word ∷ rest → Front (c ∷ cs) word) [
+      | true ↦ λ e. (c ∷ cs, ap (λ (w : List ℕ). w ++ c ∷ cs) (first_word [] word (words_of cs) rest e))
+      | false ↦ elim (words_of cs) as (λ ws. words_of cs ≡ ws → before_first c ws ≡ word ∷ rest → Front (c ∷ cs) word) [
+        | [] ↦ λ is e. (cs, ap (λ (w : List ℕ). w ++ cs) (first_word (c ∷ []) word [] rest e))
+        | w ∷ ws ↦ λ is e. let more = word_front cs w ws is in
+            (more.0, ap (λ (l : List ℕ). c ∷ l) more.1 ∙ ap (λ (l : List ℕ). l ++ more.0) (first_word (c ∷ w) word ws rest e))
+      ] refl
+    ]
+
+-- so it begins with it
+pub word_in_front : (line word : List ℕ) (rest : List (List ℕ)) → words_of line ≡ word ∷ rest → starts_with (λ x y. x == y) line word ≡ true
+word_in_front line word rest e =
+    let front = word_front line word rest e in
+    (starts_is Decides-eqb line word (starts_with (λ x y. x == y) line word) refl).1 front.0 front.1

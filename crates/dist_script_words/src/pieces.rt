@@ -1,6 +1,6 @@
 //! Pieces of printed lines: words, numbers and digits.
 
-ghost use Rattle.std.specs.Prelude.{◌≤◌, ◌≡◌, length, take, decimal, OnOk, OnErr, IfOk};
+ghost use Rattle.std.specs.Prelude.{◌≤◌, ◌≡◌, length, take, drop, decimal, OnOk, OnErr, IfOk};
 ghost use Rattle.std.specs.Io.KnownBytes.{Appends, Keeps};
 ghost use Rattle.hex.specs.Hex.{encode_lower};
 ghost use Rattle.dist_script_words.specs.Texts.{flags_text, text_of, texts_of, PutsFront};
@@ -53,14 +53,24 @@ fn put_piece<W: Write>(out: &mut W, piece: Piece<'_>) -> io::Result<()>
 }
 
 /// Writes a number in decimal digits. Where a write fails, what was written is a beginning of them.
-#[inline(never)]
+#[inline(always)]
 pub fn put_number<W: Write>(out: &mut W, number: u64) -> io::Result<()>
     ensures text { OnOk result (Appends (W.contents out.old) (W.contents out.new) (decimal number)) }
     ensures cut { OnErr result (PutsFront (decimal number) (W.contents out.old) (W.contents out.new)) }
 {
     let mut room = [0u8; MOST_DECIMALS];
-    let start = itoa::write_digits(number, &mut room, MOST_DECIMALS);
+    let start = write_decimals(number, &mut room);
     put_bytes(out, &room[start..])
+}
+
+// Writes a number in decimal digits at the end of a room, and returns where they begin.
+#[inline(never)]
+fn write_decimals(number: u64, room: &mut [u8]) -> usize
+    requires { length room.old ≡ 20 }
+    ensures start { result ≤ 20 }
+    ensures digits { drop result room.new ≡ decimal number }
+{
+    itoa::write_digits(number, room, MOST_DECIMALS)
 }
 
 /// Writes flags in 16 hexadecimal digits of lower case. Where a write fails, what was written is a beginning of them.

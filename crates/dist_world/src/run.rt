@@ -25,6 +25,7 @@ fn one_if(applies: bool) -> usize
 
 impl Scene {
     /// Lets these happenings happen in turn, and returns how many applied. One that does not apply changes nothing.
+    #[inline(always)]
     pub fn run(&mut self, alloc: Global, happenings: &[Happening]) -> Result<usize, Stopped>
         ensures after { OnOk result (self.new ≡ run happenings.now self.old) }
         ensures count { IfOk result (λ n. n ≡ count_applied happenings.now self.old) }

@@ -28,6 +28,8 @@ pub struct Scene {
     clock: u64,
     /// What the step of the last of them closed, and at which node.
     last_closed: Option<(usize, (EndId, Why))>,
+    /// Room for the body of a frame that is taken, kept from one to the next. No contract sees it.
+    room: Vec<u8>,
 }
 
 impl Model for Scene {
@@ -73,6 +75,7 @@ impl Scene {
             conns: Connections::new(alloc),
             clock: 0,
             last_closed: None,
+            room: Vec::new(alloc),
         })
     }
 

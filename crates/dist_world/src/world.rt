@@ -62,6 +62,7 @@ impl World {
     ///
     /// It fails only where memory runs out, and the world then stands after the first `done` happenings of the list: no happening
     /// applies in part, and the others can be run from there.
+    #[inline(always)]
     pub fn run(&mut self, alloc: Global, happenings: &[Happening]) -> Result<usize, Stopped>
         ensures after { OnOk result (self.new ≡ run happenings.now self.old) }
         ensures count { IfOk result (λ n. n ≡ count_applied happenings.now self.old) }

@@ -7,3 +7,4 @@ pub mod Reset
 pub mod Wired
 pub mod Links
 pub mod Indexes
+pub mod Keeping

@@ -1,5 +1,6 @@
 pub mod Wires
 pub mod Reading
+pub mod Keeping
 pub mod Stepping
 pub mod Telling
 pub mod Resetting

@@ -131,6 +131,13 @@ impl Lives {
         life_node(&self.lives, place)
     }
 
+    /// Makes room for this many incarnations more, where there is memory for it: so they need not move as their number grows.
+    pub fn make_room(&mut self, count: usize)
+        ensures { self.new ≡ self.old }
+    {
+        let _ = self.lives.reserve(count);
+    }
+
     /// A node that does not run begins anew. An `Err` changes nothing.
     pub fn begin(
         &mut self,

@@ -3,6 +3,7 @@ ghost use Rattle.std.specs.Prelude.{◌≡◌, true};
 ghost use Rattle.dist_world_model.specs.Rows.{new_row, once};
 ghost use Rattle.dist_world_model.specs.Happenings.{shut_row, reached_row};
 ghost use Rattle.dist_world_lives.specs.Stepping.{own_row, doomed_row};
+ghost use Rattle.dist_world_lives.specs.Keeping.{number_if};
 
 use dist_core::Note;
 use dist_messages::Side;
@@ -11,34 +12,43 @@ use std::marker::Model;
 
 /// What stays of an end for ever, also once it is closed and its node has ended. The numbers are of happenings that applied,
 /// counted from 0.
+///
+/// Which of the numbers were written stands apart from them: so a row takes 80 bytes, and not 128.
 #[derive(Drop)]
 pub struct EndRow {
     side: Side,
+    is_reached: bool,
+    is_named: bool,
+    is_doomed: bool,
+    has_replied: bool,
+    has_risen: bool,
+    is_closed: bool,
     peer: Option<NodeName>,
-    conn: Option<usize>,
+    conn: usize,
     given: u64,
-    named: Option<u64>,
-    doomed: Option<u64>,
-    replied: Option<u64>,
-    rose: Option<u64>,
-    closed: Option<u64>,
+    named: u64,
+    doomed: u64,
+    replied: u64,
+    rose: u64,
+    closed: u64,
 }
 
 impl Model for EndRow {
     ghost use Rattle.dist_world_model.specs.Rows as rows;
+    ghost use Rattle.dist_world_lives.specs.Keeping.{number_if};
 
     ghost Value = { rows.EndRow };
 
     ghost view = { λ r. record {
       side = r.side;
       peer = r.peer;
-      conn = r.conn;
+      conn = number_if r.is_reached r.conn;
       given = r.given;
-      named = r.named;
-      doomed = r.doomed;
-      replied = r.replied;
-      rose = r.rose;
-      closed = r.closed;
+      named = number_if r.is_named r.named;
+      doomed = number_if r.is_doomed r.doomed;
+      replied = number_if r.has_replied r.replied;
+      rose = number_if r.has_risen r.rose;
+      closed = number_if r.is_closed r.closed;
     } };
 }
 
@@ -46,16 +56,26 @@ impl EndRow {
     pub fn new(side: Side, peer: Option<NodeName>, conn: Option<usize>, given: u64) -> EndRow
         ensures { result ≡ new_row side peer conn given }
     {
+        let (is_reached, conn) = match conn {
+            Some(conn) => (true, conn),
+            None => (false, 0),
+        };
         EndRow {
             side,
+            is_reached,
+            is_named: false,
+            is_doomed: false,
+            has_replied: false,
+            has_risen: false,
+            is_closed: false,
             peer,
             conn,
             given,
-            named: None,
-            doomed: None,
-            replied: None,
-            rose: None,
-            closed: None,
+            named: 0,
+            doomed: 0,
+            replied: 0,
+            rose: 0,
+            closed: 0,
         }
     }
 
@@ -67,31 +87,37 @@ impl EndRow {
     }
 
     /// Its connection, where it has one.
+    #[tactic(auto, using(crate::proofs::Keeping::is_written, crate::proofs::Keeping::is_unwritten))]
     pub fn conn(&self) -> Option<usize>
         ensures { result ≡ self.now.conn }
     {
-        self.conn
+        if self.is_reached {
+            Some(self.conn)
+        } else {
+            None
+        }
     }
 
     /// It gets a connection.
     pub fn reach(&mut self, conn: usize)
         ensures { self.new ≡ reached_row conn self.old }
     {
-        self.conn = Some(conn);
+        self.is_reached = true;
+        self.conn = conn;
     }
 
     /// It is closed.
     pub fn close(&mut self, clock: u64)
         ensures { self.new ≡ shut_row clock self.old }
     {
-        self.closed = once(self.closed, clock);
+        write_once(&mut self.is_closed, &mut self.closed, clock);
     }
 
     /// It is doomed.
     pub fn doom(&mut self, clock: u64)
         ensures { self.new ≡ doomed_row clock self.old }
     {
-        self.doomed = once(self.doomed, clock);
+        write_once(&mut self.is_doomed, &mut self.doomed, clock);
     }
 
     /// It got an event, and this is noted of it.
@@ -102,22 +128,23 @@ impl EndRow {
             Note::Nothing => {}
             Note::NameTaken { peer, dooms: _ } => {
                 self.peer = Some(peer);
-                self.named = once(self.named, clock);
+                write_once(&mut self.is_named, &mut self.named, clock);
             }
-            Note::ReplySaid => self.replied = once(self.replied, clock),
+            Note::ReplySaid => write_once(&mut self.has_replied, &mut self.replied, clock),
         }
         if is_up {
-            self.rose = once(self.rose, clock);
+            write_once(&mut self.has_risen, &mut self.rose, clock);
         }
     }
 }
 
 // A number once written stays.
-fn once(old: Option<u64>, clock: u64) -> Option<u64>
-    ensures { result ≡ once true clock old }
+#[tactic(auto, using(crate::proofs::Keeping::first_written, crate::proofs::Keeping::stays_written))]
+fn write_once(is_written: &mut bool, number: &mut u64, clock: u64)
+    ensures { number_if is_written.new number.new ≡ once true clock (number_if is_written.old number.old) }
 {
-    match old {
-        Some(n) => Some(n),
-        None => Some(clock),
+    if !*is_written {
+        *is_written = true;
+        *number = clock;
     }
 }

@@ -84,6 +84,7 @@ pub fn serve<R: Wait + Clock>(
         server.wait(&mut events, Duration::from_secs(SECONDS))?;
         let now = start.elapsed(rt)?.as_secs();
         serve_clients(server, &events, &mut room, now);
+        server.serve_newest(&mut room, now);
         serve_listeners(server, &events, now);
         // Before the sweep, which forgets whether connections wait that could not be accepted.
         beside.serve(server, &events, &mut room, now);

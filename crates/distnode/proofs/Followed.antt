@@ -1,7 +1,8 @@
 -- An order that was done.
 use Rattle.std.proofs.Common.{◌≡◌, ℕ, Bool, true, false, List, Option, sym, subst}
 use Rattle.dist_stream.specs.Stream.{StreamState}
-use Rattle.distnode.specs.Printed.{PrintsCookie, PrintsNames, PrintsEscapedNames, PrintsRunOf}
+use Rattle.dist_short_commands.specs.Printed.{PrintsCookie, PrintsNames, PrintsEscapedNames}
+use Rattle.distnode.specs.Printed.{PrintsRunOf}
 use Rattle.distnode.specs.Followed.{PrintsAnswer}
 
 -- of the file that was opened

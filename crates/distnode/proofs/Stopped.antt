@@ -1,14 +1,8 @@
--- What a fault leaves.
+-- What a fault leaves of `run`.
 use Rattle.std.proofs.Common.{◌≡◌, ◌⊎◌, inl, inr, ℕ, List, [], Option, Some, None, Result, Ok, Err, IfErr, refl, sym, subst}
 use Rattle.std.specs.Result.{IsErrAnd}
 use Rattle.std.specs.Str.{IsUtf8}
-use Rattle.std.specs.Io.KnownBytes.{Appends, Consumes, IsAtEnd, Keeps}
-use Rattle.std.proofs.KnownBytes.{Appends-kept}
-use Rattle.dist_names.specs.Escaped.{escaped_lines}
-use Rattle.dist_secret.specs.Hearing.{Hears}
-use Rattle.dist_stream.specs.Stream.{StreamState}
-use Rattle.dist_epmd.specs.declared.message.Request.TheVariants.{Names}
-use Rattle.dist_epmd_calls.specs.Asking.{AsksFor, names_meant}
+use Rattle.std.specs.Io.KnownBytes.{Consumes, IsAtEnd}
 use Rattle.dist_locked_book.specs.declared.closing.Closed.{Closed}
 use Rattle.dist_run_plan.specs.declared.plan.Plan.{Plan}
 use Rattle.dist_run_plan.specs.Plans.{plan_of}
@@ -19,41 +13,13 @@ use Rattle.dist_run.specs.Runs.{AreInOrder}
 use Rattle.dist_script_words.specs.Texts.{PutsFront}
 use Rattle.dist_script_words.specs.Fault.{StopsReading}
 use Rattle.dist_script_words.specs.declared.fault.ScriptFault.{ScriptFault}
-use Rattle.dist_script_words.proofs.Fronts.{front_all}
-use Rattle.distnode.specs.declared.fault.Fault.{Fault}
-use Rattle.distnode.specs.declared.fault.Fault.TheVariants as fault
-use Rattle.distnode.specs.Fault.{status_of, fault_of}
-use Rattle.distnode.specs.Printed.{cookie_line, Puts, IsOfRun, PrintsRun}
-use Rattle.distnode.specs.Stopped.{EndsByFault, StopsCookie, StopsNames, StopsEscapedNames, StopsPrinting, StopsRun, StopsRunOf, IsNoNodesFile}
+use Rattle.dist_short_commands.specs.declared.fault.Fault.{Fault}
+use Rattle.dist_short_commands.specs.declared.fault.Fault.TheVariants as fault
+use Rattle.dist_short_commands.specs.Fault.{status_of, fault_of}
+use Rattle.distnode.specs.Printed.{Puts, IsOfRun, PrintsRun}
+use Rattle.dist_short_commands.specs.Stopped.{EndsByFault}
+use Rattle.distnode.specs.Stopped.{StopsPrinting, StopsRun, StopsRunOf, IsNoNodesFile}
 use Rattle.distnode.proofs.Printing.{of_text}
-
--- ---- what was written, and then flushed
-
--- a flush leaves what was written
-pub flushed : (a b c : Option (List ℕ)) (text : List ℕ) → Appends a b text → Keeps b c → Appends a c text
-flushed a b c text put keeps = Appends-kept a b c text put keeps
-
--- also one that failed
-pub unflushed : (a b c : Option (List ℕ)) (text : List ℕ) → Appends a b text → Keeps b c → PutsFront text a c
-unflushed a b c text put keeps = front_all a c text (flushed a b c text put keeps)
-
--- ---- `cookie`
-
--- its line could not be written
-pub cut_line : (before after : Option (List ℕ)) (challenge : ℕ) (a b : Option (List ℕ)) (cookie line : List ℕ) → Hears before after (Ok cookie) → line ≡ cookie_line cookie challenge → PutsFront line a b → StopsCookie before after challenge a b fault.WriteFailed
-cut_line before after challenge a b cookie line hears same put = (cookie, hears, subst (λ l. PutsFront l a b) same put)
-
--- ---- `names`
-
--- the answer could not be written
-pub cut_names : (before after : StreamState) (turns : ℕ) (a b : Option (List ℕ)) (port : ℕ) (text said : List ℕ) → AsksFor Names before after turns names_meant (Ok (port, text)) → said ≡ text → PutsFront said a b → StopsNames before after turns a b fault.WriteFailed
-cut_names before after turns a b port text said asks same put = (port, text, asks, subst (λ t. PutsFront t a b) same put)
-
--- its escape could not be written
-pub cut_escaped : (before after : StreamState) (turns : ℕ) (a b : Option (List ℕ)) (port : ℕ) (text escaped : List ℕ) → AsksFor Names before after turns names_meant (Ok (port, text)) → escaped ≡ escaped_lines text → PutsFront escaped a b → StopsEscapedNames before after turns a b fault.WriteFailed
-cut_escaped before after turns a b port text escaped asks same put = (port, text, asks, subst (λ t. PutsFront t a b) same put)
-
--- ---- `run`
 
 -- the printing of a run was stopped
 pub of_printing : (file : List ℕ) (plan : Plan) (faults : List OrderFault) (closed : List Closed) (a b : Option (List ℕ)) (f : Fault) → plan_of file ≡ Some plan → AreOfPlans plan.node closed → AreInOrder faults → AreObeyed plan.dial faults closed → StopsPrinting faults closed a b f → StopsRun file a b f

@@ -4,7 +4,8 @@ use Rattle.dist_stream.specs.Stream.{StreamState}
 use Rattle.dist_commands.specs.declared.order_of_words.Order.{Order}
 use Rattle.dist_commands.specs.declared.order_of_words.Order.TheVariants as order
 use Rattle.dist_script_play.specs.Scenes.{Plays}
-use Rattle.distnode.specs.Printed.{PrintsCookie, PrintsNames, PrintsEscapedNames, PrintsRunOf}
+use Rattle.dist_short_commands.specs.Printed.{PrintsCookie, PrintsNames, PrintsEscapedNames}
+use Rattle.distnode.specs.Printed.{PrintsRunOf}
 
 -- the answer of the port mapper over a connection that stands so was put there, in at most 1,280 turns: by its escape on a terminal
 abbrev pub PrintsAnswer : Bool → StreamState → Option (List ℕ) → Option (List ℕ) → Type 0

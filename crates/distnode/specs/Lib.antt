@@ -1,4 +1,3 @@
-pub mod Fault
 pub mod Printed
 pub mod Stopped
 pub mod Followed

@@ -1,14 +1,7 @@
--- WHAT THE COMMANDS PRINT.
-use Rattle.std.specs.Prelude.{◌≡◌, ℕ, zero, suc, List, [], ◌∷◌, ◌++◌, length, codes, decimal, Option, Some, Ok}
-use Rattle.std.specs.List.{All, concat}
+-- WHAT `run` PRINTS.
+use Rattle.std.specs.Prelude.{◌≡◌, ℕ, zero, suc, List, [], ◌∷◌, ◌++◌, codes, decimal, Option, Some}
+use Rattle.std.specs.List.{concat}
 use Rattle.std.specs.Io.KnownBytes.{Appends, Consumes, IsAtEnd}
-use Rattle.hex.specs.Hex.{encode_lower}
-use Rattle.dist_names.specs.Escaped.{escaped_lines, IsPrintableOrLineFeed}
-use Rattle.dist_secret.specs.Digest.{digest_of}
-use Rattle.dist_secret.specs.Hearing.{Hears}
-use Rattle.dist_stream.specs.Stream.{StreamState}
-use Rattle.dist_epmd.specs.declared.message.Request.TheVariants.{Names}
-use Rattle.dist_epmd_calls.specs.Asking.{AsksFor, names_meant}
 use Rattle.dist_world_model.specs.World.{World}
 use Rattle.dist_locked_book.specs.declared.closing.Closed.{Closed}
 use Rattle.dist_audit.specs.declared.audit_error.AuditError.{AuditError}
@@ -23,40 +16,13 @@ use Rattle.dist_run_hosts.specs.declared.order_fault.OrderFault.{OrderFault}
 use Rattle.dist_run.specs.Runs.{AreInOrder}
 use Rattle.dist_script_lines.specs.Lines.{node_text}
 use Rattle.dist_script_lines.specs.Worlds.{nodes_text, AreAgreements}
-use Rattle.distnode.specs.declared.fault.Fault.{Fault}
-use Rattle.distnode.specs.declared.fault.Fault.TheVariants.{WriteFailed}
-use Rattle.distnode.specs.Fault.{status_of}
+use Rattle.dist_short_commands.specs.declared.fault.Fault.{Fault}
+use Rattle.dist_short_commands.specs.declared.fault.Fault.TheVariants.{WriteFailed}
+use Rattle.dist_short_commands.specs.Fault.{status_of}
 
 -- a text of which this is so is written behind what stood
 abbrev pub Puts : (List ℕ → Type 0) → Option (List ℕ) → Option (List ℕ) → Type 0
 Puts Is old new = (text : List ℕ) × Is text × Appends old new text
-
--- ---- `cookie`
-
--- cookie of L bytes, digest of C is HEX
-abbrev pub cookie_line : List ℕ → ℕ → List ℕ
-cookie_line cookie challenge =
-    concat (codes "cookie of " ∷ decimal (length cookie) ∷ codes " bytes, digest of " ∷ decimal challenge
-    ∷ codes " is " ∷ encode_lower (digest_of cookie challenge) ∷ codes "\n" ∷ [])
-
--- the line of the cookie that was read was put there
-abbrev pub PrintsCookie : Option (List ℕ) → Option (List ℕ) → ℕ → Option (List ℕ) → Option (List ℕ) → Type 0
-PrintsCookie before after challenge old new = (cookie : List ℕ) × Hears before after (Ok cookie) × Appends old new (cookie_line cookie challenge)
-
--- ---- `names`
-
--- the text of the answer to a question for all nodes was put there, asked in at most this many turns
-abbrev pub PrintsNames : StreamState → StreamState → ℕ → Option (List ℕ) → Option (List ℕ) → Type 0
-PrintsNames before after turns old new =
-    (port : ℕ) × (text : List ℕ) × AsksFor Names before after turns names_meant (Ok (port, text)) × Appends old new text
-
--- ON A TERMINAL: the escape of that text was put there, of which no terminal acts upon a byte
-abbrev pub PrintsEscapedNames : StreamState → StreamState → ℕ → Option (List ℕ) → Option (List ℕ) → Type 0
-PrintsEscapedNames before after turns old new =
-    (port : ℕ) × (text : List ℕ) × AsksFor Names before after turns names_meant (Ok (port, text))
-    × All IsPrintableOrLineFeed (escaped_lines text) × Appends old new (escaped_lines text)
-
--- ---- `run`
 
 -- order K FAULT
 abbrev pub order_line : OrderFault → List ℕ

@@ -2,17 +2,16 @@
 
 ghost use Rattle.std.specs.Prelude.{◌≡◌, ◌≤◌, Option, List, ℕ};
 ghost use Rattle.std.specs.Io.KnownBytes.{Keeps};
-ghost use Rattle.distnode.specs.Printed.{PrintsCookie, PrintsRunOf};
+ghost use Rattle.dist_short_commands.specs.Printed.{PrintsCookie};
+ghost use Rattle.distnode.specs.Printed.{PrintsRunOf};
 ghost use Rattle.distnode.specs.Followed.{PrintsAnswer, Follows};
 
-use crate::cookie::cookie;
-use crate::fault::{Fault, tell_port};
-use crate::names::{names, names_on_terminal};
 use crate::run::run_file;
 use crate::system::System;
 use dist_commands::Order;
 use dist_program::PortError;
 use dist_script_play::enact;
+use dist_short_commands::{Fault, cookie, names, names_on_terminal, tell_port};
 use std::alloc::Global;
 use std::io::{Read, Write};
 use std::net::{Net, TcpListener, TcpStream};

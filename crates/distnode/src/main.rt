@@ -4,20 +4,16 @@
 //! to its command. Only `main` and `host_system` know of files, sockets and the process.
 #![tactic(auto)]
 
-mod cookie;
 mod dispatch;
-mod fault;
 mod host_system;
-mod names;
-mod output;
 mod run;
 mod system;
 
 use crate::dispatch::follow;
-use crate::fault::Fault;
 use crate::host_system::HostSystem;
 use dist_commands::order_with;
 use dist_program::{MAPPER_PORT, PortError, mapper_port, texts, words_of};
+use dist_short_commands::Fault;
 use std::alloc::Global;
 use std::net::{Net, TcpListener, TcpStream};
 use std::process::ExitCode;

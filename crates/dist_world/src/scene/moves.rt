@@ -1,10 +1,9 @@
 //! The eleven happenings.
-ghost use Rattle.std.specs.Prelude.{◌≡◌, Ok, slice_get, IfOk, OnErr, MatchOption};
+ghost use Rattle.std.specs.Prelude.{◌≡◌, Ok, slice_get, IfOk};
 ghost use Rattle.std.specs.Option.{option_map};
 ghost use Rattle.dist_world_model.specs.World.{running};
 ghost use Rattle.dist_world_model.specs.Happenings.{tell, tell_node, without_closing, begin, halt, reset};
 ghost use Rattle.dist_world_model.specs.Happenings.{reach, tell_opened, accept, deliver, take_frame, world_after, applied_at};
-ghost use Rattle.dist_world_lives.specs.Telling.{HasTold, Declines};
 ghost use Rattle.dist_world.specs.Doing.{Did, Happened};
 
 use crate::scene::{Scene, setup_at};
@@ -12,9 +11,10 @@ use dist_core::{Change, Event, Opening, Why};
 use dist_core_laws::a_reply_is_of_its_end;
 use dist_names::{ByteString, Creation, NodeName};
 use dist_peers::EndId;
-use dist_world_lives::{Connections, LifeStep, Lives, Occasion};
+use dist_world_lives::Occasion;
 use dist_world_model::Happening;
 use std::alloc::{AllocError, Global};
+use std::mem::replace;
 
 /// The most begins.
 const MOST_BEGINS: usize = 1048576;
@@ -35,34 +35,22 @@ fn closed_at(who: usize, closed: Option<(EndId, Why)>) -> Option<(usize, (EndId,
     }
 }
 
-// An event that comes to an incarnation: how many happenings applied before, and the number that was drawn for it.
-#[derive(Drop)]
-struct Arrival {
-    clock: u64,
-    event: Event,
-    fresh: u32,
+// A copy of these bytes, in the room that is kept for it. It takes memory only where that is too small.
+fn body_of(room: &mut Vec<u8>, alloc: Global, bytes: &[u8]) -> Result<ByteString, AllocError>
+    ensures { IfOk result (λ body. body ≡ bytes.now) }
+{
+    let mut body = replace(room, Vec::new(alloc));
+    body.clear();
+    body.extend_from_slice(bytes)?;
+    Ok(ByteString::from_vec(body))
 }
 
-// An incarnation gets an event, which is dropped then.
-fn tell_once(
-    lives: &mut Lives,
-    conns: &mut Connections,
-    alloc: Global,
-    place: usize,
-    arrival: Arrival,
-) -> Result<Option<(usize, LifeStep)>, AllocError>
-    ensures ok { IfOk result (λ made. MatchOption made
-        (Declines lives.old place arrival.event arrival.fresh × (lives.new ≡ lives.old) × (conns.new ≡ conns.old))
-        (λ x. HasTold x.0 x.1 place arrival.clock arrival.event arrival.fresh lives.old lives.new conns.old conns.new)) }
-    ensures err { OnErr result ((lives.new ≡ lives.old) × (conns.new ≡ conns.old)) }
-{
-    let occasion = Occasion {
-        alloc,
-        clock: arrival.clock,
-        event: &arrival.event,
-        fresh: arrival.fresh,
-    };
-    lives.tell(conns, place, &occasion)
+// The room that the body of a frame had.
+fn room_of(alloc: Global, event: Event) -> Vec<u8> {
+    match event {
+        Event::Frame { end_: _, body } => body.into_vec(),
+        _ => Vec::new(alloc),
+    }
 }
 
 impl Scene {
@@ -71,17 +59,18 @@ impl Scene {
         &mut self,
         alloc: Global,
         place: usize,
-        event: Event,
+        event: &Event,
         fresh: u32,
     ) -> Result<bool, AllocError>
-        ensures { Did result (tell (without_closing self.old) place event fresh) self.old self.new }
+        ensures { Did result (tell (without_closing self.old) place event.now fresh) self.old self.new }
     {
-        let arrival = Arrival {
+        let occasion = Occasion {
+            alloc,
             clock: self.clock,
             event,
             fresh,
         };
-        match tell_once(&mut self.lives, &mut self.conns, alloc, place, arrival)? {
+        match self.lives.tell(&mut self.conns, place, &occasion)? {
             None => Ok(false),
             Some((who, made)) => {
                 self.last_closed = closed_at(who, made.closed);
@@ -91,8 +80,8 @@ impl Scene {
     }
 
     // The running incarnation of a node gets an event.
-    fn tell_node(&mut self, alloc: Global, node: usize, event: Event) -> Result<bool, AllocError>
-        ensures { Did result (tell_node (without_closing self.old) node event) self.old self.new }
+    fn tell_node(&mut self, alloc: Global, node: usize, event: &Event) -> Result<bool, AllocError>
+        ensures { Did result (tell_node (without_closing self.old) node event.now) self.old self.new }
     {
         match self.running(node) {
             Some(place) => self.tell(alloc, place, event, 0),
@@ -109,6 +98,9 @@ impl Scene {
         }
         if self.lives.len() >= MOST_BEGINS {
             return Ok(false);
+        }
+        if self.lives.len() == 0 {
+            self.lives.make_room(self.setups.len());
         }
         let Some(setup) = setup_at(&self.setups, node) else {
             return Ok(false);
@@ -186,7 +178,7 @@ impl Scene {
                     end_: id,
                     link: conn as u64,
                 };
-                self.tell(alloc, place, event, 0)
+                self.tell(alloc, place, &event, 0)
             }
             None => Ok(false),
         }
@@ -200,13 +192,16 @@ impl Scene {
         let Some(target) = self.conns.unaccepted_target(conn) else {
             return Ok(false);
         };
-        let event = Event::Incoming { link: conn as u64 };
-        let arrival = Arrival {
-            clock: self.clock,
-            event,
-            fresh: 0,
+        let told = {
+            let occasion = Occasion {
+                alloc,
+                clock: self.clock,
+                event: &Event::Incoming { link: conn as u64 },
+                fresh: 0,
+            };
+            self.lives.tell(&mut self.conns, target, &occasion)
         };
-        match tell_once(&mut self.lives, &mut self.conns, alloc, target, arrival)? {
+        match told? {
             None => Ok(false),
             Some((who, made)) => {
                 self.conns.accept(conn, made.end_);
@@ -256,14 +251,17 @@ impl Scene {
         let Some(front) = self.conns.front(conn, side) else {
             return Ok(false);
         };
-        let body = ByteString::from_slice(alloc, front)?;
+        let body = body_of(&mut self.room, alloc, front)?;
         let event = Event::Frame { end_: id, body };
-        let arrival = Arrival {
+        let occasion = Occasion {
+            alloc,
             clock: self.clock,
-            event,
+            event: &event,
             fresh,
         };
-        match tell_once(&mut self.lives, &mut self.conns, alloc, place, arrival)? {
+        let told = self.lives.tell(&mut self.conns, place, &occasion);
+        self.room = room_of(alloc, event);
+        match told? {
             None => Ok(false),
             Some((who, made)) => {
                 self.conns.take(conn, side);
@@ -287,7 +285,7 @@ impl Scene {
             peer: peer.try_clone(alloc)?,
             opening,
         };
-        self.tell_node(alloc, node, event)
+        self.tell_node(alloc, node, &event)
     }
 
     // One happening, but for the clock.
@@ -303,7 +301,7 @@ impl Scene {
                 opening,
             } => self.dial(alloc, *node, peer, *opening),
             Happening::Tick { node, end_ } => {
-                self.tell_node(alloc, *node, Event::Tick { end_: *end_ })
+                self.tell_node(alloc, *node, &Event::Tick { end_: *end_ })
             }
             Happening::Reach { node, end_, target } => self.reach(alloc, *node, *end_, *target),
             Happening::Opened { node, end_ } => self.open(alloc, *node, *end_),
@@ -315,7 +313,7 @@ impl Scene {
                     end_: *end_,
                     why: *why,
                 };
-                self.tell_node(alloc, *node, event)
+                self.tell_node(alloc, *node, &event)
             }
             Happening::Reset { node, change } => self.reset(alloc, *node, change),
         }

@@ -17,5 +17,5 @@ loop-rest-preserved g c =
 
 pub returns-in_err-more-clause-cut : goal.returns-in_err-more-clause-cut
 returns-in_err-more-clause-cut g c =
-    at_err (λ f. PutsPart (happenings_text c.args.world.now c.args.happenings.now) (g.W.Write.contents c.args.out.now) (g.W.Write.contents c.happen_once.new.out) c.args.page.now.text.items c.happen_once.new.page.text.items f) c.from_residual.result c.in_err-more.field-0.0 c.from_residual.ensures.1
+    at_err (λ f. PutsPart (happenings_text c.args.world.now c.args.happenings.now) (g.W.Write.contents c.args.out.now) (g.W.Write.contents c.happen.new.out) c.args.page.now.text.items c.happen.new.page.text.items f) c.from_residual.result c.in_err-more.field-0.0 c.from_residual.ensures.1
     (cut_happened _ _ _ _ _ _ _ _ _ _ _ _ _ c.loop-rest.invariant (grind arith) c.split_at.ensures.front c.in_err-more.ensures.cut)

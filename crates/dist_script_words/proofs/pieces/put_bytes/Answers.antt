@@ -1,4 +1,4 @@
-use Rattle.std.proofs.Common.{◌≡◌, arith}
+use Rattle.std.proofs.Common.{arith}
 use Rattle.dist_script_words.proofs.Fronts.{PutSoFar, none_put, more_put, all_put, rest_put, rest_cut}
 use Rattle.dist_script_words.proofs.pieces.put_bytes.Goals as goal
 use Rattle.dist_script_words.proofs.pieces.put_bytes.Given.{Over}

@@ -34,3 +34,13 @@ returns-in-Become-clause-loss c = λ v fresh h lost.
     let P : EndChange → Type 0 = λ k. IsPrepared c.args.self.now v fresh (record { reply = c.args.reply; change = k; cost = c.args.cost }) in
     let l = loss-made c.args.self.now v fresh c.args.reply c.in-Become.this c.in-Become.other c.args.cost (subst P c.in-Become.is h) lost in
     c.apply_effect.ensures.loss l.0 l.1
+
+pub advance-requires-clause-left : goal.advance-requires-clause-left
+advance-requires-clause-left c =
+    let p : PreparedStep = record { reply = c.args.reply; change = c.args.change; cost = c.args.cost } in
+    bounded-made c.args.self.now p c.requires c.counted_steps.ensures.bounded
+
+pub bring_up-requires-clause-left : goal.bring_up-requires-clause-left
+bring_up-requires-clause-left c =
+    let p : PreparedStep = record { reply = c.args.reply; change = c.args.change; cost = c.args.cost } in
+    bounded-made c.args.self.now p c.requires c.counted_steps.ensures.bounded

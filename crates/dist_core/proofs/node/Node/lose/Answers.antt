@@ -5,11 +5,12 @@ use Rattle.dist_core_ends.specs.declared.known.End.TheVariants as ends
 use Rattle.dist_core_ends.specs.Ends.{is_open}
 use Rattle.dist_core.specs.declared.effect.Effect.{Effect}
 use Rattle.dist_core.specs.Losses.{IsGone}
+use Rattle.dist_core.specs.Node.{NodeState}
 use Rattle.dist_core.specs.Step.{at_end}
 use Rattle.dist_core.specs.Effects.{closes}
 use Rattle.dist_core_ends.proofs.Fitting.{stays-closing}
 use Rattle.dist_core.proofs.Counts.{length-within}
-use Rattle.dist_core.proofs.Losses.{gone_at}
+use Rattle.dist_core.proofs.Losses.{gone_at, open_found}
 use Rattle.dist_core.proofs.node.Node.lose.Goals as goal
 
 pub close-requires-clause-there : goal.close-requires-clause-there
@@ -42,3 +43,8 @@ pub returns-in_err-_end-clause-gone : goal.returns-in_err-_end-clause-gone
 returns-in_err-_end-clause-gone c =
     let gone : IsGone c.in_err-_end.field-0.0 = gone_at (slice_get c.self.inside.ends c.args.id.0) c.in_err-_end.field-0.0 c.in_err-_end.ensures.1 in
     search (rules, gone)
+
+pub returns-in_err-_end-clause-open_end : goal.returns-in_err-_end-clause-open_end
+returns-in_err-_end-clause-open_end c = λ e at opened.
+    let here = ap (λ (m : NodeState). slice_get m.ends c.args.id.0) c.self.view_is ∙ at in
+    absurd (open_found (slice_get c.self.inside.ends c.args.id.0) e (closes c.args.id c.args.why) c.in_err-_end.field-0.0 here opened c.in_err-_end.ensures.1)

@@ -30,3 +30,13 @@ returns-else-not-watch c = record {
   takes = c.in-Some.ensures;
   watched = inl refl;
 }
+
+pub returns-then-self : goal.returns-then-self
+returns-then-self c = record {
+  stream = c.new-stream.result;
+  local = c.is_local-local.result;
+  taken = Some c.in-Some.conn;
+  mid = c.take_in.new.clients;
+  takes = c.in-Some.ensures;
+  watched = inl refl;
+}

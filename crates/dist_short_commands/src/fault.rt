@@ -3,7 +3,7 @@
 ghost use Rattle.std.specs.Prelude.{◌≡◌};
 ghost use Rattle.dist_program.specs.PortTexts.{port_error_status};
 ghost use Rattle.dist_script_words.specs.Texts.{PutsFront};
-ghost use Rattle.distnode.specs.Fault.{status_of, fault_text, line_of, fault_line, port_line, fault_of};
+ghost use Rattle.dist_short_commands.specs.Fault.{status_of, fault_text, line_of, fault_line, port_line, fault_of};
 
 use dist_commands::OrderError;
 use dist_epmd_calls::LookupError;

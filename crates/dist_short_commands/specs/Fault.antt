@@ -8,9 +8,9 @@ use Rattle.dist_program.specs.PortTexts.{port_error_text}
 use Rattle.dist_run_hosts.specs.Words.{run_error_name}
 use Rattle.dist_script_words.specs.declared.fault.ScriptFault.{ScriptFault}
 use Rattle.dist_script_words.specs.declared.fault.ScriptFault.TheVariants as script
-use Rattle.distnode.specs.declared.fault.Fault.{Fault}
-use Rattle.distnode.specs.declared.fault.Fault.TheVariants.{BadCommandLine, BadNodesFile, RunEnded, ReadFailed, WriteFailed}
-use Rattle.distnode.specs.declared.fault.Fault.TheVariants.{OpenFailed, NoCookie, ConnectFailed, NoAnswer, NoMemory}
+use Rattle.dist_short_commands.specs.declared.fault.Fault.{Fault}
+use Rattle.dist_short_commands.specs.declared.fault.Fault.TheVariants.{BadCommandLine, BadNodesFile, RunEnded, ReadFailed, WriteFailed}
+use Rattle.dist_short_commands.specs.declared.fault.Fault.TheVariants.{OpenFailed, NoCookie, ConnectFailed, NoAnswer, NoMemory}
 
 -- the exit status: 2 where what the user wrote is at fault, else 1
 abbrev pub status_of : Fault → ℕ

@@ -1,5 +1,5 @@
 use Rattle.std.proofs.Common.{◌∙◌, sym}
-use Rattle.distnode.proofs.names.names.Goals as goal
+use Rattle.dist_short_commands.proofs.names_command.names_on_terminal.Goals as goal
 
 -- the fault that was reported
 pub returns-in-Err-clause-fault : goal.returns-in-Err-clause-fault

@@ -2,9 +2,9 @@
 
 ghost use Rattle.std.specs.Prelude.{◌≡◌, ◌≤◌, IfErr, IfOk, OnOk};
 ghost use Rattle.std.specs.Io.KnownBytes.{Appends};
-ghost use Rattle.distnode.specs.Fault.{status_of};
-ghost use Rattle.distnode.specs.Printed.{cookie_line, PrintsCookie};
-ghost use Rattle.distnode.specs.Stopped.{EndsByFault, StopsCookie};
+ghost use Rattle.dist_short_commands.specs.Fault.{status_of};
+ghost use Rattle.dist_short_commands.specs.Printed.{cookie_line, PrintsCookie};
+ghost use Rattle.dist_short_commands.specs.Stopped.{EndsByFault, StopsCookie};
 
 use crate::fault::Fault;
 use crate::output::write_text;

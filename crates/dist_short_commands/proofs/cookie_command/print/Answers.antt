@@ -2,8 +2,8 @@ use Rattle.std.proofs.Common.{◌≡◌, ◌∙◌, ◌∷◌, ℕ, List, [], co
 use Rattle.std.specs.List.{concat}
 use Rattle.std.specs.Io.KnownBytes.{Appends}
 use Rattle.hex.specs.Hex.{encode_lower}
-use Rattle.distnode.specs.Printed.{cookie_line}
-use Rattle.distnode.proofs.cookie.print.Goals as goal
+use Rattle.dist_short_commands.specs.Printed.{cookie_line}
+use Rattle.dist_short_commands.proofs.cookie_command.print.Goals as goal
 
 -- the line of this many bytes, a challenge and a digest
 abbrev text : ℕ → ℕ → List ℕ → List ℕ

@@ -1,9 +1,9 @@
 //! The command `names`: what a port mapper answers about the nodes that it knows.
 
 ghost use Rattle.std.specs.Prelude.{◌≡◌, ◌≤◌, IfErr, OnOk};
-ghost use Rattle.distnode.specs.Fault.{status_of};
-ghost use Rattle.distnode.specs.Printed.{PrintsNames, PrintsEscapedNames};
-ghost use Rattle.distnode.specs.Stopped.{EndsByFault, StopsNames, StopsEscapedNames};
+ghost use Rattle.dist_short_commands.specs.Fault.{status_of};
+ghost use Rattle.dist_short_commands.specs.Printed.{PrintsNames, PrintsEscapedNames};
+ghost use Rattle.dist_short_commands.specs.Stopped.{EndsByFault, StopsNames, StopsEscapedNames};
 
 use crate::fault::Fault;
 use crate::output::write_text;

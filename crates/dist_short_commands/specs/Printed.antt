@@ -1,0 +1,36 @@
+-- WHAT `cookie` AND `names` PRINT.
+use Rattle.std.specs.Prelude.{ℕ, List, ◌∷◌, [], length, codes, decimal, Option, Ok}
+use Rattle.std.specs.List.{All, concat}
+use Rattle.std.specs.Io.KnownBytes.{Appends}
+use Rattle.hex.specs.Hex.{encode_lower}
+use Rattle.dist_names.specs.Escaped.{escaped_lines, IsPrintableOrLineFeed}
+use Rattle.dist_secret.specs.Digest.{digest_of}
+use Rattle.dist_secret.specs.Hearing.{Hears}
+use Rattle.dist_stream.specs.Stream.{StreamState}
+use Rattle.dist_epmd.specs.declared.message.Request.TheVariants.{Names}
+use Rattle.dist_epmd_calls.specs.Asking.{AsksFor, names_meant}
+
+-- ---- `cookie`
+
+-- cookie of L bytes, digest of C is HEX
+abbrev pub cookie_line : List ℕ → ℕ → List ℕ
+cookie_line cookie challenge =
+    concat (codes "cookie of " ∷ decimal (length cookie) ∷ codes " bytes, digest of " ∷ decimal challenge
+    ∷ codes " is " ∷ encode_lower (digest_of cookie challenge) ∷ codes "\n" ∷ [])
+
+-- the line of the cookie that was read was put there
+abbrev pub PrintsCookie : Option (List ℕ) → Option (List ℕ) → ℕ → Option (List ℕ) → Option (List ℕ) → Type 0
+PrintsCookie before after challenge old new = (cookie : List ℕ) × Hears before after (Ok cookie) × Appends old new (cookie_line cookie challenge)
+
+-- ---- `names`
+
+-- the text of the answer to a question for all nodes was put there, asked in at most this many turns
+abbrev pub PrintsNames : StreamState → StreamState → ℕ → Option (List ℕ) → Option (List ℕ) → Type 0
+PrintsNames before after turns old new =
+    (port : ℕ) × (text : List ℕ) × AsksFor Names before after turns names_meant (Ok (port, text)) × Appends old new text
+
+-- ON A TERMINAL: the escape of that text was put there, of which no terminal acts upon a byte
+abbrev pub PrintsEscapedNames : StreamState → StreamState → ℕ → Option (List ℕ) → Option (List ℕ) → Type 0
+PrintsEscapedNames before after turns old new =
+    (port : ℕ) × (text : List ℕ) × AsksFor Names before after turns names_meant (Ok (port, text))
+    × All IsPrintableOrLineFeed (escaped_lines text) × Appends old new (escaped_lines text)
