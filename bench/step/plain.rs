@@ -537,8 +537,8 @@ impl Node<'_> {
 const ANNOUNCED: Other = Other { flags: 0x401000104, creation: 4 };
 const FRESH: u32 = 123_456_789;
 
-fn name_of(number: u32) -> Vec<u8> {
-    format!("p{number:07}@127.0.0.1").into_bytes()
+fn name_of(front: &str, number: u32) -> Vec<u8> {
+    format!("{front}p{number:07}@127.0.0.1").into_bytes()
 }
 
 /// The body of what a call says.
@@ -616,11 +616,16 @@ fn main() {
     };
     let digest = node.digest(FRESH);
     let mut bench = Bench { node, say: Vec::new(), sum: 0 };
+    let front = match kind {
+        "accepted_alike" | "dialled_alike" => "cluster-",
+        "accepted_long_alike" | "dialled_long_alike" => "cluster-of-nodes-",
+        _ => "",
+    };
     let reply = body_of(|say| say_reply(say, 7, &digest));
     for number in 0..peers {
-        bench.accepted(&body_of(|say| say_name(say, ANNOUNCED, &name_of(number))), &reply);
+        bench.accepted(&body_of(|say| say_name(say, ANNOUNCED, &name_of(front, number))), &reply);
     }
-    let peer = name_of(5_000_000 + peers / 2);
+    let peer = name_of(front, 5_000_000 + peers / 2);
     let name = body_of(|say| say_name(say, ANNOUNCED, &peer));
     let challenge = body_of(|say| say_challenge(say, ANNOUNCED, 99, &peer));
     let ack = body_of(|say| frame(say, &[b"a", &digest]));
@@ -628,11 +633,11 @@ fn main() {
     say_name(&mut whole, ANNOUNCED, &peer);
     let mut reader = Frames::default();
     match kind {
-        "accepted" | "booked" => (0..turns).for_each(|_| {
+        "accepted" | "accepted_alike" | "accepted_long_alike" | "accepted_step" | "booked" => (0..turns).for_each(|_| {
             let end = bench.accepted(&name, &reply);
             bench.lost(end);
         }),
-        "dialled" => (0..turns).for_each(|_| bench.dialled(&peer, &challenge, &ack)),
+        "dialled" | "dialled_alike" | "dialled_long_alike" => (0..turns).for_each(|_| bench.dialled(&peer, &challenge, &ack)),
         "incoming_lost" | "incoming_lost_step" => (0..turns).for_each(|_| {
             let end = bench.incoming();
             bench.lost(end);

@@ -5,24 +5,24 @@ ghost use Rattle.std.specs.Ordering.{nat_cmp};
 ghost use Rattle.std.specs.BTreeSet.{contains};
 ghost use Rattle.dist_audit.specs.Faults.{starts_above, rises, falls, has_ticket, twice};
 
-use dist_locked_book::{Closed, Line};
+use dist_locked_book::{Closed, SharedLine};
 use std::alloc::{AllocError, Global};
 use std::collections::BTreeSet;
 
-fn starts_above(history: &[Line], ticket: u64) -> bool
+fn starts_above(history: &[SharedLine], ticket: u64) -> bool
     ensures { result ≡ starts_above ticket history.now }
 {
     match history.first() {
-        Some(line) => ticket < line.ticket,
+        Some(line) => ticket < line.ticket(),
         None => true,
     }
 }
 
-fn rises(history: &[Line]) -> bool
+fn rises(history: &[SharedLine]) -> bool
     ensures { result ≡ rises history.now }
 {
     for i in 0..history.len() {
-        if !starts_above(&history[i + 1..], history[i].ticket) {
+        if !starts_above(&history[i + 1..], history[i].ticket()) {
             return false;
         }
     }
@@ -42,22 +42,22 @@ pub fn falls(closed: &[Closed]) -> bool
 }
 
 // A ticket of this history is among those.
-fn has_one_of(tickets: &BTreeSet<u64>, history: &[Line]) -> bool
+fn has_one_of(tickets: &BTreeSet<u64>, history: &[SharedLine]) -> bool
     ensures { result ≡ list_any (λ l. contains nat_cmp tickets.now l.ticket) history.now }
 {
     for line in history {
-        if tickets.contains(&line.ticket) {
+        if tickets.contains(&line.ticket()) {
             return true;
         }
     }
     false
 }
 
-fn add_all(tickets: &mut BTreeSet<u64>, history: &[Line]) -> Result<(), AllocError>
+fn add_all(tickets: &mut BTreeSet<u64>, history: &[SharedLine]) -> Result<(), AllocError>
     ensures { OnOk result ((n : ℕ) → contains nat_cmp tickets.new n ≡ (has_ticket n history.now || contains nat_cmp tickets.old n)) }
 {
     for line in history {
-        tickets.insert(line.ticket)?;
+        tickets.insert(line.ticket())?;
     }
     Ok(())
 }

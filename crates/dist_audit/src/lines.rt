@@ -2,7 +2,7 @@
 ghost use Rattle.std.specs.Prelude.{◌≡◌, ◌++◌, OnOk, IfOk};
 ghost use Rattle.dist_audit.specs.Lines.{told_by, lines_by_node, AreLinesOf};
 
-use dist_locked_book::{Closed, Line};
+use dist_locked_book::{Closed, SharedLine};
 use std::alloc::{AllocError, Global};
 use std::marker::Model;
 
@@ -10,7 +10,7 @@ use std::marker::Model;
 #[derive(Drop)]
 pub struct Told<'a> {
     node: usize,
-    line: &'a Line,
+    line: &'a SharedLine,
 }
 
 impl<'a> Model for Told<'a> {
@@ -29,7 +29,7 @@ impl<'a> Told<'a> {
         self.node
     }
 
-    pub fn line(&self) -> &Line
+    pub fn line(&self) -> &SharedLine
         ensures { result.now ≡ self.now.line }
     {
         self.line
@@ -40,7 +40,7 @@ impl<'a> Told<'a> {
 fn add_lines<'a>(
     lines: &mut Vec<Told<'a>>,
     node: usize,
-    history: &'a [Line],
+    history: &'a [SharedLine],
 ) -> Result<(), AllocError>
     ensures { OnOk result (lines.new.items ≡ lines.old.items ++ told_by node history.now) }
 {
@@ -66,6 +66,6 @@ pub fn lines_of(alloc: Global, closed: &[Closed]) -> Result<Vec<Told>, AllocErro
     ensures { IfOk result (λ lines. AreLinesOf closed.now lines.items) }
 {
     let mut lines = lines_by_node(alloc, closed)?;
-    lines.sort_unstable_by_key(|told| told.line().ticket);
+    lines.sort_unstable_by_key(|told| told.line().ticket());
     Ok(lines)
 }

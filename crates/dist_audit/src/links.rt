@@ -3,7 +3,7 @@ ghost use Rattle.std.specs.Prelude.{◌≡◌, ℕ, if◌then◌else◌, [], Som
 ghost use Rattle.std.specs.List.{list_any};
 ghost use Rattle.std.specs.Ordering.{nat_cmp};
 ghost use Rattle.std.specs.BTreeMap.{get};
-ghost use Rattle.dist_audit.specs.Links.{link_in, dialled_in, comes_in, or_else, target_of};
+ghost use Rattle.dist_audit.specs.Links.{link_in, comes, dialled_end, dialled_in, comes_in, or_else, target_of};
 ghost use Rattle.dist_audit.specs.Faults.{links_repeat, comes_unopened, Unpairs};
 ghost use Rattle.dist_audit.specs.Kept.{Knows, is_again, is_unknown};
 
@@ -53,7 +53,28 @@ impl LinkTable {
         }
     }
 
-    // Learns what a line says, and returns whether its link was known from another of its kind.
+    // Learns what an event of this node says, and returns whether its link was known from another of its kind.
+    fn learn_event(&mut self, node: usize, event: &Event) -> Result<bool, AllocError>
+        ensures diallers { OnOk result ((k : ℕ) → get nat_cmp self.new.diallers k
+            ≡ or_else node (dialled_end k event.now) (get nat_cmp self.old.diallers k)) }
+        ensures acceptors { OnOk result ((k : ℕ) → get nat_cmp self.new.acceptors k
+            ≡ (if comes k event.now then Some node else get nat_cmp self.old.acceptors k)) }
+        ensures again { IfOk result (λ b. b ≡ is_again self.old.diallers self.old.acceptors event.now) }
+    {
+        match event {
+            Event::Opened { end_, link } => {
+                let known = self.diallers.insert(*link, (node, *end_))?;
+                Ok(known.is_some())
+            }
+            Event::Incoming { link } => {
+                let known = self.acceptors.insert(*link, node)?;
+                Ok(known.is_some())
+            }
+            _ => Ok(false),
+        }
+    }
+
+    // The same of what a line says.
     fn learn(&mut self, told: &Told) -> Result<bool, AllocError>
         ensures diallers { OnOk result ((k : ℕ) → get nat_cmp self.new.diallers k
             ≡ or_else told.now.node (dialled_in k told.now) (get nat_cmp self.old.diallers k)) }
@@ -61,17 +82,8 @@ impl LinkTable {
             ≡ (if comes_in k told.now then Some told.now.node else get nat_cmp self.old.acceptors k)) }
         ensures again { IfOk result (λ b. b ≡ is_again self.old.diallers self.old.acceptors (let l = told.now.line in l.event)) }
     {
-        match &told.line().event {
-            Event::Opened { end_, link } => {
-                let known = self.diallers.insert(*link, (told.node(), *end_))?;
-                Ok(known.is_some())
-            }
-            Event::Incoming { link } => {
-                let known = self.acceptors.insert(*link, told.node())?;
-                Ok(known.is_some())
-            }
-            _ => Ok(false),
-        }
+        let view = told.line().read();
+        self.learn_event(told.node(), &view.line().event)
     }
 
     // A link came that has no dialler.
@@ -84,11 +96,19 @@ impl LinkTable {
         }
     }
 
+    // The same of the event of a line.
+    fn is_told_unknown(&self, told: &Told) -> bool
+        ensures { result ≡ is_unknown self.now.diallers (let l = told.now.line in l.event) }
+    {
+        let view = told.line().read();
+        self.is_unknown(&view.line().event)
+    }
+
     fn has_unknown(&self, lines: &[Told]) -> bool
         ensures { result ≡ list_any (λ t. is_unknown self.now.diallers (let l = t.line in l.event)) lines.now }
     {
         for told in lines {
-            if self.is_unknown(&told.line().event) {
+            if self.is_told_unknown(told) {
                 return true;
             }
         }

@@ -3,6 +3,7 @@ ghost use Rattle.std.specs.Prelude.{◌≡◌, ◌↔◌, ◌∷◌, [], length,
 ghost use Rattle.dist_world_model.specs.Run.{run};
 ghost use Rattle.dist_world.specs.Asking.{node_of};
 ghost use Rattle.dist_audit.specs.Happenings.{with_mentions, own_of, of_lines};
+ghost use Rattle.dist_audit.specs.Lines.{line_of_node};
 ghost use Rattle.dist_audit.specs.Links.{mention, link_in};
 ghost use Rattle.dist_audit.specs.Audit.{AllApply, Says, IsNext, Replies, IsFollowed, AreFollowed, after, Refutes, RefusesLine, StopsAt, UnlessShort};
 
@@ -107,6 +108,45 @@ fn happen_itself(
     happen(world, alloc, slice::from_ref(&happening))
 }
 
+// A line that is read, and the place of its node among all.
+#[derive(Clone, Copy)]
+struct ReadLine<'a> {
+    node: usize,
+    line: &'a Line,
+}
+
+// A line that is read is followed.
+fn follow_line(
+    alloc: Global,
+    world: &mut World,
+    lines: &Lines,
+    count: usize,
+    links: &mut Mentioned,
+    read: ReadLine,
+) -> Result<(), AuditError>
+    ensures followed { OnOk result (IsFollowed lines.now count links.old world.old (line_of_node read.entry.node read.entry.line.now)) }
+    ensures after { OnOk result (world.new ≡ after lines.now count links.old world.old (line_of_node read.entry.node read.entry.line.now)) }
+    ensures links { OnOk result (links.new ≡ with_mentions links.old (line_of_node read.entry.node read.entry.line.now)) }
+    ensures err { IfErr result (λ e. Refutes e (IsFollowed lines.now count links.old world.old (line_of_node read.entry.node read.entry.line.now))) }
+    ensures which { IfErr result (λ e. UnlessShort e (RefusesLine e lines.now count links.old world.old (line_of_node read.entry.node read.entry.line.now))) }
+{
+    let ReadLine { node, line } = read;
+    if !is_next(alloc, world, node, &line.event)? {
+        return Err(AuditError::NotSent);
+    }
+    let ahead = before(lines, count, links, node, &line.event);
+    if !happen_before(world, alloc, ahead)? {
+        return Err(AuditError::OtherReply);
+    }
+    if !replies(alloc, world, node, line)? {
+        return Err(AuditError::OtherReply);
+    }
+    if !happen_itself(alloc, world, links, node, line)? {
+        return Err(AuditError::OtherReply);
+    }
+    Ok(())
+}
+
 // One line is followed.
 fn follow(
     alloc: Global,
@@ -122,22 +162,10 @@ fn follow(
     ensures err { IfErr result (λ e. Refutes e (IsFollowed lines.now count links.old world.old told.now)) }
     ensures which { IfErr result (λ e. UnlessShort e (RefusesLine e lines.now count links.old world.old told.now)) }
 {
+    let view = told.line().read();
     let node = told.node();
-    let line = told.line();
-    if !is_next(alloc, world, node, &line.event)? {
-        return Err(AuditError::NotSent);
-    }
-    let ahead = before(lines, count, links, node, &line.event);
-    if !happen_before(world, alloc, ahead)? {
-        return Err(AuditError::OtherReply);
-    }
-    if !replies(alloc, world, node, line)? {
-        return Err(AuditError::OtherReply);
-    }
-    if !happen_itself(alloc, world, links, node, line)? {
-        return Err(AuditError::OtherReply);
-    }
-    Ok(())
+    let line = view.line();
+    follow_line(alloc, world, lines, count, links, ReadLine { node, line })
 }
 
 /// All lines are followed, in turn.

@@ -1,6 +1,6 @@
 -- A step that is prepared is the step of the definition.
 use Rattle.std.specs.Prelude.{IsTrue}
-use Rattle.std.proofs.Common.{◌≡◌, ℕ, ◌+◌, ◌<◌, ◌≤◌, false, cond, length, List, Option, Some, None, Result, Ok, Err, IfOk, IfErr, IsOk, refl, sym, ap, ◌∙◌, subst, slice_get, arith}
+use Rattle.std.proofs.Common.{◌≡◌, ℕ, ◌+◌, ◌<◌, ◌≤◌, false, cond, length, List, Option, Some, None, Result, Ok, Err, IfOk, IfErr, OnOk, IsOk, refl, sym, ap, ◌∙◌, subst, slice_get, arith}
 use Rattle.dist_peers.specs.declared.entry.EndId.{EndId}
 use Rattle.dist_peers.specs.Table.{replaced_by}
 use Rattle.dist_core_ends.specs.declared.known.Attempt.{Attempt}
@@ -212,6 +212,11 @@ kept-made n p h kept =
 -- a loss that was prepared takes no memory
 pub loss-made : (n : NodeState) (v : Event) (fresh : ℕ) (r : Reply) (this : End) (other : Option (EndId × End)) (cost : ℕ) → IsPrepared n v fresh (becoming r this other cost) → IsTrue (is_loss v) → (claim_of this ≡ None) × (r.end_.0 < length n.ends)
 loss-made n v fresh r this other cost h lost = of_ok (λ (f : Effect). (claim_of f.this ≡ None) × (f.reply.end_.0 < length n.ends)) _ _ (effect-is n v fresh r this other cost h) (loses n v fresh lost)
+
+-- a call that made the change
+pub made-change : {X : Type 0} (n : NodeState) (v : Event) (fresh : ℕ) (p : PreparedStep) (result : Result X StepError) (new : NodeState) → IsPrepared n v fresh p → OnOk result (new ≡ after_commit n p) → OnOk result (step n v fresh ≡ Ok (p.reply, new))
+made-change n v fresh p (Ok x) new h ok = step-is n v fresh p h ∙ ap (λ (m : NodeState). Ok (p.reply, m)) (sym ok)
+made-change n v fresh p (Err e) new h ok = tt
 
 -- a call that made it, or lacked memory for it
 pub made-step : (n : NodeState) (v : Event) (fresh : ℕ) (p : PreparedStep) (result : Result Reply StepError) (new : NodeState) → IsPrepared n v fresh p → IfOk result (λ r. (r ≡ p.reply) × (new ≡ after_commit n p)) → IfErr result (λ e. (e ≡ error.NoMemory) × (new ≡ n)) → IsStep result (step n v fresh) n new

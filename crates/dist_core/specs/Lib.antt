@@ -16,3 +16,4 @@ pub mod Changing
 pub mod Acts
 pub mod Preparing
 pub mod Progress
+pub mod Keeping

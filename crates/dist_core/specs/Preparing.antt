@@ -28,6 +28,15 @@ pub record PreparedStep : Type 0 where
   pub change : EndChange
   pub cost : ℕ
 
+-- what becomes of the ends in a step, and as how many steps it counts
+pub record ChangeState : Type 0 where
+  pub change : EndChange
+  pub cost : ℕ
+
+-- a step with this reply that changes this
+abbrev pub with_reply : Reply → ChangeState → PreparedStep
+with_reply r c = record { reply = r; change = c.change; cost = c.cost }
+
 -- The effect makes this change of the ends. Where all of them stay, the event's end becomes what it is; where that end goes on or
 -- comes up, an attempt stands there that can.
 abbrev pub MakesChange : List End → EndChange → Effect → Type 0

@@ -22,6 +22,7 @@ mod event;
 mod events;
 mod finding;
 mod frames;
+mod keeping;
 mod naming;
 mod node;
 mod preparing;
@@ -35,6 +36,7 @@ pub use dist_core_ends::{Absent, Attempt, Awaited, End, Phase, Still, UpRecord, 
 pub use dist_core_setup::{Limits, NameList, Setup, Version};
 pub use dist_messages::{Form, Opening};
 pub use event::Event;
+pub use keeping::Keeper;
 pub use node::Node;
 pub use preparing::Prepared;
 pub use reply::{Note, Reply};

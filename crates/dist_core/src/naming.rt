@@ -137,7 +137,7 @@ impl Node {
 
     // The end becomes this attempt, or is given out so, in a step that counts.
     #[inline(always)]
-    fn begin_attempt(&mut self, id: EndId, attempt: Attempt) -> Result<(), AllocError>
+    pub(crate) fn begin_attempt(&mut self, id: EndId, attempt: Attempt) -> Result<(), AllocError>
         requires { CanDo self.old (goes_on id [] (End.Attempt attempt) Note.Nothing) }
         ensures ok { OnOk result (self.new ≡ record {
           setup = self.old.setup;

@@ -396,13 +396,38 @@ impl Node {
         ensures loss { claim_of effect.this ≡ None → effect.reply.end_.0 < length self.old.ends → IsOk result }
     {
         let Effect { reply, this, other } = effect;
+        self.change_ends(&reply, this, other, cost)?;
+        Ok(reply)
+    }
+
+    // The same of a step whose reply is kept elsewhere.
+    pub(crate) fn change_ends(
+        &mut self,
+        reply: &Reply,
+        this: End,
+        other: Option<(EndId, End)>,
+        cost: u64,
+    ) -> Result<(), StepError>
+        requires fits { AreLegal self.old.ends → FitsNodeTable self.old (table_of self.old.ends) (record { reply = reply.now; this = this; other = other }) }
+        requires few { length (ends_after self.old.ends (record { reply = reply.now; this = this; other = other })) ≤ self.old.steps + cost }
+        requires bounded { self.old.steps + cost ≤ (let l = limits_of self.old in l.steps) }
+        requires numbered { length (ends_after self.old.ends (record { reply = reply.now; this = this; other = other }))
+            ≤ (let l = limits_of self.old in l.ends) }
+        ensures ok { OnOk result (self.new ≡ record {
+          setup = self.old.setup;
+          steps = self.old.steps + cost;
+          ends = ends_after self.old.ends (record { reply = reply.now; this = this; other = other });
+        }) }
+        ensures err { IfErr result (λ e. (e ≡ StepError.NoMemory) × (self.new ≡ self.old)) }
+        ensures loss { claim_of this ≡ None → (let r = reply.now in r.end_.0) < length self.old.ends → IsOk result }
+    {
         // These show that each end has a number, and that the steps can be counted.
         let _ = self.most_ends();
         let _ = self.most_steps();
         match self.ends.change(&self.setup.name, reply.end_, this, other) {
             Ok(()) => {
                 self.steps += cost;
-                Ok(reply)
+                Ok(())
             }
             Err(_) => Err(StepError::NoMemory),
         }

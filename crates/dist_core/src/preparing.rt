@@ -1,5 +1,5 @@
 //! A step in two halves: what it will do, and that it is made.
-ghost use Rattle.std.specs.Prelude.{◌≡◌, ◌≢◌, ℕ, ◌+◌, ◌≤◌, true, slice_get, IfOk, IfErr, IsOk, OnErr, Ok, Err, Some, None, IsTrue};
+ghost use Rattle.std.specs.Prelude.{◌≡◌, ◌≢◌, ℕ, ◌+◌, ◌≤◌, true, slice_get, IfOk, IfErr, IsOk, OnOk, OnErr, Ok, Err, Some, None, IsTrue};
 ghost use Rattle.dist_core_ends.specs.declared.known.Attempt.{Attempt};
 ghost use Rattle.dist_core_ends.specs.Ends.{AreLegal, entry_in, is_open};
 ghost use Rattle.dist_core.specs.Clauses.{end_of, loss_reply};
@@ -9,7 +9,7 @@ ghost use Rattle.dist_core.specs.Losses.{IsGone, IsSilent, is_loss};
 ghost use Rattle.dist_core.specs.Step.{effect_of, step, cost_of, at_end, came_in, dial_effect, framed_from, opening_effect, sender_to, tick_effect};
 ghost use Rattle.dist_core.specs.Answers.{IsStep, Refuses, reply_of};
 ghost use Rattle.dist_core.specs.Progress.{effect_by};
-ghost use Rattle.dist_core.specs.Preparing.{IsPrepared, FitsNode, GivesPrepared, RisesWith, after_commit, change_by, with_rise};
+ghost use Rattle.dist_core.specs.Preparing.{IsPrepared, FitsNode, GivesPrepared, RisesWith, after_commit, change_by, with_reply, with_rise};
 
 use crate::attempts::{reply_of_end, reply_of_rise};
 use crate::effect::{Effect, closes};
@@ -53,6 +53,19 @@ impl Prepared {
         &self.reply
     }
 
+    // What the step will answer, and what it will change.
+    pub(crate) fn into_parts(self) -> (Reply, PreparedChange)
+        ensures reply { result.0 ≡ self.reply }
+        ensures change { result.1 ≡ record { change = self.change; cost = self.cost } }
+    {
+        let Prepared {
+            reply,
+            change,
+            cost,
+        } = self;
+        (reply, PreparedChange { change, cost })
+    }
+
     // The same, where the step is not made.
     pub(crate) fn into_reply(self) -> Reply
         ensures { result ≡ self.reply }
@@ -64,6 +77,21 @@ impl Prepared {
         } = self;
         reply
     }
+}
+
+/// What a prepared step changes at the node that prepared it, without its reply.
+#[derive(Drop)]
+pub struct PreparedChange {
+    change: EndChange,
+    cost: u64,
+}
+
+impl Model for PreparedChange {
+    ghost use Rattle.dist_core.specs.Preparing.{ChangeState};
+
+    ghost Value = { ChangeState };
+
+    ghost view = { λ c. record { change = c.change; cost = c.cost } };
 }
 
 // An effect that is to be had, of this cost.
@@ -110,8 +138,8 @@ fn of_progress(ends: &Ends, id: EndId, progress: Progress) -> Prepared
     }
 }
 
-// The attempt of the reply's end comes up with the record of the reply.
-fn rise(ends: &mut Ends, reply: &Reply)
+/// The attempt of the reply's end comes up with the record of the reply.
+pub fn rise(ends: &mut Ends, reply: &Reply)
     requires { RisesWith ends.old reply.now.end_ reply.now.up }
     ensures { ends.new ≡ with_rise ends.old reply.now.end_ reply.now.up }
 {
@@ -156,11 +184,29 @@ impl Node {
         ensures loss { (v : Event) (fresh : ℕ) → IsPrepared self.old v fresh prepared → IsTrue (is_loss v) → IsOk result }
         ensures unchanged { OnErr result (self.new ≡ self.old) }
     {
-        let Prepared {
-            reply,
-            change,
-            cost,
-        } = prepared;
+        let (reply, change) = prepared.into_parts();
+        self.commit_change(&reply, change)?;
+        Ok(reply)
+    }
+
+    // The same of a prepared step whose reply is kept elsewhere. Nothing is returned but whether it was made.
+    pub(crate) fn commit_change(
+        &mut self,
+        reply: &Reply,
+        change: PreparedChange,
+    ) -> Result<(), StepError>
+        // What `prepare` gave at this node is so, where the node was not changed since.
+        requires { FitsNode self.old (with_reply reply.now change) }
+
+        // It is the very step of the event for which it was prepared.
+        ensures step { (v : Event) (fresh : ℕ) → IsPrepared self.old v fresh (with_reply reply.now change)
+            → OnOk result (step self.old v fresh ≡ Ok (reply.now, self.new)) }
+
+        ensures err { IfErr result (λ e. e ≡ StepError.NoMemory) }
+        ensures loss { (v : Event) (fresh : ℕ) → IsPrepared self.old v fresh (with_reply reply.now change) → IsTrue (is_loss v) → IsOk result }
+        ensures unchanged { OnErr result (self.new ≡ self.old) }
+    {
+        let PreparedChange { change, cost } = change;
         self.carry_out(reply, change, cost)
     }
 
@@ -269,11 +315,11 @@ impl Node {
     }
 
     // Makes a step of which it is known what it does.
-    fn carry_out(&mut self, reply: Reply, change: EndChange, cost: u64) -> Result<Reply, StepError>
-        requires { FitsNode self.old (record { reply = reply; change = change; cost = cost }) }
-        ensures ok { IfOk result (λ r. (r ≡ reply) × (self.new ≡ after_commit self.old (record { reply = reply; change = change; cost = cost }))) }
+    fn carry_out(&mut self, reply: &Reply, change: EndChange, cost: u64) -> Result<(), StepError>
+        requires { FitsNode self.old (record { reply = reply.now; change = change; cost = cost }) }
+        ensures ok { OnOk result (self.new ≡ after_commit self.old (record { reply = reply.now; change = change; cost = cost })) }
         ensures err { IfErr result (λ e. (e ≡ StepError.NoMemory) × (self.new ≡ self.old)) }
-        ensures loss { (v : Event) (fresh : ℕ) → IsPrepared self.old v fresh (record { reply = reply; change = change; cost = cost })
+        ensures loss { (v : Event) (fresh : ℕ) → IsPrepared self.old v fresh (record { reply = reply.now; change = change; cost = cost })
             → IsTrue (is_loss v) → IsOk result }
     {
         self.show_legal();
@@ -282,19 +328,16 @@ impl Node {
         match change {
             EndChange::Stay => {
                 self.count(cost);
-                Ok(reply)
+                Ok(())
             }
-            EndChange::Become { this, other } => self.apply_effect(
-                Effect { reply, this, other },
-                cost,
-            ),
+            EndChange::Become { this, other } => self.change_ends(reply, this, other, cost),
             EndChange::Advance(to) => {
-                self.advance(&reply, to, cost);
-                Ok(reply)
+                self.advance(reply, to, cost);
+                Ok(())
             }
             EndChange::Rise => {
-                self.bring_up(&reply, cost);
-                Ok(reply)
+                self.bring_up(reply, cost);
+                Ok(())
             }
         }
     }

@@ -5,7 +5,7 @@ use Rattle.dist_peers.specs.declared.entry.EndId.{EndId}
 use Rattle.dist_core_ends.specs.declared.why.Why.{Why}
 use Rattle.dist_core.specs.declared.event.Event.TheVariants as event
 use Rattle.dist_core.specs.declared.step_error.StepError.{StepError}
-use Rattle.dist_locked_book.specs.declared.line.Receipt.{Receipt}
+use Rattle.dist_locked_book.specs.declared.seat.Receipt.{Receipt}
 use Rattle.dist_locked_book.specs.History.{IsRefused}
 use Rattle.dist_locked.specs.Losses.{IsLost}
 

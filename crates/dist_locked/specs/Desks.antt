@@ -10,7 +10,7 @@ use Rattle.dist_core.specs.declared.step_error.StepError.TheVariants as error
 use Rattle.dist_core.specs.Clauses.{end_of}
 use Rattle.dist_core.specs.Losses.{cause_of_loss}
 use Rattle.dist_drive.specs.Desks.{Step, DeskFacts}
-use Rattle.dist_locked_book.specs.declared.line.Receipt.{Receipt}
+use Rattle.dist_locked_book.specs.declared.seat.Receipt.{Receipt}
 use Rattle.dist_locked_book.specs.History.{BookState, SeatState, IsLegal, IsRefused}
 
 -- the step of a receipt

@@ -6,7 +6,7 @@ use Rattle.dist_core_ends.specs.declared.phase.Still.{Still}
 use Rattle.dist_core_ends.specs.declared.phase.Still.TheVariants as still
 use Rattle.dist_core.specs.declared.event.Event.TheVariants as event
 use Rattle.dist_core.specs.declared.step_error.StepError.{StepError}
-use Rattle.dist_locked_book.specs.declared.line.Receipt.{Receipt}
+use Rattle.dist_locked_book.specs.declared.seat.Receipt.{Receipt}
 use Rattle.dist_locked_book.specs.History.{IsRefused}
 use Rattle.dist_locked.specs.Desks.{IsStill}
 

@@ -1,7 +1,7 @@
 //! An end of a locked node, driven.
 ghost use Rattle.std.specs.Prelude.{◌≡◌, List, [], ◌++◌, map, IfOk, IfErr};
 ghost use Rattle.dist_drive.specs.Driven.{Drives};
-ghost use Rattle.dist_locked_book.specs.declared.line.Receipt.{Receipt};
+ghost use Rattle.dist_locked_book.specs.declared.seat.Receipt.{Receipt};
 ghost use Rattle.dist_locked.specs.Desks.{entry_of, desk_of, seat_facts};
 
 use crate::locked_node::LockedNode;

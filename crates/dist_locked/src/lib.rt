@@ -24,7 +24,10 @@ mod seat_desk;
 mod shared;
 
 pub use dispatching::{CAPACITY, LAST_ORDER, MOST_ORDERS, dispatch};
-pub use dist_locked_book::{Book, CloseError, Closed, Line, Receipt, Seat, close, step_on};
+pub use dist_locked_book::{
+    Book, CloseError, Closed, Line, LineView, Receipt, Seat, SharedLine, close, step_and_copy,
+    step_on,
+};
 pub use driven::{Driven, drive_end};
 pub use gate::{Gate, Moment, Open};
 pub use locked_node::{LockedNode, Tickets};

@@ -3,8 +3,8 @@ ghost use Rattle.dist_core.specs.Losses.{is_loss, IsGone};
 ghost use Rattle.dist_locked_book.specs.History.{AreFresh, IsAnswered, IsLegal, IsRefused};
 ghost use Rattle.dist_locked.specs.Desks.{IsStill};
 
-use dist_core::{Event, Setup, StepError, Still};
-use dist_locked_book::{Book, Receipt, Seat, fresh_seats, step_on};
+use dist_core::{Event, Reply, Setup, StepError, Still};
+use dist_locked_book::{Book, Receipt, Seat, fresh_seats, step_and_copy, step_on};
 use dist_peers::EndId;
 use std::alloc::{AllocError, Global};
 use std::sync::atomic::{AtomicU64, Ordering};
@@ -87,6 +87,33 @@ impl LockedNode {
         let mut book = self.book.lock(rt);
         let ticket = self.tickets.next.fetch_add(1, Ordering::SeqCst);
         step_on(self.alloc, &mut book, seat, ticket, event, fresh)
+    }
+
+    /// The same, with a copy of the reply for whoever hands it on: the line itself is shared with the history and the seat. Out of
+    /// memory is told before the step is made, also where there is none for the copy; that of a loss takes none.
+    pub fn step_and_copy<R: Wait>(
+        &self,
+        rt: &R,
+        seat: &mut Seat,
+        event: &Event,
+        fresh: u32,
+    ) -> Result<(Receipt, Reply), StepError>
+        ensures reply { IfOk result (λ r. r.1 ≡ r.0.line.reply) }
+        ensures line { IfOk result (λ r. (r.0.line.seat ≡ seat.old.number) × (r.0.line.event ≡ event.now) × (r.0.line.fresh ≡ fresh)) }
+        ensures receipt { IfOk result (λ r. seat.new.list ≡ seat.old.list ++ r.0 ∷ []) }
+        ensures err { OnErr result (seat.new.list ≡ seat.old.list) }
+        ensures seat { seat.new.number ≡ seat.old.number }
+        ensures gone { IsTrue (is_loss event.now) → 0 < seat.old.spare → IfErr result IsGone }
+        ensures room { OnOk result (is_loss event.now ≡ false → 0 < seat.new.spare) }
+        ensures room_kept { OnErr result (seat.old.spare ≤ seat.new.spare) }
+
+        // Some node with a legal history gives this reply, or refuses so.
+        ensures answered { IfOk result (λ r. IsAnswered r.0) }
+        ensures refused { IfErr result (IsRefused event.now fresh) }
+    {
+        let mut book = self.book.lock(rt);
+        let ticket = self.tickets.next.fetch_add(1, Ordering::SeqCst);
+        step_and_copy(self.alloc, &mut book, seat, ticket, event, fresh)
     }
 
     // Why a step is refused for which there is no room: out of memory is the last of its refusals.

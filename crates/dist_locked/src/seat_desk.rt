@@ -5,14 +5,14 @@ ghost use Rattle.dist_core.specs.declared.reply.Reply.{Reply};
 ghost use Rattle.dist_core.specs.Losses.{is_loss, IsGone};
 ghost use Rattle.dist_core.specs.Clauses.{end_of};
 ghost use Rattle.dist_core.specs.declared.step_error.StepError.{StepError};
-ghost use Rattle.dist_locked_book.specs.declared.line.Receipt.{Receipt};
+ghost use Rattle.dist_locked_book.specs.declared.seat.Receipt.{Receipt};
 ghost use Rattle.dist_drive.specs.Desks.{last_reply};
 ghost use Rattle.dist_locked.specs.Desks.{entry_of, causes, seat_facts};
 
 use super::locked_node::LockedNode;
 use dist_core::{Event, Reply, StepError, Still, Why};
 use dist_drive::Desk;
-use dist_locked_book::{Line, Receipt, Seat};
+use dist_locked_book::{Receipt, Seat};
 use dist_peers::EndId;
 use std::alloc::{AllocError, Global};
 use std::collections::LinkedList;
@@ -94,12 +94,12 @@ impl<'a, R: Wait> SeatDesk<'a, R> {
     }
 
     // Hands an event on, with the number that was drawn for it.
-    fn make_step(&mut self, event: &Event, fresh: u32) -> Result<(), StepError>
-        ensures ok { OnOk result ((reply : Reply) × (self.new.list ≡ self.old.list ++ (event.now, fresh, reply) ∷ [])) }
+    fn make_step(&mut self, event: Event, fresh: u32) -> Result<(), StepError>
+        ensures ok { OnOk result ((reply : Reply) × (self.new.list ≡ self.old.list ++ (event, fresh, reply) ∷ [])) }
         ensures err { OnErr result (self.new ≡ self.old) }
-        ensures refused { IfErr result (causes self.old event.now fresh) }
-        ensures loss { IsTrue (is_loss event.now) → IfErr result IsGone }
-        ensures other { end_of event.now ≢ Some self.old.end_ → result ≡ Err StepError.NoSuchEnd }
+        ensures refused { IfErr result (causes self.old event fresh) }
+        ensures loss { IsTrue (is_loss event) → IfErr result IsGone }
+        ensures other { end_of event ≢ Some self.old.end_ → result ≡ Err StepError.NoSuchEnd }
         ensures same { (self.new.number ≡ self.old.number) × (self.new.start ≡ self.old.start) × (self.new.end_ ≡ self.old.end_) }
     {
         if event.end_named() != Some(self.end_) {
@@ -109,11 +109,13 @@ impl<'a, R: Wait> SeatDesk<'a, R> {
             return Err(StepError::Gone(why));
         }
         let Ok(()) = make_room(&mut self.steps, event.is_lost()) else {
-            return Err(self.node.lacks(self.rt, event, fresh));
+            return Err(self.node.lacks(self.rt, &event, fresh));
         };
-        let receipt = self.node.step(self.rt, &mut self.seat, event, fresh)?;
+        let (_, reply) = self
+            .node
+            .step_and_copy(self.rt, &mut self.seat, &event, fresh)?;
         self.lost = event.lost_why();
-        self.steps.push_reserved(step_in(receipt));
+        self.steps.push_reserved((event, fresh, reply));
         Ok(())
     }
 }
@@ -128,7 +130,7 @@ impl<'a, R: Wait> Desk for SeatDesk<'a, R> {
     ghost facts = { seat_facts };
 
     fn step(&mut self, event: Event, fresh: u32) -> Result<(), StepError> {
-        self.make_step(&event, fresh)
+        self.make_step(event, fresh)
     }
 
     fn last(&self) -> Option<&Reply> {
@@ -155,19 +157,4 @@ fn make_room(steps: &mut Vec<(Event, u32, Reply)>, lost: bool) -> Result<(), All
         return Ok(());
     }
     steps.reserve(2)
-}
-
-// The step of a receipt.
-fn step_in(receipt: Receipt) -> (Event, u32, Reply)
-    ensures { result ≡ entry_of receipt }
-{
-    let Receipt { at_: _, line } = receipt;
-    let Line {
-        ticket: _,
-        seat: _,
-        event,
-        fresh,
-        reply,
-    } = line;
-    (event, fresh, reply)
 }

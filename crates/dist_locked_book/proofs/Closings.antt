@@ -3,7 +3,7 @@ use Rattle.std.proofs.Common.{◌≡◌, ◌↔◌, ℕ, ◌≤◌, List, [], tr
 use Rattle.std.proofs.lemmas.Bool.{eqb-true, eq-eqb}
 use Rattle.std.proofs.Math.ListN.{drop_of_length-le}
 use Rattle.dist_locked_book.specs.declared.line.Line.{Line}
-use Rattle.dist_locked_book.specs.declared.line.Receipt.{Receipt}
+use Rattle.dist_locked_book.specs.declared.seat.Receipt.{Receipt}
 use Rattle.dist_locked_book.specs.History.{SeatState}
 use Rattle.dist_locked_book.specs.Closing.{AreAll, AreKept, receipts_of}
 

@@ -11,7 +11,7 @@ use Rattle.dist_core.specs.Node.{NodeState}
 use Rattle.dist_core.specs.Runs.{opening}
 use Rattle.dist_core.specs.Step.{step}
 use Rattle.dist_locked_book.specs.declared.line.Line.{Line}
-use Rattle.dist_locked_book.specs.declared.line.Receipt.{Receipt}
+use Rattle.dist_locked_book.specs.declared.seat.Receipt.{Receipt}
 use Rattle.dist_locked_book.specs.Opens.{open_count}
 use Rattle.dist_locked_book.specs.History.{IsReplay, ends_in_loss}
 

@@ -1,7 +1,7 @@
 -- Seats that are all there, with all their receipts.
 use Rattle.std.specs.Prelude.{◌≡◌, ℕ, ◌+◌, ◌<◌, ◌==◌, List, [], ◌∷◌, if◌then◌else◌, All, count_by}
 use Rattle.dist_locked_book.specs.declared.line.Line.{Line}
-use Rattle.dist_locked_book.specs.declared.line.Receipt.{Receipt}
+use Rattle.dist_locked_book.specs.declared.seat.Receipt.{Receipt}
 use Rattle.dist_locked_book.specs.History.{SeatState}
 
 -- the seats are those of the numbers below n, each once

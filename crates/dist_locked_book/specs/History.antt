@@ -8,7 +8,7 @@ use Rattle.dist_core.specs.Node.{NodeState}
 use Rattle.dist_core.specs.Runs.{opening}
 use Rattle.dist_core.specs.Step.{step}
 use Rattle.dist_locked_book.specs.declared.line.Line.{Line}
-use Rattle.dist_locked_book.specs.declared.line.Receipt.{Receipt}
+use Rattle.dist_locked_book.specs.declared.seat.Receipt.{Receipt}
 
 -- the lines are the steps of a node from n to m, each with the reply that the node gives there
 abbrev pub IsReplay : NodeState → List Line → NodeState → Type 0

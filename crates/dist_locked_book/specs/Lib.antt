@@ -1,3 +1,4 @@
 pub mod Opens
+pub mod Lines
 pub mod History
 pub mod Closing

@@ -1,19 +1,21 @@
 ghost use Rattle.std.specs.Prelude.{◌≡◌, ◌≢◌, ◌<◌, ◌+◌, ◌≤◌, ◌∷◌, [], ◌++◌, length, vec_len, vec_capacity, true, false, MatchBool, IsTrue};
-ghost use Rattle.std.specs.Prelude.{Ok, Err, IfOk, IfErr, OnOk, OnErr, IsOk, Some, None, slice_get};
+ghost use Rattle.std.specs.Prelude.{if◌then◌else◌, Ok, Err, IfOk, IfErr, OnOk, OnErr, IsOk, Some, None, slice_get};
 ghost use Rattle.dist_core_ends.specs.declared.known.End.{End};
 ghost use Rattle.dist_core.specs.declared.event.Event.TheVariants as Event;
 ghost use Rattle.dist_core.specs.Losses.{is_loss, IsGone};
 ghost use Rattle.dist_core.specs.Runs.{opening};
 ghost use Rattle.dist_core.specs.Step.{step};
 ghost use Rattle.dist_core.specs.Answers.{Refuses};
+ghost use Rattle.dist_core.specs.Clauses.{loss_reply, silent_reply};
 ghost use Rattle.dist_core_ends.specs.Ends.{is_open};
 ghost use Rattle.dist_locked_book.specs.History.{IsAnswered, IsLegal, IsReplay, ends_in_loss};
+ghost use Rattle.dist_locked_book.specs.Lines.{IsEntry};
 
-use super::line::{Line, Receipt};
-use super::seat::Seat;
-use dist_core::{Event, Node, Note, Reply, Setup, StepError, Why};
+use super::seat::{Receipt, Seat};
+use super::shared_line::{Entry, SharedLine, quiet};
+use super::sharing::{Copying, Lines, Sharing};
+use dist_core::{Event, Node, Reply, Setup, StepError, Why};
 use dist_core_laws::{a_step_keeps, open_ends_after_a_step};
-use dist_names::ByteString;
 use dist_peers::EndId;
 use std::alloc::{AllocError, Global};
 use std::marker::Model;
@@ -26,7 +28,7 @@ use std::marker::Model;
 pub struct Book {
     node: Node,
     seats: u32,
-    history: Vec<Line>,
+    history: Vec<SharedLine>,
 }
 
 impl Model for Book {
@@ -70,7 +72,7 @@ impl Book {
     }
 
     /// The steps that succeeded, in order.
-    pub fn history(&self) -> &[Line]
+    pub fn history(&self) -> &[SharedLine]
         ensures history { result.now ≡ self.now.history }
         ensures legal { IsLegal self.now }
     {
@@ -78,7 +80,7 @@ impl Book {
     }
 
     /// The node and the history, which is legal.
-    pub fn into_parts(self) -> (Node, Vec<Line>)
+    pub fn into_parts(self) -> (Node, Vec<SharedLine>)
         ensures parts { (result.0 ≡ self.node) × (result.1.items ≡ self.history) }
         ensures legal { IsReplay (opening result.0.setup) result.1.items result.0 }
     {
@@ -90,21 +92,20 @@ impl Book {
         (node, history)
     }
 
-    // Makes a step, and adds its line, whose event is the copy that is handed in. Returns the place of the line, and its reply
-    // twice.
+    // Makes a step, and adds its line. Returns the place of the line, the line twice, and a copy of its reply where one is wanted.
+    #[inline(always)]
     fn enter(
         &mut self,
         alloc: Global,
         entry: Entry,
         event: &Event,
-        copy: Event,
-    ) -> Result<(usize, Reply, Reply), StepError>
-        requires { copy ≡ event.now }
-        ensures step { IfOk result (λ r. step self.old.node event.now entry.fresh ≡ Ok (r.1, self.new.node)) }
-        ensures same { IfOk result (λ r. r.2 ≡ r.1) }
-        ensures at_end { IfOk result (λ r. r.0 ≡ length self.old.history) }
-        ensures line { IfOk result (λ r. self.new.history ≡ self.old.history
-            ++ record { ticket = entry.ticket; seat = entry.seat; event = event.now; fresh = entry.fresh; reply = r.1 } ∷ []) }
+        copies: bool,
+    ) -> Result<Entered, StepError>
+        ensures step { IfOk result (λ r. step self.old.node event.now entry.fresh ≡ Ok (r.line.reply, self.new.node)) }
+        ensures line { IfOk result (λ r. IsEntry entry event.now r.line) }
+        ensures same { IfOk result (λ r. r.second ≡ r.line) }
+        ensures copy { IfOk result (λ r. r.copy ≡ (if copies then Some r.line.reply else None)) }
+        ensures history { IfOk result (λ r. (r.at_ ≡ length self.old.history) × (self.new.history ≡ self.old.history ++ r.line ∷ [])) }
         ensures seats { self.new.seats ≡ self.old.seats }
         ensures refused { IfErr result (λ e. Refuses e (step self.old.node event.now entry.fresh)) }
         ensures err { OnErr result (self.new ≡ self.old) }
@@ -119,35 +120,30 @@ impl Book {
         let Ok(()) = make_room(&mut self.history, open_ends, event.is_lost()) else {
             return Err(refusal(alloc, &self.node, event, entry.fresh));
         };
-        let (reply, second, third) = make_step(alloc, &mut self.node, event, entry.fresh)?;
+        let (lines, copy) = make_step(alloc, &mut self.node, entry, event, copies)?;
+        let Lines {
+            line,
+            second,
+            third,
+        } = lines;
         let at_ = self.history.len();
-        self.history.push_reserved(entry.line(copy, reply));
-        Ok((at_, second, third))
+        self.history.push_reserved(third);
+        Ok(Entered {
+            at_,
+            line,
+            second,
+            copy,
+        })
     }
 }
 
-// What a line has beside its event and its reply.
-#[derive(Clone, Copy)]
-struct Entry {
-    ticket: u64,
-    seat: u32,
-    fresh: u32,
-}
-
-impl Entry {
-    // The line of a step.
-    #[inline(always)]
-    fn line(self, event: Event, reply: Reply) -> Line
-        ensures { result ≡ record { ticket = self.ticket; seat = self.seat; event = event; fresh = self.fresh; reply = reply } }
-    {
-        Line {
-            ticket: self.ticket,
-            seat: self.seat,
-            event,
-            fresh: self.fresh,
-            reply,
-        }
-    }
+// A line that was added: its place, the line twice, and a copy of its reply where one was wanted.
+#[derive(Drop)]
+struct Entered {
+    at_: usize,
+    line: SharedLine,
+    second: SharedLine,
+    copy: Option<Reply>,
 }
 
 // Why a step is refused for which there is no room: out of memory is the last of its refusals.
@@ -162,7 +158,7 @@ fn refusal(alloc: Global, node: &Node, event: &Event, fresh: u32) -> StepError
 }
 
 // Makes room for the line of a step and one line for each end that is open then. Before a loss there is room already.
-fn make_room(history: &mut Vec<Line>, open_ends: usize, lost: bool) -> Result<(), StepError>
+fn make_room(history: &mut Vec<SharedLine>, open_ends: usize, lost: bool) -> Result<(), StepError>
     requires { vec_len history.old + open_ends ≤ vec_capacity history.old }
     ensures same { (history.new.items ≡ history.old.items) × (vec_len history.new ≡ vec_len history.old) }
     ensures kept { vec_len history.new + open_ends ≤ vec_capacity history.new }
@@ -211,117 +207,203 @@ pub fn step_on(
     ensures room { OnOk result (is_loss event.now ≡ false → 0 < seat.new.spare) }
     ensures room_kept { OnErr result (seat.old.spare ≤ seat.new.spare) }
 {
-    let Ok(()) = seat.make_room(event.is_lost()) else {
-        return Err(refusal(alloc, book.node(), event, fresh));
-    };
-    let Ok((copy, second, third)) = copies(alloc, event) else {
-        return Err(refusal(alloc, book.node(), event, fresh));
-    };
     let entry = Entry {
         ticket,
         seat: seat.number(),
         fresh,
     };
-    let (at_, reply, given) = book.enter(alloc, entry, event, copy)?;
-    seat.keep(Receipt {
-        at_,
-        line: entry.line(second, reply),
-    });
-    Ok(Receipt {
-        at_,
-        line: entry.line(third, given),
-    })
+    let (receipt, _) = step_for(alloc, book, seat, entry, event, false)?;
+    Ok(receipt)
 }
 
-// An event, three times. That of a loss takes no memory.
-#[inline(always)]
-fn copies(alloc: Global, event: &Event) -> Result<(Event, Event, Event), AllocError>
-    ensures same { IfOk result (λ r. (r.0 ≡ event.now) × (r.1 ≡ event.now) × (r.2 ≡ event.now)) }
-    ensures loss { IsTrue (is_loss event.now) → IsOk result }
+/// The same, with a copy of the reply for whoever hands it on. The step is refused as out of memory where there is none for
+/// the copy; that of a loss takes none. Source: our own choice.
+pub fn step_and_copy(
+    alloc: Global,
+    book: &mut Book,
+    seat: &mut Seat,
+    ticket: u64,
+    event: &Event,
+    fresh: u32,
+) -> Result<(Receipt, Reply), StepError>
+    ensures step { IfOk result (λ r. step book.old.node event.now fresh ≡ Ok (r.1, book.new.node)) }
+    ensures reply { IfOk result (λ r. r.1 ≡ r.0.line.reply) }
+    ensures line { IfOk result (λ r. (r.0.line.ticket ≡ ticket) × (r.0.line.seat ≡ seat.old.number) × (r.0.line.event ≡ event.now) × (r.0.line.fresh ≡ fresh)) }
+    ensures history { IfOk result (λ r. (r.0.at_ ≡ length book.old.history) × (book.new.history ≡ book.old.history ++ r.0.line ∷ [])) }
+    ensures receipt { IfOk result (λ r. seat.new.list ≡ seat.old.list ++ r.0 ∷ []) }
+    ensures seats { (book.new.seats ≡ book.old.seats) × (seat.new.number ≡ seat.old.number) }
+    ensures legal { IsLegal book.old }
+    ensures answered { IfOk result (λ r. IsAnswered r.0) }
+
+    // A refusal is that of the node, and changes neither the book nor the seat's list.
+    ensures refused { IfErr result (λ e. Refuses e (step book.old.node event.now fresh)) }
+    ensures err { OnErr result ((book.new ≡ book.old) × (seat.new.list ≡ seat.old.list)) }
+
+    // A loss takes no memory where the seat has room, as it has after a receipt that is not of a loss.
+    ensures gone { IsTrue (is_loss event.now) → 0 < seat.old.spare → IfErr result IsGone }
+    ensures open_end { (x : EndId) (w : Why) (e : End) → event.now ≡ Event.Lost x w
+        → slice_get book.old.node.ends x.0 ≡ Some e → is_open e ≡ true → ends_in_loss seat.old.list ≡ false → IsOk result }
+    ensures room { OnOk result (is_loss event.now ≡ false → 0 < seat.new.spare) }
+    ensures room_kept { OnErr result (seat.old.spare ≤ seat.new.spare) }
 {
-    let first = event.try_clone(alloc)?;
-    let second = event.try_clone(alloc)?;
-    let third = event.try_clone(alloc)?;
-    Ok((first, second, third))
+    let entry = Entry {
+        ticket,
+        seat: seat.number(),
+        fresh,
+    };
+    let (receipt, copy) = step_for(alloc, book, seat, entry, event, true)?;
+    Ok((receipt, copy.unwrap()))
 }
 
-// Makes a step of a node, and returns its reply three times.
+// The two calls in one, with a copy of the reply where one is wanted.
+#[inline(always)]
+fn step_for(
+    alloc: Global,
+    book: &mut Book,
+    seat: &mut Seat,
+    entry: Entry,
+    event: &Event,
+    copies: bool,
+) -> Result<(Receipt, Option<Reply>), StepError>
+    ensures step { IfOk result (λ r. step book.old.node event.now entry.fresh ≡ Ok (r.0.line.reply, book.new.node)) }
+    ensures copy { IfOk result (λ r. r.1 ≡ (if copies then Some r.0.line.reply else None)) }
+    ensures line { IfOk result (λ r. IsEntry entry event.now r.0.line) }
+    ensures history { IfOk result (λ r. (r.0.at_ ≡ length book.old.history) × (book.new.history ≡ book.old.history ++ r.0.line ∷ [])) }
+    ensures receipt { IfOk result (λ r. seat.new.list ≡ seat.old.list ++ r.0 ∷ []) }
+    ensures seats { (book.new.seats ≡ book.old.seats) × (seat.new.number ≡ seat.old.number) }
+    ensures legal { IsLegal book.old }
+    ensures answered { IfOk result (λ r. IsAnswered r.0) }
+    ensures refused { IfErr result (λ e. Refuses e (step book.old.node event.now entry.fresh)) }
+    ensures err { OnErr result ((book.new ≡ book.old) × (seat.new.list ≡ seat.old.list)) }
+    ensures gone { IsTrue (is_loss event.now) → 0 < seat.old.spare → IfErr result IsGone }
+    ensures open_end { (x : EndId) (w : Why) (e : End) → event.now ≡ Event.Lost x w
+        → slice_get book.old.node.ends x.0 ≡ Some e → is_open e ≡ true → ends_in_loss seat.old.list ≡ false → IsOk result }
+    ensures room { OnOk result (is_loss event.now ≡ false → 0 < seat.new.spare) }
+    ensures room_kept { OnErr result (seat.old.spare ≤ seat.new.spare) }
+{
+    let Ok(()) = seat.make_room(event.is_lost()) else {
+        return Err(refusal(alloc, book.node(), event, entry.fresh));
+    };
+    let Entered {
+        at_,
+        line,
+        second,
+        copy,
+    } = book.enter(alloc, entry, event, copies)?;
+    seat.keep(Receipt { at_, line: second });
+    Ok((Receipt { at_, line }, copy))
+}
+
+// Makes a step of a node, and returns its line three times, and a copy of its reply where one is wanted.
 #[inline(always)]
 fn make_step(
     alloc: Global,
     node: &mut Node,
+    entry: Entry,
     event: &Event,
-    fresh: u32,
-) -> Result<(Reply, Reply, Reply), StepError>
-    ensures step { IfOk result (λ r. step node.old event.now fresh ≡ Ok (r.0, node.new)) }
-    ensures same { IfOk result (λ r. (r.1 ≡ r.0) × (r.2 ≡ r.0)) }
-    ensures refused { IfErr result (λ e. Refuses e (step node.old event.now fresh)) }
+    copies: bool,
+) -> Result<(Lines, Option<Reply>), StepError>
+    ensures step { IfOk result (λ r. step node.old event.now entry.fresh ≡ Ok (r.0.line.reply, node.new)) }
+    ensures line { IfOk result (λ r. IsEntry entry event.now r.0.line) }
+    ensures same { IfOk result (λ r. (r.0.second ≡ r.0.line) × (r.0.third ≡ r.0.line)) }
+    ensures copy { IfOk result (λ r. r.1 ≡ (if copies then Some r.0.line.reply else None)) }
+    ensures refused { IfErr result (λ e. Refuses e (step node.old event.now entry.fresh)) }
     ensures err { OnErr result (node.new ≡ node.old) }
     ensures gone { IsTrue (is_loss event.now) → IfErr result IsGone }
     ensures open_end { (x : EndId) (w : Why) (e : End) → event.now ≡ Event.Lost x w
         → slice_get node.old.ends x.0 ≡ Some e → is_open e ≡ true → IsOk result }
 {
     match event {
-        Event::Incoming { link: _ } => {
+        Event::Incoming { link } => {
             let id = node.accept()?;
-            Ok((
-                quiet(alloc, id, None),
-                quiet(alloc, id, None),
-                quiet(alloc, id, None),
-            ))
+            let copy = if copies {
+                Some(quiet(alloc, id, None))
+            } else {
+                None
+            };
+            Ok((lines_of_arrival(alloc, entry, *link, id), copy))
         }
         Event::Lost { end_: id, why } => {
             node.lose(*id, *why)?;
             let closed = Some((*id, *why));
-            Ok((
-                quiet(alloc, *id, closed),
-                quiet(alloc, *id, closed),
-                quiet(alloc, *id, closed),
-            ))
+            let copy = if copies {
+                Some(quiet(alloc, *id, closed))
+            } else {
+                None
+            };
+            Ok((lines_of_loss(alloc, entry, *id, *why), copy))
         }
-        _ => make_prepared_step(alloc, node, event, fresh),
+        _ if copies => {
+            let (lines, reply) = make_copied_step(alloc, node, entry, event)?;
+            Ok((lines, Some(reply)))
+        }
+        _ => {
+            let lines = make_kept_step(alloc, node, entry, event)?;
+            Ok((lines, None))
+        }
     }
 }
 
-// The reply of a step that sends nothing, and closes an end or none.
 #[inline(always)]
-fn quiet(alloc: Global, id: EndId, closed: Option<(EndId, Why)>) -> Reply
-    ensures { result ≡ record { end_ = id; say = []; closed = closed; up = None; note = Note.Nothing } }
+fn lines_of_arrival(alloc: Global, entry: Entry, link: u64, id: EndId) -> Lines
+    ensures line { IsEntry entry (Event.Incoming link) result.line × (result.line.reply ≡ silent_reply id) }
+    ensures same { (result.second ≡ result.line) × (result.third ≡ result.line) }
 {
-    Reply {
-        end_: id,
-        say: ByteString::new(alloc),
-        closed,
-        up: None,
-        note: Note::Nothing,
+    Lines {
+        line: SharedLine::of_arrival(alloc, entry, link, id),
+        second: SharedLine::of_arrival(alloc, entry, link, id),
+        third: SharedLine::of_arrival(alloc, entry, link, id),
     }
 }
 
-// Makes a step whose reply may take memory: it is prepared first, so that it can be copied before the step is made.
-#[inline(never)]
-fn make_prepared_step(
+#[inline(always)]
+fn lines_of_loss(alloc: Global, entry: Entry, id: EndId, why: Why) -> Lines
+    ensures line { IsEntry entry (Event.Lost id why) result.line × (result.line.reply ≡ loss_reply id why) }
+    ensures same { (result.second ≡ result.line) × (result.third ≡ result.line) }
+{
+    Lines {
+        line: SharedLine::of_loss(alloc, entry, id, why),
+        second: SharedLine::of_loss(alloc, entry, id, why),
+        third: SharedLine::of_loss(alloc, entry, id, why),
+    }
+}
+
+// Makes a step whose line takes memory: the line is made before the step is.
+#[inline(always)]
+fn make_kept_step(
     alloc: Global,
     node: &mut Node,
+    entry: Entry,
     event: &Event,
-    fresh: u32,
-) -> Result<(Reply, Reply, Reply), StepError>
-    ensures step { IfOk result (λ r. step node.old event.now fresh ≡ Ok (r.0, node.new)) }
-    ensures same { IfOk result (λ r. (r.1 ≡ r.0) × (r.2 ≡ r.0)) }
-    ensures refused { IfErr result (λ e. Refuses e (step node.old event.now fresh)) }
+) -> Result<Lines, StepError>
+    ensures step { IfOk result (λ r. step node.old event.now entry.fresh ≡ Ok (r.line.reply, node.new)) }
+    ensures line { IfOk result (λ r. IsEntry entry event.now r.line) }
+    ensures same { IfOk result (λ r. (r.second ≡ r.line) × (r.third ≡ r.line)) }
+    ensures refused { IfErr result (λ e. Refuses e (step node.old event.now entry.fresh)) }
     ensures err { OnErr result (node.new ≡ node.old) }
 {
-    let prepared = node.prepare(alloc, event, fresh)?;
-    let Ok((second, third)) = reply_copies(alloc, prepared.reply()) else {
-        return Err(StepError::NoMemory);
-    };
-    let reply = node.commit(prepared)?;
-    Ok((reply, second, third))
+    let sharing = Sharing { entry, event };
+    let shared = node.step_kept(alloc, &sharing, event, entry.fresh)?;
+    Ok(shared.into_lines(alloc))
 }
 
-fn reply_copies(alloc: Global, reply: &Reply) -> Result<(Reply, Reply), AllocError>
-    ensures { IfOk result (λ r. (r.0 ≡ reply.now) × (r.1 ≡ reply.now)) }
+// The same, with a copy of the reply.
+fn make_copied_step(
+    alloc: Global,
+    node: &mut Node,
+    entry: Entry,
+    event: &Event,
+) -> Result<(Lines, Reply), StepError>
+    ensures step { IfOk result (λ r. step node.old event.now entry.fresh ≡ Ok (r.1, node.new)) }
+    ensures reply { IfOk result (λ r. r.1 ≡ r.0.line.reply) }
+    ensures line { IfOk result (λ r. IsEntry entry event.now r.0.line) }
+    ensures same { IfOk result (λ r. (r.0.second ≡ r.0.line) × (r.0.third ≡ r.0.line)) }
+    ensures refused { IfErr result (λ e. Refuses e (step node.old event.now entry.fresh)) }
+    ensures err { OnErr result (node.new ≡ node.old) }
 {
-    let first = reply.try_clone(alloc)?;
-    let second = reply.try_clone(alloc)?;
-    Ok((first, second))
+    let copying = Copying {
+        sharing: Sharing { entry, event },
+    };
+    let copied = node.step_kept(alloc, &copying, event, entry.fresh)?;
+    Ok((copied.shared.into_lines(alloc), copied.reply))
 }

@@ -4,8 +4,8 @@ ghost use Rattle.dist_locked_book.specs.History.{IsReplay};
 ghost use Rattle.dist_locked_book.specs.Closing.{AreAll, AreKept, receipts_of};
 
 use super::book::Book;
-use super::line::Line;
 use super::seat::Seat;
+use super::shared_line::SharedLine;
 use dist_core::Node;
 use thiserror::Error;
 
@@ -27,7 +27,7 @@ pub struct Closed {
     /// The node, to which the history leads from the opening node of its setup.
     pub node: Node,
     /// Its steps that succeeded, in order.
-    pub history: Vec<Line>,
+    pub history: Vec<SharedLine>,
 }
 
 /// The node and its history, where all seats are there, each with exactly the receipts of its lines. Otherwise the book and the
@@ -83,26 +83,26 @@ fn count_of(number: u32, seats: &[Seat]) -> usize
 }
 
 // Whether each line is of a seat number below n, and each seat has exactly the receipts of its lines.
-fn are_kept(n: u32, history: &[Line], seats: &[Seat]) -> bool
+fn are_kept(n: u32, history: &[SharedLine], seats: &[Seat]) -> bool
     ensures { IsTrue result ↔ AreKept n history.now seats.now }
 {
-    history.iter().all(|line| line.seat < n) && all_kept(history, seats)
+    history.iter().all(|line| line.seat() < n) && all_kept(history, seats)
 }
 
-fn all_kept(history: &[Line], seats: &[Seat]) -> bool
+fn all_kept(history: &[SharedLine], seats: &[Seat]) -> bool
     ensures { IsTrue result ↔ All (λ s. s.list ≡ receipts_of s.number 0 history.now) seats.now }
 {
     seats.iter().all(|seat| is_kept(history, seat))
 }
 
 // Whether the seat has exactly the receipts of its lines.
-fn is_kept(history: &[Line], seat: &Seat) -> bool
+fn is_kept(history: &[SharedLine], seat: &Seat) -> bool
     ensures { IsTrue result ↔ (seat.now.list ≡ receipts_of seat.now.number 0 history.now) }
 {
     let list = seat.receipts();
     let mut next = 0;
     for (place, line) in history.iter().enumerate() {
-        if line.seat == seat.number() {
+        if line.seat() == seat.number() {
             let Some(receipt) = list.get(next) else {
                 return false;
             };

@@ -12,8 +12,11 @@ mod book;
 mod closing;
 mod line;
 mod seat;
+mod shared_line;
+mod sharing;
 
-pub use book::{Book, step_on};
+pub use book::{Book, step_and_copy, step_on};
 pub use closing::{CloseError, Closed, close};
-pub use line::{Line, Receipt};
-pub use seat::{Seat, fresh_seats};
+pub use line::Line;
+pub use seat::{Receipt, Seat, fresh_seats};
+pub use shared_line::{LineView, SharedLine};

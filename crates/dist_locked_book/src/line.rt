@@ -1,4 +1,4 @@
-ghost use Rattle.std.specs.Prelude.{◌≡◌, ◌↔◌, [], IfOk, IsOk, IsTrue};
+ghost use Rattle.std.specs.Prelude.{◌≡◌, ◌↔◌, IfOk, IsOk, IsTrue};
 ghost use Rattle.dist_core.specs.Losses.{IsSilent, is_loss};
 
 use dist_core::{Event, Reply};
@@ -17,15 +17,6 @@ pub struct Line {
     pub fresh: u32,
     /// What the node replied.
     pub reply: Reply,
-}
-
-/// What a seat keeps of a step of its own.
-#[derive(Drop)]
-pub struct Receipt {
-    /// Which line of the history it is, counted from 0.
-    pub at_: usize,
-    /// An equal line.
-    pub line: Line,
 }
 
 impl Line {

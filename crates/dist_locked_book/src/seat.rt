@@ -2,9 +2,18 @@ ghost use Rattle.std.specs.Prelude.{◌≡◌, ◌<◌, ◌+◌, ◌≤◌, ◌�
 ghost use Rattle.dist_core.specs.Losses.{is_loss};
 ghost use Rattle.dist_locked_book.specs.History.{AreFresh, ends_in_loss};
 
-use super::line::Receipt;
+use super::shared_line::SharedLine;
 use std::alloc::{AllocError, Global};
 use std::marker::Model;
+
+/// What a seat keeps of a step of its own.
+#[derive(Drop)]
+pub struct Receipt {
+    /// Which line of the history it is, counted from 0.
+    pub at_: usize,
+    /// That line.
+    pub line: SharedLine,
+}
 
 /// One caller's place at a node, with the receipts of its steps in order. A node's seats are made by `fresh_seats`, and
 /// `close` wants all of them back. There is room for one receipt more, except where the last one is of a loss: so that a loss

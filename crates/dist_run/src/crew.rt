@@ -4,7 +4,7 @@ use crate::connection::{Carrier, Job, Left};
 use crate::site::Site;
 use dist_core::{Event, StepError, Why};
 use dist_drive::SocketStream;
-use dist_locked::{Receipt, Seat, lose};
+use dist_locked::{Seat, lose};
 use dist_names::ByteString;
 use dist_peers::EndId;
 use dist_run_hosts::{Challenges, Host, Pool, say_goodbye};
@@ -50,13 +50,6 @@ pub struct Rest {
     pub streams: Vec<SocketStream>,
 }
 
-// The end of a step, and what it sends.
-fn end_and_bytes(receipt: Receipt) -> (EndId, ByteString) {
-    let line = receipt.line;
-    let reply = line.reply;
-    (reply.end_, reply.say)
-}
-
 impl<'s, E, R: Threads + Wait + Sync, G> Crew<'s, E, R, G> {
     /// A crew that has started nothing.
     pub fn new(
@@ -87,8 +80,8 @@ impl<'s, E, R: Threads + Wait + Sync, G> Crew<'s, E, R, G> {
     pub fn step(&mut self, event: &Event) -> Result<(EndId, ByteString), StepError> {
         let host = self.post.host;
         let own = &mut self.post.pool.own;
-        match host.node.step(self.site.rt, own, event, 0) {
-            Ok(receipt) => Ok(end_and_bytes(receipt)),
+        match host.node.step_and_copy(self.site.rt, own, event, 0) {
+            Ok((_, reply)) => Ok((reply.end_, reply.say)),
             Err(error) => Err(error),
         }
     }

@@ -7,7 +7,7 @@ ghost use Rattle.dist_run_hosts.specs.Orders.{IsObeyed, IsObedient, AreObeyed, P
 
 use crate::order_fault::OrderFault;
 use dist_core::Event;
-use dist_locked::{Closed, Line};
+use dist_locked::{Closed, SharedLine};
 use dist_names::NodeName;
 use dist_run_plan::DialPlan;
 
@@ -35,14 +35,19 @@ fn is_fault_of(orders: &[DialPlan], from: &NodeName, to: &NodeName, fault: &Orde
     }
 }
 
+// Whether a line is of a dial of this peer.
+fn is_dial_line(line: &SharedLine, to: &NodeName) -> bool
+    ensures { result ≡ is_dial_of to.now (let l = line.now in l.event) }
+{
+    let view = line.read();
+    is_dial_of(&view.line().event, to)
+}
+
 // How often a node dialled this peer.
-fn count_dials(history: &[Line], to: &NodeName) -> usize
+fn count_dials(history: &[SharedLine], to: &NodeName) -> usize
     ensures { result ≡ count_dials to.now history.now }
 {
-    history
-        .iter()
-        .filter(|line| is_dial_of(&line.event, to))
-        .count()
+    history.iter().filter(|line| is_dial_line(line, to)).count()
 }
 
 // How many orders a node has to dial this peer.
@@ -111,10 +116,16 @@ fn is_order_obeyed(
     is_obeyed(orders, faults, closed, &order.to)
 }
 
-fn is_line_obeyed(orders: &[DialPlan], faults: &[OrderFault], closed: &Closed, line: &Line) -> bool
+fn is_line_obeyed(
+    orders: &[DialPlan],
+    faults: &[OrderFault],
+    closed: &Closed,
+    line: &SharedLine,
+) -> bool
     ensures { IsTrue result ↔ LineIsObeyed orders.now faults.now closed.now line.now }
 {
-    is_peer_obeyed(orders, faults, closed, &line.event)
+    let view = line.read();
+    is_peer_obeyed(orders, faults, closed, &view.line().event)
 }
 
 // The same of all peers that some orders name.
@@ -136,7 +147,12 @@ fn are_followed(
 }
 
 // The same of all peers that these lines dial.
-fn are_ordered(orders: &[DialPlan], faults: &[OrderFault], closed: &Closed, lines: &[Line]) -> bool
+fn are_ordered(
+    orders: &[DialPlan],
+    faults: &[OrderFault],
+    closed: &Closed,
+    lines: &[SharedLine],
+) -> bool
     ensures { IsTrue result ↔ All (LineIsObeyed orders.now faults.now closed.now) lines.now }
 {
     lines
@@ -145,7 +161,12 @@ fn are_ordered(orders: &[DialPlan], faults: &[OrderFault], closed: &Closed, line
 }
 
 // The same of all that the file names, and of all that a node dialled.
-fn are_named(orders: &[DialPlan], faults: &[OrderFault], closed: &Closed, lines: &[Line]) -> bool
+fn are_named(
+    orders: &[DialPlan],
+    faults: &[OrderFault],
+    closed: &Closed,
+    lines: &[SharedLine],
+) -> bool
     ensures { IsTrue result ↔ (AllByRecursion (OrderIsObeyed orders.now faults.now closed.now) orders.now
         × All (LineIsObeyed orders.now faults.now closed.now) lines.now) }
 {

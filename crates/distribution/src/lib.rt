@@ -91,8 +91,8 @@
 #![tactic(auto)]
 
 pub use dist_core::{
-    Absent, Attempt, Awaited, Change, ChangeError, End, Event, Limits, NameList, Node, Note,
-    Opening, Phase, Prepared, Reply, Setup, StepError, Still, UpRecord, Version, Why,
+    Absent, Attempt, Awaited, Change, ChangeError, End, Event, Keeper, Limits, NameList, Node,
+    Note, Opening, Phase, Prepared, Reply, Setup, StepError, Still, UpRecord, Version, Why,
 };
 pub use dist_drive::{Desk, Draws, MemoryDesk, Outcome, Reached, drive, handshake, opening_for};
 pub use dist_epmd::{AliveReq, NodeInfo, PortInfo};

@@ -3,7 +3,7 @@
 use crate::setting::{CHALLENGE, event, frame, setup_of, word};
 use dist_audit::audit;
 use dist_core::Event;
-use dist_locked::{Closed, Line, LockedNode, Seat, Tickets, close};
+use dist_locked::{Closed, Line, LockedNode, Seat, SharedLine, Tickets, close};
 use dist_names::{ByteString, Creation, Flags};
 use dist_world::Agreement;
 use std::alloc::Global;
@@ -143,11 +143,19 @@ fn alter(alloc: Global, line: &mut Line, what: &str) -> Option<()> {
     Some(())
 }
 
+// The same of a line of a history, in place of the one that stands there.
+fn put_altered(alloc: Global, shared: &mut SharedLine, what: &str) -> Option<()> {
+    let mut line = shared.read().line().try_clone(alloc).ok()?;
+    alter(alloc, &mut line, what)?;
+    *shared = SharedLine::new(alloc, line).ok()?;
+    Some(())
+}
+
 fn number(row: &str, place: usize) -> Option<usize> {
     word(row, place).parse::<usize>().ok()
 }
 
-fn leave_out(history: &mut Vec<Line>) {
+fn leave_out(history: &mut Vec<SharedLine>) {
     let _ = history.pop();
 }
 
@@ -158,8 +166,7 @@ fn alter_row(alloc: Global, all: &mut [Closed], row: &str) -> Option<()> {
         leave_out(history);
         return Some(());
     }
-    let line = history.get_mut(number(row, 1)?)?;
-    alter(alloc, line, word(row, 2))
+    put_altered(alloc, history.get_mut(number(row, 1)?)?, word(row, 2))
 }
 
 // Does what each line says, and reports the first for which the audit returns otherwise.

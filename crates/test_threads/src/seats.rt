@@ -85,7 +85,8 @@ pub fn closing_with(node: LockedNode, mut seats: Vec<Seat>, seat: Seat) -> Optio
 // Whether the newest receipt of the second seat sends the status and the challenge of node b, with its name, flags and creation.
 fn is_greeting(seats: &[Seat]) -> Option<bool> {
     let receipt = seats.get(1)?.receipts().last()?;
-    Some(receipt.line.reply.say.as_slice() == GREETING_OF_B)
+    let view = receipt.line.read();
+    Some(view.line().reply.say.as_slice() == GREETING_OF_B)
 }
 
 // Whether a locked node keeps its setup: the second seat gives it a name.

@@ -1,6 +1,6 @@
 use Rattle.std.proofs.lemmas.Grind.{common_steps}
 use Rattle.std.proofs.Common.{◌≡◌, ◌↔◌, IsTrue, List, length, nat_eq, subst, arith}
-use Rattle.dist_locked_book.specs.declared.line.Receipt.{Receipt}
+use Rattle.dist_locked_book.specs.declared.seat.Receipt.{Receipt}
 use Rattle.dist_locked_book.specs.Closing.{receipts_of}
 use Rattle.dist_locked_book.proofs.Closings.{all_seen}
 use Rattle.dist_locked_book.proofs.closing.is_kept.Goals as goal

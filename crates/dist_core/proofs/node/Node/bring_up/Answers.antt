@@ -1,4 +1,4 @@
-use Rattle.std.proofs.Common.{◌≡◌, ◌+◌, List, sym, subst}
+use Rattle.std.proofs.Common.{◌+◌, List, sym, subst}
 use Rattle.dist_core_ends.specs.declared.known.End.{End}
 use Rattle.dist_core.specs.declared.end_change.EndChange.TheVariants as change
 use Rattle.dist_core.specs.Node.{NodeState, IsKept}

@@ -1,13 +1,15 @@
 use Rattle.std.proofs.Common.{◌≤◌, ◌+◌, List, length, sym, subst}
 use Rattle.dist_core_ends.specs.declared.known.End.{End}
+use Rattle.dist_core.specs.declared.effect.Effect.{Effect}
 use Rattle.dist_core.specs.Node.{NodeState, ends_after, limits_of}
-use Rattle.dist_core.proofs.node.Node.apply_effect.Goals as goal
+use Rattle.dist_core.proofs.node.Node.change_ends.Goals as goal
 
 pub invariant_of-self : goal.invariant_of-self
 invariant_of-self c =
-    let F : NodeState → Type 0 = λ n. length (ends_after n.ends c.args.effect) ≤ n.steps + c.args.cost in
+    let f : Effect = record { reply = c.args.reply.now; this = c.args.this; other = c.args.other } in
+    let F : NodeState → Type 0 = λ n. length (ends_after n.ends f) ≤ n.steps + c.args.cost in
     let B : NodeState → Type 0 = λ n. n.steps + c.args.cost ≤ (let l = limits_of n in l.steps) in
-    let N : NodeState → Type 0 = λ n. length (ends_after n.ends c.args.effect) ≤ (let l = limits_of n in l.ends) in
+    let N : NodeState → Type 0 = λ n. length (ends_after n.ends f) ≤ (let l = limits_of n in l.ends) in
     let M : List End → Type 0 = λ es. length es ≤ (let l = (let s = c.self.inside.setup in s.limits) in l.ends) in
     let L : List End → Type 0 = λ es. length es ≤ c.self.inside.steps + c.args.cost in
     record {

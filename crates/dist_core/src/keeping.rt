@@ -1,0 +1,307 @@
+//! Steps whose reply is kept before they are made: so that no memory is wanted for it once they are.
+ghost use Rattle.std.specs.Prelude.{◌≡◌, ℕ, ◌≤◌, ◌+◌, IfOk, IfErr, OnOk, OnErr, Some, slice_get};
+ghost use Rattle.dist_messages.specs.declared.message.Side.TheVariants.{Dialler};
+ghost use Rattle.dist_core_ends.specs.declared.known.Attempt.{Attempt};
+ghost use Rattle.dist_core.specs.declared.reply.Reply.{Reply};
+ghost use Rattle.dist_core.specs.Accepted.{name_taken};
+ghost use Rattle.dist_core.specs.Answers.{Refuses};
+ghost use Rattle.dist_core.specs.Arrival.{effect_on};
+ghost use Rattle.dist_core.specs.Doing.{CanDo};
+ghost use Rattle.dist_core.specs.Keeping.{KeepsDone, KeepsStep};
+ghost use Rattle.dist_core.specs.Node.{ends_after, limits_of};
+ghost use Rattle.dist_core.specs.Progress.{CanProgress, effect_by, node_by};
+ghost use Rattle.dist_core.specs.Step.{at_end, framed_from, sender_to, step, step_result};
+
+use crate::accepted::note_of_name;
+use crate::arrival::Arrival;
+use crate::attempts::{reply_of_end, reply_of_rise};
+use crate::effect::Effect;
+use crate::event::Event;
+use crate::finding::open_end;
+use crate::node::{Node, reply_that_says};
+use crate::preparing::rise;
+use crate::progress::Progress;
+use crate::reply::{Note, Reply};
+use crate::step_error::StepError;
+use dist_core_ends::{Attempt, End, Ends};
+use dist_core_setup::greeting;
+use dist_messages::Status;
+use dist_names::ByteString;
+use dist_peers::{EndId, Verdict, replaced_end};
+use std::alloc::{AllocError, Global};
+
+/// Where the reply of a step is put before the step is made: for a caller that shares it with others, as a line of a history.
+pub trait Keeper {
+    ghost use Rattle.std.specs.Prelude.{◌≡◌, IfOk};
+    ghost use Rattle.dist_core.specs.declared.reply.Reply.{Reply};
+
+    /// What is made of a reply.
+    type Kept: Drop;
+
+    ghost keeps: { Self → Reply → Self.Kept → Type 0 };
+
+    /// Keeps a reply. Where memory runs out, the step is not made.
+    fn keep(&self, alloc: Global, reply: Reply) -> Result<Self::Kept, AllocError>
+        ensures { IfOk result (keeps self.now reply) };
+
+    /// The reply that was kept.
+    fn reply<'k>(&self, kept: &'k Self::Kept) -> &'k Reply
+        ensures { (reply : Reply) → keeps self.now reply kept.now → result.now ≡ reply };
+}
+
+// Keeps the reply of what becomes of the attempt of an end, and then does it.
+#[inline(always)]
+fn put_kept_progress<K: Keeper>(
+    ends: &mut Ends,
+    alloc: Global,
+    keeper: &K,
+    id: EndId,
+    progress: Progress,
+) -> Result<K::Kept, AllocError>
+    requires { CanProgress ends.old id progress }
+    ensures kept { IfOk result (λ k. (a : Attempt) → slice_get ends.old id.0 ≡ Some (End.Attempt a)
+        → K.keeps keeper.now (let f = effect_by ends.old id a progress in f.reply) k) }
+    ensures ends { OnOk result ((a : Attempt) → slice_get ends.old id.0 ≡ Some (End.Attempt a)
+        → ends.new ≡ ends_after ends.old (effect_by ends.old id a progress)) }
+    ensures err { OnErr result (ends.new ≡ ends.old) }
+{
+    match progress {
+        Progress::Goes { say, to } => {
+            let kept = keeper.keep(alloc, reply_that_says(id, say))?;
+            ends.advance(id, to);
+            Ok(kept)
+        }
+        Progress::Replies { say, to } => {
+            let mut reply = reply_that_says(id, say);
+            reply.note = Note::ReplySaid;
+            let kept = keeper.keep(alloc, reply)?;
+            ends.advance(id, to);
+            Ok(kept)
+        }
+        Progress::Rises { say, came } => {
+            let replaced = replaced_end(ends.entry_of(&came.peer));
+            let kept = keeper.keep(alloc, reply_of_rise(id, say, came, replaced))?;
+            rise(ends, keeper.reply(&kept));
+            Ok(kept)
+        }
+        Progress::Shuts { say, why } => {
+            let kept = keeper.keep(alloc, reply_of_end(id, say, why))?;
+            ends.close(id, why);
+            Ok(kept)
+        }
+    }
+}
+
+impl Node {
+    /// Makes a step as [`Node::step`] does, whose reply is kept before it is made. Where there is no memory to keep it, the step is
+    /// refused as `NoMemory`, and changes nothing.
+    #[inline(always)]
+    pub fn step_kept<K: Keeper>(
+        &mut self,
+        alloc: Global,
+        keeper: &K,
+        event: &Event,
+        fresh: u32,
+    ) -> Result<K::Kept, StepError>
+        // What was kept is the reply of the definition's step, and the node afterwards is the definition's, or the refusal is.
+        ensures { KeepsStep (K.keeps keeper.now) result (step self.old event.now fresh) self.old self.new }
+    {
+        match event {
+            Event::Frame { end_: id, body } => self.keep_frame(alloc, keeper, *id, body, fresh),
+            _ => self.keep_prepared(alloc, keeper, event, fresh),
+        }
+    }
+
+    // The same of a step that is prepared.
+    fn keep_prepared<K: Keeper>(
+        &mut self,
+        alloc: Global,
+        keeper: &K,
+        event: &Event,
+        fresh: u32,
+    ) -> Result<K::Kept, StepError>
+        ensures { KeepsStep (K.keeps keeper.now) result (step self.old event.now fresh) self.old self.new }
+    {
+        let prepared = self.prepare(alloc, event, fresh)?;
+        let (reply, change) = prepared.into_parts();
+        let Ok(kept) = keeper.keep(alloc, reply) else {
+            return Err(StepError::NoMemory);
+        };
+        self.commit_change(keeper.reply(&kept), change)?;
+        Ok(kept)
+    }
+
+    // A frame came.
+    fn keep_frame<K: Keeper>(
+        &mut self,
+        alloc: Global,
+        keeper: &K,
+        id: EndId,
+        body: &ByteString,
+        fresh: u32,
+    ) -> Result<K::Kept, StepError>
+        ensures { KeepsStep (K.keeps keeper.now) result (step_result self.old (Event.Frame id body.now)
+            (at_end (slice_get self.old.ends id.0) (λ e. framed_from self.old id fresh body.now e (sender_to e)))) self.old self.new }
+    {
+        self.show_legal();
+        // This shows what every node keeps.
+        let _ = self.counted_steps();
+        let end = open_end(&self.ends, id)?;
+        match end {
+            End::Attempt(attempt) => {
+                let progress = self.progress_of_frame(alloc, fresh, body, attempt)?;
+                self.keep_progress(alloc, keeper, id, progress)
+            }
+            End::Unnamed => self.keep_first_frame(alloc, keeper, id, body, fresh),
+            _ => Err(StepError::WrongPhase),
+        }
+    }
+
+    // A step of which it is known what becomes of its attempt.
+    #[inline(always)]
+    fn keep_progress<K: Keeper>(
+        &mut self,
+        alloc: Global,
+        keeper: &K,
+        id: EndId,
+        progress: Progress,
+    ) -> Result<K::Kept, StepError>
+        requires can { CanProgress self.old.ends id progress }
+        requires left { self.old.steps + 1 ≤ (let l = limits_of self.old in l.steps) }
+        ensures kept { IfOk result (λ k. (a : Attempt) → slice_get self.old.ends id.0 ≡ Some (End.Attempt a)
+            → K.keeps keeper.now (let f = effect_by self.old.ends id a progress in f.reply) k) }
+        ensures node { OnOk result ((a : Attempt) → slice_get self.old.ends id.0 ≡ Some (End.Attempt a) → self.new ≡ node_by self.old id a progress) }
+        ensures err { IfErr result (λ e. (e ≡ StepError.NoMemory) × (self.new ≡ self.old)) }
+    {
+        // This shows that the steps can be counted.
+        let _ = self.most_steps();
+        let Ok(kept) = put_kept_progress(&mut self.ends, alloc, keeper, id, progress) else {
+            return Err(StepError::NoMemory);
+        };
+        self.steps += 1;
+        Ok(kept)
+    }
+
+    // A frame came on an end that awaits a name.
+    #[inline(never)]
+    fn keep_first_frame<K: Keeper>(
+        &mut self,
+        alloc: Global,
+        keeper: &K,
+        id: EndId,
+        body: &ByteString,
+        fresh: u32,
+    ) -> Result<K::Kept, StepError>
+        requires { slice_get self.old.ends id.0 ≡ Some End.Unnamed }
+        ensures { KeepsStep (K.keeps keeper.now) result (step_result self.old (Event.Frame id body.now)
+            (framed_from self.old id fresh body.now End.Unnamed (Some Dialler))) self.old self.new }
+    {
+        self.show_legal();
+        // This shows what every node keeps.
+        let _ = self.counted_steps();
+        if self.is_spent() {
+            return Err(StepError::Spent);
+        }
+        let Ok(arrival) = self.arrival_of_frame(alloc, fresh, body) else {
+            return Err(StepError::NoMemory);
+        };
+        self.keep_arrival(alloc, keeper, id, arrival)
+    }
+
+    // Does what the first frame does. Most are of a name to which nothing stands in the way.
+    fn keep_arrival<K: Keeper>(
+        &mut self,
+        alloc: Global,
+        keeper: &K,
+        id: EndId,
+        arrival: Arrival,
+    ) -> Result<K::Kept, StepError>
+        requires { CanDo self.old (effect_on self.old id arrival) }
+        ensures { KeepsDone (K.keeps keeper.now) (effect_on self.old id arrival) result self.old self.new }
+    {
+        match arrival {
+            Arrival::Named(attempt) => self.keep_name(alloc, keeper, id, attempt),
+            other => self.keep_rare_arrival(alloc, keeper, id, other),
+        }
+    }
+
+    // A name that isn't refused has its verdict.
+    fn keep_name<K: Keeper>(
+        &mut self,
+        alloc: Global,
+        keeper: &K,
+        id: EndId,
+        attempt: Attempt,
+    ) -> Result<K::Kept, StepError>
+        requires { CanDo self.old (effect_on self.old id (Arrival.Named attempt)) }
+        ensures { KeepsDone (K.keeps keeper.now) (effect_on self.old id (Arrival.Named attempt)) result self.old self.new }
+    {
+        match self.verdict(&attempt.peer, id) {
+            Verdict::Ok => self.keep_welcome(alloc, keeper, id, attempt),
+            _ => self.keep_rare_arrival(alloc, keeper, id, Arrival::Named(attempt)),
+        }
+    }
+
+    // The same by its effect.
+    #[inline(never)]
+    fn keep_rare_arrival<K: Keeper>(
+        &mut self,
+        alloc: Global,
+        keeper: &K,
+        id: EndId,
+        arrival: Arrival,
+    ) -> Result<K::Kept, StepError>
+        requires { CanDo self.old (effect_on self.old id arrival) }
+        ensures { KeepsDone (K.keeps keeper.now) (effect_on self.old id arrival) result self.old self.new }
+    {
+        let Ok(effect) = self.effect_of_arrival(alloc, id, arrival) else {
+            return Err(StepError::NoMemory);
+        };
+        let Effect { reply, this, other } = effect;
+        let Ok(kept) = keeper.keep(alloc, reply) else {
+            return Err(StepError::NoMemory);
+        };
+        self.change_ends(keeper.reply(&kept), this, other, 1)?;
+        Ok(kept)
+    }
+
+    // A name of a peer that has no entry.
+    fn keep_welcome<K: Keeper>(
+        &mut self,
+        alloc: Global,
+        keeper: &K,
+        id: EndId,
+        attempt: Attempt,
+    ) -> Result<K::Kept, StepError>
+        requires { CanDo self.old (name_taken self.old.setup self.old.ends id attempt Verdict.Ok) }
+        ensures { KeepsDone (K.keeps keeper.now) (name_taken self.old.setup self.old.ends id attempt Verdict.Ok) result self.old self.new }
+    {
+        let Ok(reply) = self.reply_of_welcome(alloc, id, &attempt) else {
+            return Err(StepError::NoMemory);
+        };
+        let Ok(kept) = keeper.keep(alloc, reply) else {
+            return Err(StepError::NoMemory);
+        };
+        if self.begin_attempt(id, attempt).is_err() {
+            return Err(StepError::NoMemory);
+        }
+        Ok(kept)
+    }
+
+    // The reply to it.
+    #[inline(always)]
+    fn reply_of_welcome(
+        &self,
+        alloc: Global,
+        id: EndId,
+        attempt: &Attempt,
+    ) -> Result<Reply, AllocError>
+        ensures { IfOk result (λ r. r ≡ (let f = name_taken self.now.setup self.now.ends id attempt.now Verdict.Ok in f.reply)) }
+    {
+        let (form, fresh) = (attempt.form, attempt.challenge);
+        let say = greeting(alloc, &self.setup, Status::Ok, form, fresh)?;
+        let mut reply = reply_that_says(id, say);
+        reply.note = note_of_name(attempt.peer.try_clone(alloc)?);
+        Ok(reply)
+    }
+}

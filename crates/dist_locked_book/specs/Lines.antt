@@ -1,0 +1,38 @@
+-- Lines that several hold at once.
+use Rattle.std.specs.Prelude.{◌≡◌}
+use Rattle.std.specs.Arc.{arc_value}
+use Rattle.dist_core.specs.declared.event.Event.{Event}
+use Rattle.dist_core.specs.declared.event.Event.TheVariants as event
+use Rattle.dist_core.specs.declared.reply.Reply.{Reply}
+use Rattle.dist_core.specs.Clauses.{loss_reply, silent_reply}
+use Rattle.dist_locked_book.specs.declared.line.Line.{Line}
+use Rattle.dist_locked_book.specs.declared.shared_line.Entry.{Entry}
+use Rattle.dist_locked_book.specs.declared.shared_line.Kept.{Kept}
+use Rattle.dist_locked_book.specs.declared.shared_line.Kept.TheVariants as kept
+use Rattle.dist_locked_book.specs.declared.shared_line.LineView.{LineView}
+use Rattle.dist_locked_book.specs.declared.sharing.Shared.{Shared}
+use Rattle.dist_locked_book.specs.declared.shared_line.LineView.TheVariants as view
+
+-- the line of this entry, with this event and this reply
+abbrev pub line_with : Entry → Event → Reply → Line
+line_with entry v reply = record { ticket = entry.ticket; seat = entry.seat; event = v; fresh = entry.fresh; reply = reply }
+
+-- the line that is kept so
+abbrev pub line_of : Kept → Line
+line_of (kept.Shared line) = arc_value line
+line_of (kept.Came entry link id) = line_with entry (event.Incoming link) (silent_reply id)
+line_of (kept.Lost entry id why) = line_with entry (event.Lost id why) (loss_reply id why)
+
+-- the line that is read
+abbrev pub line_in : LineView → Line
+line_in (view.Lent line) = line.now
+line_in (view.Made line) = line
+
+-- a line of this entry, with this event
+abbrev pub IsEntry : Entry → Event → Line → Type 0
+IsEntry entry v l = (l.ticket ≡ entry.ticket) × (l.seat ≡ entry.seat) × (l.event ≡ v) × (l.fresh ≡ entry.fresh)
+
+-- three share the line of this entry, with this event and this reply
+abbrev pub AreShared : Entry → Event → Reply → Shared → Type 0
+AreShared entry v reply s =
+    (arc_value s.line ≡ line_with entry v reply) × (arc_value s.second ≡ arc_value s.line) × (arc_value s.third ≡ arc_value s.line)

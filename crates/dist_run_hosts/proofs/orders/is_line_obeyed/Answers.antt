@@ -1,4 +1,0 @@
-use Rattle.dist_run_hosts.proofs.orders.is_line_obeyed.Goals as goal
-
-pub returns : goal.returns
-returns c = (λ t. record { peer = c.is_peer_obeyed.ensures.0 t }, λ h. c.is_peer_obeyed.ensures.1 h.peer)
