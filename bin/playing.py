@@ -139,9 +139,9 @@ def digest(cookie, challenge):
     return hashlib.md5(cookie + str(challenge).encode()).digest()
 
 
-def come_up(it, name, cookie, flags):
+def come_up(it, name, cookie, flags, pause=0):
     """Plays the handshake of version 6 as the side that connects, and returns None where the connection is up, or what was said in place
-    of that. Source: ERTS User's Guide, Distribution Handshake."""
+    of that. The reply comes so many seconds behind the challenge. Source: ERTS User's Guide, Distribution Handshake."""
 
     def hear():
         body = read_frame(it)
@@ -154,6 +154,7 @@ def come_up(it, name, cookie, flags):
     if status != b"sok":
         return status.decode(errors="replace")
     theirs = struct.unpack(">I", hear()[9:13])[0]
+    time.sleep(pause)
     it.sendall(frame(b"r" + struct.pack(">I", 5) + digest(cookie, theirs)))
     return None if hear() == b"a" + digest(cookie, 5) else "another digest"
 

@@ -56,7 +56,7 @@ typedef enum dn_code {
     DN_AWAITS = 5,          /* no whole frame stands at the front: call again with these bytes and those that follow */
     DN_NO_SUCH = 6,         /* a cause, a place or a version names nothing */
     DN_TOO_LONG = 8,        /* a body has more than 65,535 bytes, and no frame can have it */
-    DN_PEER_IN_USE = 9,     /* a peer whose cookie is to be changed is connected, or about to be */
+    DN_PEER_IN_USE = 9,     /* a peer that is up would get another cookie */
     DN_NO_SUCH_END = 10,    /* the number was never given out */
     DN_GONE = 11,           /* the end is closed */
     DN_WRONG_PHASE = 12,    /* the end is open, and takes no such event now */
@@ -73,7 +73,8 @@ typedef enum dn_code {
     DN_COOKIE_TOO_LONG = 32, /* the cookie has more than 255 bytes, or its text more than 4,096 */
     DN_EPMD_MALFORMED = 40, /* the bytes are no such message, or it has no spelling, being too long */
     DN_EPMD_SHORT = 41,     /* the message ends inside a field: read on to the end of the connection */
-    DN_EPMD_TRAILING = 42   /* bytes stand behind the message */
+    DN_EPMD_TRAILING = 42,  /* bytes stand behind the message */
+    DN_HALF_FLAGS = 50      /* a setup announces DFLAG_MANDATORY_25_DIGEST without the flags that it stands for */
 } dn_code;
 
 /* Why an end is closed. The caller tells a loss with one of the first five or with DN_WHY_NO_MEMORY. */
@@ -156,7 +157,9 @@ typedef struct dn_setup {
  *
  * What came is then read as what it stands for, and the common flags that are told are those that this node announced and that
  * were read so. They are the same on both sides where a node that announces the digest also announces what it stands for, as
- * every release up to 29 does. What this node itself announces is not changed: it is to announce both. */
+ * every release up to 29 does, and as every node of this library does: dn_node_new refuses another setup as DN_HALF_FLAGS,
+ * whatever its own mandatory_25 is, and a mandatory_25 that is neither DN_MANDATORY_25 nor 0. So the digest changes nothing between
+ * nodes of this library, which agree as the theorem says. */
 #define DN_MANDATORY_25 UINT64_C(0x1070f94)
 
 /* What a step did. */
@@ -200,7 +203,8 @@ typedef struct dn_end {
 /* Makes a node without ends. The name is `alive@host`, at most 255 bytes, with no 0 behind. The cookie is a text as the file
  * .erlang.cookie has it: 1 to 255 bytes from 0x20 to 0x7E, and then line ends or spaces alone; it is the one for every peer
  * that has no cookie of its own.
- * Errors: DN_IN_USE, DN_NO_SUCH (the version), DN_NAME_*, DN_COOKIE_*, DN_NO_MEMORY. */
+ * Errors: DN_IN_USE, DN_NO_SUCH (the version), DN_NAME_*, DN_COOKIE_*, DN_HALF_FLAGS (the flags that it announces, or a
+ * mandatory_25 that is neither DN_MANDATORY_25 nor 0), DN_NO_MEMORY, which may also come before that. */
 uint32_t dn_node_new(dn_node *node, const uint8_t *name, size_t name_len, const uint8_t *cookie, size_t cookie_len,
                      const dn_setup *setup);
 
@@ -232,23 +236,33 @@ uint32_t dn_node_allow(dn_node *node, const uint8_t *peer, size_t peer_len);
  * Errors: DN_NOT_A_NODE, DN_NAME_*, DN_NO_MEMORY (for the text alone). */
 uint32_t dn_node_disallow(dn_node *node, const uint8_t *peer, size_t peer_len);
 
-/* Keeps a cookie for this peer, in place of one that it has of its own. It may be changed while dn_node_entry tells
- * DN_STATE_IDLE of the peer: else an end is up under the cookie that it has now, or in a handshake, and is to be lost before.
- * Errors: DN_NOT_A_NODE, DN_NAME_*, DN_COOKIE_*, DN_PEER_IN_USE, DN_FULL (1,024 other names have their own), DN_NO_MEMORY,
- * which may also come before these two. */
+/* Keeps a cookie for this peer, in place of one that it has of its own. While the peer is up its cookie does not change, but it
+ * may be given the one that it has. A handshake that goes on says and checks what is left of it with the new cookie.
+ * Errors: DN_NOT_A_NODE, DN_NAME_*, DN_COOKIE_*, DN_PEER_IN_USE (it is up, and this is another cookie), DN_FULL (1,024 other
+ * names have their own), DN_NO_MEMORY, which may also come before these two. */
 uint32_t dn_node_cookie(dn_node *node, const uint8_t *peer, size_t peer_len, const uint8_t *cookie, size_t cookie_len);
 
-/* Changes the cookie of every peer that has none of its own: the one that dn_node_new was given. It walks over all peers that
- * are connected or about to be.
- * Errors: DN_NOT_A_NODE, DN_COOKIE_*, DN_PEER_IN_USE (one of those has no cookie of its own), DN_NO_MEMORY, which may also come
- * before that. */
+/* Takes away the cookie that this peer has of its own, if it has one: its cookie is the usual one from then on.
+ * Errors: DN_NOT_A_NODE, DN_NAME_*, DN_PEER_IN_USE (it is up), DN_NO_MEMORY, for the name alone,
+ * which may also come before that. */
+uint32_t dn_node_no_cookie(dn_node *node, const uint8_t *peer, size_t peer_len);
+
+/* Changes the cookie of every peer that has none of its own: the one that dn_node_new was given. A handshake does not hinder it:
+ * what is left of one is said and checked with the new cookie. It walks over all peers that are up or in a handshake.
+ *
+ * To change it while peers are up, give each of them the old one as its own by dn_node_cookie before, and take that away by
+ * dn_node_no_cookie once its end is closed.
+ * Errors: DN_NOT_A_NODE, DN_COOKIE_*, DN_PEER_IN_USE (a peer that is up has no cookie of its own), DN_NO_MEMORY, which may also
+ * come before that. */
 uint32_t dn_node_usual_cookie(dn_node *node, const uint8_t *cookie, size_t cookie_len);
 
 /* ---- steps: each writes a dn_reply where it answers DN_OK
  *
  * A newcomer always finds room, as long as some open end is not up: where dn_node_dial or dn_node_incoming would be refused as
- * DN_FULL, the end that has been open and not up for the longest is given up before, as by dn_node_lost with DN_WHY_GAVE_UP.
- * So nobody who holds connections open and shows no cookie keeps another out. reply->closed is DN_WHY_GAVE_UP then, and
+ * DN_FULL, an end is given up before, as by dn_node_lost with DN_WHY_GAVE_UP: the oldest of those on which no name came, and where
+ * there is none the oldest of all that are not up. So connections on which nothing is said, however many are held or made, take
+ * no place from a handshake that has begun; peers that say names and show no cookie can still give each other, and a handshake
+ * that goes on, no longer than it takes for as many names to come as there are ends. reply->closed is DN_WHY_GAVE_UP then, and
  * reply->closed_id that end, whose connection is to be closed; it has nothing to say. Both are told with every code, and are 0
  * where no end was given up: so look at reply->closed also where the newcomer itself is refused, as by DN_NO_MEMORY.
  *
@@ -346,8 +360,8 @@ uint32_t dn_node_entry(dn_node *node, const uint8_t *peer, size_t peer_len, dn_e
  * Errors: DN_NOT_A_NODE, DN_NO_ROOM. */
 uint32_t dn_node_end(dn_node *node, uint32_t id, dn_end *end, uint8_t *room, size_t room_len);
 
-/* The end that has been open and not up for the longest: the one that makes room for a newcomer, and the first to be given up
- * by a caller that limits how long a handshake takes. All calls together take the time of one walk over the ends.
+/* The end that has been open and not up for the longest: the first to be given up by a caller that limits how long a handshake
+ * takes. All calls together take the time of one walk over the ends.
  * Errors: DN_NOT_A_NODE, DN_NO_SUCH (every open end is up). */
 uint32_t dn_node_oldest(dn_node *node, uint32_t *id);
 

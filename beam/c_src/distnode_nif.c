@@ -218,6 +218,21 @@ static ERL_NIF_TERM nif_disallow(ErlNifEnv *env, int argc, const ERL_NIF_TERM ar
     return listed(env, argv, dn_node_disallow);
 }
 
+/* no_cookie(Node, Peer): of a peer without an end */
+static ERL_NIF_TERM nif_no_cookie(ErlNifEnv *env, int argc, const ERL_NIF_TERM argv[]) {
+    kept *k;
+    ErlNifBinary peer;
+    dn_entry entry = {0, 0, 0};
+    (void)argc;
+    if (!kept_of(env, argv[0], &k) || !bytes_of(env, argv[1], &peer)) return enif_make_badarg(env);
+    enif_mutex_lock(k->lock);
+    uint32_t code = dn_node_entry(&k->node, peer.data, peer.size, &entry);
+    if (!code) code = entry.state ? DN_PEER_IN_USE : dn_node_no_cookie(&k->node, peer.data, peer.size);
+    if (!code) k->changes++;
+    enif_mutex_unlock(k->lock);
+    return code_term(env, code);
+}
+
 /* changes(Node): how often a cookie or the allow list was changed */
 static ERL_NIF_TERM nif_changes(ErlNifEnv *env, int argc, const ERL_NIF_TERM argv[]) {
     kept *k;
@@ -394,6 +409,25 @@ static ERL_NIF_TERM nif_lost(ErlNifEnv *env, int argc, const ERL_NIF_TERM argv[]
     return term;
 }
 
+/* give_up(Node, Peer): the end by which a peer that is not up is about to connect is lost; none, and nothing done, where there is none */
+static ERL_NIF_TERM nif_give_up(ErlNifEnv *env, int argc, const ERL_NIF_TERM argv[]) {
+    kept *k;
+    ErlNifBinary peer;
+    dn_entry entry = {0, 0, 0};
+    dn_reply reply = {0};
+    ERL_NIF_TERM term = a_none;
+    (void)argc;
+    if (!kept_of(env, argv[0], &k) || !bytes_of(env, argv[1], &peer)) return enif_make_badarg(env);
+    enif_mutex_lock(k->lock);
+    if (!dn_node_entry(&k->node, peer.data, peer.size, &entry) &&
+        (entry.state == DN_STATE_OUT || entry.state == DN_STATE_IN)) {
+        uint32_t code = dn_node_lost(&k->node, entry.pending, DN_WHY_GAVE_UP, &reply);
+        term = step_term(env, k, code, &reply);
+    }
+    enif_mutex_unlock(k->lock);
+    return term;
+}
+
 /* ---- questions */
 
 /* cause(Node, Id): why this end is closed, or none */
@@ -475,7 +509,7 @@ static ErlNifFunc functions[] = {
     {"opened", 2, nif_opened, 0},     {"body", 4, nif_body, 0},       {"early_body", 4, nif_early_body, 0},
     {"come_up", 6, nif_come_up, 0},   {"arrive", 4, nif_arrive, 0},   {"lost", 3, nif_lost, 0},
     {"cause", 2, nif_cause, 0},       {"up_end", 2, nif_up_end, 0},   {"peers", 1, nif_peers, 0},
-    {"challenge", 0, nif_challenge, 0},
+    {"challenge", 0, nif_challenge, 0}, {"no_cookie", 2, nif_no_cookie, 0}, {"give_up", 2, nif_give_up, 0},
 };
 
 ERL_NIF_INIT(distnode_nif, functions, load, NULL, NULL, NULL)

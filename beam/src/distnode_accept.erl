@@ -94,8 +94,9 @@ refused(Peer, Code) ->
 closed(Why, Peer) ->
     case Why of
         'WrongDigest' ->
-            error_logger:error_msg("** Connection attempt from node ~ts rejected. Invalid challenge reply. **~n", [Peer]);
-        'Refused' -> error_logger:error_msg("** Connection attempt from disallowed node ~ts ** ~n", [Peer]);
+            error_logger:error_msg("** Connection attempt from node ~ts rejected. Invalid challenge reply. **~n",
+                                   [distnode_access:quoted(Peer)]);
+        'Refused' -> error_logger:error_msg("** Connection attempt from disallowed node ~ts ** ~n", [distnode_access:quoted(Peer)]);
         _ -> ok
     end,
     exit(shutdown).

@@ -2,7 +2,7 @@
 %% What this emulator says of a peer before a step is made: the cookie for it, the cookie for all others, and whether the
 %% allow list names it. It is asked by the process of a connection, since auth and net_kernel are asked for it.
 -module(distnode_access).
--export([of_peer/2, usual/0, named_in/1, report/2]).
+-export([of_peer/2, usual/0, named_in/1, report/2, quoted/1]).
 -export_type([access/0, cookie/0]).
 
 -type cookie() :: {ok, binary()} | {error, atom()}.
@@ -48,12 +48,16 @@ named_in(_) -> none.
 -spec report(binary() | none, atom()) -> ok.
 report(Peer, Code) ->
     case atom_to_list(Code) of
-        "Cookie" ++ _ -> say("the cookie for node ~ts can't be used: ~s", [name(Peer), Code]);
-        "Name" ++ _ -> say("the name of node ~ts or of this node can't be used: ~s", [name(Peer), Code]);
-        _ -> say("node ~ts: ~s", [name(Peer), Code])
+        "Cookie" ++ _ -> say("the cookie for node ~ts can't be used: ~s", [quoted(Peer), Code]);
+        "Name" ++ _ -> say("the name of node ~ts or of this node can't be used: ~s", [quoted(Peer), Code]);
+        _ -> say("node ~ts: ~s", [quoted(Peer), Code])
     end.
 
 say(Text, Arguments) -> error_logger:error_msg("** Connection attempt refused, " ++ Text ++ " **~n", Arguments).
 
-name(none) -> "(unknown)";
-name(Peer) -> Peer.
+%% What a peer has said is its name, for a message: as OTP writes an atom between quotes, so that no byte of it acts on a terminal or
+%% begins a line. No name has more than 255 bytes.
+-spec quoted(binary() | none) -> iolist().
+quoted(none) -> "(unknown)";
+quoted(<<Name:255/binary, _, _/binary>>) -> [quoted(Name), ".."];
+quoted(Name) -> io_lib:write_string(binary_to_list(Name), $').

@@ -19,13 +19,14 @@
 -type received() :: {more, [binary()]} | {closed, [binary()], Why :: atom(), Received :: atom()} | {ready, info()} | {error, atom()}.
 -export_type([own_end/0, info/0, received/0]).
 
-%% own: the cookies that the node has for peers; usual: for all others. dials: the access of each peer that is wanted.
+%% own: the cookies that the node has for peers while they have ends, and when each was lent; usual: for all others. dials: the access of
+%% each peer that is wanted.
 -record(st, {node :: reference() | undefined, flags = 0, links = distnode_links:new(), watched = #{},
              usual :: binary() | undefined, own = #{}, dials = #{}, is_limited = false, forgotten = 0, counts = #{}}).
 
-%% Causes are forgotten each so many ends; a peer that is no dial of ours gets a cookie of its own up to this many.
+%% Causes are forgotten each so many ends; the library keeps cookies of their own for so many peers.
 -define(FORGET_EACH, 65536).
--define(MOST_NAMED, 512).
+-define(MOST_OWN, 1024).
 
 %% What others read of the node, so that most connections that come need not ask: {node, Node, Changes, Flags, Usual} and, for each
 %% peer that has a cookie of its own, {{cookie, Peer}, Cookie}.
@@ -114,7 +115,8 @@ done(Id) -> gen_server:cast(?MODULE, {done, Id, self()}).
 -spec lost(id()) -> ok | gone.
 lost(Id) -> gen_server:call(?MODULE, {lost, Id}, infinity).
 
-%% For tests and for whoever looks for a fault: the peers that are up, the ends, and the setups that wait.
+%% For tests and for whoever looks for a fault: the peers that are up, the ends, the setups that wait, and how many peers have a cookie
+%% of their own.
 table() -> gen_server:call(?MODULE, table, infinity).
 counts() -> gen_server:call(?MODULE, counts, infinity).
 
@@ -184,8 +186,8 @@ accept(Body, Access, Pid, St0) ->
     case prepare(Access, St0) of
         {ok, St1} ->
             {Answer, St} = incoming(Body, Pid, St1),
-            {Answer, close_list(Access, St)};
-        {error, Code} -> {{error, Code}, note({prepare, Code}, St0)}
+            {Answer, came(Access, St)};
+        {{error, Code}, St} -> {{error, Code}, note({prepare, Code}, St)}
     end.
 
 incoming(Body, Pid, #st{node = Node, flags = Flags} = St) ->
@@ -225,7 +227,8 @@ settle(Id, By, #st{node = Node, links = Links} = St) ->
     end.
 
 closed(none, _, St) -> St;
-closed({Id, Why}, Pid, St0) -> ignored(report({closed, Id, Why, Pid}, note({closed, Why}, St0))).
+closed({Id, Why}, Pid, #st{links = Links} = St) ->
+    take_back(distnode_links:peer(Id, Links), ignored(report({closed, Id, Why, Pid}, note({closed, Why}, St)))).
 
 %% ---- an event is reported to the machine, and its actions are done
 
@@ -245,10 +248,10 @@ act({kill, Pid}, St) ->
 act(_, #st{node = undefined} = St) ->
     %% The node has begun anew since: nothing is open, and nobody waits.
     St;
-act({lose, Id, Why}, St) ->
+act({lose, Id, Peer, Why}, St) ->
     %% A step of its process may have closed it, which has not been reported to this process yet.
     _ = distnode_nif:lost(St#st.node, Id, why(Why)),
-    note({lost, Why}, St);
+    take_back(Peer, note({lost, Why}, St));
 act({dial, Peer}, St) -> dial(Peer, St).
 
 why(ended) -> 1;
@@ -256,9 +259,9 @@ why(gave_up) -> 4.
 
 dial(Peer, #st{dials = Dials} = St0) ->
     #{Peer := Access} = Dials,
-    case suit(Access, 1024, St0) of
-        {ok, St} -> dialled(Peer, distnode_nif:dial(St#st.node, Peer), St);
-        {error, Code} -> ignored(report({refused, Peer, Code}, St0))
+    case suit(Access, St0) of
+        {ok, St} -> take_back(Peer, dialled(Peer, distnode_nif:dial(St#st.node, Peer), St));
+        {{error, Code}, St} -> ignored(report({refused, Peer, Code}, St))
     end.
 
 dialled(Peer, {step, Id, [], _, Closed, _, none}, St) ->
@@ -290,7 +293,7 @@ made(Own, Usual, St) ->
     Cookie = usual_or_none(Usual),
     case distnode_nif:new(atom_to_binary(Own, utf8), Cookie, Flags, Mandatory, erts_internal:get_creation(), most_ends()) of
         {ok, Node} ->
-            {ok, St#st{node = Node, flags = Flags, usual = Cookie, own = #{}, is_limited = false, forgotten = 0}};
+            {ok, St#st{node = Node, flags = Flags, usual = Cookie, is_limited = false, forgotten = 0}};
         {error, Code} -> {error, Code}
     end.
 
@@ -307,7 +310,7 @@ begin_anew(St0) ->
     error_logger:warning_msg("** distnode: all numbers of connections were given out; all are closed, and numbered anew **~n"),
     {_, St} = report(spent, note(spent, St0)),
     true = ets:delete_all_objects(?TABLE),
-    St#st{node = undefined, dials = #{}}.
+    St#st{node = undefined, own = #{}, dials = #{}}.
 
 %% Others read of the node what it is like now.
 publish(#st{node = undefined} = St) -> St;
@@ -325,39 +328,67 @@ forget(Id, St) ->
 
 prepare(none, St) -> {ok, St};
 prepare(Access, St) ->
-    case suit(Access, ?MOST_NAMED, St) of
+    case suit(Access, St) of
         {ok, St1} -> {ok, open_list(Access, St1)};
         Error -> Error
     end.
 
-%% Gives the node the cookie that the emulator has for this peer. Where the peer has an end, the one that it has stays: the
-%% handshake that is under way ends under it.
-suit(#{peer := Peer, cookie := {ok, Cookie}}, Most, St) ->
-    case St of
-        #st{own = #{Peer := Cookie}} -> {ok, St};
-        #st{own = Own, usual = Cookie} when not is_map_key(Peer, Own) -> {ok, St};
-        _ -> suit_other(Peer, Cookie, Most, suit_usual(distnode_access:usual(), St))
-    end;
-suit(#{cookie := {error, Code}}, _, _) -> {error, Code}.
+%% The name was said: what its end needs stays with the node.
+came(none, St) -> St;
+came(#{peer := Peer} = Access, St) -> take_back(Peer, close_list(Access, St)).
 
-suit_other(Peer, Cookie, Most, #st{own = Own, usual = Usual} = St) ->
-    case {maps:get(Peer, Own, Usual), map_size(Own)} of
-        {Cookie, _} -> {ok, St};
-        {_, Size} when Size >= Most, not is_map_key(Peer, Own) -> {error, 'Full'};
-        _ -> suit_peer(Peer, Cookie, St)
+%% Gives the node the cookie that the emulator has for this peer. Where the peer is up, the one that it has stays.
+suit(#{cookie := {error, _} = Error}, St) -> {Error, St};
+suit(#{peer := Peer, cookie := {ok, Cookie}}, St0) ->
+    case cookie_of(Peer, St0) of
+        Cookie -> {ok, St0};
+        _ ->
+            St = suit_usual(distnode_access:usual(), St0),
+            case cookie_of(Peer, St) of
+                Cookie -> {ok, St};
+                _ -> lend(Peer, Cookie, St)
+            end
     end.
 
-suit_peer(Peer, Cookie, #st{node = Node, own = Own} = St) ->
+cookie_of(Peer, #st{own = Own}) when is_map_key(Peer, Own) -> element(1, map_get(Peer, Own));
+cookie_of(_, #st{usual = Usual}) -> Usual.
+
+%% A peer has a cookie of its own while it has an end, whoever has said its name: that shows no cookie yet.
+lend(Peer, Cookie, #st{node = Node, own = Own} = St) ->
     case distnode_nif:cookie(Node, Peer, Cookie) of
         ok ->
             true = ets:insert(?TABLE, {{cookie, Peer}, Cookie}),
-            {ok, St#st{own = Own#{Peer => Cookie}}};
+            {ok, St#st{own = Own#{Peer => {Cookie, erlang:unique_integer([monotonic])}}}};
         {error, 'PeerInUse'} -> {ok, note(cookie_in_use, St)};
-        {error, Code} -> {error, Code}
+        {error, 'Full'} -> lend_after(lists:sort([{At, Other} || {Other, {_, At}} <- maps:to_list(Own)]), Peer, Cookie, St);
+        Error -> {Error, St}
     end.
 
-%% Peers that are connected under the old one keep the node from taking it; until they have gone, others get it one by one.
-suit_usual({ok, Usual}, #st{node = Node, usual = Old} = St) when Usual =/= Old ->
+%% All cookies that the library keeps are lent: the peer that has had one for the longest, and is not up, makes room.
+lend_after([], _, _, St) -> {{error, 'Full'}, St};
+lend_after([{_, Other} | More], Peer, Cookie, #st{node = Node} = St) ->
+    case distnode_nif:give_up(Node, Other) of
+        {step, _, _, _, Closed, _, _} -> lend(Peer, Cookie, take_back(Other, closed(Closed, none, St)));
+        none -> lend_after(More, Peer, Cookie, St)
+    end.
+
+%% The last end of this peer is closed, or it has none: its cookie is the usual one again.
+take_back(Peer, #st{node = Node, own = Own} = St) when is_map_key(Peer, Own) ->
+    case distnode_nif:no_cookie(Node, Peer) of
+        ok ->
+            true = ets:delete(?TABLE, {cookie, Peer}),
+            publish(St#st{own = maps:remove(Peer, Own)});
+        {error, _} -> St
+    end;
+take_back(_, St) -> St.
+
+%% Who is up under the old one keeps it as its own, and the node takes the new one for all others. Where more are up than the library
+%% keeps cookies, it does not until some of them have gone; whoever comes meanwhile is lent the new one.
+suit_usual({ok, Usual}, #st{node = Node, usual = Old, own = Own} = St0) when Usual =/= Old ->
+    St = case [Peer || {Peer, _, _, _} <- distnode_nif:peers(Node), not is_map_key(Peer, Own)] of
+             Up when length(Up) + map_size(Own) =< ?MOST_OWN -> lists:foldl(fun(Peer, Now) -> ignored(lend(Peer, Old, Now)) end, St0, Up);
+             _ -> St0
+         end,
     case distnode_nif:usual_cookie(Node, Usual) of
         ok -> St#st{usual = Usual};
         {error, _} -> note(usual_in_use, St)
@@ -386,9 +417,10 @@ close_list(_, St) -> St.
 
 %% ---- what is reported of it
 
-table(#st{node = undefined}) -> #{up => [], open => 0, wants => []};
-table(#st{node = Node, links = Links}) ->
+table(#st{node = undefined}) -> #{up => [], open => 0, wants => [], lent => 0};
+table(#st{node = Node, links = Links, own = Own}) ->
     #{up => [{Peer, Id, Common, Creation, distnode_links:stage(Id, Links), distnode_links:owner(Id, Links)}
              || {Peer, Id, Common, Creation} <- distnode_nif:peers(Node)],
       open => length(distnode_links:ends(Links)),
-      wants => distnode_links:wanted(Links)}.
+      wants => distnode_links:wanted(Links),
+      lent => map_size(Own)}.

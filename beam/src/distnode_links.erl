@@ -49,7 +49,7 @@
 -type action() ::
     {send, pid(), term()} |                   % a message {distnode, Term}: {dial, Id}, {closed, Id, Why}, {failed, Code}, again
     {kill, pid()} |                           % its end is over, and net_kernel holds it: its socket goes with it
-    {lose, id(), Why :: atom()} |             % report it to the node
+    {lose, id(), peer() | none, Why :: atom()} | % report it to the node
     {dial, peer()}.                           % have the node dial, and report what became of it
 -type answer() :: ok | {give, Setup :: pid()} | retry | gone.
 
@@ -103,7 +103,7 @@ dialled(Peer, Id, L) ->
         #want{setup = Setup} = Want ->
             L1 = put_want(Peer, Want#want{how = {dialling, Id}}, L),
             {ok, [{send, Setup, {dial, Id}}], put_link(Id, #link{owner = Setup, peer = Peer}, L1)};
-        none -> {ok, [{lose, Id, gave_up}], L}
+        none -> {ok, [{lose, Id, Peer, gave_up}], L}
     end.
 
 %% net_kernel starts a setup only where it counts the peer as down. So an end that it had counted as up is over there, and the
@@ -112,7 +112,7 @@ busy(Peer, Up, L) ->
     case {want_of(Peer, L), link_of(Up, L)} of
         {none, _} -> {ok, [], L};
         {#want{}, #link{stage = up, owner = Old}} ->
-            {ok, [{kill, Old}, {lose, Up, ended}, {dial, Peer}], drop_link(Up, L)};
+            {ok, [{kill, Old}, {lose, Up, Peer, ended}, {dial, Peer}], drop_link(Up, L)};
         {Want, _} -> {ok, [], put_want(Peer, Want#want{how = waiting}, L)}
     end.
 
@@ -228,7 +228,7 @@ lose(Id, Why, L) ->
         none -> {[], L};
         #link{peer = Peer} ->
             L1 = drop_link(Id, L),
-            {[{lose, Id, Why} | again(Peer, L1)], L1}
+            {[{lose, Id, Peer, Why} | again(Peer, L1)], L1}
     end.
 
 %% An end with this peer is over: a setup that waits for it may dial now.

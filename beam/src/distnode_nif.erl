@@ -1,8 +1,8 @@
 %% SPDX-License-Identifier: Apache-2.0
 %% A node of the C library as functions of Erlang: c_src/distnode_nif.c.
 -module(distnode_nif).
--export([load/0, new/6, cookie/3, usual_cookie/2, allow/2, disallow/2, changes/1, forget/2]).
--export([dial/2, incoming/1, body/4, lost/3]).
+-export([load/0, new/6, cookie/3, no_cookie/2, usual_cookie/2, allow/2, disallow/2, changes/1, forget/2]).
+-export([dial/2, incoming/1, body/4, lost/3, give_up/2]).
 -export([arrive/4, opened/2, early_body/4, come_up/6]).
 -export([cause/2, up_end/2, peers/1, challenge/0]).
 -export_type([id/0, peer/0, closed/0, step/0, up/0, made/0]).
@@ -49,6 +49,10 @@ new(_Name, _Cookie, _Flags, _Required, _Creation, _MostEnds) -> ?STUB.
 -spec cookie(reference(), peer(), binary()) -> ok | {error, atom()}.
 cookie(_Node, _Peer, _Cookie) -> ?STUB.
 
+%% The usual cookie is this peer's again: PeerInUse where it has an end.
+-spec no_cookie(reference(), peer()) -> ok | {error, atom()}.
+no_cookie(_Node, _Peer) -> ?STUB.
+
 -spec usual_cookie(reference(), binary()) -> ok | {error, atom()}.
 usual_cookie(_Node, _Cookie) -> ?STUB.
 
@@ -77,6 +81,10 @@ body(_Node, _Id, _Body, _Challenge) -> ?STUB.
 %% Why is a number of dn_why.
 -spec lost(reference(), id(), Why :: 1..15) -> step().
 lost(_Node, _Id, _Why) -> ?STUB.
+
+%% Loses the end by which this peer is about to connect, as GaveUp; `none`, and nothing is done, where it has none, or is up.
+-spec give_up(reference(), peer()) -> step() | none.
+give_up(_Node, _Peer) -> ?STUB.
 
 %% ---- steps of the process that has the end
 

@@ -5,9 +5,8 @@
 %% nodeup, ticks, statistics) is OTP's own code, whatever its release.
 %%
 %% The process of the end itself makes the step that brings it up in the node. Of an accepted peer that is where dist_util says the
-%% status `ok`: net_kernel had no connection of that peer, and has agreed to this one. Where it had one, dist_util says another
-%% status, and the step is made where it says the acknowledgement: the old connection is gone from the emulator by then, and the peer
-%% hears nothing of the new one before. Of a dialled peer it is made where dist_util waits for the acknowledgement.
+%% acknowledgement: net_kernel has agreed by then, an old connection is gone from the emulator, and dist_util refuses nobody any more.
+%% Of a dialled peer it is made where dist_util waits for the acknowledgement.
 -module(distnode_script).
 -export([other_started/6, we_started/6, number/1]).
 
@@ -68,18 +67,21 @@ start(Side, Driver, Info) -> put(?KEY, Info#{side => Side, driver => Driver, sai
 
 send(Socket, Data) ->
     Words = iolist_to_binary(Data),
-    #{side := Side, said := Said} = Script = get(?KEY),
-    put(?KEY, Script#{said := [Words | Said]}),
+    #{side := Side, said := Said} = Before = get(?KEY),
+    Script = Before#{said := [Words | Said]},
+    keep(Script),
     send(Side, Words, Socket, Script).
 
+keep(Script) ->
+    put(?KEY, Script),
+    ok.
+
 send(accepted, <<"snok">>, _, _) -> throw({distnode, nok});
-send(accepted, <<"sok">>, Socket, Script) -> agreed(Socket, Script);
-send(accepted, <<$s, _/binary>>, _, _) -> ok;
+send(accepted, <<$s, _/binary>>, _, Script) -> ask_cookie(Script);
 send(accepted, <<$N, Flags:64, Challenge:32, _/binary>>, _, Script) -> challenged(Flags, Challenge, Script);
-send(accepted, <<$a, _/binary>>, _, #{acknowledged := true}) -> ok;
 send(accepted, <<$a, _/binary>>, Socket, Script) -> admitted(Socket, Script);
 send(dialled, <<$N, Flags:64, _/binary>>, _, Script) -> challenged(Flags, none, Script);
-send(dialled, <<$r, Challenge:32, _/binary>>, _, _) -> put_challenge(Challenge).
+send(dialled, <<$r, Challenge:32, Shown/binary>>, _, Script) -> replied(Challenge, Shown, Script).
 
 recv(Socket, _, _) ->
     #{side := Side, said := Said} = Script = get(?KEY),
@@ -87,14 +89,16 @@ recv(Socket, _, _) ->
 
 %% Of an accepted peer: its name, `true` where net_kernel asks whether it lives, its reply.
 recv(accepted, [], _, Script) -> {ok, name(Script)};
-recv(accepted, [<<"salive">>], _, _) -> {ok, "strue"};
+recv(accepted, [<<"salive">>], _, Script) ->
+    ask_cookie(Script),
+    {ok, "strue"};
 recv(accepted, [<<$N, _/binary>> | _], _, Script) -> {ok, [$r, 0, 0, 0, 0 | digest(Script)]};
 %% Of a dialled peer: a status, its challenge, its acknowledgement.
 recv(dialled, [<<$N, _/binary>>], _, Script) ->
-    put(?KEY, Script#{said := [status]}),
+    keep(Script#{said := [status]}),
     {ok, "sok"};
-recv(dialled, [status], _, #{common := _} = Script) -> {ok, challenge(Script)};
-recv(dialled, [status], Socket, Script) -> {ok, challenge(await_challenge(Socket, Script))};
+recv(dialled, [status], _, #{common := _} = Script) -> challenge(Script);
+recv(dialled, [status], Socket, Script) -> challenge(await_challenge(Socket, Script));
 recv(dialled, [<<$r, _/binary>> | _], Socket, #{received := _} = Script) ->
     Digest = digest(Script),
     await_acknowledgement(Socket, Script),
@@ -116,7 +120,7 @@ await_challenge(Socket, #{driver := Driver} = Script) ->
         {ok, _} ->
             Foreseen = foreseen(Script#{received => Body, is_active => true}),
             _ = inet:setopts(Socket, [{active, once}]),
-            put(?KEY, Foreseen),
+            keep(Foreseen),
             Foreseen;
         _ -> throw({distnode, {failed, write_failed}})
     end.
@@ -158,27 +162,12 @@ foreseen(Flags, Creation, #{flags := Own} = Info) when Flags band ?DFLAG_MANDATO
     Info#{common => Own band (Flags bor ?MANDATORY_DFLAGS_25), creation => Creation};
 foreseen(Flags, Creation, #{flags := Own} = Info) -> Info#{common => Own band Flags, creation => Creation}.
 
-%% So the peer has its acknowledgement while dist_util draws a challenge that nobody sees, for which it asks each scheduler. But
-%% not where dist_util is about to announce other flags, by which it is stopped.
-agreed(Socket, #{flags := Own, peer := Peer} = Script) ->
-    IsPublished = net_kernel:publish_on_node(binary_to_atom(Peer, latin1)),
-    case Own band ?DFLAG_PUBLISHED of
-        Flag when (Flag =/= 0) =:= IsPublished ->
-            put(?KEY, Script#{acknowledged => true}),
-            admitted(Socket, Script);
-        _ -> ok
-    end.
-
 %% dist_util announces what the node has announced. It would do otherwise of a hidden dial or of another global group.
-challenged(Flags, Challenge, #{flags := Flags}) -> put_challenge(Challenge);
+challenged(Flags, Challenge, #{flags := Flags} = Script) -> keep(Script#{challenge => Challenge});
 challenged(Flags, _, #{flags := Own, peer := Peer}) ->
-    error_logger:error_msg("** distnode: flags ~.16B for node ~ts, and ~.16B were announced **~n", [Flags, Peer, Own]),
+    error_logger:error_msg("** distnode: flags ~.16B for node ~ts, and ~.16B were announced **~n",
+                           [Flags, distnode_access:quoted(Peer), Own]),
     exit(distnode_other_flags).
-
-put_challenge(Challenge) ->
-    Script = get(?KEY),
-    put(?KEY, Script#{challenge => Challenge}),
-    ok.
 
 admitted(Socket, #{id := Id, driver := Driver} = Script) ->
     case distnode_core:come_up(Script) of
@@ -192,7 +181,8 @@ name(#{peer := Peer, common := Common} = Script) ->
     binary_to_list(<<$N, Common:64, (creation(Script)):32, (byte_size(Peer)):16, Peer/binary>>).
 
 challenge(#{peer := Peer, common := Common} = Script) ->
-    binary_to_list(<<$N, Common:64, 0:32, (creation(Script)):32, (byte_size(Peer)):16, Peer/binary>>).
+    ask_cookie(Script),
+    {ok, binary_to_list(<<$N, Common:64, 0:32, (creation(Script)):32, (byte_size(Peer)):16, Peer/binary>>)}.
 
 %% A peer of version 5 sends no creation, and OTP puts 0 in its place.
 creation(#{creation := Creation}) -> number(Creation).
@@ -201,7 +191,19 @@ number(unknown) -> 0;
 number(Creation) -> Creation.
 
 %% The digest that dist_util expects. That the peer has shown the right one is the node's decision, made already.
-digest(#{peer := Peer}) ->
-    #{challenge := Challenge} = get(?KEY),
-    Cookie = erlang:get_cookie(binary_to_atom(Peer, latin1)),
-    binary_to_list(erlang:md5([atom_to_list(Cookie) | integer_to_list(Challenge)])).
+digest(#{cookie := Cookie, challenge := Challenge}) -> binary_to_list(digest(Cookie, Challenge)).
+
+digest(Cookie, Challenge) -> erlang:md5([atom_to_list(Cookie) | integer_to_list(Challenge)]).
+
+%% dist_util asks for the cookie next. Where it is changed in between, an accepted peer is refused before its acknowledgement.
+ask_cookie(#{peer := Peer} = Script) -> keep(Script#{cookie => cookie(Peer)}).
+
+cookie(Peer) -> erlang:get_cookie(binary_to_atom(Peer, latin1)).
+
+%% A dialled peer may have said its acknowledgement by now. The digest of the challenge 0 shows which cookie dist_util was given.
+replied(Challenge, Shown, #{peer := Peer, cookie := Asked} = Script) ->
+    Cookie = case digest(Asked, 0) of
+                 Shown -> Asked;
+                 _ -> cookie(Peer)
+             end,
+    keep(Script#{challenge => Challenge, cookie => Cookie}).

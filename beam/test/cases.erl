@@ -2,7 +2,7 @@
 %% The carrier on the installed OTP: nodes of its own and ordinary ones, over 127.0.0.1. Nothing sleeps to wait: each condition
 %% has a deadline.
 -module(cases).
--export([main/0, main/1, main/2, between/2]).
+-export([main/0, main/1, main/2, between/2, after_a_change/3, came/2, comes_up/3]).
 
 -define(FLAGS, 16#d07df7fbd).   % those that OTP 25 announces, DFLAG_PUBLISHED among them
 
@@ -48,6 +48,13 @@ cases(Mapper) ->
      {"wrong_cookie", fun wrong_cookie/0},
      {"cookies_at_run_time", fun cookies_at_run_time/0},
      {"cookies_without_use", fun without_use/0},
+     {"cookie_changed_meanwhile", fun changed_meanwhile/0},
+     {"half_open_at_a_cookie_change", fun() -> half_open(Mapper) end},
+     {"names_after_a_cookie_change", fun() -> after_a_change(fun said/2, 5000, Mapper) end},
+     {"nodes_after_a_cookie_change", fun() -> after_a_change(fun came/2, 1100, Mapper) end},
+     {"all_cookies_are_lent", fun all_lent/0},
+     {"names_in_the_log", fun() -> names_in_the_log(Mapper) end},
+     {"started_at_run_time", fun started_at_run_time/0},
      {"allow_list_at_run_time", fun allow_list/0},
      {"veto_before_acknowledgement", fun() -> veto(Mapper) end},
      {"hidden", fun hidden/0},
@@ -280,7 +287,7 @@ wrong_cookie() ->
                  [false = connect(X, Y) || {X, Y} <- [{A, B}, {B, A}, {A, O}, {O, A}]],
                  [[] = c(X, erlang, nodes, []) || X <- All],
                  agreed([A, B]),
-                 true = test_nodes:has_logged(A, "Connection attempt from node b@127.0.0.1 rejected. Invalid challenge reply"),
+                 true = test_nodes:has_logged(A, "Connection attempt from node 'b@127.0.0.1' rejected. Invalid challenge reply"),
                  true = connect(B, O)
          end).
 
@@ -318,14 +325,144 @@ without_use() ->
                       false = connect(A, O),
                       false = connect(O, A)
                   end || Cookie <- ['', 'a\nb', 'end ', list_to_atom([233])]],
-                 true = test_nodes:has_logged(A, "the cookie for node o@127.0.0.1 can't be used: CookieEmpty"),
-                 true = test_nodes:has_logged(A, "the cookie for node o@127.0.0.1 can't be used: CookieBadByte"),
+                 true = test_nodes:has_logged(A, "the cookie for node 'o@127.0.0.1' can't be used: CookieEmpty"),
+                 true = test_nodes:has_logged(A, "the cookie for node 'o@127.0.0.1' can't be used: CookieBadByte"),
                  [false = c(A, net_kernel, connect_node, [Name]) || Name <- ['a b@127.0.0.1', list_to_atom([233 | "@127.0.0.1"])]],
                  %% its own cookie, too: peers that have another connect
                  true = c(A, erlang, set_cookie, ['']),
                  true = c(A, erlang, set_cookie, [n(B), test]),
                  true = connect(A, B),
                  agreed([A, B])
+         end).
+
+%% A cookie that is changed right after dist_util has asked for it ends nobody, on either side: what was acknowledged stays up.
+changed_meanwhile() ->
+    with([{"a", ours, ?QUIET}, {"b", otp, ?QUIET}, {"d", ours, ?QUIET}],
+         fun([A, B, D]) ->
+                 [begin
+                      ok = c(A, test_agent, change_cookie_once_asked, [n(Other), other]),
+                      true = connect(X, Y),
+                      both_up(X, Y),
+                      other = c(A, erlang, get_cookie, [n(Other)]),
+                      true = c(A, erlang, set_cookie, [n(Other), test]),
+                      apart(A, Other)
+                  end || Other <- [B, D], {X, Y} <- [{A, Other}, {Other, A}]],
+                 agreed([A, D])
+         end).
+
+%% The cookie is changed while somebody holds a handshake open, who has shown none: the node takes the new one.
+half_open(Mapper) ->
+    with([{"a", ours, ?QUIET}, {"b", otp, ["-setcookie", "new" | ?QUIET]}],
+         fun([A, B]) ->
+                 Socket = stranger(other_side:port_of("a", Mapper), <<"half">>),
+                 <<"ok">> = other_side:status(Socket),
+                 _ = other_side:challenge(Socket),
+                 true = c(A, erlang, set_cookie, [new]),
+                 true = connect(B, A),
+                 #{lent := 0} = c(A, distnode_core, table, []),
+                 gen_tcp:close(Socket),
+                 agreed([A])
+         end).
+
+%% The cookie is changed while a peer stays connected. Then so many come, one after the other, and whoever knows the cookie connects.
+after_a_change(Comes, N, Mapper) ->
+    with([{"a", ours, ?QUIET}, {"b", otp, ?QUIET}, {"c", otp, ["-setcookie", "new" | ?QUIET]}, {"d", ours, ["-setcookie", "new" | ?QUIET]}],
+         fun([A, B, C, D]) ->
+                 true = connect(B, A),
+                 true = c(A, erlang, set_cookie, [new]),
+                 Port = other_side:port_of("a", Mapper),
+                 [Comes(Port, integer_to_binary(I)) || I <- lists:seq(1, N)],
+                 [begin true = connect(X, Y), both_up(X, Y) end || {X, Y} <- [{C, A}, {A, D}]],
+                 both_up(A, B),
+                 agreed([A, D]),
+                 #{lent := 1} = c(A, distnode_core, table, []),
+                 apart(A, B),
+                 #{lent := 0} = c(A, distnode_core, table, []),
+                 true = c(B, erlang, set_cookie, [new]),
+                 true = connect(B, A),
+                 agreed([A])
+         end).
+
+%% A stranger says a name, and knows no cookie.
+said(Port, Name) ->
+    Socket = stranger(Port, Name),
+    <<"ok">> = other_side:status(Socket),
+    gen_tcp:close(Socket).
+
+%% A node that knows the cookie comes, and goes.
+came(Port, Name) -> gen_tcp:close(comes_up(Port, Name, "new")).
+
+comes_up(Port, Name, Cookie) ->
+    Socket = stranger(Port, Name),
+    <<"ok">> = other_side:status(Socket),
+    ok = other_side:reply(Socket, Cookie, other_side:challenge(Socket)),
+    ok = other_side:ack(Socket, Cookie),
+    Socket.
+
+%% More peers than the library keeps cookies have one of their own, and somebody without a cookie says all their names: who has been
+%% lent one for the longest, and is not up, gives way.
+all_lent() ->
+    with([{"a", ours, ?QUIET}, {"b", otp, ?QUIET}, {"c", otp, ["-setcookie", "new" | ?QUIET]}, {"d", ours, ["-setcookie", "new" | ?QUIET]}],
+         fun([A, B, C, D]) ->
+                 true = connect(B, A),
+                 [true = c(A, erlang, set_cookie, [Name, new])
+                  || Name <- [n(C), n(D) | [list_to_atom("stranger" ++ integer_to_list(I) ++ "@127.0.0.1") || I <- lists:seq(1, 1100)]]],
+                 true = connect(C, A),
+                 1025 = c(A, test_agent, crowd, [1100, ?FLAGS]),
+                 #{lent := 1024} = c(A, distnode_core, table, []),
+                 true = connect(D, A),
+                 [both_up(A, X) || X <- [B, C, D]],
+                 Closed = c(A, test_agent, crowd_closed, []),
+                 Closed = lists:seq(1, 1100 + 2 - 1024),
+                 true = test_nodes:wait(fun() -> maps:get(lent, c(A, distnode_core, table, [])) =:= 2 end, 5000),
+                 agreed([A, D])
+         end).
+
+%% What strangers say is their name stands in the log as OTP writes an atom: no byte of it acts on a terminal or begins a line.
+names_in_the_log(Mapper) ->
+    Names = [{"x\e[31mred\e]0;owned\007@h", "x\\e[31mred\\e]0;owned\\007@h'"},
+             {"y@h **\r\n=ERROR REPORT==== forged ===\r\n** disk full **", "y@h **\\r\\n=ERROR REPORT==== forged ===\\r\\n** disk full **'"},
+             {"z@h\0\d\2332J'~w", "z@h\\000\\d\\2332J\\'~w'"},
+             {lists:append(lists:duplicate(10000, "n@h\e")), "n@h\\en@'.."}],
+    with([{"a", ours, ?QUIET}, {"b", otp, ?QUIET}],
+         fun([A, B]) ->
+                 Port = other_side:port_of("a", Mapper),
+                 Say = fun(First) ->
+                               [begin
+                                    Socket = other_side:connect(Port),
+                                    ok = other_side:say_name(Socket, ?FLAGS, list_to_binary([First | Name])),
+                                    _ = gen_tcp:recv(Socket, 0, 5000),
+                                    gen_tcp:close(Socket),
+                                    true = test_nodes:has_logged(A, ["\\Q'", First, "\\E.*\\Q", Shown, "\\E"])
+                                end || {Name, Shown} <- Names]
+                       end,
+                 Say($1),
+                 true = connect(B, A),
+                 ok = c(A, net_kernel, allow, [[n(B)]]),
+                 Say($2),
+                 true = c(A, erlang, set_cookie, [new]),
+                 Say($3),
+                 Log = test_nodes:log(A),
+                 nomatch = re:run(Log, "[\\x00-\\x09\\x0b-\\x1f\\x7f-\\x9f]"),
+                 nomatch = re:run(Log, "^=ERROR REPORT==== forged", [multiline])
+         end).
+
+%% The distribution begins and ends at run time, more than once, and under another name too.
+started_at_run_time() ->
+    with([{"r", {later, ours}, ?QUIET}, {"b", ours, ?QUIET}, {"o", otp, ?QUIET}],
+         fun([R, B, O]) ->
+                 undefined = c(R, erlang, whereis, [distnode_core]),
+                 [begin
+                      {ok, _} = c(R, net_kernel, start, [[Name, longnames]]),
+                      true = connect(R, B),
+                      true = connect_to(O, Name),
+                      [Name = c(X, erpc, call, [Name, erlang, node, []]) || X <- [B, O]],
+                      agreed([R, B]),
+                      ok = c(R, net_kernel, stop, []),
+                      undefined = c(R, erlang, whereis, [distnode_core]),
+                      [true = test_nodes:wait(fun() -> c(X, erlang, nodes, []) =:= [] end, 5000) || X <- [B, O]],
+                      agreed([B])
+                  end || Name <- ['r@127.0.0.1', 's@127.0.0.1', 'r@127.0.0.1']]
          end).
 
 allow_list() ->
@@ -335,7 +472,7 @@ allow_list() ->
                  ok = c(A, net_kernel, allow, [[n(B)]]),
                  true = connect(B, A),
                  false = connect(C, A),
-                 true = test_nodes:has_logged(A, "disallowed node c@127.0.0.1"),
+                 true = test_nodes:has_logged(A, "disallowed node 'c@127.0.0.1'"),
                  both_up(A, O),
                  apart(A, O),
                  false = connect(O, A),

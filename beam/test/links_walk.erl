@@ -353,7 +353,7 @@ report(Event, #w{links = Links} = W) ->
 
 do({send, Pid, Message}, W) -> send(Pid, Message, W);
 do({kill, Pid}, W) -> die(Pid, W);
-do({lose, Id, _}, W) ->
+do({lose, Id, _, _}, W) ->
     true = is_map_key(Id, W#w.node) orelse lists:member(Id, mailed(closed, W)),
     close(Id, W);
 do({dial, Peer}, W) -> dial(Peer, W).

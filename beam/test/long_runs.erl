@@ -13,6 +13,8 @@ main([Seconds | Words]) ->
             {"knocks", fun() -> knocks(Mapper, 20000) end},
             {"strangers", fun() -> strangers(Mapper, 1100) end},
             {"all_ends", fun() -> all_ends(66000) end},
+            {"more_up_than_cookies", fun() -> more_up_than_cookies(Mapper, 1030) end},
+            {"nodes_after_a_cookie_change", fun() -> after_a_change(5000, Mapper) end},
             {"no_descriptors", fun() -> no_descriptors(Mapper) end},
             {"impostor", fun() -> impostor(Mapper) end},
             {"reconnects", fun() -> reconnects(72000) end},
@@ -116,6 +118,30 @@ all_ends(N) ->
                  io_lib:format("~b strangers came in ~b ms, 65,536 ends open; peers connect beside them in ~w ms; the first ~b were closed; "
                                "~b KiB before, ~b after", [N, Came div 1000, Took, length(Closed), Before, After])
          end).
+
+%% More peers are up than the library keeps cookies of their own, and the cookie is changed; strangers say more names than that, too.
+more_up_than_cookies(Mapper, N) ->
+    with([{"a", ours, ?QUIET}, {"b", ours, ["-setcookie", "new" | ?QUIET]}, {"o", otp, ["-setcookie", "new" | ?QUIET]}],
+         fun([A, B, O]) ->
+                 Port = other_side:port_of("a", Mapper),
+                 Up = [cases:comes_up(Port, <<"up", (integer_to_binary(I))/binary>>, "test") || I <- lists:seq(1, N)],
+                 agreed(A),
+                 true = c(A, erlang, set_cookie, [new]),
+                 Held = [stranger(Port, integer_to_binary(I)) || I <- lists:seq(1, N)],
+                 Took = [element(1, {_, true} = timer:tc(fun() -> c(X, net_kernel, connect_node, [n(A)]) end)) div 1000 || X <- [B, O]],
+                 [both_up(A, X) || X <- [B, O]],
+                 #{lent := Lent} = c(A, distnode_core, table, []),
+                 [gen_tcp:close(Socket) || Socket <- Held ++ Up],
+                 true = test_nodes:wait(fun() -> maps:get(lent, c(A, distnode_core, table, [])) =:= 2 end, 20000),
+                 [both_up(A, X) || X <- [B, O]],
+                 agreed(A),
+                 io_lib:format("~b peers up, the cookie changed, ~b strangers held: peers connect beside them in ~w ms; cookies lent: ~b",
+                               [N, N, Took, Lent])
+         end).
+
+after_a_change(N, Mapper) ->
+    _ = cases:after_a_change(fun cases:came/2, N, Mapper),
+    io_lib:format("~b nodes with the new cookie came and went", [N]).
 
 %% A node that may have 200 descriptors, and strangers who hold more connections than that and say nothing: it goes on, and a peer
 %% connects once they are given up. And the same of a node with OTP's own carrier.

@@ -3,7 +3,7 @@
 %% test's port, and ends the node with that connection.
 -module(test_agent).
 -export([main/1, row/1, connect_at/2, is_asked/1, is_agreed/0, sink/0, flood/2, watch/1, is_down/1, stay_up/2, traffic/2]).
--export([observe/1, traffic_observed/2, reconnect/2, memory/0, crowd/2, crowd_closed/0]).
+-export([observe/1, traffic_observed/2, reconnect/2, memory/0, crowd/2, crowd_closed/0, change_cookie_once_asked/2]).
 
 main([Port]) ->
     spawn(fun() ->
@@ -163,6 +163,19 @@ crowd_closed() ->
     Crowd = whereis(crowd),
     Crowd ! {closed, self()},
     receive {Crowd, Closed} -> Closed after 60000 -> timeout end.
+
+%% Once dist_util has asked for the cookie of this node, it is another one, whoever asks next.
+change_cookie_once_asked(Node, Cookie) ->
+    sys:install(auth, {fun(_, {in, {'$gen_call', {Pid, _}, {get_cookie, Asked}}}, _) when Asked =:= Node ->
+                               {current_stacktrace, Stack} = process_info(Pid, current_stacktrace),
+                               case [Module || {Module, _, _, _} <- Stack, not lists:member(Module, [gen, gen_server, auth, erlang])] of
+                                   [dist_util | _] ->
+                                       auth ! {'$gen_call', {spawn(fun() -> ok end), make_ref()}, {set_cookie, Node, Cookie}},
+                                       done;
+                                   _ -> waiting
+                               end;
+                          (State, _, _) -> State
+                       end, waiting}).
 
 memory() ->
     {ok, Text} = file:read_file("/proc/self/status"),

@@ -21,7 +21,8 @@ port_mapper() ->
     {Port, OsPid}.
 
 %% Several at once: [{Short, Kind, Arguments}] with ours | otp | ours6 | otp6, those with a 6 over IPv6; {short | long, ours | otp} with
-%% a host that has a name of one part or of several; {limited, Kind}, with 200 descriptors; or {Root, Kind}: of the
+%% a host that has a name of one part or of several; {limited, Kind}, with 200 descriptors; {later, Kind}, which has no name yet; or
+%% {Root, Kind}: of the
 %% Erlang that is installed below that folder, which has this test's files under the same names.
 start(Specs) ->
     Begun = [begin_one(Spec) || Spec <- Specs],
@@ -62,6 +63,7 @@ join(Listen, Node, Left) ->
 %% One without an agent, which may not start.
 start_bare(Short, {Length, Kind}, Arguments) when Length =:= short; Length =:= long ->
     start_bare([os:find_executable("erl")], Short, Kind, Arguments ++ ["-kernel", "inetrc", [$", hosts(), $"]], Length);
+start_bare(Short, {later, Kind}, Arguments) -> start_bare([os:find_executable("erl")], Short, Kind, Arguments, later);
 start_bare(Short, {limited, Kind}, Arguments) ->
     start_bare([os:find_executable("sh"), "-c", "ulimit -n 200; exec \"$@\"", "sh", os:find_executable("erl")], Short, Kind, Arguments);
 start_bare(Short, {Root, Kind}, Arguments) ->
@@ -75,7 +77,7 @@ start_bare(Erl, Short, Kind, Arguments, HostKind) ->
     Name = Short ++ "@" ++ Host,
     Log = filename:join(os:getenv("LOGS"), Short ++ "." ++ integer_to_list(erlang:unique_integer([positive])) ++ ".log"),
     Command = Erl ++ ["-noinput", "-pa", os:getenv("TESTS"), "-start_epmd", "false",
-               "-kernel", "inet_dist_use_interface", Interface] ++ carrier(Kind) ++ [Flag, Name] ++
+               "-kernel", "inet_dist_use_interface", Interface] ++ carrier(Kind) ++ [Word || Word <- [Flag, Name], Flag =/= none] ++
         cookie(Arguments) ++ Arguments,
     Port = open_port({spawn_executable, os:find_executable("sh")},
                      [{args, ["-c", "exec \"$@\" >" ++ Log ++ " 2>&1", "sh" | Command]}, exit_status]),
@@ -83,6 +85,7 @@ start_bare(Erl, Short, Kind, Arguments, HostKind) ->
     #node{name = list_to_atom(Name), port = Port, os_pid = OsPid, log = Log}.
 
 host(Kind) when Kind =:= ours6; Kind =:= otp6 -> {"-name", "::1", "{0,0,0,0,0,0,0,1}"};
+host(later) -> {none, "127.0.0.1", "{127,0,0,1}"};
 host(short) -> {"-sname", "one", "{127,0,0,1}"};
 host(long) -> {"-name", "one.example.test", "{127,0,0,1}"};
 host(_) -> {"-name", "127.0.0.1", "{127,0,0,1}"}.

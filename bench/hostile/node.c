@@ -1,6 +1,6 @@
 /* A node that accepts, over the library for C, for strangers to be let loose at: it keeps no time limits, so that what it can stand
  * is what the library itself gives.
- * usage: node PORT COOKIE-FILE
+ * usage: node PORT COOKIE-FILE [MOST-OPEN-ENDS]
  *
  * It prints `ready`, a line when a peer comes up, and a line for each million connections that came: how long the library took for
  * one of them (incoming and lost, in nanoseconds, mean of that million), how many ends are open, and the resident memory. It ends
@@ -32,7 +32,7 @@ struct link {
     int up;
 };
 
-static const dn_setup setup = {.flags = 0xd07df7fbd, .creation = 1};
+static dn_setup setup = {.flags = 0xd07df7fbd, .creation = 1};
 static dn_node node = DN_NODE_INIT;
 static struct link *table[PLACES];
 static int poller, listener;
@@ -149,7 +149,8 @@ static void hear(struct link *it) {
 }
 
 int main(int argc, char **argv) {
-    if (argc != 3) return 2;
+    if (argc < 3 || argc > 4) return 2;
+    if (argc == 4) setup.most_open_ends = (uint32_t)atoi(argv[3]);
     uint8_t cookie[4097];
     FILE *file = fopen(argv[2], "r");
     if (!file) stop(argv[2]);

@@ -1,5 +1,6 @@
 /* Strangers to a node: they know no cookie.
  * usage: strangers knock PORT NUMBER      so many connections without a byte, one after another, each cut at once
+ *        strangers pace PORT NUMBER RATE  so many connections without a byte, RATE of them a second, all held until the last is made
  *        strangers crowd PORT NUMBER FIRST   so many connections at once, each with a name of its own, which has a number from FIRST
  *                                         on, held until standard input ends
  *
@@ -13,6 +14,7 @@
 #include <string.h>
 #include <sys/resource.h>
 #include <sys/socket.h>
+#include <time.h>
 #include <unistd.h>
 
 enum { PORTS = 20000 }; /* connections from one address */
@@ -45,6 +47,18 @@ static void knock(int port, int number) {
     for (int i = 0; i < number; i++) cut(connected(port, i));
 }
 
+static void pace(int port, int number, int rate) {
+    struct rlimit most;
+    getrlimit(RLIMIT_NOFILE, &most), most.rlim_cur = most.rlim_max, setrlimit(RLIMIT_NOFILE, &most);
+    struct timespec at;
+    clock_gettime(CLOCK_MONOTONIC, &at);
+    for (int i = 0; i < number && connected(port, i) >= 0; i++) {
+        at.tv_nsec += 1000000000 / rate;
+        if (at.tv_nsec >= 1000000000) at.tv_sec++, at.tv_nsec -= 1000000000;
+        clock_nanosleep(CLOCK_MONOTONIC, TIMER_ABSTIME, &at, NULL);
+    }
+}
+
 /* The name of a node of OTP 25 in the form of version 6. */
 static size_t name_of(int i, unsigned char *say) {
     unsigned char flags[8] = {0, 0, 0, 0xd, 0x07, 0xdf, 0x7f, 0xbd};
@@ -71,6 +85,7 @@ int main(int argc, char **argv) {
     if (argc < 4) return 2;
     int port = atoi(argv[2]), number = atoi(argv[3]);
     if (!strcmp(argv[1], "knock")) knock(port, number);
+    else if (!strcmp(argv[1], "pace")) pace(port, number, argc > 4 ? atoi(argv[4]) : 1000);
     else crowd(port, number, argc > 4 ? atoi(argv[4]) : 0);
     return 0;
 }

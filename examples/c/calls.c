@@ -68,8 +68,8 @@ static int made_room(const dn_reply *reply, uint32_t closed, uint32_t id) {
     return reply->closed == closed && reply->closed_id == id;
 }
 
-/* One peer has an entry, two ends are open, and five ends or five steps are all: the oldest end makes room, and frees no
- * number. */
+/* One peer has an entry, two ends are open, and five ends or five steps are all: an end on which no name came makes room, then the
+ * oldest one, and none frees a number. */
 static int ends_at_its_limits(const dn_setup *setup) {
     dn_node node = DN_NODE_INIT;
     dn_reply reply = {.closed = 9, .closed_id = 9};
@@ -78,12 +78,11 @@ static int ends_at_its_limits(const dn_setup *setup) {
     if (dn_node_new(&node, TEXT("a@127.0.0.1"), TEXT("secret"), setup)) return 61;
     if (dn_node_dial(&node, TEXT("b@127.0.0.1"), 1, &reply) || reply.id != 0 || !made_room(&reply, 0, 0)) return 62;
     if (dn_node_incoming(&node, &reply) || reply.id != 1 || !made_room(&reply, 0, 0)) return 63;
-    if (dn_node_incoming(&node, &reply) || reply.id != 2 || !made_room(&reply, DN_WHY_GAVE_UP, 0)) return 64;
-    if (dn_node_dial(&node, TEXT("b@127.0.0.1"), 1, &reply) || reply.id != 3) return 65;
-    if (!made_room(&reply, DN_WHY_GAVE_UP, 1)) return 65;
-    if (dn_node_dial(&node, TEXT("c@127.0.0.1"), 1, &reply) != DN_FULL || !made_room(&reply, DN_WHY_GAVE_UP, 2)) return 66;
+    if (dn_node_incoming(&node, &reply) || reply.id != 2 || !made_room(&reply, DN_WHY_GAVE_UP, 1)) return 64;
+    if (dn_node_incoming(&node, &reply) || reply.id != 3 || !made_room(&reply, DN_WHY_GAVE_UP, 2)) return 65;
+    if (dn_node_dial(&node, TEXT("c@127.0.0.1"), 1, &reply) != DN_FULL || !made_room(&reply, DN_WHY_GAVE_UP, 3)) return 66;
     if (dn_node_dial(&node, TEXT("c@127.0.0.1"), 1, &reply) || reply.id != 4) return 67;
-    if (!made_room(&reply, DN_WHY_GAVE_UP, 3)) return 67;
+    if (!made_room(&reply, DN_WHY_GAVE_UP, 0)) return 67;
     if (dn_node_incoming(&node, &reply) != DN_SPENT || !made_room(&reply, 0, 0)) return 68;
     if (dn_node_oldest(&node, &oldest) || oldest != 4 || dn_node_lost(&node, 4, DN_WHY_ENDED, &reply)) return 69;
     if (dn_node_oldest(&node, &oldest) != DN_NO_SUCH || dn_node_incoming(&node, &reply) != DN_SPENT) return 70;
@@ -104,9 +103,11 @@ static int ends_at_limits(void) {
 static const uint8_t *const name_came = (const uint8_t *)NAME, *const answer_came = (const uint8_t *)ANSWER;
 enum { name_len = sizeof NAME - 1, answer_len = sizeof ANSWER - 1, challenge = 123456789 };
 
+#define OF_B TEXT("ABCDEFGHIJKLMNOPQRSTUVWXYZabcdefghijklmnopqrstuvwxyz0")
+
 static uint32_t new_b(dn_node *node, uint32_t most_open_ends) {
     dn_setup setup = {.flags = 0x101000104, .creation = 6, .most_open_ends = most_open_ends};
-    return dn_node_new(node, TEXT("b@127.0.0.1"), TEXT("ABCDEFGHIJKLMNOPQRSTUVWXYZabcdefghijklmnopqrstuvwxyz0"), &setup);
+    return dn_node_new(node, TEXT("b@127.0.0.1"), OF_B, &setup);
 }
 
 /* The newest step said this status and heard that one. */
@@ -240,23 +241,29 @@ static int is_refused_by(void) {
     return failed;
 }
 
-/* Cookies and the peers that may connect change between steps, but for the cookie of a peer that has an entry. */
+/* Cookies and the peers that may connect change between steps, but for the cookie of a peer that is up: a handshake that began under
+ * the old cookie comes up under the new one or not at all. */
 static int changes(void) {
     dn_node node = DN_NODE_INIT;
     dn_reply reply = {0};
     if (dn_node_disallow(&node, PEER) != DN_NOT_A_NODE) return 121;
     if (dn_node_usual_cookie(&node, TEXT("other")) != DN_NOT_A_NODE || new_b(&node, 0)) return 122;
+    if (dn_node_no_cookie(&node, PEER) || dn_node_no_cookie(&node, TEXT("a")) != DN_NAME_TOO_SHORT) return 122;
     if (dn_node_disallow(&node, PEER) || hears_a_name(&node, 0)) return 123;
-    if (dn_node_cookie(&node, PEER, TEXT("other")) != DN_PEER_IN_USE) return 124;
-    if (dn_node_usual_cookie(&node, TEXT("other")) != DN_PEER_IN_USE) return 125;
-    if (dn_node_usual_cookie(&node, TEXT("")) != DN_COOKIE_EMPTY) return 125;
-    if (!statuses_are(&node, DN_STATUS_OK, DN_STATUS_NONE) || dn_node_lost(&node, 0, DN_WHY_ENDED, &reply)) return 126;
-    if (dn_node_cookie(&node, PEER, TEXT("other")) || hears_a_name(&node, 1)) return 127;
-    if (dn_node_usual_cookie(&node, TEXT("usual")) || dn_node_allow(&node, TEXT("c@127.0.0.1"))) return 128;
-    if (dn_node_received(&node, 1, answer_came, answer_len, 0, &reply) || reply.closed != DN_WHY_WRONG_DIGEST) return 129;
-    if (dn_node_incoming(&node, &reply) || dn_node_received(&node, 2, name_came, name_len, 1, &reply)) return 130;
-    if (reply.closed != DN_WHY_REFUSED || !statuses_are(&node, DN_STATUS_NOT_ALLOWED, DN_STATUS_NONE)) return 131;
-    if (dn_node_allow(&node, PEER) || dn_node_disallow(&node, TEXT("c@127.0.0.1")) || hears_a_name(&node, 3)) return 132;
+    if (dn_node_usual_cookie(&node, TEXT("other")) || dn_node_usual_cookie(&node, TEXT("")) != DN_COOKIE_EMPTY) return 124;
+    if (dn_node_received(&node, 0, answer_came, answer_len, 0, &reply) || reply.closed != DN_WHY_WRONG_DIGEST) return 125;
+    if (dn_node_cookie(&node, PEER, OF_B) || hears_a_name(&node, 1)) return 126;
+    if (!statuses_are(&node, DN_STATUS_OK, DN_STATUS_NONE)) return 126;
+    if (dn_node_received(&node, 1, answer_came, answer_len, 0, &reply) || reply.up != 1) return 127;
+    if (dn_node_cookie(&node, PEER, TEXT("other")) != DN_PEER_IN_USE || dn_node_cookie(&node, PEER, OF_B)) return 128;
+    if (dn_node_no_cookie(&node, PEER) != DN_PEER_IN_USE || dn_node_usual_cookie(&node, TEXT("usual"))) return 128;
+    if (dn_node_lost(&node, 1, DN_WHY_ENDED, &reply) || dn_node_no_cookie(&node, PEER) || dn_node_usual_cookie(&node, OF_B)) return 129;
+    if (hears_a_name(&node, 2) || dn_node_received(&node, 2, answer_came, answer_len, 0, &reply) || reply.up != 1) return 129;
+    if (dn_node_usual_cookie(&node, TEXT("other")) != DN_PEER_IN_USE || dn_node_lost(&node, 2, DN_WHY_ENDED, &reply)) return 130;
+    if (dn_node_allow(&node, TEXT("c@127.0.0.1")) || dn_node_incoming(&node, &reply)) return 131;
+    if (dn_node_received(&node, 3, name_came, name_len, 1, &reply) || reply.closed != DN_WHY_REFUSED) return 131;
+    if (!statuses_are(&node, DN_STATUS_NOT_ALLOWED, DN_STATUS_NONE)) return 131;
+    if (dn_node_allow(&node, PEER) || dn_node_disallow(&node, TEXT("c@127.0.0.1")) || hears_a_name(&node, 4)) return 132;
     if (dn_node_disallow(&node, TEXT("@")) != DN_NAME_TOO_SHORT || dn_node_free(&node)) return 133;
     return 0;
 }
@@ -264,7 +271,24 @@ static int changes(void) {
 /* A node to which DFLAG_MANDATORY_25_DIGEST stands for these flags, which asks for one of them. */
 static uint32_t new_reader(dn_node *node, uint64_t mandatory) {
     dn_setup setup = {.flags = 0x101000104, .required = 4, .creation = 6, .mandatory_25 = mandatory};
-    return dn_node_new(node, TEXT("b@127.0.0.1"), TEXT("ABCDEFGHIJKLMNOPQRSTUVWXYZabcdefghijklmnopqrstuvwxyz0"), &setup);
+    return dn_node_new(node, TEXT("b@127.0.0.1"), OF_B, &setup);
+}
+
+/* A setup that announces the digest without the flags that it stands for makes no node, whatever the digest stands for to itself:
+ * not one that announces it alone, nor one that lacks one of them, nor one of version 5, which cannot announce HANDSHAKE_23. Nor
+ * does one to which it stands for other flags. */
+static int is_whole(void) {
+    static const dn_setup half[] = {
+        {.flags = 0x4000000, .mandatory_25 = DN_MANDATORY_25}, {.flags = 0x4000000},
+        {.flags = 0x5070f90}, {.flags = 0x5070f94, .version = 5}, {.flags = 0x5070f94, .mandatory_25 = 0x20000},
+    };
+    static const dn_setup whole[] = {{.flags = 0x5070f94}, {.flags = 0x4070f94, .mandatory_25 = DN_MANDATORY_25}, {.flags = 0x1070f90}};
+    dn_node node = DN_NODE_INIT;
+    for (size_t i = 0; i < sizeof half / sizeof *half; i++)
+        if (dn_node_new(&node, TEXT("b@127.0.0.1"), TEXT("S"), &half[i]) != DN_HALF_FLAGS) return 0;
+    for (size_t i = 0; i < sizeof whole / sizeof *whole; i++)
+        if (dn_node_new(&node, TEXT("b@127.0.0.1"), TEXT("S"), &whole[i]) || dn_node_free(&node)) return 0;
+    return 1;
 }
 
 /* Names and a challenge of a@127.0.0.1 whose flags are the digest alone: newer, older, and with a challenge of 9. */
@@ -284,6 +308,7 @@ static int is_read(dn_node *node, uint32_t id, const uint8_t *body, size_t len, 
 static int reads_the_digest(void) {
     dn_node node = DN_NODE_INIT;
     dn_reply reply = {0};
+    if (!is_whole()) return 140;
     if (new_reader(&node, DN_MANDATORY_25) || !is_read(&node, 0, NEW_DIGEST, DN_PHASE_REPLY)) return 141;
     if (dn_node_received(&node, 0, answer_came, answer_len, 0, &reply) || !reply.up || reply.common != 0x1000104) return 142;
     if (dn_node_lost(&node, 0, DN_WHY_ENDED, &reply)) return 143;

@@ -22,6 +22,7 @@ class Code(IntEnum):
     NAME_TOO_SHORT, NAME_TOO_LONG, NAME_BAD_BYTE, NAME_BAD_AT = range(20, 24)
     COOKIE_EMPTY, COOKIE_BAD_BYTE, COOKIE_TOO_LONG = range(30, 33)
     EPMD_MALFORMED, EPMD_SHORT, EPMD_TRAILING = range(40, 43)
+    HALF_FLAGS = 50
 
 
 class Why(IntEnum):
@@ -232,12 +233,15 @@ class Node:
         _check(_library.dn_node_disallow(c.byref(self._node), *_given(peer)))
 
     def set_cookie(self, peer: bytes, cookie: bytes) -> None:
-        """Keeps a cookie for this peer alone. Refused as PEER_IN_USE while the peer is connected, or about to be."""
+        """Keeps a cookie for this peer alone. Refused as PEER_IN_USE while the peer is connected, where it is another cookie."""
         _check(_library.dn_node_cookie(c.byref(self._node), *_given(peer), *_given(cookie)))
 
+    def remove_cookie(self, peer: bytes) -> None:
+        """Takes away the cookie that this peer has of its own. Refused as PEER_IN_USE while the peer is connected."""
+        _check(_library.dn_node_no_cookie(c.byref(self._node), *_given(peer)))
+
     def set_usual_cookie(self, cookie: bytes) -> None:
-        """Changes the cookie of each peer that has none of its own. Refused as PEER_IN_USE while one of those is connected, or
-        about to be."""
+        """Changes the cookie of each peer that has none of its own. Refused as PEER_IN_USE while one of those is connected."""
         _check(_library.dn_node_usual_cookie(c.byref(self._node), *_given(cookie)))
 
     def _call(self, call, *given) -> _Reply:

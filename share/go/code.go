@@ -13,7 +13,7 @@ const (
 	Awaits     Code = C.DN_AWAITS      // no whole frame stands at the front: call again with these bytes and those that follow
 	NoSuch     Code = C.DN_NO_SUCH     // a cause, a place or a version names nothing
 	TooLong    Code = C.DN_TOO_LONG    // a body has more than 65,535 bytes, and no frame can have it
-	PeerInUse  Code = C.DN_PEER_IN_USE // a peer whose cookie is to be changed is connected, or about to be
+	PeerInUse  Code = C.DN_PEER_IN_USE // a peer that is up would get another cookie
 	NoSuchEnd  Code = C.DN_NO_SUCH_END // the number was never given out
 	Gone       Code = C.DN_GONE        // the end is closed
 	WrongPhase Code = C.DN_WRONG_PHASE // the end is open, and takes no such event now
@@ -21,6 +21,7 @@ const (
 	Spent      Code = C.DN_SPENT       // the node has made its steps, or given out its ends
 	Full       Code = C.DN_FULL        // the ends that may be open are up, or no entry or no cookie is left
 	OpenEnds   Code = C.DN_OPEN_ENDS   // an end is open, and the node does not begin anew
+	HalfFlags  Code = C.DN_HALF_FLAGS  // a setup announces DFLAG_MANDATORY_25_DIGEST without the flags that it stands for
 )
 
 // Error is the code's word, as NoMemory.

@@ -119,7 +119,7 @@ func (n *Node) Disallow(peer []byte) error {
 	return done(C.dn_node_disallow(n.node, name, length))
 }
 
-// SetCookie keeps a cookie for this peer alone. It is refused as PeerInUse while the peer is connected, or about to be.
+// SetCookie keeps a cookie for this peer alone. It is refused as PeerInUse while the peer is connected, where it is another cookie.
 func (n *Node) SetCookie(peer, cookie []byte) error {
 	if n.node == nil {
 		return NotANode
@@ -129,8 +129,17 @@ func (n *Node) SetCookie(peer, cookie []byte) error {
 	return done(C.dn_node_cookie(n.node, name, length, secret, secretLength))
 }
 
+// RemoveCookie takes away the cookie that this peer has of its own. It is refused as PeerInUse while the peer is connected.
+func (n *Node) RemoveCookie(peer []byte) error {
+	if n.node == nil {
+		return NotANode
+	}
+	name, length := bytesOf(peer)
+	return done(C.dn_node_no_cookie(n.node, name, length))
+}
+
 // SetUsualCookie changes the cookie of each peer that has none of its own. It is refused as PeerInUse while one of those is
-// connected, or about to be.
+// connected.
 func (n *Node) SetUsualCookie(cookie []byte) error {
 	if n.node == nil {
 		return NotANode

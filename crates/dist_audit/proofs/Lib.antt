@@ -8,6 +8,7 @@ pub mod Mentioning
 pub mod Walking
 pub mod Beginning
 pub mod Faultless
+pub mod Unchanged
 pub mod Playing
 pub mod Sameness
 pub mod Quiet

@@ -15,6 +15,7 @@ use Rattle.dist_audit.proofs.Faultless.{few-nodes, links-paired}
 use Rattle.dist_audit.proofs.Pairs.{unpaired-alike}
 use Rattle.dist_audit.proofs.Homing.{all-come-home}
 use Rattle.dist_audit.proofs.Quiet.{FramesAlone, all-take-theirs}
+use Rattle.dist_audit.proofs.Unchanged.{KeepsSetups, own-digests, own-setups}
 
 -- all nodes begin in the opening world
 pub has-begun : (cs : List Closed) (first : World) → first ≡ empty (setups_of cs) → fault_of cs ≡ None → AllApply (begins 0 first.setups) first
@@ -79,8 +80,8 @@ play-tells error.TicketTwice cs ts all none h = absurd h
 play-tells error.Unpaired cs ts all none h = absurd h
 
 -- the lines were played in the order of their tickets, and the histories have no fault
-pub plays-up : FramesAlone → (cs : List Closed) (w : World) → fault_of cs ≡ None → (ts : List Told) × AreLinesOf cs ts × (w ≡ world_of cs ts) × AreOfOneWorld cs ts → IsWorldOf cs w
-plays-up alone cs w none p =
+pub plays-up : FramesAlone → KeepsSetups → (cs : List Closed) (w : World) → fault_of cs ≡ None → (ts : List Told) × AreLinesOf cs ts × (w ≡ world_of cs ts) × AreOfOneWorld cs ts → IsWorldOf cs w
+plays-up alone keeps cs w none p =
     let ts = p.0 in
     let all = p.1 in
     let one = p.3 in
@@ -93,5 +94,7 @@ plays-up alone cs w none p =
         one_world = one;
         links = all-come-home cs ts paired one;
         bodies = all-take-theirs alone cs ts one;
+        setups = own-setups keeps cs ts w p.2;
+        digests = own-digests keeps cs ts w p.2;
       },
     )

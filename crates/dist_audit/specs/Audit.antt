@@ -24,6 +24,8 @@ use Rattle.dist_world_model.specs.Delivery.{text_to}
 use Rattle.dist_world_lives.specs.Stepping.{wire_of}
 use Rattle.dist_world.specs.Asking.{node_of, said_to}
 use Rattle.dist_world_model.specs.Run.{run, count_applied}
+use Rattle.dist_world_model.specs.Laws.{AllLives}
+use Rattle.dist_world_model.specs.OwnSetups.{HasSetDigests, IsSetUp}
 use Rattle.dist_audit.specs.declared.audit_error.AuditError.{AuditError}
 use Rattle.dist_audit.specs.declared.audit_error.AuditError.TheVariants as error
 use Rattle.dist_audit.specs.Lines.{Told, AreLinesOf}
@@ -230,6 +232,10 @@ pub record PlayUpTo (cs : List Closed) (w : World) (ts : List Told) : Type 0 whe
   pub links : EachLinkComesHome cs ts
   -- each line of a frame takes its very body
   pub bodies : EachTakesItsBody cs ts
+  -- each incarnation has the very setup of its closed node, but for the creation: also its cookies, and which peers may connect
+  pub setups : AllLives (IsSetUp (setups_of cs) []) w
+  -- so each end that is up holds the digest of the cookie that its closed node was set up with for the peer
+  pub digests : AllLives (HasSetDigests (setups_of cs)) w
 
 -- w IS THE WORLD OF THESE HISTORIES
 abbrev pub IsWorldOf : List Closed → World → Type 0

@@ -16,6 +16,7 @@ use crate::walk::{follow_all, happen};
 use dist_frames::frame_in_front;
 use dist_locked_book::Closed;
 use dist_world::{World, WorldError};
+use dist_world_model::setups_are_own;
 use std::alloc::{AllocError, Global};
 
 /// The most closed nodes.
@@ -119,6 +120,7 @@ pub fn audit(alloc: Global, closed: &[Closed]) -> Result<World, AuditError>
     ensures first { IfErr result (λ e. TellsFirst e closed.now) }
 {
     frame_in_front();
+    setups_are_own();
     check_tickets(alloc, closed)?;
     let mut world = opening_world(alloc, closed)?;
     play_in_order(alloc, &mut world, closed)?;

@@ -1,5 +1,5 @@
 -- A history of calls of all kinds on a guest is a run of its node.
-use Rattle.std.proofs.Common.{◌≡◌, ℕ, List, [], ◌∷◌, ◌++◌, Option, Result, Ok, Err, refl, sym, ap, subst, ◌∙◌, if◌then◌else◌}
+use Rattle.std.proofs.Common.{◌≡◌, ◌==◌, ℕ, true, false, List, [], ◌∷◌, ◌++◌, Option, Result, Ok, Err, refl, sym, ap, subst, ◌∙◌, if◌then◌else◌}
 use Rattle.dist_core.specs.declared.changing.ChangeError.{ChangeError}
 use Rattle.dist_core.specs.declared.changing.ChangeError.TheVariants as change_error
 use Rattle.dist_core.specs.declared.event.Event.{Event}
@@ -13,11 +13,14 @@ use Rattle.dist_core.specs.declared.reply.Reply.{Reply}
 use Rattle.dist_names.specs.Order.{Name}
 use Rattle.dist_core.specs.Changing.{change, IsChange}
 use Rattle.dist_core.specs.Node.{NodeState}
-use Rattle.dist_core.specs.Runs.{node_after}
+use Rattle.std.specs.List.{count_by}
+use Rattle.dist_core_ends.specs.Ends.{is_open}
+use Rattle.dist_core.specs.Runs.{node_after, opening}
+use Rattle.dist_world_model.proofs.Lookups.{eqb-not}
 use Rattle.dist_core.specs.Step.{step}
 use Rattle.dist_c_guest.specs.declared.guest.Guest.{Guest}
 use Rattle.dist_c_guest.specs.Calls.{IsCall, node_letting, answer_after}
-use Rattle.dist_c_guest.specs.Histories.{AnyCall, Step_call, Change_call, Widened_call, Form_call, Forget_call, IsAnyHistory, IsMade, act_of, acts_of, change_lacked, guest_after, has_lacked, is_short_of_memory}
+use Rattle.dist_c_guest.specs.Histories.{AnyCall, Step_call, Change_call, Widened_call, Form_call, Forget_call, Renew_call, IsAnyHistory, IsMade, act_of, acts_of, change_lacked, guest_after, has_lacked, is_short_of_memory}
 
 abbrev node_of : Guest → NodeState
 node_of g = g.node
@@ -99,6 +102,10 @@ made (Change_call v answer after) xs first last h ih = by_change xs first after 
 made (Widened_call names back c) xs first last h ih = by_wide_back xs first c.after last ih c.event c.fresh names back c.answer h.0 h.1
 made (Form_call names after) xs first last h ih = goes xs first after last ih (acts.Changes (Allow names)) (sym h)
 made (Forget_call below after) xs first last h ih = goes xs first after last ih (acts.Forgets below) (sym h.0)
+made (Renew_call true after) xs first last h ih =
+    goes xs first after last ih acts.Renews (ap (λ k. if k == 0 then opening first.node.setup else first.node) h.0 ∙ ap node_of (sym h.1))
+made (Renew_call false after) xs first last h ih =
+    goes xs first after last ih acts.Renews (ap (λ b. if b then opening first.node.setup else first.node) (eqb-not (count_by is_open first.node.ends) 0 h.0) ∙ ap node_of (sym h.1))
 
 pub a-run-of-acts : (calls : List AnyCall) (first last : Guest) → IsAnyHistory calls first last → last.node ≡ run_acts (acts_of calls) first.node
 a-run-of-acts [] first last h = ap node_of h

@@ -5,3 +5,5 @@ pub mod Pending
 pub mod Places
 pub mod Runs
 pub mod Spelled
+pub mod WholeBodies
+pub mod GuestWorlds

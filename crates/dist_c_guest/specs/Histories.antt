@@ -1,5 +1,6 @@
 -- Histories of calls on a guest.
-use Rattle.std.specs.Prelude.{◌≡◌, ℕ, Bool, true, false, List, [], ◌∷◌, ◌++◌, Option, Result, Err, if◌then◌else◌}
+use Rattle.std.specs.Prelude.{◌≡◌, ◌≢◌, ℕ, count_by, Bool, true, false, List, [], ◌∷◌, ◌++◌, Option, Result, Err, if◌then◌else◌}
+use Rattle.dist_core_ends.specs.Ends.{is_open}
 use Rattle.dist_core.specs.declared.event.Event.{Event}
 use Rattle.dist_core.specs.declared.step_error.StepError.{StepError}
 use Rattle.dist_core.specs.declared.step_error.StepError.TheVariants as error
@@ -12,7 +13,7 @@ use Rattle.dist_core.specs.declared.changing.Change.TheVariants.{Allow}
 use Rattle.dist_names.specs.Order.{Name}
 use Rattle.dist_core.specs.Step.{step}
 use Rattle.dist_c_guest.specs.declared.guest.Guest.{Guest}
-use Rattle.dist_c_guest.specs.Calls.{IsCall, node_letting, answer_after}
+use Rattle.dist_c_guest.specs.Calls.{IsCall, answer_after, node_letting, restarted_guest}
 use Rattle.dist_c_guest.specs.Planning.{Changes}
 
 -- a call: its event, the challenge that was drawn for it, what it answered, and the guest after it
@@ -51,6 +52,8 @@ pub data AnyCall : Type 0 where
   Form_call : (names : Option (List Name)) → (after : Guest) → AnyCall
   -- the node forgets why its ends below a number were closed
   Forget_call : (below : ℕ) → (after : Guest) → AnyCall
+  -- the guest begins anew, where no end is open, and answered whether it did
+  Renew_call : (answer : Bool) → (after : Guest) → AnyCall
 
 -- the guest after a call
 abbrev pub guest_after : AnyCall → Guest
@@ -59,10 +62,16 @@ guest_after (Change_call v answer after) = after
 guest_after (Widened_call names back c) = c.after
 guest_after (Form_call names after) = after
 guest_after (Forget_call below after) = after
+guest_after (Renew_call answer after) = after
 
 -- the node forgot why its ends below a number were closed, and the newest reply stays
 abbrev pub Forgot : ℕ → Guest → Guest → Type 0
 Forgot below old new = (new.node ≡ act old.node (acts.Forgets below)) × (new.last ≡ old.last)
+
+-- the guest began anew, or some end was open and it stayed
+abbrev pub Renewed : Bool → Guest → Guest → Type 0
+Renewed true old new = (count_by is_open old.node.ends ≡ 0) × (new ≡ restarted_guest old)
+Renewed false old new = (count_by is_open old.node.ends ≢ 0) × (new ≡ old)
 
 -- this call was made on the guest
 abbrev pub IsMade : AnyCall → Guest → Type 0
@@ -72,6 +81,7 @@ IsMade (Widened_call names back c) old =
     (back ≡ old.node.setup.allow) × IsCall c.event c.answer (answer_after old.node (step (node_letting old.node names) c.event c.fresh)) old c.after
 IsMade (Form_call names after) old = after.node ≡ node_letting old.node names
 IsMade (Forget_call below after) old = Forgot below old after
+IsMade (Renew_call answer after) old = Renewed answer old after
 
 -- these calls were made one after another, from the first guest to the last
 abbrev pub IsAnyHistory : List AnyCall → Guest → Guest → Type 0
@@ -90,6 +100,7 @@ has_lacked (Change_call v answer after) = change_lacked answer
 has_lacked (Widened_call names back c) = is_short_of_memory c.answer
 has_lacked (Form_call names after) = false
 has_lacked (Forget_call below after) = false
+has_lacked (Renew_call answer after) = false
 
 -- what a call asks for
 abbrev pub act_of : AnyCall → List Act
@@ -98,6 +109,7 @@ act_of (Change_call v answer after) = acts.Changes v ∷ []
 act_of (Widened_call names back c) = acts.Changes (Allow names) ∷ acts.Steps c.event c.fresh ∷ acts.Changes (Allow back) ∷ []
 act_of (Form_call names after) = acts.Changes (Allow names) ∷ []
 act_of (Forget_call below after) = acts.Forgets below ∷ []
+act_of (Renew_call answer after) = acts.Renews ∷ []
 
 -- what the calls did for which memory did not run out
 abbrev pub acts_of : List AnyCall → List Act

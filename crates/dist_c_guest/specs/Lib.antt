@@ -5,3 +5,5 @@ pub mod Planning
 pub mod Reading
 pub mod Room
 pub mod Statuses
+pub mod Whole
+pub mod Worlds

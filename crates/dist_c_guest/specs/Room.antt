@@ -1,7 +1,8 @@
 -- Which end makes room for a newcomer.
-use Rattle.std.specs.Prelude.{◌≡◌, Option, Some, None, Result, Ok, Err}
+use Rattle.std.specs.Prelude.{◌≡◌, List, Option, Some, None, Result, Ok, Err}
 use Rattle.dist_peers.specs.declared.entry.EndId.{EndId}
-use Rattle.dist_core_ends.specs.Ends.{oldest_pending}
+use Rattle.dist_core_ends.specs.Ends.{oldest_pending, oldest_unnamed}
+use Rattle.dist_core_ends.specs.declared.known.End.{End}
 use Rattle.dist_core_ends.specs.declared.why.Why.TheVariants as why
 use Rattle.dist_core.specs.declared.event.Event.{Event}
 use Rattle.dist_core.specs.declared.event.Event.TheVariants as event
@@ -13,14 +14,23 @@ use Rattle.dist_core.specs.Step.{step}
 use Rattle.dist_c_guest.specs.declared.guest.Guest.{Guest}
 use Rattle.dist_c_guest.specs.Calls.{IsCall}
 
+-- the first of two, where it is there
+abbrev pub or_else : Option EndId → Option EndId → Option EndId
+or_else None other = other
+or_else (Some x) other = Some x
+
+-- THE END THAT IS GIVEN UP FIRST: the oldest on which no name came, and where there is none the oldest that is not up
+abbrev pub first_to_go : List End → Option EndId
+first_to_go es = or_else (oldest_unnamed es) (oldest_pending es)
+
 -- this end, where the definition refuses an event as full
 abbrev pub gives_way : Result (Reply × NodeState) StepError → Option EndId → Option EndId
-gives_way (Err error.Full) oldest = oldest
+gives_way (Err error.Full) first = first
 gives_way _ oldest = None
 
--- THE END THAT MAKES ROOM FOR AN EVENT: the oldest pending one, where the node refuses the event as full
+-- THE END THAT MAKES ROOM FOR AN EVENT, where the node refuses it as full
 abbrev pub room_for : Event → NodeState → Option EndId
-room_for v n = gives_way (step n v 0) (oldest_pending n.ends)
+room_for v n = gives_way (step n v 0) (first_to_go n.ends)
 
 -- this end was given up, by a step as any other; where there is none nothing changed
 abbrev pub MakesRoom : Option EndId → Guest → Guest → Type 0

@@ -20,6 +20,9 @@ pub use bodies::body_at;
 pub use call_error::CallError;
 pub use forms::{Forms, form_of, has_form};
 pub use guest::Guest;
-pub use laws::{a_history_is_a_run, any_history_is_a_run, plain_guests_read_what_came};
-pub use reading::Reading;
+pub use laws::{
+    a_history_is_a_run, any_history_is_a_run, guests_agree, guests_are_nodes,
+    plain_guests_read_what_came, whole_bodies_are_read_as_they_came,
+};
+pub use reading::{Reading, is_whole};
 pub use statuses::status_sent;

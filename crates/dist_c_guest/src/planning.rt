@@ -97,10 +97,10 @@ impl Guest {
         self.reading.forms.remove(form);
     }
 
-    /// Keeps a cookie for this peer; one that has a cookie of its own gets this in its place.
+    /// Keeps a cookie for this peer, in place of one that it has of its own; or takes that away, where there is no cookie.
     ///
-    /// Refused as `InUse` where the peer is connected or about to be, then `Full`, then `NoMemory`.
-    pub fn set_cookie(&mut self, peer: NodeName, cookie: Cookie) -> Result<(), ChangeError>
+    /// Refused as `InUse` where the peer is connected and this is another cookie than it has, then `Full`, then `NoMemory`.
+    pub fn set_cookie(&mut self, peer: NodeName, cookie: Option<Cookie>) -> Result<(), ChangeError>
         ensures { Changes result (changes.Cookie peer cookie) self.old self.new }
     {
         self.node.set_cookie(peer, cookie)
@@ -108,7 +108,7 @@ impl Guest {
 
     /// Changes the cookie of every peer that has none of its own. It takes no memory.
     ///
-    /// Refused as `InUse` alone: where a peer that has none of its own is connected or about to be.
+    /// Refused as `InUse` alone: where a peer that has none of its own is connected.
     pub fn set_usual_cookie(&mut self, cookie: Cookie) -> Result<(), ChangeError>
         ensures change { Changes result (changes.UsualCookie cookie) self.old self.new }
         ensures alone { IfErr result (λ error. error ≡ ChangeError.InUse) }

@@ -2,14 +2,19 @@
 ghost use Rattle.std.specs.Prelude.{◌≡◌, ◌++◌, IfOk, slice_index, take, drop};
 ghost use Rattle.std.specs.Int.{w32, w64};
 ghost use Rattle.dist_c_guest.specs.Reading.{expansion, in_place, plain};
+ghost use Rattle.dist_c_guest.specs.Whole.{is_whole};
 
 use crate::forms::Forms;
+use dist_core_setup::{Setup, announced_by};
 use dist_names::{ByteString, Flags};
 use std::alloc::{AllocError, Global};
 
 /// `DFLAG_MANDATORY_25_DIGEST`: OTP 25 and later read it as all the flags that they ask for, so that a later release may
 /// announce it alone.
 const DIGEST_25: Flags = Flags(0x4000000);
+
+/// The flags that OTP 25 asks for: those that `DFLAG_MANDATORY_25_DIGEST` stands for.
+const MANDATORY_25: Flags = Flags(0x1070f94);
 
 /// How a guest reads what comes.
 #[derive(Drop)]
@@ -30,6 +35,17 @@ impl Reading {
             forms: Forms::none(alloc),
         }
     }
+}
+
+/// Whether a node of this setup, to which the digest stands for these flags, is whole: where it announces the digest it
+/// announces what that stands for, and to itself the digest stands for just that, or for nothing. In a world of such nodes
+/// reading by the digest changes nothing, so that they agree as others do.
+pub fn is_whole(setup: &Setup, mandatory: Flags) -> bool
+    ensures { result ≡ is_whole setup.now mandatory.0 }
+{
+    let announced = announced_by(setup);
+    (mandatory.0 == 0 || mandatory.0 == MANDATORY_25.0)
+        && (!announced.has(DIGEST_25) || announced.has(MANDATORY_25))
 }
 
 // The first byte, and 0 where there is none.

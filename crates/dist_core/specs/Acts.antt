@@ -1,12 +1,13 @@
--- Runs of a node that is given events, whose setup is changed, and that forgets: all that is ever done to a node.
-use Rattle.std.specs.Prelude.{ℕ, List, [], ◌∷◌, Result, Ok, Err}
+-- Runs of a node that is given events, whose setup is changed, that forgets, and that begins anew: all that is ever done to a node.
+use Rattle.std.specs.Prelude.{ℕ, ◌==◌, if◌then◌else◌, List, [], ◌∷◌, count_by, Result, Ok, Err}
+use Rattle.dist_core_ends.specs.Ends.{is_open}
 use Rattle.dist_core_ends.specs.Forgetting.{without_causes_below}
 use Rattle.dist_core.specs.declared.changing.ChangeError.{ChangeError}
 use Rattle.dist_core.specs.declared.event.Event.{Event}
 use Rattle.dist_core.specs.declared.changing.Change.{Change}
 use Rattle.dist_core.specs.Changing.{change}
 use Rattle.dist_core.specs.Node.{NodeState}
-use Rattle.dist_core.specs.Runs.{node_after}
+use Rattle.dist_core.specs.Runs.{node_after, opening}
 use Rattle.dist_core.specs.Step.{step}
 
 -- what is done to a node
@@ -17,6 +18,8 @@ pub data Act : Type 0 where
   Changes : (changed : Change) → Act
   -- it is forgotten why the ends below a number were closed
   Forgets : (below : ℕ) → Act
+  -- it begins anew, where no end is open
+  Renews : Act
 
 -- a change that is refused leaves the node
 abbrev pub changed_or : NodeState → Result NodeState ChangeError → NodeState
@@ -28,6 +31,7 @@ abbrev pub act : NodeState → Act → NodeState
 act n (Steps v fresh) = node_after n (step n v fresh)
 act n (Changes v) = changed_or n (change n v)
 act n (Forgets below) = record n { ends = without_causes_below below n.ends }
+act n Renews = if count_by is_open n.ends == 0 then opening n.setup else n
 
 -- THE NODE AFTER THESE ACTS, one after another
 abbrev pub run_acts : List Act → NodeState → NodeState

@@ -1,20 +1,22 @@
 //! Changes of a node's setup, between two steps: its cookies, and which peers may connect.
 //!
 //! An Erlang node makes them at any time (`erlang:set_cookie/1,2`, `net_kernel:allow/1`), also of the cookie of a node that is
-//! connected, whose connection it keeps. Here such a cookie isn't changed while the peer has an entry (our own choice): so each
-//! handshake goes on under the cookie under which it began, and the record of each end that is up holds the digest of the cookie
-//! that the node has for that peer now, over all steps and changes.
+//! connected, whose connection it keeps. Here the cookie of a peer isn't changed while an end is up with it (our own choice): so the
+//! record of each end that is up holds the digest of the cookie that the node has for that peer now, over all steps and changes. A
+//! handshake doesn't hinder a change: whoever said a name and shows no cookie would else keep every cookie from being changed. What
+//! it has left to say and to check is said and checked with the new one.
 //!
 //! A change is no event of a step. An event has a reply, concerns one of the ends, counts as a step, and stands in books and in
 //! what auditors are given; a change has no reply, concerns no end that is there, and isn't counted.
 ghost use Rattle.std.specs.Prelude.{◌≡◌, IfErr, IfOk, slice_get};
 ghost use Rattle.std.specs.FinMap as map;
-ghost use Rattle.dist_core_ends.specs.Ends.{table_of};
-ghost use Rattle.dist_core.specs.Changing.{IsChange, after_change, change, is_usual_in_use, is_usual_row};
+ghost use Rattle.dist_core_ends.specs.Ends.{entry_in, table_of};
+ghost use Rattle.dist_core.specs.Changing.{IsChange, after_change, change, is_up, is_usual_in_use, is_usual_row};
 
 use crate::node::Node;
 use dist_core_setup::{Cookie, NameList};
 use dist_names::NodeName;
+use dist_secret::CookiesError;
 use std::alloc::{AllocError, Global};
 use std::mem::replace;
 use thiserror::Error;
@@ -22,9 +24,8 @@ use thiserror::Error;
 /// Why a setup is not changed: the first that holds, in this order. Each leaves the node unchanged.
 #[derive(Clone, Copy, Debug, PartialEq, Eq, Error)]
 pub enum ChangeError {
-    /// A peer that the change concerns has an entry: its end is up, or in a handshake, under the cookie that it has now. Once
-    /// that end is lost, the change can be made.
-    #[error("a peer whose cookie is to be changed is connected, or about to be")]
+    /// An end is up with a peer whose cookie would change. Once that end is lost, the change can be made.
+    #[error("a peer whose cookie is to be changed is connected")]
     InUse,
     /// 1,024 other names have cookies of their own, and this one has none yet. Our own limit.
     #[error("no room for the cookie of a further name")]
@@ -37,12 +38,19 @@ pub enum ChangeError {
 /// What is changed of a node's setup.
 #[derive(Drop)]
 pub enum Change {
-    /// The cookie of this peer, which is its own from then on.
-    Cookie { peer: NodeName, cookie: Cookie },
+    /// The cookie that this peer has of its own; with none, the usual one is its cookie from then on.
+    Cookie {
+        peer: NodeName,
+        cookie: Option<Cookie>,
+    },
     /// The cookie of every peer that has none of its own.
-    UsualCookie { cookie: Cookie },
+    UsualCookie {
+        cookie: Cookie,
+    },
     /// Which peers may connect: these, or all where there is no list.
-    Allow { allow: Option<NameList> },
+    Allow {
+        allow: Option<NameList>,
+    },
 }
 
 impl Change {
@@ -53,7 +61,10 @@ impl Change {
         Ok(match self {
             Change::Cookie { peer, cookie } => Change::Cookie {
                 peer: peer.try_clone(alloc)?,
-                cookie: cookie.try_clone(alloc)?,
+                cookie: match cookie {
+                    None => None,
+                    Some(cookie) => Some(cookie.try_clone(alloc)?),
+                },
             },
             Change::UsualCookie { cookie } => Change::UsualCookie {
                 cookie: cookie.try_clone(alloc)?,
@@ -83,27 +94,41 @@ impl Node {
         }
     }
 
-    /// Keeps a cookie for this peer, in place of one that it has of its own. No other peer's cookie changes.
+    /// Keeps a cookie for this peer, in place of one that it has of its own; or takes that away, where there is no cookie: then the
+    /// usual one is the peer's from then on. No other peer's cookie changes. To take one away takes no memory.
     ///
-    /// Refused as `InUse` where the peer has an entry, then `Full`, then `NoMemory`.
-    pub fn set_cookie(&mut self, peer: NodeName, cookie: Cookie) -> Result<(), ChangeError>
+    /// Refused as `InUse` where an end is up with the peer and this isn't the cookie that it has, then `Full`, then `NoMemory`. So a
+    /// peer that is up can be given the usual cookie as its own, before the usual one changes.
+    pub fn set_cookie(&mut self, peer: NodeName, cookie: Option<Cookie>) -> Result<(), ChangeError>
         ensures { IsChange result (change self.old (Change.Cookie peer cookie)) self.old self.new }
     {
-        if self.entry_of(&peer).is_some() {
+        if self.is_up(&peer) && self.setup.cookies.is_rekeyed_by(&peer, &cookie) {
             return Err(ChangeError::InUse);
         }
-        if self.setup.cookies.is_full_for(&peer) {
-            return Err(ChangeError::Full);
-        }
+        let Some(cookie) = cookie else {
+            self.setup.cookies.remove(&peer);
+            return Ok(());
+        };
         match self.setup.cookies.set(peer, cookie) {
             Ok(()) => Ok(()),
-            Err(_) => Err(ChangeError::NoMemory),
+            Err(CookiesError::Full) => Err(ChangeError::Full),
+            Err(CookiesError::NoMemory) => Err(ChangeError::NoMemory),
+        }
+    }
+
+    // Whether an end is up with this peer.
+    fn is_up(&self, peer: &NodeName) -> bool
+        ensures { result ≡ is_up (entry_in self.now.ends peer.now) }
+    {
+        match self.entry_of(peer) {
+            Some(entry) => entry.up().is_some(),
+            None => false,
         }
     }
 
     /// Changes the cookie of every peer that has none of its own. It takes no memory, and walks all entries.
     ///
-    /// Refused as `InUse` alone: where a peer has an entry and no cookie of its own.
+    /// Refused as `InUse` alone: where an end is up with a peer that has no cookie of its own.
     pub fn set_usual_cookie(&mut self, cookie: Cookie) -> Result<(), ChangeError>
         ensures change { IsChange result (change self.old (Change.UsualCookie cookie)) self.old self.new }
         ensures alone { IfErr result (λ error. error ≡ ChangeError.InUse) }
@@ -127,7 +152,7 @@ impl Node {
         replace(&mut self.setup.allow, allow)
     }
 
-    // Whether a peer that has an entry has no cookie of its own.
+    // Whether an end is up with a peer that has no cookie of its own.
     fn is_usual_in_use(&self) -> bool
         ensures { result ≡ is_usual_in_use self.now }
     {
@@ -144,7 +169,7 @@ impl Node {
         ensures { result ≡ is_usual_row self.now.setup (slice_get (map.entries (table_of self.now.ends)) i) }
     {
         match self.entry_at(i) {
-            Some((peer, _)) => !self.setup.cookies.owns(peer),
+            Some((peer, entry)) => entry.up().is_some() && !self.setup.cookies.owns(peer),
             None => false,
         }
     }

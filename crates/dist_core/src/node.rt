@@ -4,7 +4,7 @@ ghost use Rattle.std.specs.Prelude.{IfOk, IfErr, IsTrue, IsOk, OnOk, OnErr, true
 ghost use Rattle.std.specs.Option.{option_map};
 ghost use Rattle.std.specs.FinMap as map;
 ghost use Rattle.dist_core_ends.specs.Ends.{AreLegal, Finds, FindsUp, entry_in, table_of, is_open, is_dialing, claim_of};
-ghost use Rattle.dist_core_ends.specs.Ends.{oldest_pending, record_in, up_from, up_pair, up_ids, still_of, awaited_of};
+ghost use Rattle.dist_core_ends.specs.Ends.{oldest_pending, oldest_unnamed, record_in, up_from, up_pair, up_ids, still_of, awaited_of};
 ghost use Rattle.dist_core_ends.specs.Forgetting.{without_causes_below};
 ghost use Rattle.dist_core.specs.Node.{NodeState, ends_after, is_crowded, is_full_for, is_given_out, is_spent, limits_of, new_id};
 ghost use Rattle.dist_core.specs.Clauses.{ClosesOnReply, end_of, loss_reply, silent_reply, tick_reply};
@@ -182,6 +182,16 @@ impl Node {
         ensures same { self.new ≡ self.old }
     {
         self.ends.oldest_pending()
+    }
+
+    /// The end that has been open for the longest of those on which no name came yet: a caller that limits how many handshakes go
+    /// on at once gives this end up first, since whoever uses it has not said anything. As with `oldest_pending`, no other call sees
+    /// that this one was made.
+    pub fn oldest_unnamed(&mut self) -> Option<EndId>
+        ensures oldest { result ≡ oldest_unnamed self.old.ends }
+        ensures same { self.new ≡ self.old }
+    {
+        self.ends.oldest_unnamed()
     }
 
     /// Forgets why the ends below this number were closed: from now on each of them answers as if the other side had ended its

@@ -18,7 +18,7 @@ use Rattle.dist_core_ends.specs.declared.phase.Phase.{Phase}
 use Rattle.dist_core_ends.specs.declared.phase.Phase.TheVariants as phase
 use Rattle.dist_core_ends.specs.declared.phase.Kind.{Kind}
 use Rattle.dist_core_ends.specs.declared.phase.Kind.TheVariants.{Out, In, Up}
-use Rattle.dist_core_ends.specs.Ends.{Claim, claim_of, is_claim, same_kind, is_held, is_open, is_pending, kind_in, holds_at, names, Agree}
+use Rattle.dist_core_ends.specs.Ends.{Claim, claim_of, is_claim, same_kind, is_held, is_open, is_pending, is_unnamed, kind_in, holds_at, names, Agree}
 use Rattle.dist_core_ends.specs.Change.{StaysClosed, OtherStaysClosed, put_end, IsThere, Fits, claim_at, table_after_shift, AsksShift, table_after_rise, AsksRaise, view_after}
 use Rattle.dist_peers.specs.Verdicts.{ruling, is_greater}
 use Rattle.dist_core_ends.proofs.Tables.{order, same-name}
@@ -72,7 +72,7 @@ held-only p q k l (Some c) h s = only p (Some c) (sym (same-name p c.peer (both 
 -- an end of the first form may become one of the second
 abbrev pub may_be : End → End → Bool
 may_be ends.Unnamed s = true
-may_be (ends.Attempt b) s = true
+may_be (ends.Attempt b) s = cond (is_unnamed s) false true
 may_be (ends.Up r) s = cond (is_pending s) false true
 may_be (ends.Closed w) s = false
 
@@ -82,7 +82,7 @@ denied false h = refl
 
 stays-by : (d s : End) → may_be d s ≡ true → StaysClosed (Some d) s
 stays-by ends.Unnamed s h = tt
-stays-by (ends.Attempt b) s h = tt
+stays-by (ends.Attempt b) s h = denied (is_unnamed s) h
 stays-by (ends.Up r) s h = denied (is_pending s) h
 stays-by (ends.Closed w) s h = absurd (false≢true h)
 
@@ -90,17 +90,23 @@ pub stays-open : (o : Option End) (d s : End) → o ≡ Some d → may_be d s �
 stays-open o d s e h = let P : Option End → Type 0 = λ x. StaysClosed x s in subst P (sym e) (stays-by d s h)
 
 -- an end that holds its peer, and not as up
-stays-held : (p : Name) (k : Kind) (o : Option End) (s : End) → is_held p k o ≡ true → same_kind k Up ≡ false → StaysClosed o s
-stays-held p k None s h u = tt
-stays-held p k (Some ends.Unnamed) s h u = tt
-stays-held p k (Some (ends.Attempt b)) s h u = tt
-stays-held p k (Some (ends.Up r)) s h u = absurd (false≢true (sym (ap (λ b. b && same_name p r.peer) u) ∙ h))
-stays-held p k (Some (ends.Closed w)) s h u = absurd (false≢true h)
+stays-held : (p : Name) (k : Kind) (o : Option End) (s : End) → is_unnamed s ≡ false → is_held p k o ≡ true → same_kind k Up ≡ false → StaysClosed o s
+stays-held p k None s g h u = tt
+stays-held p k (Some ends.Unnamed) s g h u = tt
+stays-held p k (Some (ends.Attempt b)) s g h u = g
+stays-held p k (Some (ends.Up r)) s g h u = absurd (false≢true (sym (ap (λ b. b && same_name p r.peer) u) ∙ h))
+stays-held p k (Some (ends.Closed w)) s g h u = absurd (false≢true h)
+
+pub named-settled : (s : End) → is_pending s ≡ false → is_unnamed s ≡ false
+named-settled ends.Unnamed h = absurd (false≢true (sym h))
+named-settled (ends.Attempt b) h = refl
+named-settled (ends.Up r) h = refl
+named-settled (ends.Closed w) h = refl
 
 stays-claimed : (o : Option End) (c : Claim) (s : End) → claim_at o ≡ Some c → is_pending s ≡ false → StaysClosed o s
 stays-claimed None c s h u = tt
 stays-claimed (Some ends.Unnamed) c s h u = tt
-stays-claimed (Some (ends.Attempt b)) c s h u = tt
+stays-claimed (Some (ends.Attempt b)) c s h u = named-settled s u
 stays-claimed (Some (ends.Up r)) c s h u = u
 stays-claimed (Some (ends.Closed w)) c s h u = absurd cc
 
@@ -119,7 +125,7 @@ stays-closing o d w e h = let P : Option End → Type 0 = λ x. StaysClosed x (e
   where
     by : (d : End) → is_open d ≡ true → StaysClosed (Some d) (ends.Closed w)
     by ends.Unnamed h = tt
-    by (ends.Attempt b) h = tt
+    by (ends.Attempt b) h = refl
     by (ends.Up r) h = refl
     by (ends.Closed v) h = absurd (false≢true h)
 
@@ -127,7 +133,7 @@ stays-closing o d w e h = let P : Option End → Type 0 = λ x. StaysClosed x (e
 stays-shut : (p : Name) (k : Kind) (o : Option End) (s : End) → is_held p k o ≡ true → is_open s ≡ false → StaysClosed o s
 stays-shut p k None s h u = tt
 stays-shut p k (Some ends.Unnamed) s h u = tt
-stays-shut p k (Some (ends.Attempt b)) s h u = tt
+stays-shut p k (Some (ends.Attempt b)) s h u = named-settled s (shut-settled s u)
 stays-shut p k (Some (ends.Up r)) s h u = shut-settled s u
 stays-shut p k (Some (ends.Closed w)) s h u = absurd (false≢true h)
 
@@ -160,12 +166,12 @@ up-settled (ends.Attempt b) h = absurd (false≢true (sym (attempt-not-up b.peer
 up-settled (ends.Up r) h = refl
 up-settled (ends.Closed w) h = refl
 
--- an end that holds a peer, and not as up, may become any other
-free-by : (e s : End) (c : Claim) → claim_of e ≡ Some c → same_kind c.kind Up ≡ false → StaysClosed (Some e) s
-free-by ends.Unnamed s c h u = tt
-free-by (ends.Attempt b) s c h u = tt
-free-by (ends.Up r) s c h u = absurd (false≢true (sym u ∙ sym (ap is_up h)))
-free-by (ends.Closed w) s c h u = absurd cc
+-- an end that holds a peer, and not as up, may become any other that is not nameless
+free-by : (e s : End) (c : Claim) → is_unnamed s ≡ false → claim_of e ≡ Some c → same_kind c.kind Up ≡ false → StaysClosed (Some e) s
+free-by ends.Unnamed s c g h u = tt
+free-by (ends.Attempt b) s c g h u = g
+free-by (ends.Up r) s c g h u = absurd (false≢true (sym u ∙ sym (ap is_up h)))
+free-by (ends.Closed w) s c g h u = absurd cc
 
 -- the other end, once end id is e
 other-stays : (es : List End) (i : ℕ) (e : End) (x : ℕ) (s : End) → i ≤ length es → StaysClosed (Some e) s → StaysClosed (slice_get es x) s → StaysClosed (slice_get (put_end es i e) x) s
@@ -357,10 +363,10 @@ module _ (me : Name) (es : List End) (t : Table) (a : Agree (map.get t) es) wher
       (λ k i. (λ j. cond (eqb id.0 i) (own-claim p k In j) (names k i (before j))) ∙ here k i)
 
   pub fit-name2 : (id : EndId) (e : End) (x : EndId) (s : End) (p : Name) (l : Kind) (o : Option Entry) (g : Bool) → StaysClosed (slice_get es id.0) e → claim_at (slice_get es id.0) ≡ None → claim_of e ≡ claims p In → id.0 ≤ length es → map.get t p ≡ o → is_greater me p ≡ g → same_name me p ≡ false
-      → claim_of s ≡ None → names l x.0 o ≡ true
+      → claim_of s ≡ None → is_unnamed s ≡ false → names l x.0 o ≡ true
       → ((k : Kind) (i : ℕ) → cond (eqb x.0 i) false (cond (eqb id.0 i) (same_kind k In) (names k i o)) ≡ names k i (Some (let x = ruling g id o in x.entry))) → Fits me es t id e (Some (x, s))
-  fit-name2 id e x s p l o g stays was is place before greater apart gone named here =
-      fit-two me es t a id e x s p l (Some (let x = ruling g id o in x.entry)) None (claims p In) (free-by e s _ is refl) (stays-held p l (slice_get es x.0) s (a p l x.0 ∙ ap (names l x.0) before ∙ named) (not-held-up id x l o g named here)) stays was is place gone (there es p l x.0 (a p l x.0 ∙ ap (names l x.0) before ∙ named)) (ap (names l x.0) before ∙ named) apart
+  fit-name2 id e x s p l o g stays was is place before greater apart gone known named here =
+      fit-two me es t a id e x s p l (Some (let x = ruling g id o in x.entry)) None (claims p In) (free-by e s _ known is refl) (stays-held p l (slice_get es x.0) s known (a p l x.0 ∙ ap (names l x.0) before ∙ named) (not-held-up id x l o g named here)) stays was is place gone (there es p l x.0 (a p l x.0 ∙ ap (names l x.0) before ∙ named)) (ap (names l x.0) before ∙ named) apart
       (λ q. get-insert order t p _ q ∙ (λ j. cond (same_name q p) (Some (let x = ruling (greater j) id (before j) in x.entry)) (map.get t q))) tt refl
       (λ k i. (λ j. cond (eqb x.0 i) false (cond (eqb id.0 i) (own-claim p k In j) (names k i (before j)))) ∙ here k i)
 

@@ -1,80 +1,117 @@
--- The numbers before which no end is pending, when ends change: an end that is up or closed is never pending again.
+-- The numbers before which no end is of a kind, when ends change: an end that is up or closed is never pending again, and one that
+-- has a name is never nameless again.
 use Rattle.std.proofs.Common.{◌≡◌, ℕ, zero, suc, ◌<◌, ◌≤◌, true, false, cond, eqb, List, [], ◌∷◌, length, Option, Some, None, Result, Ok, Err, OnOk, OnErr, refl, sym, ap, ◌∙◌, subst, arith, slice_get}
 use Rattle.std.proofs.lemmas.Bool.{false≢true, eqb-true}
+use Rattle.dist_names.specs.Order.{Name}
 use Rattle.dist_peers.specs.declared.entry.EndId.{EndId}
+use Rattle.dist_peers.specs.Table.{Table}
 use Rattle.dist_core_ends.specs.declared.known.End.{End}
 use Rattle.dist_core_ends.specs.declared.known.End.TheVariants as ends
 use Rattle.dist_core_ends.specs.declared.slots.Row.{Row}
-use Rattle.dist_core_ends.specs.Ends.{is_pending}
-use Rattle.dist_core_ends.specs.Change.{put_end, with_change, StaysClosed, OtherStaysClosed, IsThere}
+use Rattle.dist_core_ends.specs.declared.slots.Sought.{Sought}
+use Rattle.dist_core_ends.specs.declared.slots.Sought.TheVariants as sought
+use Rattle.dist_core_ends.specs.Ends.{is_pending, is_unnamed}
+use Rattle.dist_core_ends.specs.Change.{Fits, put_end, with_change, StaysClosed, OtherStaysClosed, IsThere}
 use Rattle.dist_core_ends.specs.Forgetting.{without_cause, without_causes_below}
-use Rattle.dist_core_ends.specs.Keeping.{Slots, ends_of_rows, waits, AreSettled}
+use Rattle.dist_core_ends.specs.Keeping.{Slots, ends_of_rows, is_sought, finds_sought, AreSettled, IsPast}
 use Rattle.dist_core_ends.proofs.Changes.{get-put, length-put}
+use Rattle.dist_core_ends.proofs.Fitting.{named-settled}
 use Rattle.dist_core_ends.proofs.Keeping.{put-within, shown-length}
 use Rattle.std.proofs.Math.ListN.{length-set}
 
-still-settled : (d e : End) → is_pending d ≡ false → StaysClosed (Some d) e → is_pending e ≡ false
-still-settled ends.Unnamed e h s = absurd (false≢true (sym h))
-still-settled (ends.Attempt a) e h s = absurd (false≢true (sym h))
-still-settled (ends.Up r) e h s = s
-still-settled (ends.Closed w) e h s = ap is_pending s
+still-settled : (k : Sought) (d e : End) → is_sought k d ≡ false → StaysClosed (Some d) e → is_sought k e ≡ false
+still-settled sought.Pending ends.Unnamed e h s = absurd (false≢true (sym h))
+still-settled sought.Pending (ends.Attempt a) e h s = absurd (false≢true (sym h))
+still-settled sought.Pending (ends.Up r) e h s = s
+still-settled sought.Pending (ends.Closed w) e h s = ap is_pending s
+still-settled sought.Nameless ends.Unnamed e h s = absurd (false≢true (sym h))
+still-settled sought.Nameless (ends.Attempt a) e h s = s
+still-settled sought.Nameless (ends.Up r) e h s = named-settled e s
+still-settled sought.Nameless (ends.Closed w) e h s = ap is_unnamed s
 
 end-there : (es : List End) (i : ℕ) → i < length es → (d : End) × (slice_get es i ≡ Some d)
 end-there [] i h = absurd (omega (arith, h))
 end-there (e ∷ es) zero h = (e, refl)
 end-there (e ∷ es) (suc i) h = end-there es i (omega (arith, h))
 
--- an end that is there
-here-settled : (es : List End) (i : ℕ) (e : End) → i < length es → waits (slice_get es i) ≡ false → StaysClosed (slice_get es i) e → is_pending e ≡ false
-here-settled es i e within h s =
-    let d = end-there es i within in
-    let P : Option End → Type 0 = λ o. StaysClosed o e in
-    still-settled (d.0) e (sym (ap waits (d.1)) ∙ h) (subst P (d.1) s)
-
-put-settled : (es : List End) (n x : ℕ) (e : End) → AreSettled es n → n ≤ length es → x ≤ length es → StaysClosed (slice_get es x) e → AreSettled (put_end es x e) n
-put-settled es n x e a within place s i h =
-    let P : ℕ → Type 0 = λ k. StaysClosed (slice_get es k) e in
-    ap waits (get-put es x e i place)
-    ∙ elim (eqb x i) as (λ b. eqb x i ≡ b → waits (cond b (Some e) (slice_get es i)) ≡ false) [
-      | true ↦ λ b. here-settled es i e (omega (arith, h, within)) (a i h) (subst P (eqb-true x i b) s)
-      | false ↦ λ b. a i h
-    ] refl
-
-pub changed-settled : (es : List End) (n : ℕ) (id : EndId) (this : End) (other : Option (EndId × End)) → AreSettled es n → n ≤ length es → id.0 ≤ length es → StaysClosed (slice_get es id.0) this → IsThere es other → OtherStaysClosed (put_end es id.0 this) other → AreSettled (with_change es id this other) n
-changed-settled es n id this None a within place s there o = put-settled es n id.0 this a within place s
-changed-settled es n id this (Some x) a within place s there o =
-    let fs = put_end es id.0 this in
-    let longer : length es ≤ length fs = length-put es id.0 this in
-    let y : ℕ = let y = x.0 in y.0 in
-    let P : List End → Type 0 = λ gs. AreSettled gs n in
-    subst P (sym (put-within fs y x.1 (omega (arith, there, longer)))) (put-settled fs n y x.1 (put-settled es n id.0 this a within place s) (omega (arith, within, longer)) (omega (arith, there, longer)) o)
-
-pub changed-longer : (es : List End) (id : EndId) (this : End) (other : Option (EndId × End)) → length es ≤ length (with_change es id this other)
+changed-longer : (es : List End) (id : EndId) (this : End) (other : Option (EndId × End)) → length es ≤ length (with_change es id this other)
 changed-longer es id this None = length-put es id.0 this
 changed-longer es id this (Some x) = omega (arith, length-put es id.0 this, length-set {A = End})
 
-same-waits : (e : End) → is_pending (without_cause e) ≡ is_pending e
-same-waits ends.Unnamed = refl
-same-waits (ends.Attempt a) = refl
-same-waits (ends.Up r) = refl
-same-waits (ends.Closed w) = refl
+same-sought : (k : Sought) (e : End) → is_sought k (without_cause e) ≡ is_sought k e
+same-sought sought.Pending ends.Unnamed = refl
+same-sought sought.Pending (ends.Attempt a) = refl
+same-sought sought.Pending (ends.Up r) = refl
+same-sought sought.Pending (ends.Closed w) = refl
+same-sought sought.Nameless ends.Unnamed = refl
+same-sought sought.Nameless (ends.Attempt a) = refl
+same-sought sought.Nameless (ends.Up r) = refl
+same-sought sought.Nameless (ends.Closed w) = refl
 
-waits-forgotten : (b : ℕ) (es : List End) (i : ℕ) → waits (slice_get (without_causes_below b es) i) ≡ waits (slice_get es i)
-waits-forgotten zero [] i = refl
-waits-forgotten (suc b) [] i = refl
-waits-forgotten zero (e ∷ es) i = refl
-waits-forgotten (suc b) (e ∷ es) zero = same-waits e
-waits-forgotten (suc b) (e ∷ es) (suc i) = waits-forgotten b es i
+module _ (k : Sought) where
+  -- an end that is there
+  here-settled : (es : List End) (i : ℕ) (e : End) → i < length es → finds_sought k (slice_get es i) ≡ false → StaysClosed (slice_get es i) e → is_sought k e ≡ false
+  here-settled es i e within h s =
+      let d = end-there es i within in
+      let P : Option End → Type 0 = λ o. StaysClosed o e in
+      still-settled k (d.0) e (sym (ap (finds_sought k) (d.1)) ∙ h) (subst P (d.1) s)
 
-pub forgotten-settled : (b : ℕ) (es : List End) (n : ℕ) → AreSettled es n → AreSettled (without_causes_below b es) n
-forgotten-settled b es n a i h = waits-forgotten b es i ∙ a i h
+  put-settled : (es : List End) (n x : ℕ) (e : End) → AreSettled k es n → n ≤ length es → x ≤ length es → StaysClosed (slice_get es x) e → AreSettled k (put_end es x e) n
+  put-settled es n x e a within place s i h =
+      let P : ℕ → Type 0 = λ y. StaysClosed (slice_get es y) e in
+      ap (finds_sought k) (get-put es x e i place)
+      ∙ elim (eqb x i) as (λ b. eqb x i ≡ b → finds_sought k (cond b (Some e) (slice_get es i)) ≡ false) [
+        | true ↦ λ b. here-settled es i e (omega (arith, h, within)) (a i h) (subst P (eqb-true x i b) s)
+        | false ↦ λ b. a i h
+      ] refl
 
--- the ends after a change for which memory may have run out
-pub either-settled : {X E : Type 0} (r : Result X E) (es fs new : List End) (n : ℕ) → AreSettled es n → AreSettled fs n → OnOk r (new ≡ fs) → OnErr r (new ≡ es) → AreSettled new n
-either-settled (Ok x) es fs new n a b h g = let P : List End → Type 0 = λ gs. AreSettled gs n in subst P (sym h) b
-either-settled (Err x) es fs new n a b h g = let P : List End → Type 0 = λ gs. AreSettled gs n in subst P (sym g) a
+  changed-settled : (es : List End) (n : ℕ) (id : EndId) (this : End) (other : Option (EndId × End)) → AreSettled k es n → n ≤ length es → id.0 ≤ length es → StaysClosed (slice_get es id.0) this → IsThere es other → OtherStaysClosed (put_end es id.0 this) other → AreSettled k (with_change es id this other) n
+  changed-settled es n id this None a within place s there o = put-settled es n id.0 this a within place s
+  changed-settled es n id this (Some x) a within place s there o =
+      let fs = put_end es id.0 this in
+      let longer : length es ≤ length fs = length-put es id.0 this in
+      let y : ℕ = let y = x.0 in y.0 in
+      let P : List End → Type 0 = λ gs. AreSettled k gs n in
+      subst P (sym (put-within fs y x.1 (omega (arith, there, longer)))) (put-settled fs n y x.1 (put-settled es n id.0 this a within place s) (omega (arith, within, longer)) (omega (arith, there, longer)) o)
 
--- there are as many rows at least
-pub either-longer : {X E : Type 0} (r : Result X E) (rows new : List Row) (old slots : Slots) (fs : List End) (n : ℕ) → n ≤ length rows → length (ends_of_rows rows old) ≤ length fs → OnOk r (ends_of_rows new slots ≡ fs) → OnErr r (ends_of_rows new slots ≡ ends_of_rows rows old) → n ≤ length new
-either-longer (Ok x) rows new old slots fs n within more h g = omega (arith, within, more, ap length h, shown-length rows old, shown-length new slots)
-either-longer (Err x) rows new old slots fs n within more h g = omega (arith, within, ap length g, shown-length rows old, shown-length new slots)
+  -- the ends after a change
+  pub past-changed : (me : Name) (t : Table) (rows new : List Row) (old slots : Slots) (n : ℕ) (id : EndId) (this : End) (other : Option (EndId × End))
+      → IsPast k rows old n → Fits me (ends_of_rows rows old) t id this other → ends_of_rows new slots ≡ with_change (ends_of_rows rows old) id this other → IsPast k new slots n
+  past-changed me t rows new old slots n id this other p f is =
+      let es = ends_of_rows rows old in
+      let P : List End → Type 0 = λ gs. AreSettled k gs n in
+      record {
+        within = omega (arith, p.within, ap length is, changed-longer es id this other, shown-length new slots, shown-length rows old);
+        settled = subst P (sym is) (changed-settled es n id this other p.settled (omega (arith, p.within, shown-length rows old)) f.place f.stays f.other_there f.other_stays);
+      }
+
+  -- ends that are as they were
+  past-kept : (rows new : List Row) (old slots : Slots) (n : ℕ) → IsPast k rows old n → ends_of_rows new slots ≡ ends_of_rows rows old → IsPast k new slots n
+  past-kept rows new old slots n p is =
+      let P : List End → Type 0 = λ gs. AreSettled k gs n in
+      record {
+        within = omega (arith, p.within, ap length is, shown-length new slots, shown-length rows old);
+        settled = subst P (sym is) p.settled;
+      }
+
+  -- the ends after a change for which memory may have run out
+  pub past-either : {X E : Type 0} (r : Result X E) (me : Name) (t : Table) (rows new : List Row) (old slots : Slots) (n : ℕ) (id : EndId) (this : End) (other : Option (EndId × End))
+      → IsPast k rows old n → Fits me (ends_of_rows rows old) t id this other
+      → OnOk r (ends_of_rows new slots ≡ with_change (ends_of_rows rows old) id this other) → OnErr r (ends_of_rows new slots ≡ ends_of_rows rows old) → IsPast k new slots n
+  past-either (Ok x) me t rows new old slots n id this other p f h g = past-changed me t rows new old slots n id this other p f h
+  past-either (Err x) me t rows new old slots n id this other p f h g = past-kept rows new old slots n p g
+
+  sought-forgotten : (b : ℕ) (es : List End) (i : ℕ) → finds_sought k (slice_get (without_causes_below b es) i) ≡ finds_sought k (slice_get es i)
+  sought-forgotten zero [] i = refl
+  sought-forgotten (suc b) [] i = refl
+  sought-forgotten zero (e ∷ es) i = refl
+  sought-forgotten (suc b) (e ∷ es) zero = same-sought k e
+  sought-forgotten (suc b) (e ∷ es) (suc i) = sought-forgotten b es i
+
+  pub past-forgotten : (b : ℕ) (rows new : List Row) (slots : Slots) (n : ℕ) → IsPast k rows slots n → length new ≡ length rows → ends_of_rows new slots ≡ without_causes_below b (ends_of_rows rows slots) → IsPast k new slots n
+  past-forgotten b rows new slots n p len is =
+      let P : List End → Type 0 = λ gs. AreSettled k gs n in
+      record {
+        within = omega (arith, p.within, len);
+        settled = subst P (sym is) (λ i h. sought-forgotten b (ends_of_rows rows slots) i ∙ p.settled i h);
+      }

@@ -11,7 +11,7 @@ use Rattle.dist_core_ends.specs.declared.phase.Kind.{Kind}
 use Rattle.dist_core_ends.specs.declared.phase.Kind.TheVariants.{Out, In, Up}
 use Rattle.dist_core_ends.specs.declared.known.End.{End}
 use Rattle.dist_core_ends.specs.declared.known.End.TheVariants as ends
-use Rattle.dist_core_ends.specs.Ends.{Claim, claim_of, is_pending, Agree}
+use Rattle.dist_core_ends.specs.Ends.{Claim, claim_of, is_pending, is_unnamed, Agree}
 
 -- the ends with this one at place i, which may be the place after the last
 abbrev pub put_end : List End → ℕ → End → List End
@@ -95,11 +95,11 @@ abbrev pub IsThere : List End → Option (EndId × End) → Type 0
 IsThere es None = Unit {0}
 IsThere es (Some x) = (let y = x.0 in y.0) < length es
 
--- an end that is closed stays as it is, and one that is up stays so until it is closed
+-- an end that is closed stays as it is, one that is up stays so until it is closed, and an attempt is never nameless again
 abbrev pub StaysClosed : Option End → End → Type 0
 StaysClosed None e = Unit {0}
 StaysClosed (Some ends.Unnamed) e = Unit {0}
-StaysClosed (Some (ends.Attempt a)) e = Unit {0}
+StaysClosed (Some (ends.Attempt a)) e = is_unnamed e ≡ false
 StaysClosed (Some (ends.Up r)) e = is_pending e ≡ false
 StaysClosed (Some (ends.Closed w)) e = e ≡ ends.Closed w
 

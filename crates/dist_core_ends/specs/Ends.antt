@@ -142,9 +142,19 @@ is_pending (ends.Attempt a) = true
 is_pending (ends.Up r) = false
 is_pending (ends.Closed w) = false
 
--- THE OLDEST PENDING END: numbers are given out in order, so it is the one of the lowest number
+-- the end was accepted, and no name came on it yet
+abbrev pub is_unnamed : End → Bool
+is_unnamed ends.Unnamed = true
+is_unnamed (ends.Attempt a) = false
+is_unnamed (ends.Up r) = false
+is_unnamed (ends.Closed w) = false
+
+-- THE OLDEST PENDING END, AND THE OLDEST ON WHICH NO NAME CAME: numbers are given out in order, so it is the one of the lowest number
 abbrev pub oldest_pending : List End → Option EndId
 oldest_pending es = option_map end_id (first_of is_pending es)
+
+abbrev pub oldest_unnamed : List End → Option EndId
+oldest_unnamed es = option_map end_id (first_of is_unnamed es)
 
 -- an attempt that was dialled, and no connection is there yet
 abbrev pub waits_in : Phase → Bool

@@ -1,5 +1,5 @@
 -- Where ends are kept: open ones in slots, and of a closed one its cause alone. No public contract speaks of it.
-use Rattle.std.specs.Prelude.{◌≡◌, ◌≢◌, ℕ, zero, suc, ◌+◌, ◌<◌, Bool, true, false, List, [], ◌∷◌, Option, Some, None}
+use Rattle.std.specs.Prelude.{◌≡◌, ◌≢◌, ℕ, zero, suc, ◌+◌, ◌<◌, ◌≤◌, Bool, true, false, List, [], ◌∷◌, length, Option, Some, None}
 use Rattle.std.specs.Prelude.{is_some, slice_get, slice_index_or, count_by}
 use Rattle.slab.specs.Slab.{Slab, slab_len}
 use Rattle.dist_core_ends.specs.declared.why.Why.TheVariants as why
@@ -7,7 +7,9 @@ use Rattle.dist_core_ends.specs.declared.known.End.{End}
 use Rattle.dist_core_ends.specs.declared.known.End.TheVariants as ends
 use Rattle.dist_core_ends.specs.declared.slots.Row.{Row}
 use Rattle.dist_core_ends.specs.declared.slots.Row.TheVariants as row
-use Rattle.dist_core_ends.specs.Ends.{is_open, is_pending}
+use Rattle.dist_core_ends.specs.declared.slots.Sought.{Sought}
+use Rattle.dist_core_ends.specs.declared.slots.Sought.TheVariants as sought
+use Rattle.dist_core_ends.specs.Ends.{is_open, is_pending, is_unnamed}
 
 abbrev pub Slots : Type 0
 Slots = List (Option End)
@@ -72,11 +74,21 @@ rows_forgotten b [] = []
 rows_forgotten zero (r ∷ rows) = r ∷ rows
 rows_forgotten (suc b) (r ∷ rows) = without_row_cause r ∷ rows_forgotten b rows
 
--- the end is open and not up
-abbrev pub waits : Option End → Bool
-waits None = false
-waits (Some e) = is_pending e
+-- an end of this kind
+abbrev pub is_sought : Sought → End → Bool
+is_sought sought.Pending e = is_pending e
+is_sought sought.Nameless e = is_unnamed e
 
--- none of the ends before this number is pending
-abbrev pub AreSettled : List End → ℕ → Type 0
-AreSettled es n = (i : ℕ) → i < n → waits (slice_get es i) ≡ false
+-- there is an end, and it is of this kind
+abbrev pub finds_sought : Sought → Option End → Bool
+finds_sought k None = false
+finds_sought k (Some e) = is_sought k e
+
+-- none of the ends before this number is of this kind
+abbrev pub AreSettled : Sought → List End → ℕ → Type 0
+AreSettled k es n = (i : ℕ) → i < n → finds_sought k (slice_get es i) ≡ false
+
+-- the same of a number that was given out, or is the next one
+pub record IsPast (k : Sought) (rows : List Row) (slots : Slots) (n : ℕ) : Type 0 where
+  pub within : n ≤ length rows
+  pub settled : AreSettled k (ends_of_rows rows slots) n

@@ -6,7 +6,7 @@ ghost use Rattle.dist_names.specs.Order.{Name};
 ghost use Rattle.dist_peers.specs.Table.{replaced_by};
 ghost use Rattle.dist_peers.specs.Verdicts.{is_full};
 ghost use Rattle.dist_core_ends.specs.Ends.{AreLegal, FindsUp, Finds, entry_in, table_of, is_open, is_dialing, claim_of, end_id};
-ghost use Rattle.dist_core_ends.specs.Ends.{record_in, up_from, up_pair, up_id, up_ids, oldest_pending, still_of, awaited_of, verdict_of};
+ghost use Rattle.dist_core_ends.specs.Ends.{record_in, up_from, up_pair, up_id, up_ids, oldest_pending, oldest_unnamed, still_of, awaited_of, verdict_of};
 ghost use Rattle.dist_core_ends.specs.Change.{Fits, StaysClosed, with_change};
 ghost use Rattle.dist_core_ends.specs.Forgetting.{without_causes_below};
 ghost use Rattle.dist_core_ends.specs.Progress.{at_stage, replaced_end, CanAdvance, CanRise};
@@ -14,7 +14,7 @@ ghost use Rattle.dist_core_ends.specs.Progress.{at_stage, replaced_end, CanAdvan
 use crate::known::{Attempt, End, Stage, UpRecord};
 use crate::phase::{Absent, Awaited, Phase, Still};
 use crate::rows::Rows;
-use crate::slots::{change_attempt, find, first_waiting};
+use crate::slots::{Sought, change_attempt, find, first_sought};
 use crate::table::{add, apply, close_end, connect_end};
 use crate::why::Why;
 use dist_names::NodeName;
@@ -34,6 +34,8 @@ pub struct Ends {
     slots: Slab<End>,
     /// No end before this number is pending, and none will be: it only rises.
     passed: usize,
+    /// The same of ends on which no name came.
+    named: usize,
 }
 
 impl Model for Ends {
@@ -46,7 +48,7 @@ impl Model for Ends {
 
     ghost view = { λ b. ends_of_rows b.rows.items b.slots.slots };
 
-    ghost invariant = { λ b. KeepsEnds b.peers b.rows.items b.slots.slots b.passed };
+    ghost invariant = { λ b. KeepsEnds b.peers b.rows.items b.slots.slots b.passed b.named };
 }
 
 impl Ends {
@@ -59,6 +61,7 @@ impl Ends {
             rows: Rows::new(alloc),
             slots: Slab::new(alloc),
             passed: 0,
+            named: 0,
         }
     }
 
@@ -230,9 +233,23 @@ impl Ends {
         ensures oldest { result ≡ oldest_pending self.old }
         ensures same { self.new ≡ self.old }
     {
-        self.passed = first_waiting(&self.rows, &self.slots, self.passed);
+        self.passed = first_sought(&self.rows, &self.slots, self.passed, Sought::Pending);
         if self.passed < self.rows.len() {
             Some(EndId(self.passed as u32))
+        } else {
+            None
+        }
+    }
+
+    /// The end that has been open for the longest of those on which no name came yet. `None` where none is. As with
+    /// `oldest_pending`, no end changes, no memory is taken, and all calls together take time for each end once.
+    pub fn oldest_unnamed(&mut self) -> Option<EndId>
+        ensures oldest { result ≡ oldest_unnamed self.old }
+        ensures same { self.new ≡ self.old }
+    {
+        self.named = first_sought(&self.rows, &self.slots, self.named, Sought::Nameless);
+        if self.named < self.rows.len() {
+            Some(EndId(self.named as u32))
         } else {
             None
         }

@@ -3,7 +3,7 @@ ghost use Rattle.std.specs.Prelude.{◌≡◌, ◌<◌, ◌≤◌, ◌+◌, ◌+
 ghost use Rattle.slab.specs.Slab.{ContainsKey, HasRoomFor, slab_len};
 ghost use Rattle.dist_core_ends.specs.Ends.{is_open, Finds};
 ghost use Rattle.dist_core_ends.specs.Change.{put_end, put_other, with_change, StaysClosed, OtherStaysClosed, IsThere};
-ghost use Rattle.dist_core_ends.specs.Keeping.{ends_of_rows, in_slot, AreKept, Refills, Empties, GivesRow, AreSettled, waits};
+ghost use Rattle.dist_core_ends.specs.Keeping.{ends_of_rows, in_slot, AreKept, Refills, Empties, GivesRow, IsPast, finds_sought};
 ghost use Rattle.dist_core_ends.specs.declared.known.Attempt.{Attempt};
 ghost use Rattle.dist_core_ends.specs.Progress.{at_stage, replaced_end, IsAttempt, IsAttemptWith};
 
@@ -21,6 +21,13 @@ pub enum Row {
     Slot(usize),
     /// The end is closed, for this cause.
     Closed(Why),
+}
+
+/// Which ends are sought: those that are open and not up, or of these those on which no name came.
+#[derive(Clone, Copy, PartialEq, Eq)]
+pub enum Sought {
+    Pending,
+    Nameless,
 }
 
 // The end of this number, where it is open.
@@ -203,29 +210,27 @@ pub fn keep(slots: &mut Slab<End>, end: End) -> Row
     }
 }
 
-// Whether the end of this number is open and not up.
-fn waits(rows: &Rows, slots: &Slab<End>, id: EndId) -> bool
+// Whether the end of this number is of this kind.
+fn is_sought(rows: &Rows, slots: &Slab<End>, id: EndId, sought: Sought) -> bool
     requires { AreKept rows.now.items slots.now.slots }
-    ensures { result ≡ waits (slice_get (ends_of_rows rows.now.items slots.now.slots) id.0) }
+    ensures { result ≡ finds_sought sought (slice_get (ends_of_rows rows.now.items slots.now.slots) id.0) }
 {
     match find(rows, slots, id) {
-        Ok(End::Up(_)) => false,
-        Ok(_) => true,
-        Err(_) => false,
+        Ok(End::Unnamed) => true,
+        Ok(End::Attempt(_)) => sought == Sought::Pending,
+        _ => false,
     }
 }
 
-// The number of the first end that is open and not up, from a number on before which none is, or how many ends there are.
-pub fn first_waiting(rows: &Rows, slots: &Slab<End>, from: usize) -> usize
+// The number of the first end of this kind, from a number on before which none is, or how many ends there are.
+pub fn first_sought(rows: &Rows, slots: &Slab<End>, from: usize, sought: Sought) -> usize
     requires kept { AreKept rows.now.items slots.now.slots }
-    requires from { from ≤ length rows.now.items }
-    requires before { AreSettled (ends_of_rows rows.now.items slots.now.slots) from }
-    ensures within { result ≤ length rows.now.items }
-    ensures before { AreSettled (ends_of_rows rows.now.items slots.now.slots) result }
-    ensures here { result < length rows.now.items → waits (slice_get (ends_of_rows rows.now.items slots.now.slots) result) ≡ true }
+    requires past { IsPast sought rows.now.items slots.now.slots from }
+    ensures past { IsPast sought rows.now.items slots.now.slots result }
+    ensures here { result < length rows.now.items → finds_sought sought (slice_get (ends_of_rows rows.now.items slots.now.slots) result) ≡ true }
 {
     for i in from..rows.len() {
-        if waits(rows, slots, EndId(i as u32)) {
+        if is_sought(rows, slots, EndId(i as u32), sought) {
             return i;
         }
     }

@@ -1,6 +1,8 @@
 -- Why ends were closed changes no step.
-use Rattle.std.proofs.Common.{◌≡◌, ℕ, ◌||◌, not, nat_lt, cond, List, [], ◌∷◌, map, Option, Some, None, Result, Ok, Err, refl, sym, ap, ◌∙◌, subst, slice_get}
+use Rattle.std.proofs.Common.{◌≡◌, ℕ, ◌||◌, not, nat_lt, cond, ◌&&◌, ◌==◌, Bool, true, false, List, [], ◌∷◌, map, Option, Some, None, Result, Ok, Err, refl, sym, ap, ◌∙◌, subst, slice_get}
 use Rattle.std.specs.Option.{option_map}
+use Rattle.std.specs.List.{count_by, list_any}
+use Rattle.std.specs.FinMap as finite
 use Rattle.dist_names.specs.Order.{Name}
 use Rattle.dist_names.specs.declared.flags.Flags.{Flags}
 use Rattle.dist_names.specs.declared.creation.Creation.{Creation}
@@ -18,10 +20,11 @@ use Rattle.dist_peers.specs.declared.entry.EndId.{EndId}
 use Rattle.dist_peers.specs.declared.entry.Entry.{Entry}
 use Rattle.dist_peers.specs.declared.entry.Verdict.{Verdict}
 use Rattle.dist_peers.specs.declared.entry.Verdict.TheVariants as verdict
+use Rattle.dist_secret.specs.Cookies.{rekeys}
 use Rattle.dist_core_setup.specs.Rules.{form_of_old, is_refused, knows_six, required_of}
 use Rattle.dist_core_setup.specs.Saying.{greeting_text, status_text}
 use Rattle.dist_core_setup.specs.declared.setup.Setup.{Setup}
-use Rattle.dist_core_ends.specs.Ends.{end_id, entry_in}
+use Rattle.dist_core_ends.specs.Ends.{end_id, entry_in, is_open}
 use Rattle.dist_core_ends.specs.Forgetting.{without_causes_below, without_cause}
 use Rattle.dist_core_ends.specs.declared.known.Attempt.{Attempt}
 use Rattle.dist_core_ends.specs.declared.known.End.{End}
@@ -29,11 +32,17 @@ use Rattle.dist_core_ends.specs.declared.known.End.TheVariants as ends
 use Rattle.dist_core_ends.specs.declared.phase.Phase.{Phase}
 use Rattle.dist_core_ends.specs.declared.phase.Phase.TheVariants as phase
 use Rattle.dist_core_ends.specs.declared.why.Why.TheVariants as why
+use Rattle.dist_core.specs.declared.changing.Change.{Change}
+use Rattle.dist_core.specs.declared.changing.Change.TheVariants.{Allow, Cookie, UsualCookie}
+use Rattle.dist_core.specs.declared.changing.ChangeError.TheVariants as change_error
+use Rattle.dist_core.specs.Acts.{Act, act, changed_or, run_acts}
+use Rattle.dist_core.specs.Acts as acts
+use Rattle.dist_core.specs.Changing.{after_change, change, finds_no_room, has_usual, is_in_use, is_up}
 use Rattle.dist_core.specs.Accepted.{in_await_name, in_await_reply, name_came, name_taken, named_attempt, verdict_in}
 use Rattle.dist_core.specs.Dialled.{in_await_ack}
 use Rattle.dist_core.specs.Effects.{closes, fresh_attempt, goes_on, shuts, supersedes}
 use Rattle.dist_core.specs.Node.{NodeState, is_crowded, is_full_for, is_given_out, is_spent, new_id}
-use Rattle.dist_core.specs.Runs.{run, node_after}
+use Rattle.dist_core.specs.Runs.{run, node_after, opening}
 use Rattle.dist_core.specs.Step.{after, at_end, came_in, unless_spent, dial_effect, effect_of, framed_from, message_effect, in_attempt, opening_effect, sender_to, step, step_result, tick_effect}
 use Rattle.dist_core.specs.declared.effect.Effect.{Effect}
 use Rattle.dist_core.specs.declared.event.Event.{Event}
@@ -42,7 +51,7 @@ use Rattle.dist_core.specs.declared.reply.Note.TheVariants as note
 use Rattle.dist_core.specs.declared.reply.Reply.{Reply}
 use Rattle.dist_core.specs.declared.step_error.StepError.{StepError}
 use Rattle.dist_core.specs.declared.step_error.StepError.TheVariants as error
-use Rattle.dist_core_laws.specs.Forgetting.{AreAlike, AreAlikeAnswers, Both_gone, Same_refusal, Same_reply}
+use Rattle.dist_core_laws.specs.Forgetting.{AreAlike, AreAlikeAnswers, Both_gone, Same_refusal, Same_reply, without_forgetting}
 use Rattle.dist_core_laws.proofs.Causes.{changed-alike, end-alike, entry-alike, forgotten-alike, length-alike, opens-alike, superseded-alike, table-alike}
 
 -- a refusal, whatever the cause that it names
@@ -173,6 +182,28 @@ module _ (s : Setup) (k : ℕ) (es ds : List End) (alike : map without_cause es 
   answers v (Err d) (Ok g) same = absurd cc
   answers v (Err d) (Err e) same = let one : told d ≡ told e = cc in refusals d e one
 
+  -- ---- a change
+
+  in-use : (v : Change) → is_in_use m v ≡ is_in_use n v
+  in-use (Cookie p own) = ap (λ e. is_up e && rekeys s.cookies p own) (entry-alike es ds alike p)
+  in-use (UsualCookie cookie) = ap (λ t. list_any (has_usual s) (finite.entries t)) (table-alike es ds alike)
+  in-use (Allow names) = refl
+
+  no-room : (v : Change) → finds_no_room m v ≡ finds_no_room n v
+  no-room (Cookie p own) = refl
+  no-room (UsualCookie cookie) = refl
+  no-room (Allow names) = refl
+
+  changes-alike : (v : Change) → AreAlike (changed_or m (change m v)) (changed_or n (change n v))
+  changes-alike v =
+      let P : Bool → Bool → Type 0 = λ b d. AreAlike (changed_or m (change m v)) (changed_or n (cond b (Err change_error.InUse) (cond d (Err change_error.Full) (Ok (after_change n v))))) in
+      subst (λ b. P b (finds_no_room n v)) (in-use v) (subst (P (is_in_use m v)) (no-room v) (by (is_in_use m v) (finds_no_room m v)))
+    where
+      by : (b d : Bool) → AreAlike (changed_or m (cond b (Err change_error.InUse) (cond d (Err change_error.Full) (Ok (after_change m v))))) (changed_or n (cond b (Err change_error.InUse) (cond d (Err change_error.Full) (Ok (after_change n v)))))
+      by true d = record { setup = refl; steps = refl; ends = alike }
+      by false true = record { setup = refl; steps = refl; ends = alike }
+      by false false = record { setup = refl; steps = refl; ends = alike }
+
   steps-alike : (v : Event) (fresh : ℕ) → AreAlikeAnswers (step m v fresh) (step n v fresh)
   steps-alike v fresh = answers v (effect_of m v fresh) (effect_of n v fresh) (effects v fresh)
 
@@ -205,3 +236,35 @@ pub same_run : (xs : List (Event × ℕ)) (m n : NodeState) → AreAlike m n →
 same_run [] m n alike = alike
 same_run (x ∷ xs) m n alike =
     same_run xs (node_after m (step m x.0 x.1)) (node_after n (step n x.0 x.1)) (settled-alike m n (step m x.0 x.1) (step n x.0 x.1) alike (same_step m n x.0 x.1 alike))
+
+-- ---- whatever is done
+
+same_change : (m n : NodeState) (v : Change) → AreAlike m n → AreAlike (changed_or m (change m v)) (changed_or n (change n v))
+same_change m n v a =
+    let P : NodeState → Type 0 = λ q. AreAlike (changed_or q (change q v)) (changed_or n (change n v)) in
+    subst P (λ i. record { setup = sym a.setup i; steps = sym a.steps i; ends = m.ends }) (changes-alike n.setup n.steps m.ends n.ends a.ends v)
+
+same_act : (m n : NodeState) (x : Act) → AreAlike m n → AreAlike (act m x) (act n x)
+same_act m n (acts.Steps v fresh) alike = settled-alike m n (step m v fresh) (step n v fresh) alike (same_step m n v fresh alike)
+same_act m n (acts.Changes v) alike = same_change m n v alike
+same_act m n (acts.Forgets below) alike = record { setup = alike.setup; steps = alike.steps; ends = sym (forgotten-alike below m.ends) ∙ alike.ends ∙ forgotten-alike below n.ends }
+same_act m n acts.Renews alike =
+    let P : Bool → Bool → Type 0 = λ a b. AreAlike (cond a (opening m.setup) m) (cond b (opening n.setup) n) in
+    subst (P (count_by is_open m.ends == 0)) (ap (λ k. k == 0) (opens-alike m.ends n.ends alike.ends)) (by (count_by is_open m.ends == 0))
+  where
+    by : (b : Bool) → AreAlike (cond b (opening m.setup) m) (cond b (opening n.setup) n)
+    by true = record { setup = alike.setup; steps = refl; ends = refl }
+    by false = alike
+
+pub same_acts : (m n : NodeState) (xs : List Act) → AreAlike m n → AreAlike (run_acts xs m) (run_acts xs n)
+same_acts m n [] alike = alike
+same_acts m n (x ∷ xs) alike = same_acts (act m x) (act n x) xs (same_act m n x alike)
+
+-- one that never forgets goes on as one that does
+goes-on : (m n : NodeState) (xs : List Act) → AreAlike m n → AreAlike (run_acts xs m) (run_acts (without_forgetting xs) n)
+goes-on m n [] alike = alike
+goes-on m n (acts.Forgets below ∷ xs) alike = goes-on (act m (acts.Forgets below)) n xs (forgets_still_alike m n below alike)
+goes-on m n (x ∷ xs) alike = goes-on (act m x) (act n x) xs (same_act m n x alike)
+
+pub never_forgets : (n : NodeState) (xs : List Act) → AreAlike (run_acts xs n) (run_acts (without_forgetting xs) n)
+never_forgets n xs = goes-on n n xs (record { setup = refl; steps = refl; ends = refl })

@@ -1,8 +1,8 @@
 -- The records of ends that are up stay right, over steps and changes.
-use Rattle.std.proofs.Common.{◌≡◌, ℕ, Bool, true, false, cond, not, ◌||◌, eqb, List, [], ◌∷◌, Option, Some, None, Result, Ok, Err, refl, sym, ap, ◌∙◌, subst, slice_get, arith}
+use Rattle.std.proofs.Common.{◌≡◌, ◌==◌, ℕ, Bool, true, false, cond, not, ◌&&◌, ◌||◌, eqb, List, [], ◌∷◌, Option, Some, None, Result, Ok, Err, refl, sym, ap, ◌∙◌, subst, slice_get, arith}
 use Rattle.std.proofs.lemmas.Bool.{false≢true}
 use Rattle.std.specs.Prelude.{is_some}
-use Rattle.std.specs.List.{list_any}
+use Rattle.std.specs.List.{count_by, list_any}
 use Rattle.std.specs.Option.{option_map}
 use Rattle.std.specs.Cmp.Lexicographic.{same_text}
 use Rattle.std.specs.FinMap as map
@@ -13,7 +13,8 @@ use Rattle.dist_names.proofs.Orders.{one_lem}
 use Rattle.dist_messages.specs.declared.message.Message.{Message}
 use Rattle.dist_peers.specs.declared.entry.EndId.{EndId}
 use Rattle.dist_peers.specs.declared.entry.Entry.{Entry}
-use Rattle.dist_peers.specs.Table.{replaced_by}
+use Rattle.dist_peers.specs.declared.entry.Entry.TheVariants as entry
+use Rattle.dist_peers.specs.Table.{replaced_by, up_id}
 use Rattle.dist_core_ends.specs.declared.phase.Kind.TheVariants.{Up}
 use Rattle.dist_core_ends.specs.declared.phase.Phase.{Phase}
 use Rattle.dist_core_ends.specs.declared.phase.Phase.TheVariants as phase
@@ -22,7 +23,7 @@ use Rattle.dist_core_ends.specs.declared.known.End.{End}
 use Rattle.dist_core_ends.specs.declared.known.End.TheVariants as ends
 use Rattle.dist_core_ends.specs.declared.known.UpRecord.{UpRecord}
 use Rattle.dist_core_ends.specs.Change.{other_view}
-use Rattle.dist_core_ends.specs.Ends.{AreLegal, entry_in, is_held, names, table_of}
+use Rattle.dist_core_ends.specs.Ends.{AreLegal, entry_in, is_held, is_open, names, table_of}
 use Rattle.dist_core_ends.proofs.Fitting.{self-same}
 use Rattle.dist_core_ends.specs.Forgetting.{without_causes_below, without_cause}
 use Rattle.dist_core_ends.proofs.Forgotten.{agree-forgotten}
@@ -31,8 +32,9 @@ use Rattle.dist_core_ends.proofs.Tables.{get-table}
 use Rattle.dist_core_setup.specs.Rules.{own_digest, same_bytes}
 use Rattle.dist_core_setup.specs.Saying.{ack_text}
 use Rattle.dist_core_setup.specs.declared.setup.Setup.{Setup}
-use Rattle.dist_core_setup.specs.Changing.{DigestsStay, has_own_cookie}
-use Rattle.dist_core_setup.proofs.Keys.{others-stay, owners-stay, all-stay}
+use Rattle.dist_core_setup.specs.Changing.{DigestsStay, has_own_cookie, with_own_cookie}
+use Rattle.dist_secret.specs.Cookies.{rekeys}
+use Rattle.dist_core_setup.proofs.Keys.{others-stay, same-stays, owners-stay, all-stay}
 use Rattle.dist_core.specs.declared.changing.Change.{Change}
 use Rattle.dist_core.specs.declared.changing.Change.TheVariants.{Cookie, UsualCookie, Allow}
 use Rattle.dist_core.specs.declared.changing.ChangeError.TheVariants as error
@@ -40,8 +42,8 @@ use Rattle.dist_core.specs.declared.event.Event.{Event}
 use Rattle.dist_core.specs.declared.effect.Effect.{Effect}
 use Rattle.dist_core.specs.declared.step_error.StepError.{StepError}
 use Rattle.dist_core.specs.Accepted.{named_attempt}
-use Rattle.dist_core.specs.Acts.{Act, Steps, Changes, Forgets, act, changed_or, run_acts}
-use Rattle.dist_core.specs.Changing.{after_change, change, finds_no_room, has_usual, is_in_use}
+use Rattle.dist_core.specs.Acts.{Act, Steps, Changes, Forgets, Renews, act, changed_or, run_acts}
+use Rattle.dist_core.specs.Changing.{after_change, change, finds_no_room, has_usual, is_in_use, is_up}
 use Rattle.dist_core.specs.Effects.{comes_up, supersedes, superseded_end, superseded_in, record_of}
 use Rattle.dist_core.specs.Node.{NodeState, limits_of}
 use Rattle.dist_core.specs.Rows.{StepRow, Heard, Taken, Dials, Comes_in, Begins, Ceases, Loses, Ticks, Fails, Hears, Closes, Names, Goes_on, Insists, Replies, Challenges, Complements, Acknowledged, Replied, Accepts, Crosses, Declines, Comes_again, Asks_alive, Asks_again}
@@ -167,31 +169,40 @@ right_step n v fresh legal h = by (effect_of n v fresh) refl
 
 -- ---- changes
 
-module _ (s : Setup) (q : Name) (x : Entry) where
-  own-at : (e : Name × Entry) (es : List (Name × Entry)) (b own : Bool) → same_name q e.0 ≡ b → has_own_cookie s e.0 ≡ own → (find name_cmp q es ≡ Some x → list_any (has_usual s) es ≡ false → has_own_cookie s q ≡ true)
-      → cond b (Some e.1) (find name_cmp q es) ≡ Some x → (not own || list_any (has_usual s) es) ≡ false → has_own_cookie s q ≡ true
-  own-at e es true true same own more at none = ap (has_own_cookie s) (one_lem q e.0 same) ∙ own
-  own-at e es false true same own more at none = more at none
-  own-at e es true false same own more at none = absurd (false≢true (sym none))
-  own-at e es false false same own more at none = absurd (false≢true (sym none))
+module _ (s : Setup) (q : Name) (x : Entry) (known : is_some (up_id x) ≡ true) where
+  own-at : (e : Name × Entry) (es : List (Name × Entry)) (b up own : Bool) → same_name q e.0 ≡ b → is_some (up_id e.1) ≡ up → has_own_cookie s e.0 ≡ own → (find name_cmp q es ≡ Some x → list_any (has_usual s) es ≡ false → has_own_cookie s q ≡ true)
+      → cond b (Some e.1) (find name_cmp q es) ≡ Some x → ((up && not own) || list_any (has_usual s) es) ≡ false → has_own_cookie s q ≡ true
+  own-at e es true true true same is own more at none = ap (has_own_cookie s) (one_lem q e.0 same) ∙ own
+  own-at e es true true false same is own more at none = absurd (false≢true (sym none))
+  own-at e es true false o same is own more at none = let z : e.1 ≡ x = cc in absurd (false≢true (sym is ∙ ap (λ (y : Entry). is_some (up_id y)) z ∙ known))
+  own-at e es false true true same is own more at none = more at none
+  own-at e es false true false same is own more at none = absurd (false≢true (sym none))
+  own-at e es false false o same is own more at none = more at none
 
-  -- one that is found among rows of which none has the usual cookie has its own
+  -- one that is found among rows of which none is up with the usual cookie has its own
   own-in : (rows : List (Name × Entry)) → find name_cmp q rows ≡ Some x → list_any (has_usual s) rows ≡ false → has_own_cookie s q ≡ true
   own-in [] at none = absurd cc
-  own-in (e ∷ es) at none = own-at e es (same_name q e.0) (has_own_cookie s e.0) refl refl (own-in es) at none
+  own-in (e ∷ es) at none = own-at e es (same_name q e.0) (is_some (up_id e.1)) (has_own_cookie s e.0) refl refl refl (own-in es) at none
 
-module _ (n : NodeState) (p : Name) (known : is_some (entry_in n.ends p) ≡ true) where
-  -- a peer that has an entry is none of those that have none
-  apart : (q : Name) → is_some (entry_in n.ends q) ≡ false → (b : Bool) → same_name q p ≡ b → same_name q p ≡ false
+module _ (n : NodeState) (p : Name) (known : is_up (entry_in n.ends p) ≡ true) where
+  -- a peer that is up is none of those that are not
+  apart : (q : Name) → is_up (entry_in n.ends q) ≡ false → (b : Bool) → same_name q p ≡ b → same_name q p ≡ false
   apart q idle false is = is
-  apart q idle true is = absurd (false≢true (sym idle ∙ ap (λ (x : Name). is_some (entry_in n.ends x)) (one_lem q p is) ∙ known))
+  apart q idle true is = absurd (false≢true (sym idle ∙ ap (λ (x : Name). is_up (entry_in n.ends x)) (one_lem q p is) ∙ known))
 
-  has-own : list_any (has_usual n.setup) (map.entries (table_of n.ends)) ≡ false → (o : Option Entry) → entry_in n.ends p ≡ o → is_some o ≡ true → has_own_cookie n.setup p ≡ true
-  has-own none (Some x) is some = own-in n.setup p x (map.entries (table_of n.ends)) (sym (get-entries (table_of n.ends) p) ∙ get-table n.ends p ∙ is) none
-  has-own none None is some = absurd (false≢true some)
+  has-own : list_any (has_usual n.setup) (map.entries (table_of n.ends)) ≡ false → (o : Option Entry) → entry_in n.ends p ≡ o → is_up o ≡ true → has_own_cookie n.setup p ≡ true
+  has-own none (Some x) is up = own-in n.setup p x up (map.entries (table_of n.ends)) (sym (get-entries (table_of n.ends) p) ∙ get-table n.ends p ∙ is) none
+  has-own none None is up = absurd (false≢true up)
+
+  own-stays : (q : Name) (own : Option (List ℕ)) (up other same : Bool) → is_up (entry_in n.ends q) ≡ up → rekeys n.setup.cookies q own ≡ other → same_name q p ≡ same
+      → (up && other) ≡ false → DigestsStay n.setup (with_own_cookie n.setup q own) p
+  own-stays q own up other false u r same h = others-stay n.setup q p own same
+  own-stays q own false other true u r same h = others-stay n.setup q p own (apart q u (same_name q p) refl)
+  own-stays q own true true true u r same h = absurd (false≢true (sym h))
+  own-stays q own true false true u r same h = subst (λ (x : Name). DigestsStay n.setup (with_own_cookie n.setup q own) x) (one_lem q p same) (same-stays n.setup q own r)
 
   stays-after : (v : Change) → is_in_use n v ≡ false → DigestsStay n.setup (after_change n v).setup p
-  stays-after (Cookie q cookie) idle = others-stay n.setup q p cookie (apart q idle (same_name q p) refl)
+  stays-after (Cookie q own) idle = own-stays q own (is_up (entry_in n.ends q)) (rekeys n.setup.cookies q own) (same_name q p) refl refl refl idle
   stays-after (UsualCookie cookie) idle = owners-stay n.setup p cookie (has-own idle (entry_in n.ends p) refl known)
   stays-after (Allow allowed) idle = all-stay n.setup allowed p
 
@@ -203,7 +214,7 @@ module _ (n : NodeState) (p : Name) (known : is_some (entry_in n.ends p) ≡ tru
       by false true e = λ challenge. refl
       by false false e = stays-after v e
 
-pub in-use-stays : (n : NodeState) (v : Change) (p : Name) → is_some (entry_in n.ends p) ≡ true → DigestsStay n.setup (changed_or n (change n v)).setup p
+pub in-use-stays : (n : NodeState) (v : Change) (p : Name) → is_up (entry_in n.ends p) ≡ true → DigestsStay n.setup (changed_or n (change n v)).setup p
 in-use-stays n v p known = stays n p known v
 
 -- a change leaves the ends, and how many steps were made
@@ -224,15 +235,21 @@ steps_stay n v = by (is_in_use n v) (finds_no_room n v)
     by false false = refl
 
 module _ (n : NodeState) (legal : AreLegal n.ends) (i : ℕ) (r : UpRecord) (up : slice_get n.ends i ≡ Some (ends.Up r)) where
-  -- the peer of an end that is up has an entry
-  has-entry : (o : Option Entry) → entry_in n.ends r.peer ≡ o → is_some o ≡ true
-  has-entry (Some x) is = refl
-  has-entry None is = absurd (false≢true (sym (ap (names Up i) is) ∙ sym (legal r.peer Up i) ∙ ap (is_held r.peer Up) up ∙ self-same r.peer))
+  -- the entry of its peer has it up
+  has-up : (o : Option Entry) → names Up i o ≡ true → is_up o ≡ true
+  has-up None h = absurd (false≢true h)
+  has-up (Some (entry.Out x)) h = absurd (false≢true h)
+  has-up (Some (entry.In x)) h = absurd (false≢true h)
+  has-up (Some (entry.Up x)) h = refl
+  has-up (Some (entry.Challenged x y)) h = refl
+
+  peer-up : is_up (entry_in n.ends r.peer) ≡ true
+  peer-up = has-up (entry_in n.ends r.peer) (sym (legal r.peer Up i) ∙ ap (is_held r.peer Up) up ∙ self-same r.peer)
 
 pub right_change : (n : NodeState) (v : Change) → AreLegal n.ends → AreRight n → AreRight (changed_or n (change n v))
 right_change n v legal rights i r at =
     let up : slice_get n.ends i ≡ Some (ends.Up r) = sym (ap (λ (es : List End). slice_get es i) (ends_stay n v)) ∙ at in
-    rights i r up ∙ sym (in-use-stays n v r.peer (has-entry n legal i r up (entry_in n.ends r.peer) refl) r.challenge)
+    rights i r up ∙ sym (in-use-stays n v r.peer (peer-up n legal i r up) r.challenge)
 
 -- ... and the limits
 within_after : (n : NodeState) (v : Change) → IsWithinLimits n → IsWithinLimits (after_change n v)
@@ -292,25 +309,48 @@ within_forgets n below h =
 
 -- ---- runs of all these
 
+pub right_first : (s : Setup) → AreRight (opening s)
+right_first s i r at = absurd cc
+
 legal_act : (n : NodeState) (x : Act) → AreLegal n.ends → AreLegal (act n x).ends
 legal_act n (Steps v fresh) h = legal_step n v fresh h
 legal_act n (Changes v) h = subst AreLegal (sym (ends_stay n v)) h
 legal_act n (Forgets below) h = legal_forgets n below h
+legal_act n Renews h = by (count_by is_open n.ends == 0)
+  where
+    by : (b : Bool) → AreLegal (cond b (opening n.setup) n).ends
+    by true = legal_opening n.setup
+    by false = h
 
 pub right_act : (n : NodeState) (x : Act) → AreLegal n.ends → AreRight n → AreRight (act n x)
 right_act n (Steps v fresh) legal h = right_step n v fresh legal h
 right_act n (Changes v) legal h = right_change n v legal h
 right_act n (Forgets below) legal h = right_forgets n below h
+right_act n Renews legal h = by (count_by is_open n.ends == 0)
+  where
+    by : (b : Bool) → AreRight (cond b (opening n.setup) n)
+    by true = right_first n.setup
+    by false = h
 
 within_act : (n : NodeState) (x : Act) → AreLegal n.ends → IsWithinLimits n → IsWithinLimits (act n x)
 within_act n (Steps v fresh) legal h = within_step n v fresh legal h
 within_act n (Changes v) legal h = within_change n v h
 within_act n (Forgets below) legal h = within_forgets n below h
+within_act n Renews legal h = by (count_by is_open n.ends == 0)
+  where
+    by : (b : Bool) → IsWithinLimits (cond b (opening n.setup) n)
+    by true = within_first n.setup
+    by false = h
 
 limits_act : (n : NodeState) (x : Act) → limits_of (act n x) ≡ limits_of n
 limits_act n (Steps v fresh) = ap (λ (s : Setup). s.limits) (setup_step n v fresh)
 limits_act n (Changes v) = limits_change n v
 limits_act n (Forgets below) = refl
+limits_act n Renews = by (count_by is_open n.ends == 0)
+  where
+    by : (b : Bool) → limits_of (cond b (opening n.setup) n) ≡ limits_of n
+    by true = refl
+    by false = refl
 
 legal_acts : (xs : List Act) (n : NodeState) → AreLegal n.ends → AreLegal (run_acts xs n).ends
 legal_acts [] n h = h
@@ -323,9 +363,6 @@ right_acts (x ∷ xs) n legal h = right_acts xs (act n x) (legal_act n x legal) 
 within_acts : (xs : List Act) (n : NodeState) → AreLegal n.ends → IsWithinLimits n → IsWithinLimits (run_acts xs n)
 within_acts [] n legal h = h
 within_acts (x ∷ xs) n legal h = within_acts xs (act n x) (legal_act n x legal) (within_act n x legal h)
-
-pub right_first : (s : Setup) → AreRight (opening s)
-right_first s i r at = absurd cc
 
 pub right_runs : (s : Setup) (xs : List Act) → AreRight (run_acts xs (opening s))
 right_runs s xs = right_acts xs (opening s) (legal_opening s) (right_first s)

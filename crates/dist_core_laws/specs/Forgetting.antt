@@ -1,10 +1,12 @@
 -- Nodes that differ in why their closed ends were closed, and in nothing else.
-use Rattle.std.specs.Prelude.{◌≡◌, map, Result, Ok, Err}
+use Rattle.std.specs.Prelude.{◌≡◌, map, List, [], ◌∷◌, Result, Ok, Err}
 use Rattle.dist_core_ends.specs.declared.why.Why.{Why}
 use Rattle.dist_core_ends.specs.Forgetting.{without_cause}
 use Rattle.dist_core.specs.declared.reply.Reply.{Reply}
 use Rattle.dist_core.specs.declared.step_error.StepError.{StepError}
 use Rattle.dist_core.specs.declared.step_error.StepError.TheVariants as error
+use Rattle.dist_core.specs.Acts.{Act}
+use Rattle.dist_core.specs.Acts as acts
 use Rattle.dist_core.specs.Node.{NodeState}
 
 -- THE TWO NODES ARE ALIKE: they have the same setup and made as many steps, and their ends are the same but for why the closed
@@ -22,3 +24,9 @@ pub data AreAlikeAnswers (a b : Result (Reply × NodeState) StepError) : Type 0 
   Both_gone : (v w : Why) → a ≡ Err (error.Gone v) → b ≡ Err (error.Gone w) → AreAlikeAnswers a b
   -- both refuse in the same way
   Same_refusal : (e : StepError) → a ≡ Err e → b ≡ Err e → AreAlikeAnswers a b
+
+-- these acts without those that forget
+abbrev pub without_forgetting : List Act → List Act
+without_forgetting [] = []
+without_forgetting (acts.Forgets below ∷ xs) = without_forgetting xs
+without_forgetting (x ∷ xs) = x ∷ without_forgetting xs

@@ -2,10 +2,11 @@
 ghost use Rattle.std.specs.Prelude.{ℕ, List};
 ghost use Rattle.dist_core_ends.specs.Forgetting.{without_causes_below};
 ghost use Rattle.dist_core.specs.declared.event.Event.{Event};
+ghost use Rattle.dist_core.specs.Acts.{Act, run_acts};
 ghost use Rattle.dist_core.specs.Node.{NodeState};
 ghost use Rattle.dist_core.specs.Runs.{run};
 ghost use Rattle.dist_core.specs.Step.{step};
-ghost use Rattle.dist_core_laws.specs.Forgetting.{AreAlike, AreAlikeAnswers};
+ghost use Rattle.dist_core_laws.specs.Forgetting.{AreAlike, AreAlikeAnswers, without_forgetting};
 
 /// Why ends were closed changes no step: nodes that differ in that alone give the same reply to each event, or refuse it in the
 /// same way, and differ in that alone afterwards. Only the cause that a refusal names for a closed end may be another.
@@ -19,8 +20,10 @@ pub fn a_node_that_forgets_is_alike()
     ensures other { (m n : NodeState) (below : ℕ) → AreAlike m n → AreAlike (record m { ends = without_causes_below below m.ends }) n }
 {}
 
-/// Nodes that are alike stay so, whatever events both are given. So a node that forgets from time to time, however often, goes
-/// on as one that never does.
+/// Nodes that are alike stay so, whatever is done to both, by events, changes of their setups, forgetting and renewing. So a
+/// node that forgets from time to time, however often, goes on as one that never does.
 pub fn alike_nodes_stay_alike()
-    ensures { (m n : NodeState) (events : List (Event × ℕ)) → AreAlike m n → AreAlike (run events m) (run events n) }
+    ensures runs { (m n : NodeState) (events : List (Event × ℕ)) → AreAlike m n → AreAlike (run events m) (run events n) }
+    ensures acts { (m n : NodeState) (acts : List Act) → AreAlike m n → AreAlike (run_acts acts m) (run_acts acts n) }
+    ensures never { (n : NodeState) (acts : List Act) → AreAlike (run_acts acts n) (run_acts (without_forgetting acts) n) }
 {}

@@ -1,5 +1,5 @@
 //! Laws of nodes to which more is done than steps: each is a function that does nothing, and whose contract is the law.
-ghost use Rattle.std.specs.Prelude.{◌≡◌, ℕ, List, is_some, true};
+ghost use Rattle.std.specs.Prelude.{◌≡◌, ℕ, List, true};
 ghost use Rattle.dist_names.specs.Order.{Name};
 ghost use Rattle.dist_core_setup.specs.declared.setup.Setup.{Setup};
 ghost use Rattle.dist_core_setup.specs.Changing.{DigestsStay};
@@ -7,21 +7,20 @@ ghost use Rattle.dist_core_ends.specs.Ends.{AreLegal, entry_in};
 ghost use Rattle.dist_core.specs.declared.event.Event.{Event};
 ghost use Rattle.dist_core.specs.Acts.{Act, act, changed_or, run_acts};
 ghost use Rattle.dist_core.specs.declared.changing.Change.{Change};
-ghost use Rattle.dist_core.specs.Changing.{change};
+ghost use Rattle.dist_core.specs.Changing.{change, is_up};
 ghost use Rattle.dist_core.specs.Node.{NodeState, limits_of};
 ghost use Rattle.dist_core.specs.Runs.{node_after, opening};
 ghost use Rattle.dist_core.specs.Step.{step};
 ghost use Rattle.dist_core_laws.specs.Laws.{IsWithinLimits};
 ghost use Rattle.dist_core_laws.specs.Records.{AreRight};
 
-/// Cookies in use stay. Whichever change is asked for, a peer that has an entry has the cookie that it had: so each handshake
-/// goes on under the cookie under which it began.
+/// Cookies in use stay. Whichever change is asked for, a peer with which an end is up has the cookie that it had.
 pub fn cookies_in_use_stay()
-    ensures { (n : NodeState) (v : Change) (p : Name) → is_some (entry_in n.ends p) ≡ true → DigestsStay n.setup (changed_or n (change n v)).setup p }
+    ensures { (n : NodeState) (v : Change) (p : Name) → is_up (entry_in n.ends p) ≡ true → DigestsStay n.setup (changed_or n (change n v)).setup p }
 {}
 
-/// Records stay right. Whatever is done to a node, by steps, changes of its setup and forgetting in any order, each end that is
-/// up has shown the cookie that the node has for its peer now: its record holds the digest of that cookie and of the end's own
+/// Records stay right. Whatever is done to a node, by steps, changes of its setup, forgetting and renewing in any order, each end
+/// that is up has shown the cookie that the node has for its peer now: its record holds the digest of that cookie and of the end's own
 /// challenge.
 pub fn records_stay_right()
     ensures runs { (setup : Setup) (acts : List Act) → AreRight (run_acts acts (opening setup)) }
@@ -31,8 +30,8 @@ pub fn records_stay_right()
     ensures act { (n : NodeState) (x : Act) → AreLegal n.ends → AreRight n → AreRight (act n x) }
 {}
 
-/// Whatever is done to a node, by steps, changes of its setup and forgetting in any order, the ends that hold a peer are those
-/// that make its entry, and the node stays within the limits with which it opened.
+/// Whatever is done to a node, by steps, changes of its setup, forgetting and renewing in any order, the ends that hold a peer
+/// are those that make its entry, and the node stays within the limits with which it opened.
 pub fn acts_keep_ends()
     ensures legal { (setup : Setup) (acts : List Act) → AreLegal (run_acts acts (opening setup)).ends }
     ensures within { (setup : Setup) (acts : List Act) → IsWithinLimits (run_acts acts (opening setup)) }

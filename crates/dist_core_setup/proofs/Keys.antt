@@ -1,16 +1,17 @@
 -- Which digests a change of cookies leaves.
-use Rattle.std.proofs.Common.{◌≡◌, ℕ, Bool, true, false, cond, List, [], ◌∷◌, Option, Some, None, refl, sym, ap, ◌∙◌, subst}
+use Rattle.std.proofs.Common.{◌≡◌, ◌==◌, not, ℕ, Bool, true, false, cond, List, [], ◌∷◌, Option, Some, None, refl, sym, ap, ◌∙◌, subst}
 use Rattle.std.proofs.lemmas.Bool.{false≢true}
 use Rattle.std.specs.Prelude.{is_some, unwrap_or}
+use Rattle.std.specs.Cmp.Lexicographic.{pointwise, same_text}
 use Rattle.std.specs.BTreeMap.{is_at, insert_entry}
-use Rattle.std.specs.Map.{lookup}
+use Rattle.std.specs.Map.{lookup, remove_entry}
 use Rattle.std.specs.Ordering.{match_ordering, is_eq}
 use Rattle.std.specs.declared.cmp.Ordering.{Ordering}
 use Rattle.std.specs.declared.cmp.Ordering.TheVariants.{Less, Equal, Greater}
 use Rattle.dist_names.specs.Order.{Name, name_cmp, same_name}
 use Rattle.dist_names.proofs.Orders.{one_lem, itself_lem}
 use Rattle.dist_secret.specs.Digest.{digest_of}
-use Rattle.dist_secret.specs.Cookies.{CookieTable, own_cookie, cookie_for, with_cookie}
+use Rattle.dist_secret.specs.Cookies.{CookieTable, own_cookie, cookie_for, keyed, rekeys, with_cookie}
 use Rattle.dist_core_setup.specs.declared.setup.Setup.{Setup}
 use Rattle.dist_core_setup.specs.Rules.{own_digest}
 use Rattle.dist_core_setup.specs.Changing.{DigestsStay, has_own_cookie, with_own_cookie, keyed_usually, letting_in}
@@ -39,16 +40,58 @@ found : (q k : Name) (v : List ℕ) (es : List Row) → same_name q k ≡ false 
 found q k v [] h = ap (λ b. cond b (Some v) None) h
 found q k v (e ∷ es) h = found-before q k v e es (name_cmp k e.0) refl h (found q k v es h)
 
-cookie-stays : (t : CookieTable) (p q : Name) (cookie : List ℕ) → same_name p q ≡ false → cookie_for (with_cookie t p cookie) q ≡ cookie_for t q
-cookie-stays t p q cookie h = ap (λ (o : Option (List ℕ)). unwrap_or o t.usual) (found q p cookie t.own (apart p q h))
+-- ... and where another's row is taken away
+left-before : (q p : Name) (e : Row) (es : List Row) (b : Bool) → same_name p e.0 ≡ b → same_name p q ≡ false
+    → lookup (is_at (name_cmp q)) (remove_entry (is_at (name_cmp p)) es) ≡ lookup (is_at (name_cmp q)) es
+    → lookup (is_at (name_cmp q)) (cond b es (e ∷ remove_entry (is_at (name_cmp p)) es)) ≡ lookup (is_at (name_cmp q)) (e ∷ es)
+left-before q p e es true at h more =
+    let off : same_name q e.0 ≡ false = subst (λ (x : Name). same_name q x ≡ false) (one_lem p e.0 at) (apart p q h) in
+    sym (ap (λ b. cond b (Some e.1) (lookup (is_at (name_cmp q)) es)) off)
+left-before q p e es false at h more = ap (λ found. cond (same_name q e.0) (Some e.1) found) more
+
+left : (q p : Name) (es : List Row) → same_name p q ≡ false → lookup (is_at (name_cmp q)) (remove_entry (is_at (name_cmp p)) es) ≡ lookup (is_at (name_cmp q)) es
+left q p [] h = refl
+left q p (e ∷ es) h = left-before q p e es (same_name p e.0) refl h (left q p es h)
+
+cookie-stays : (t : CookieTable) (p q : Name) (own : Option (List ℕ)) → same_name p q ≡ false → cookie_for (keyed t p own) q ≡ cookie_for t q
+cookie-stays t p q (Some cookie) h = ap (λ (o : Option (List ℕ)). unwrap_or o t.usual) (found q p cookie t.own (apart p q h))
+cookie-stays t p q None h = ap (λ (o : Option (List ℕ)). unwrap_or o t.usual) (left q p t.own h)
+
+-- a name finds what is put there
+here-before : (k : Name) (v : List ℕ) (e : Row) (es : List Row) (o : Ordering) → name_cmp k e.0 ≡ o
+    → lookup (is_at (name_cmp k)) (insert_entry name_cmp es k v) ≡ Some v
+    → lookup (is_at (name_cmp k)) (match_ordering o ((k, v) ∷ e ∷ es) ((e.0, v) ∷ es) (e ∷ insert_entry name_cmp es k v)) ≡ Some v
+here-before k v e es Less at more = ap (λ b. cond b (Some v) (lookup (is_at (name_cmp k)) (e ∷ es))) (itself_lem k)
+here-before k v e es Equal at more = ap (λ b. cond b (Some v) (lookup (is_at (name_cmp k)) es)) (ap is_eq at)
+here-before k v e es Greater at more = ap (λ b. cond b (Some e.1) (lookup (is_at (name_cmp k)) (insert_entry name_cmp es k v))) (ap is_eq at) ∙ more
+
+here : (k : Name) (v : List ℕ) (es : List Row) → lookup (is_at (name_cmp k)) (insert_entry name_cmp es k v) ≡ Some v
+here k v [] = ap (λ b. cond b (Some v) None) (itself_lem k)
+here k v (e ∷ es) = here-before k v e es (name_cmp k e.0) refl (here k v es)
+
+cookie-set : (t : CookieTable) (p : Name) (cookie : List ℕ) → cookie_for (with_cookie t p cookie) p ≡ cookie
+cookie-set t p cookie = ap (λ (o : Option (List ℕ)). unwrap_or o t.usual) (here p cookie t.own)
 
 some-either : (o : Option (List ℕ)) (x y : List ℕ) → is_some o ≡ true → unwrap_or o x ≡ unwrap_or o y
 some-either (Some c) x y h = refl
 some-either None x y h = absurd (false≢true h)
 
-pub others-stay : (s : Setup) (p q : Name) (cookie : List ℕ) → same_name p q ≡ false → DigestsStay s (with_own_cookie s p cookie) q
+pub others-stay : (s : Setup) (p q : Name) (own : Option (List ℕ)) → same_name p q ≡ false → DigestsStay s (with_own_cookie s p own) q
 unfolding own_digest
-others-stay s p q cookie h challenge = ap (λ c. digest_of c challenge) (cookie-stays s.cookies p q cookie h)
+others-stay s p q own h challenge = ap (λ c. digest_of c challenge) (cookie-stays s.cookies p q own h)
+
+alike : (a b : List ℕ) → not (pointwise ◌==◌ a b) ≡ false → b ≡ a
+alike a b h = by (pointwise ◌==◌ a b) refl
+  where
+    by : (x : Bool) → pointwise ◌==◌ a b ≡ x → b ≡ a
+    by true e = sym (same_text a b (sym e))
+    by false e = absurd (false≢true (sym h ∙ ap not e))
+
+-- a peer that gets the cookie that it has
+pub same-stays : (s : Setup) (p : Name) (own : Option (List ℕ)) → rekeys s.cookies p own ≡ false → DigestsStay s (with_own_cookie s p own) p
+unfolding own_digest
+same-stays s p None h challenge = absurd (false≢true (sym h))
+same-stays s p (Some cookie) h challenge = ap (λ c. digest_of c challenge) (cookie-set s.cookies p cookie ∙ alike (cookie_for s.cookies p) cookie h)
 
 pub owners-stay : (s : Setup) (p : Name) (cookie : List ℕ) → has_own_cookie s p ≡ true → DigestsStay s (keyed_usually s cookie) p
 unfolding own_digest

@@ -2,7 +2,7 @@
 use Rattle.std.specs.Prelude.{◌≡◌, ℕ, Bool, not, if◌then◌else◌, List, [], ◌∷◌, ◌++◌, Option, Some, None}
 use Rattle.std.specs.List.{filter}
 use Rattle.dist_names.specs.Order.{Name, same_name, is_listed}
-use Rattle.dist_secret.specs.Cookies.{owns, with_cookie, with_usual, is_full_for}
+use Rattle.dist_secret.specs.Cookies.{owns, keyed, with_usual, is_full_for}
 use Rattle.dist_core_setup.specs.declared.setup.Setup.{Setup}
 use Rattle.dist_core_setup.specs.Rules.{own_digest}
 
@@ -14,9 +14,9 @@ has_own_cookie s p = owns s.cookies p
 abbrev pub lacks_room : Setup → Name → Bool
 lacks_room s p = is_full_for s.cookies p
 
--- the same setup, with this cookie for the peer
-abbrev pub with_own_cookie : Setup → Name → List ℕ → Setup
-with_own_cookie s p cookie = record s { cookies = with_cookie s.cookies p cookie }
+-- the same setup, with this cookie for the peer, or with none of its own
+abbrev pub with_own_cookie : Setup → Name → Option (List ℕ) → Setup
+with_own_cookie s p own = record s { cookies = keyed s.cookies p own }
 
 -- the same setup, with this cookie for every peer that has none of its own
 abbrev pub keyed_usually : Setup → List ℕ → Setup

@@ -18,6 +18,7 @@ ghost use Rattle.dist_messages.specs.Canonical.{canonical};
 ghost use Rattle.dist_messages.specs.Reading.{read};
 ghost use Rattle.dist_core_setup.specs.declared.setup.Setup.{Setup};
 ghost use Rattle.dist_core_setup.specs.Rules.{announced_by, knows_six};
+ghost use Rattle.dist_secret.specs.Cookies.{rekeys};
 ghost use Rattle.dist_core_setup.specs.Changing.{DigestsStay, has_own_cookie, with_own_cookie, keyed_usually, letting_in};
 ghost use Rattle.dist_core_setup.specs.Saying.{CanBeSaid, frames_of_messages};
 
@@ -59,10 +60,12 @@ pub fn low_halves_suffice()
         → common (announced_by own) (low_half (announced_by other)) ≡ common (announced_by own) (announced_by other) }
 {}
 
-/// Which digests a change of cookies leaves: for every other peer those that were, where one peer's cookie changes; for each peer
-/// that has its own those that were, where the usual one does; and all, where the names change that may connect.
+/// Which digests a change of cookies leaves: for every other peer those that were, where one peer's cookie changes, and for that
+/// peer too where it gets the cookie that it has; for each peer that has its own those that were, where the usual one changes; and
+/// all, where the names change that may connect.
 pub fn other_digests_stay()
-    ensures peer { (s : Setup) (p q : Name) (cookie : List ℕ) → same_name p q ≡ false → DigestsStay s (with_own_cookie s p cookie) q }
+    ensures peer { (s : Setup) (p q : Name) (own : Option (List ℕ)) → same_name p q ≡ false → DigestsStay s (with_own_cookie s p own) q }
+    ensures same { (s : Setup) (p : Name) (own : Option (List ℕ)) → rekeys s.cookies p own ≡ false → DigestsStay s (with_own_cookie s p own) p }
     ensures usual { (s : Setup) (p : Name) (cookie : List ℕ) → has_own_cookie s p ≡ true → DigestsStay s (keyed_usually s cookie) p }
     ensures allowed { (s : Setup) (names : Option (List Name)) (p : Name) → DigestsStay s (letting_in s names) p }
 {}

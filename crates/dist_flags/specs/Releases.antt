@@ -1,6 +1,7 @@
 -- What releases of Erlang/OTP announce and ask of a peer, and which release a node's flags are those of (dist.hrl of the
 -- application kernel, and erts_internal:get_dflags/0, in OTP 23, 25, 27 and 29).
-use Rattle.std.specs.Prelude.{ℕ, ◌-◌, ◌^◌, ◌==◌, Bool, false, bit_and, bit_or, Option, Some, None, if◌then◌else◌}
+use Rattle.std.specs.Prelude.{ℕ, ◌-◌, ◌^◌, ◌==◌, Bool, false, not, bit_and, bit_or, List, [], ◌∷◌, Option, Some, None, if◌then◌else◌}
+use Rattle.std.specs.List.{find, list_all}
 use Rattle.dist_names.specs.Flags.{has_all}
 use Rattle.dist_names.specs.declared.flags.Flags.{Flags}
 use Rattle.dist_flags.specs.declared.release.Release.{Release}
@@ -33,6 +34,32 @@ with_mandatory flags = if shows flags 0x4000000 then bit_or flags mandatory_25 e
 -- which of the wanted flags are absent
 abbrev pub missing : ℕ → ℕ → ℕ
 missing flags wanted = bit_and wanted (2 ^ 64 - 1 - with_mandatory flags)
+
+-- WHAT A NODE OF A RELEASE OBJECTS TO: the flags that it asks for and that are absent, as it reads the others. It reads
+-- MANDATORY_25_DIGEST from OTP 25 on.
+abbrev pub objection : Release → ℕ → ℕ
+objection release.Before23 flags = bit_and (required_by release.Before23) (2 ^ 64 - 1 - flags)
+objection release.Otp23 flags = bit_and (required_by release.Otp23) (2 ^ 64 - 1 - flags)
+objection release.Otp24 flags = bit_and (required_by release.Otp24) (2 ^ 64 - 1 - flags)
+objection release.Otp25 flags = missing flags (required_by release.Otp25)
+objection release.Otp28 flags = missing flags (required_by release.Otp28)
+objection release.Otp29 flags = missing flags (required_by release.Otp29)
+
+-- a node of a release refuses a peer that announces these flags
+abbrev pub refuses : ℕ → Release → Bool
+refuses flags r = not (objection r flags == 0)
+
+-- the releases since which more is asked for, the oldest first: 23, 25, and 26, which asks for what 28 does
+abbrev pub askers : List Release
+askers = release.Otp23 ∷ release.Otp25 ∷ release.Otp28 ∷ []
+
+-- THE OLDEST RELEASE THAT REFUSES a peer that announces these flags, where one does
+abbrev pub oldest_refusal : ℕ → Option Release
+oldest_refusal flags = find (refuses flags) askers
+
+-- each release refuses it
+abbrev pub is_refused_by_all : ℕ → Bool
+is_refused_by_all flags = list_all (refuses flags) askers
 
 -- the newest release one of whose own flags is there
 abbrev pub release_of : ℕ → Release

@@ -3,7 +3,7 @@
 ghost use Rattle.std.specs.Prelude.{◌≡◌, ◌^◌, ◌<◌, IfSome, Some};
 ghost use Rattle.std.specs.List.{find};
 ghost use Rattle.dist_flags.specs.declared.dflag.Dflag.{Dflag};
-ghost use Rattle.dist_flags.specs.Names.{bit_of, flag_of, name_of, has_name};
+ghost use Rattle.dist_flags.specs.Names.{all_flags, bit_of, flag_of, name_of, has_name};
 
 use dist_names::Flags;
 
@@ -117,7 +117,9 @@ const ALL: [Dflag; 32] = [
 
 impl Dflag {
     /// All flags with a name, from the lowest bit up.
-    pub fn all() -> [Dflag; 32] {
+    pub fn all() -> [Dflag; 32]
+        ensures { result ≡ all_flags }
+    {
         ALL
     }
 

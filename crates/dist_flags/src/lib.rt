@@ -8,4 +8,6 @@ mod dflag;
 mod release;
 
 pub use dflag::Dflag;
-pub use release::{Release, Told, missing, release_of, told_by, with_mandatory};
+pub use release::{
+    Release, Told, is_refused_by_all, missing, oldest_refusal, release_of, told_by, with_mandatory,
+};

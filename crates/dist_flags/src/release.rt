@@ -1,7 +1,8 @@
 //! What releases of Erlang/OTP announce and ask of a peer, and which release a node's flags are those of.
 
 ghost use Rattle.std.specs.Prelude.{◌≡◌};
-ghost use Rattle.dist_flags.specs.Releases.{announced_by, with_mandatory, is_just, missing, release_of, required_by, told_by};
+ghost use Rattle.dist_flags.specs.Releases.{announced_by, with_mandatory, is_just, is_refused_by_all, missing, objection, oldest_refusal};
+ghost use Rattle.dist_flags.specs.Releases.{refuses, release_of, required_by, told_by};
 
 use dist_names::Flags;
 
@@ -60,6 +61,43 @@ impl Release {
             Release::Otp28 | Release::Otp29 => Flags(0x403070f94),
         }
     }
+
+    /// The flags for which a node of this release refuses a peer that announces these: those that it asks for and that are absent
+    /// there, none where it takes the peer. A release before 25 does not read DFLAG_MANDATORY_25_DIGEST.
+    pub fn objection(self, flags: Flags) -> Flags
+        ensures { result.0 ≡ objection self flags.0 }
+    {
+        let wanted = self.required();
+        match self {
+            Release::Before23 | Release::Otp23 | Release::Otp24 => Flags(wanted.0 & !flags.0),
+            Release::Otp25 | Release::Otp28 | Release::Otp29 => missing(flags, wanted),
+        }
+    }
+
+    // Whether a node of this release refuses a peer that announces these flags.
+    fn refuses(self, flags: Flags) -> bool
+        ensures { result ≡ refuses flags.0 self }
+    {
+        self.objection(flags).0 != 0
+    }
+}
+
+/// The releases since which more is asked for, the oldest first: 23, 25, and 26, which asks for what 28 does.
+const ASKERS: [Release; 3] = [Release::Otp23, Release::Otp25, Release::Otp28];
+
+/// The oldest release that refuses a peer that announces these flags, of 23, 25 and 26, which is reported as 28: it asks for the
+/// same. None where each takes it.
+pub fn oldest_refusal(flags: Flags) -> Option<Release>
+    ensures { result ≡ oldest_refusal flags.0 }
+{
+    ASKERS.iter().copied().find(|asker| asker.refuses(flags))
+}
+
+/// Whether each release, from 23 on, refuses a peer that announces these flags.
+pub fn is_refused_by_all(flags: Flags) -> bool
+    ensures { result ≡ is_refused_by_all flags.0 }
+{
+    ASKERS.iter().all(|asker| asker.refuses(flags))
 }
 
 /// The flags, and those for which DFLAG_MANDATORY_25_DIGEST stands where it is one of them. OTP reads them so from release

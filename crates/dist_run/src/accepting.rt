@@ -4,13 +4,13 @@ use crate::connection::Carrier;
 use crate::crew::{Crew, Post, Rest};
 use crate::site::Site;
 use dist_core::Event;
-use dist_run_hosts::{Challenges, Connection, Host, Pool, accept, link_of};
+use dist_run_hosts::{Challenges, Connection, Host, Pool, accept, link_of, wait_for_connection};
 use std::sync::Wait;
 use std::thread::{Scope, Threads};
 use std::time::Clock;
 
 // Gives the node a connection that has come, and starts a thread for it.
-fn take_in<'s, E, R: Threads + Wait + Sync, G>(
+fn take_in<'s, E, R: Threads + Wait + Clock + Sync, G>(
     crew: &mut Crew<'s, E, R, G>,
     number: usize,
     connection: Connection,
@@ -25,7 +25,7 @@ fn take_in<'s, E, R: Threads + Wait + Sync, G>(
 }
 
 // Accepts until as many turns in a row were quiet as the plan says, or until the run has failed. A connection for which there is
-// no place is closed, and nothing reports it.
+// no place, also where a stranger gives way, is closed, and nothing reports it.
 fn fill_crew<'s, E, R: Threads + Wait + Clock + Sync, G>(
     site: &Site<'_, R, G>,
     crew: &mut Crew<'s, E, R, G>,
@@ -37,16 +37,19 @@ fn fill_crew<'s, E, R: Threads + Wait + Clock + Sync, G>(
         if quiet >= site.turns || site.has_failed() {
             break;
         }
+        let listener = &crew.host().listener.socket;
+        let passed = wait_for_connection(site.rt, listener, site.turns - quiet);
         crew.join_ended();
-        match accept(site.rt, &crew.host().listener.socket) {
+        match accept(site.rt, listener) {
             Some(connection) => {
+                crew.make_room(places);
                 if crew.open_count() < places {
                     take_in(crew, number, connection);
                     number = number.saturating_add(1);
                     quiet = 0;
                 }
             }
-            None => quiet = quiet.saturating_add(1),
+            None => quiet = quiet.saturating_add(passed.max(1)),
         }
     }
 }

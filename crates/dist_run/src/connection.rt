@@ -5,10 +5,11 @@ use dist_drive::SocketStream;
 use dist_locked::{Seat, drive_end, lose, settle};
 use dist_names::ByteString;
 use dist_peers::EndId;
-use dist_run_hosts::{Challenges, Host, say_goodbye};
+use dist_run_hosts::{Challenges, Host, PatientStream, say_goodbye};
 use std::alloc::Global;
 use std::sync::Wait;
 use std::sync::atomic::{AtomicUsize, Ordering};
+use std::time::Clock;
 
 /// The connection of an end.
 #[derive(Drop)]
@@ -53,7 +54,7 @@ pub struct Left {
 impl<'a> Job<'a> {
     /// Drives the end, and marks that its seat is free. The job whose number is `refused` is the one for which no thread could
     /// be made: its end is lost.
-    pub fn run<R: Wait>(self, rt: &R, alloc: Global, refused: &AtomicUsize) -> Left {
+    pub fn run<R: Wait + Clock>(self, rt: &R, alloc: Global, refused: &AtomicUsize) -> Left {
         let host = self.host;
         let left = if refused.load(Ordering::SeqCst) == self.number {
             self.give_away(rt)
@@ -76,28 +77,33 @@ impl<'a> Job<'a> {
         }
     }
 
-    fn drive<R: Wait>(self, rt: &R, alloc: Global) -> Left {
+    fn drive<R: Wait + Clock>(self, rt: &R, alloc: Global) -> Left {
         let (node, end_, turns) = (&self.host.node, self.end_, self.turns);
-        let (seat, mut carrier, mut challenges) = (self.seat, self.carrier, self.challenges);
+        let (seat, carrier, mut challenges) = (self.seat, self.carrier, self.challenges);
         let first = self.first.as_slice();
+        let mut stream = PatientStream::new(rt, carrier.stream, turns);
         let driven = drive_end(
             rt,
             alloc,
             node,
             seat,
-            &mut carrier.stream,
+            &mut stream,
             &mut challenges,
             end_,
             first,
             turns,
         );
         let (seat, is_over) = settle(rt, node, end_, driven);
+        let stream = stream.into_inner();
         if is_over {
-            say_goodbye(&carrier.stream);
+            say_goodbye(&stream);
         }
         Left {
             seat,
-            carrier,
+            carrier: Carrier {
+                link: carrier.link,
+                stream,
+            },
             is_over,
         }
     }

@@ -2,22 +2,28 @@
 
 use crate::connection::{Carrier, Job, Left};
 use crate::site::Site;
-use dist_core::{Event, StepError, Why};
+use dist_core::{Event, StepError, Still, Why};
 use dist_drive::SocketStream;
 use dist_locked::{Seat, lose};
 use dist_names::ByteString;
 use dist_peers::EndId;
-use dist_run_hosts::{Challenges, Host, Pool, say_goodbye};
+use dist_run_hosts::{Challenges, Host, Pool, end_reads, say_goodbye, socket_of};
 use std::mem;
+use std::os::fd::RawFd;
 use std::sync::Wait;
 use std::sync::atomic::{AtomicUsize, Ordering};
 use std::thread::{JoinHandle, Scope, Threads};
+use std::time::Clock;
 
 // A thread that was started and not joined yet.
 #[derive(Drop)]
 struct Running {
     // The number of its seat.
     seat: u32,
+    end_: EndId,
+    link: u64,
+    // The socket of its connection, which is open until the thread is joined.
+    socket: RawFd,
     handle: JoinHandle<Left>,
 }
 
@@ -39,6 +45,7 @@ pub struct Crew<'s, E, R, G> {
     scope: &'s Scope<'s, E>,
     site: &'s Site<'s, R, G>,
     post: Post<'s>,
+    // In the order in which they were started.
     running: Vec<Running>,
     streams: Vec<SocketStream>,
 }
@@ -50,7 +57,7 @@ pub struct Rest {
     pub streams: Vec<SocketStream>,
 }
 
-impl<'s, E, R: Threads + Wait + Sync, G> Crew<'s, E, R, G> {
+impl<'s, E, R: Threads + Wait + Clock + Sync, G> Crew<'s, E, R, G> {
     /// A crew that has started nothing.
     pub fn new(
         scope: &'s Scope<'s, E>,
@@ -144,7 +151,7 @@ impl<'s, E, R: Threads + Wait + Sync, G> Crew<'s, E, R, G> {
             .iter()
             .position(|running| ended.is_set(running.seat))?;
         if place < self.running.len() {
-            Some(self.running.swap_remove(place))
+            Some(self.running.remove(place))
         } else {
             None
         }
@@ -157,6 +164,41 @@ impl<'s, E, R: Threads + Wait + Sync, G> Crew<'s, E, R, G> {
                 return;
             };
             self.keep_rest(running.handle.join(self.site.rt));
+        }
+    }
+
+    // The place of the oldest thread whose end is not up, and whose connection is that of no dial of the run, as far as is known.
+    fn oldest_stranger(&self) -> Option<usize> {
+        let node = &self.post.host.node;
+        for (place, running) in self.running.iter().enumerate() {
+            if !self.site.is_of_dial(running.link)
+                && node.still(self.site.rt, running.end_) != Still::Up
+            {
+                return Some(place);
+            }
+        }
+        None
+    }
+
+    // Loses the end of a thread, which then reads the end of its stream, and joins it. The seat comes back.
+    fn stop(&mut self, running: Running) {
+        self.lose(running.end_, Why::GaveUp);
+        end_reads(running.socket);
+        self.keep_rest(running.handle.join(self.site.rt));
+    }
+
+    /// Where no seat is left for one more connection, or it would be one more than so many that are open, the oldest stranger that
+    /// is not up gives way: its end is given up. Where all are up, or of dials of the run, none does.
+    pub fn make_room(&mut self, places: usize) {
+        if !self.post.pool.free.is_empty() && self.open_count() < places {
+            return;
+        }
+        let Some(place) = self.oldest_stranger() else {
+            return;
+        };
+        if place < self.running.len() {
+            let running = self.running.remove(place);
+            self.stop(running);
         }
     }
 
@@ -197,10 +239,18 @@ impl<'s, E, R: Threads + Wait + Sync, G> Crew<'s, E, R, G> {
             self.post.refused,
             job.number,
         );
-        let seat = job.seat.number();
+        let (seat, end_, link) = (job.seat.number(), job.end_, job.carrier.link);
+        let socket = socket_of(&job.carrier.stream);
         match self.scope.spawn(move || job.run(rt, alloc, refused)) {
             Ok(handle) => {
-                if let Err(failed) = self.running.push(Running { seat, handle }) {
+                let running = Running {
+                    seat,
+                    end_,
+                    link,
+                    socket,
+                    handle,
+                };
+                if let Err(failed) = self.running.push(running) {
                     self.keep_rest(failed.value.handle.join(rt));
                 }
             }

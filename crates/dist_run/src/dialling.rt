@@ -19,6 +19,7 @@ use std::sync::Wait;
 use std::sync::atomic::AtomicUsize;
 use std::thread;
 use std::thread::{Scope, Threads};
+use std::time::Clock;
 
 /// What a worker has: its right to take orders, and for each node its seats.
 #[derive(Drop)]
@@ -68,7 +69,7 @@ fn find_peer<R: Machine, G>(site: &Site<'_, R, G>, to: &NodeName) -> Result<Peer
 }
 
 // The step that begins a dial.
-fn begin<'s, E, R: Threads + Wait + Sync, G>(
+fn begin<'s, E, R: Threads + Wait + Clock + Sync, G>(
     crew: &mut Crew<'s, E, R, G>,
     to: &NodeName,
     opening: Opening,
@@ -83,7 +84,7 @@ fn begin<'s, E, R: Threads + Wait + Sync, G>(
 }
 
 // Gives the node a connection, between the two moments of the gate: what its end sends, or why it is to be lost.
-fn open_end<'s, E, R: Threads + Wait + Sync, G: Gate>(
+fn open_end<'s, E, R: Threads + Wait + Clock + Sync, G: Gate>(
     crew: &mut Crew<'s, E, R, G>,
     worker: u32,
     end_: EndId,
@@ -104,7 +105,7 @@ fn open_end<'s, E, R: Threads + Wait + Sync, G: Gate>(
 }
 
 // Opens the end of a connection, and starts a thread for it.
-fn open_connection<'s, E, R: Threads + Wait + Sync, G: Gate>(
+fn open_connection<'s, E, R: Threads + Wait + Clock + Sync, G: Gate>(
     crew: &mut Crew<'s, E, R, G>,
     task: Task,
     end_: EndId,
@@ -198,7 +199,7 @@ fn refusal_mark(host: &Host, worker: u32) -> &AtomicUsize {
 }
 
 // A crew for each node, that has started nothing.
-fn new_crews<'s, E, R: Threads + Wait + Sync, G>(
+fn new_crews<'s, E, R: Threads + Wait + Clock + Sync, G>(
     scope: &'s Scope<'s, E>,
     site: &'s Site<'s, R, G>,
     worker: u32,
@@ -224,7 +225,7 @@ fn new_crews<'s, E, R: Threads + Wait + Sync, G>(
 }
 
 // Joins the threads of all crews.
-fn join_crews<'s, E, R: Threads + Wait + Sync, G>(
+fn join_crews<'s, E, R: Threads + Wait + Clock + Sync, G>(
     site: &Site<'_, R, G>,
     crews: Vec<Crew<'s, E, R, G>>,
 ) -> Vec<Rest> {

@@ -3,7 +3,7 @@
 //!
 //! What a node does stands in the crates below, and nothing is printed or read from a file here: these are sockets and
 //! threads alone. No thread holds a lock while it reads or writes. Every thread is joined, and every wait returns after at most
-//! 10 milliseconds, one for a connection after 8 seconds, so that a run always terminates, by its number of turns.
+//! a second, one for a connection after 8 seconds, so that a run always terminates, by its number of turns.
 #![tactic(auto)]
 
 mod accepting;

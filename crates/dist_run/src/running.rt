@@ -12,8 +12,8 @@ use crate::threads::{Ended, Pools, run_threads};
 use dist_locked::{Book, Closed, Gate, Seat, Tickets, close};
 use dist_run_hosts::{
     Challenges, Host, LocalListener, MapperAccess, OrderFault, Places, Pool, RunError, Shares,
-    are_obeyed, are_of_plans, listen, mapper_limits, most_descriptors, places_of, serve_mapper,
-    start,
+    are_obeyed, are_of_plans, connect_to_port, listen, mapper_limits, most_descriptors, places_of,
+    serve_mapper, start,
 };
 use dist_run_plan::{DialPlan, NodePlan, Plan};
 use rand::make_rng;
@@ -250,6 +250,7 @@ where
         };
         let ran = run_hosts(run, port, places, challenges);
         stop.store(true, Ordering::SeqCst);
+        let _wakes_the_mapper = connect_to_port(rt, port);
         handle.join(rt).and(ran)
     })
 }

@@ -2,3 +2,4 @@ pub mod Words
 pub mod Setups
 pub mod Orders
 pub mod Places
+pub mod Waits

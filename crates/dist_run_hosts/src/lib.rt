@@ -1,5 +1,5 @@
-//! Nodes that listen and are registered, and what the threads of a run are given: sockets whose calls wait for one turn,
-//! seats, challenges, and a port mapper.
+//! Nodes that listen and are registered, and what the threads of a run are given: sockets and how long they are waited for, seats,
+//! challenges, and a port mapper.
 //!
 //! No thread is started here: the crate of the run does that. What a node does stands in the crates below.
 #![tactic(auto)]
@@ -11,10 +11,12 @@ mod host;
 mod mapping;
 mod order_fault;
 mod orders;
+mod patient_stream;
 mod run_error;
 mod seats;
 mod setups;
 mod sockets;
+mod waiting;
 
 pub use challenges::Challenges;
 pub use descriptors::{Places, most_descriptors, places_of};
@@ -23,9 +25,11 @@ pub use host::{Host, MapperAccess, start};
 pub use mapping::{mapper_limits, serve_mapper};
 pub use order_fault::{OrderFault, OrderRefusal};
 pub use orders::are_obeyed;
+pub use patient_stream::PatientStream;
 pub use run_error::RunError;
 pub use seats::{Pool, Shares};
 pub use setups::are_of_plans;
 pub use sockets::{
-    Connection, LocalListener, accept, connect_to_port, link_of, listen, say_goodbye,
+    Connection, LocalListener, accept, connect_to_port, end_reads, link_of, listen, say_goodbye,
+    socket_of, wait_for_connection,
 };

@@ -7,18 +7,20 @@ ghost use Rattle.dist_run_hosts.specs.declared.run_error.RunError.TheVariants.{L
 use crate::run_error::RunError;
 use crate::sockets::LocalListener;
 use dist_epmd_server::{Limits, Server, serve};
-use dist_program::one_turn;
 use std::alloc::Global;
 use std::io::{self, ErrorKind};
 use std::net::Net;
 use std::sync::Wait;
 use std::sync::atomic::AtomicBool;
-use std::time::Clock;
+use std::time::{Clock, Duration};
 
 // The first creation that the port mapper gives.
 const FIRST_CREATION: u32 = 1;
 
 const TURNS_OF_A_SECOND: usize = 100;
+
+// How long it waits where nothing happens.
+const WAIT_SECONDS: u64 = 1;
 
 // After how many seconds a client is closed that has not asked. Seconds are counted without their parts, so one more than
 // its turns take lets it have them all.
@@ -62,10 +64,17 @@ fn run_server<R: Net + Wait + Clock>(
 ) -> io::Result<()> {
     let mut server = Server::new(rt, alloc, listener.port, FIRST_CREATION, limits)?;
     server.add_listener(mio::net::TcpListener::from_std(listener.socket))?;
-    serve(rt, alloc, &mut server, one_turn(), stop)
+    serve(
+        rt,
+        alloc,
+        &mut server,
+        Duration::from_secs(WAIT_SECONDS),
+        stop,
+    )
 }
 
-/// Serves the clients of the port mapper at this listener and its port until it is asked to stop. A node stays registered
+/// Serves the clients of the port mapper at this listener and its port until it is asked to stop, which it sees within a second,
+/// and at once where a connection comes. A node stays registered
 /// as long as its connection does. Where it stops before it is asked to, the listener is closed: ListenFailed where the system
 /// does not report what comes.
 pub fn serve_mapper<R: Net + Wait + Clock>(

@@ -1,18 +1,15 @@
-//! Sockets whose calls wait for one turn.
+//! The sockets of a run.
 
-ghost use Rattle.std.specs.Prelude.{◌≡◌, ◌+◌, ◌*◌};
+ghost use Rattle.std.specs.Prelude.{◌≡◌, ◌≤◌, ◌+◌, ◌*◌};
 
+use crate::waiting::{TURNS_AT_ONCE, wait_for_input};
 use dist_program::{connect_here, one_turn};
 use dist_stream::SocketStream;
-use libc::types::pollfd;
 use std::io::ErrorKind;
 use std::net::{Ipv4Addr, Net, SocketAddr, TcpListener, TcpStream};
-use std::os::fd::AsRawFd;
+use std::os::fd::{AsRawFd, RawFd};
 use std::time::Clock;
 use std::{io, thread};
-
-/// How long an accept waits, as the system's `poll` takes it.
-const TURN_MILLISECONDS: i32 = 10;
 
 /// A connection, and the port at its dialling end.
 #[derive(Drop)]
@@ -69,32 +66,34 @@ fn take_connection(listener: &TcpListener) -> io::Result<Connection> {
     })
 }
 
-// Waits until a connection has come, a turn at most.
-fn wait_for_connection<R: Clock>(rt: &R, listener: &TcpListener) {
-    let mut waits = [pollfd {
-        fd: listener.as_raw_fd(),
-        events: libc::net::POLLIN,
-        revents: 0,
-    }];
-    if libc::net::poll(&mut waits, TURN_MILLISECONDS) < 0 {
-        thread::sleep(rt, one_turn());
-    }
+/// Waits until a connection has come, for so many turns at most, and no longer than a second. Returns how many of them passed.
+pub fn wait_for_connection<R: Clock>(rt: &R, listener: &TcpListener, turns: usize) -> usize
+    ensures { result ≤ turns }
+{
+    wait_for_input(rt, listener.as_raw_fd(), turns.min(TURNS_AT_ONCE))
 }
 
-/// The next connection. Waits for one a turn at most. Where the system refuses to give one out, for lack of descriptors say, a
-/// turn passes.
+/// The next connection, where one has come. Where the system refuses to give one out, for lack of descriptors say, a turn passes.
 pub fn accept<R: Clock>(rt: &R, listener: &TcpListener) -> Option<Connection> {
     match take_connection(listener) {
         Ok(connection) => Some(connection),
         Err(error) => {
-            if error.kind() == ErrorKind::WouldBlock {
-                wait_for_connection(rt, listener);
-                return take_connection(listener).ok();
+            if error.kind() != ErrorKind::WouldBlock {
+                thread::sleep(rt, one_turn());
             }
-            thread::sleep(rt, one_turn());
             None
         }
     }
+}
+
+/// The system's number of a connection's socket. It is this socket's until the stream is dropped.
+pub fn socket_of(stream: &SocketStream) -> RawFd {
+    stream.get_ref().as_raw_fd()
+}
+
+/// Ends what is read of a connection: whoever waits for bytes there, in whatever thread, reads the end of the stream.
+pub fn end_reads(socket: RawFd) {
+    let _ = libc::net::shutdown(socket, libc::net::SHUT_RD);
 }
 
 /// The number of a connection between two nodes: which ports it joins.

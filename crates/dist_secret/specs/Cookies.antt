@@ -1,7 +1,9 @@
 -- Cookies by peer: a finite map from names to cookies, and a cookie for every other name.
-use Rattle.std.specs.Prelude.{◌≡◌, ℕ, Bool, true, false, ◌&&◌, List, length, codes, Option, unwrap_or, is_none, is_some, nat_le, Result, Ok, Err}
+use Rattle.std.specs.Prelude.{◌≡◌, ℕ, Bool, true, false, not, ◌&&◌, ◌==◌, nat_le, List, length, codes}
+use Rattle.std.specs.Prelude.{Option, Some, None, unwrap_or, is_none, is_some, Result, Ok, Err}
 use Rattle.std.specs.BTreeMap.{is_at, insert_entry}
-use Rattle.std.specs.Map.{lookup}
+use Rattle.std.specs.Cmp.Lexicographic.{pointwise}
+use Rattle.std.specs.Map.{lookup, remove_entry}
 use Rattle.dist_names.specs.Order.{Name, name_cmp, same_name}
 use Rattle.dist_secret.specs.declared.cookies_error.CookiesError.{CookiesError}
 use Rattle.dist_secret.specs.declared.cookies_error.CookiesError.TheVariants.{Full, NoMemory}
@@ -22,6 +24,20 @@ cookie_for table name = unwrap_or (own_cookie table name) table.usual
 -- the cookies in which this name has this one, and every other name has what it had
 abbrev pub with_cookie : CookieTable → Name → List ℕ → CookieTable
 with_cookie table name cookie = record table { own = insert_entry name_cmp table.own name cookie }
+
+-- the cookies in which this name has none of its own, and every other name has what it had
+abbrev pub without_cookie : CookieTable → Name → CookieTable
+without_cookie table name = record table { own = remove_entry (is_at (name_cmp name)) table.own }
+
+-- the cookies once this name has this one of its own, or none
+abbrev pub keyed : CookieTable → Name → Option (List ℕ) → CookieTable
+keyed table name (Some cookie) = with_cookie table name cookie
+keyed table name None = without_cookie table name
+
+-- this cookie of its own is another one than the name has; none always counts as another one
+abbrev pub rekeys : CookieTable → Name → Option (List ℕ) → Bool
+rekeys table name (Some cookie) = not (pointwise ◌==◌ (cookie_for table name) cookie)
+rekeys table name None = true
 
 -- the name has a cookie of its own
 abbrev pub owns : CookieTable → Name → Bool

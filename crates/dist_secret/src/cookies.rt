@@ -1,7 +1,8 @@
 //! Cookies by peer.
 
 ghost use Rattle.std.specs.Prelude.{◌≡◌, ◌↔◌, [], OnOk, IfOk, IsTrue, length};
-ghost use Rattle.dist_secret.specs.Cookies.{cookie_for, is_full_for, owns, with_usual, OthersHave, OthersKeep, OwnersKeep, Sets};
+ghost use Rattle.dist_secret.specs.Cookies.{cookie_for, is_full_for, owns, rekeys, with_usual, without_cookie};
+ghost use Rattle.dist_secret.specs.Cookies.{OthersHave, OthersKeep, OwnersKeep, Sets};
 
 use crate::cookie::Cookie;
 use crate::cookies_error::CookiesError;
@@ -95,6 +96,16 @@ impl Cookies {
         self.own.get(peer).is_none() && MOST <= self.own.len()
     }
 
+    /// Whether this cookie is another one than the peer has; none always counts as another one.
+    pub fn is_rekeyed_by(&self, peer: &NodeName, own: &Option<Cookie>) -> bool
+        ensures { result ≡ rekeys self.now peer.now own.now }
+    {
+        match own {
+            Some(cookie) => !self.for_peer(peer).is_same(cookie),
+            None => true,
+        }
+    }
+
     /// Keeps a cookie for this name; a name that has one gets this in its place.
     ///
     /// Refused as `Full`, then `NoMemory`; the cookies then stay as they were, and the one that was given is dropped.
@@ -112,6 +123,17 @@ impl Cookies {
             Ok(_) => Ok(()),
             Err(_) => Err(CookiesError::NoMemory),
         }
+    }
+
+    /// Takes away the cookie that this name has of its own; where it has none, nothing changes. It takes no memory.
+    pub fn remove(&mut self, peer: &NodeName)
+        ensures removed { self.new ≡ without_cookie self.old peer.now }
+
+        // From then on the peer has the usual cookie, and every other name the one that it had.
+        ensures this { cookie_for self.new peer.now ≡ self.old.usual }
+        ensures others { OthersKeep peer.now self.old self.new }
+    {
+        let _own = self.own.remove(peer);
     }
 
     /// Changes the cookie of every name that has none of its own. It takes no memory.

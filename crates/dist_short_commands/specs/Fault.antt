@@ -3,7 +3,11 @@ use Rattle.std.specs.Prelude.{ℕ, List, [], ◌∷◌, codes}
 use Rattle.std.specs.List.{concat}
 use Rattle.dist_secret.specs.Answer as cookies
 use Rattle.dist_epmd_calls.specs.Refusals as lookups
+use Rattle.dist_commands.specs.declared.order_of_words.OrderError.{OrderError}
+use Rattle.dist_commands.specs.declared.order_of_words.OrderError.TheVariants as order
 use Rattle.dist_program.specs.declared.port_error.PortError.{PortError}
+use Rattle.dist_program.specs.declared.text_error.TextError.{TextError}
+use Rattle.dist_program.specs.declared.text_error.TextError.TheVariants as words
 use Rattle.dist_program.specs.PortTexts.{port_error_text}
 use Rattle.dist_run_hosts.specs.Words.{run_error_name}
 use Rattle.dist_script_words.specs.declared.fault.ScriptFault.{ScriptFault}
@@ -59,3 +63,13 @@ fault_of script.SameName = BadNodesFile
 fault_of script.ReadFailed = ReadFailed
 fault_of script.WriteFailed = WriteFailed
 fault_of script.NoMemory = NoMemory
+
+-- what the words of the command line are where they give no text: no command, unless memory ran out
+abbrev pub fault_of_text : TextError → Fault
+fault_of_text words.NoText = BadCommandLine
+fault_of_text words.NoMemory = NoMemory
+
+-- the same where they give no order
+abbrev pub fault_of_order : OrderError → Fault
+fault_of_order order.Bad = BadCommandLine
+fault_of_order order.NoMemory = NoMemory

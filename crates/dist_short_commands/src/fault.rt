@@ -3,7 +3,8 @@
 ghost use Rattle.std.specs.Prelude.{◌≡◌};
 ghost use Rattle.dist_program.specs.PortTexts.{port_error_status};
 ghost use Rattle.dist_script_words.specs.Texts.{PutsFront};
-ghost use Rattle.dist_short_commands.specs.Fault.{status_of, fault_text, line_of, fault_line, port_line, fault_of};
+ghost use Rattle.dist_short_commands.specs.Fault.{status_of, fault_text, line_of, fault_line, port_line};
+ghost use Rattle.dist_short_commands.specs.Fault.{fault_of, fault_of_text, fault_of_order};
 
 use dist_commands::OrderError;
 use dist_epmd_calls::LookupError;
@@ -39,6 +40,8 @@ pub enum Fault {
 }
 
 impl From<TextError> for Fault {
+    ghost from_gives = { λ error made. made ≡ fault_of_text error };
+
     fn from(error: TextError) -> Fault {
         match error {
             TextError::NoText => Fault::BadCommandLine,
@@ -48,6 +51,8 @@ impl From<TextError> for Fault {
 }
 
 impl From<OrderError> for Fault {
+    ghost from_gives = { λ error made. made ≡ fault_of_order error };
+
     fn from(error: OrderError) -> Fault {
         match error {
             OrderError::Bad => Fault::BadCommandLine,

@@ -118,7 +118,8 @@ module _ (laws : NodeLaws) (n : NodeState) (m : Setup) (fit : IsFit n.setup) (t 
     read-by d s id body k to fr is says =
         let g : Some Dialler ≡ Some s = sym fr ∙ to in
         let z : s ≡ Dialler = cc in
-        hears id body is k (ap (λ u. read u body) (sym z) ∙ says)
+        let h = hears id body is in
+        h.read_as k (ap (λ u. read u body) (sym z) ∙ says)
 
     -- what is noted of a name, by the form that it opens
     abbrev Named_noted : Flags → Option Creation → Name → Form → Type 0

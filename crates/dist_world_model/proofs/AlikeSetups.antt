@@ -18,7 +18,7 @@ use Rattle.dist_core_ends.specs.declared.known.End.TheVariants as ends
 use Rattle.dist_world_model.specs.Rows.{EndRow}
 use Rattle.dist_world_model.specs.Agreement.{bare, both_six, known_creation}
 use Rattle.dist_world_model.proofs.WholeFrames.{whole-map}
-use Rattle.dist_world_model.proofs.Wires.{MaySay, MayAnswer, Said, IsKnown, IsHalf, NotedBy, NotedIn, NotedAt, IsWire, named_of, replied_of, rose_of}
+use Rattle.dist_world_model.proofs.Wires.{MaySay, MayAnswer, Said, said-map, IsKnown, IsHalf, NotedBy, NotedIn, NotedAt, IsWire, named_of, replied_of, rose_of}
 
 -- what a node of one setup sends to others is what one of the other setup sends
 pub record SaysSame (s r : Setup) : Type 0 where
@@ -101,8 +101,8 @@ module _ (own own' other other' : Setup) (a : SaysSame own own') (b : SaysSame o
 -- A WIRE BETWEEN TWO NODES is one between any two that send the same
 pub wire-same : (n n' m m' : Setup) → SaysSame n n' → SaysSame m m' → (there back : List ℕ) (x y : Option EndRow) (e d : Option End) → IsWire n m there back x y e d → IsWire n' m' there back x y e d
 wire-same n n' m m' a b there back x y e d w = record {
-  there_said = whole-map (Said Dialler (MaySay n (replied_of x))) (Said Dialler (MaySay n' (replied_of x))) (λ body h k q. say-same n n' (replied_of x) k a (h k q)) there w.there_said;
-  back_said = whole-map (Said Acceptor (MayAnswer m n (named_of y) (rose_of y))) (Said Acceptor (MayAnswer m' n' (named_of y) (rose_of y))) (λ body h k q. answer-same m m' n n' b a (named_of y) (rose_of y) k (h k q)) back w.back_said;
+  there_said = whole-map (Said Dialler (MaySay n (replied_of x))) (Said Dialler (MaySay n' (replied_of x))) (said-map Dialler (MaySay n (replied_of x)) (MaySay n' (replied_of x)) (λ k. say-same n n' (replied_of x) k a)) there w.there_said;
+  back_said = whole-map (Said Acceptor (MayAnswer m n (named_of y) (rose_of y))) (Said Acceptor (MayAnswer m' n' (named_of y) (rose_of y))) (said-map Acceptor (MayAnswer m n (named_of y) (rose_of y)) (MayAnswer m' n' (named_of y) (rose_of y)) (answer-same m m' n n' b a (named_of y) (rose_of y))) back w.back_said;
   replies = w.replies;
   rises = w.rises;
   follows = w.follows;

@@ -100,7 +100,8 @@ module _ (laws : NodeLaws) (n : NodeState) (m : Setup) (fit : IsFit n.setup) (t 
     read-as d b q s id body k to un ph fr is says =
         let g : Some Acceptor ≡ Some s = sym fr ∙ ap sender_in (sym ph) ∙ ap sender_to (sym un) ∙ to in
         let z : s ≡ Acceptor = cc in
-        hears id body is k (ap (λ u. read u body) (sym z) ∙ says)
+        let h = hears id body is in
+        h.read_as k (ap (λ u. read u body) (sym z) ∙ says)
 
     -- what is noted of a challenge
     challenge-noted : (b : Attempt) (o : Form) (r : ℕ) (flags : Flags) (ch : ℕ) (c : Option Creation) (p : Name) (k : Message) → IsChallenge n.setup b o r flags ch c p k → MayAnswer m n.setup named rose k

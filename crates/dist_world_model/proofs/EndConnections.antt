@@ -126,8 +126,8 @@ reach-joined id c l h live p e =
             pick false x z d q = (d, z ∙ q)
 
 module _ (laws : NodeLaws) where
-  module _ (F : Type 0) (w x : World) (h : IsJoined w) where
-    by-act : Act F w x.lives x.conns → AllLives JoinedLife x
+  module _ (hap : Happening) (w x : World) (h : IsJoined w) where
+    by-act : Act hap w x.lives x.conns → AllLives JoinedLife x
     by-act (Begins who s c fc at none is k) i l al = at-more (λ i l. JoinedLife l) w.lives _ (λ live p e. absurd (false≢true e)) h.joined i l (ap (λ ls. slice_get ls i) (sym is) ∙ al)
     by-act (Ends j old at live is k) i l al = at-one (λ i l. JoinedLife l) j _ w.lives (λ y ay live p e. absurd (false≢true live)) h.joined i l (ap (λ ls. slice_get ls i) (sym is) ∙ al)
     by-act (Reaches j id k old away at live ata livea d n is ks) i l al = at-one (λ i l. JoinedLife l) j _ w.lives (λ y ay. reach-joined id _ y (h.joined j y ay)) h.joined i l (ap (λ ls. slice_get ls i) (sym is) ∙ al)
@@ -139,7 +139,7 @@ module _ (laws : NodeLaws) where
         opens (Plain plain o e) id link q = ap conn_of (sym (ap (λ o. row_of_life o id.0) at)) ∙ o id link q
         opens (Accepts c k iv ak free target e) id link q = absurd (let z : event.Incoming c ≡ event.Opened id link = sym iv ∙ q in cc)
         opens (Takes x row c k body iv ar on ak first e) id link q = absurd (let z : event.Frame x body ≡ event.Opened id link = sym iv ∙ q in cc)
-    by-act (Resets j old v at live ok is k) i l al = at-one (λ i l. JoinedLife l) j _ w.lives (λ y ay. subst (λ (m : Life). JoinedLife (with_node (after_change old.node v) m)) (alike w.lives j old y at ay) (h.joined j old at)) h.joined i l (ap (λ ls. slice_get ls i) (sym is) ∙ al)
+    by-act (Resets a j old v r at live ok is k) i l al = at-one (λ i l. JoinedLife l) j _ w.lives (λ y ay. subst (λ (m : Life). JoinedLife (with_node (after_change old.node v) m)) (alike w.lives j old y at ay) (h.joined j old at)) h.joined i l (ap (λ ls. slice_get ls i) (sym is) ∙ al)
 
   all-joined : (ss : List Setup) (hs : List Happening) → IsJoined (run hs (empty ss))
   all-joined ss hs = kept-by-all IsJoined (λ h. Unit {0})

@@ -45,24 +45,24 @@ pub data Ready (w : World) (i : ℕ) (v : Event) (cs : List Conn) : Type 0 where
   Takes : (id : EndId) → (row : EndRow) → (c : ℕ) → (k : Conn) → (body : List ℕ) → v ≡ event.Frame id body → row_at w i id.0 ≡ Some row → row.conn ≡ Some c → slice_get w.conns c ≡ Some k
       → (let t = text_to row.side k in first_body w16 t.come) ≡ Some body → cs ≡ at_place c (change_to row.side body_taken) w.conns → Ready w i v cs
 
--- WHAT A HAPPENING DOES: ls and cs are the incarnations and the connections after it; F is what is known of its numbers
-pub data Act (F : Type 0) (w : World) (ls : List Life) (cs : List Conn) : Type 0 where
-  Begins : (who : ℕ) → (s : Setup) → (c : Creation) → (F → c.0 < 2 ^ 32) → slice_get w.setups who ≡ Some s → running w who ≡ None → ls ≡ w.lives ++ new_life who w.clock s c ∷ [] → cs ≡ w.conns → Act F w ls cs
-  Ends : (i : ℕ) → (old : Life) → slice_get w.lives i ≡ Some old → runs old ≡ true → ls ≡ at_place i (life_after_end w.clock) w.lives → cs ≡ w.conns → Act F w ls cs
+-- WHAT A HAPPENING DOES: ls and cs are the incarnations and the connections after it
+pub data Act (h : Happening) (w : World) (ls : List Life) (cs : List Conn) : Type 0 where
+  Begins : (who : ℕ) → (s : Setup) → (c : Creation) → (Fits h → c.0 < 2 ^ 32) → slice_get w.setups who ≡ Some s → running w who ≡ None → ls ≡ w.lives ++ new_life who w.clock s c ∷ [] → cs ≡ w.conns → Act h w ls cs
+  Ends : (i : ℕ) → (old : Life) → slice_get w.lives i ≡ Some old → runs old ≡ true → ls ≡ at_place i (life_after_end w.clock) w.lives → cs ≡ w.conns → Act h w ls cs
   Reaches : (i id j : ℕ) → (old far : Life) → slice_get w.lives i ≡ Some old → runs old ≡ true → slice_get w.lives j ≡ Some far → runs far ≡ true → is_dialing (end_at w i id) ≡ true → conn_of (row_at w i id) ≡ None
-      → ls ≡ at_place i (reached_life id (length w.conns)) w.lives → cs ≡ w.conns ++ new_conn i id j ∷ [] → Act F w ls cs
-  Comes : (side : Side) → (c n : ℕ) → ls ≡ w.lives → cs ≡ at_place c (change_to side (after_delivery n)) w.conns → Act F w ls cs
-  Tells : (i : ℕ) → (old : Life) → (v : Event) → (fresh : ℕ) → (f : Effect) → (ds : List Conn) → (F → fresh < 2 ^ 32) → slice_get w.lives i ≡ Some old → runs old ≡ true → effect_of old.node v fresh ≡ Ok f → Ready w i v ds
-      → ls ≡ at_place i (λ l. life_after w.clock v f.reply (after old.node v f) old) w.lives → cs ≡ conns_after_saying ds (slice_get (rows_after w.clock v f.reply old.rows) f.reply.end_.0) f.reply.say → Act F w ls cs
-  Resets : (i : ℕ) → (old : Life) → (v : Change) → slice_get w.lives i ≡ Some old → runs old ≡ true → change old.node v ≡ Ok (after_change old.node v) → ls ≡ at_place i (with_node (after_change old.node v)) w.lives → cs ≡ w.conns → Act F w ls cs
+      → ls ≡ at_place i (reached_life id (length w.conns)) w.lives → cs ≡ w.conns ++ new_conn i id j ∷ [] → Act h w ls cs
+  Comes : (side : Side) → (c n : ℕ) → ls ≡ w.lives → cs ≡ at_place c (change_to side (after_delivery n)) w.conns → Act h w ls cs
+  Tells : (i : ℕ) → (old : Life) → (v : Event) → (fresh : ℕ) → (f : Effect) → (ds : List Conn) → (Fits h → fresh < 2 ^ 32) → slice_get w.lives i ≡ Some old → runs old ≡ true → effect_of old.node v fresh ≡ Ok f → Ready w i v ds
+      → ls ≡ at_place i (λ l. life_after w.clock v f.reply (after old.node v f) old) w.lives → cs ≡ conns_after_saying ds (slice_get (rows_after w.clock v f.reply old.rows) f.reply.end_.0) f.reply.say → Act h w ls cs
+  Resets : (a i : ℕ) → (old : Life) → (v : Change) → h ≡ happening.Reset a v → slice_get w.lives i ≡ Some old → runs old ≡ true → change old.node v ≡ Ok (after_change old.node v) → ls ≡ at_place i (with_node (after_change old.node v)) w.lives → cs ≡ w.conns → Act h w ls cs
 
-pub record Acted (F : Type 0) (w x : World) : Type 0 where
+pub record Acted (h : Happening) (w x : World) : Type 0 where
   pub setups : x.setups ≡ w.setups
   pub clock : x.clock ≡ w.clock
-  pub act : Act F w x.lives x.conns
+  pub act : Act h w x.lives x.conns
 
-abbrev pub Acts : Type 0 → World → Option World → Type 0
-Acts F w o = IfSome o (Acted F w)
+abbrev pub Acts : Happening → World → Option World → Type 0
+Acts h w o = IfSome o (Acted h w)
 
 -- what a step that succeeds answers
 step-ok : (n : NodeState) (v : Event) (fresh : ℕ) (x : Reply × NodeState) → step n v fresh ≡ Ok x → (f : Effect) × (effect_of n v fresh ≡ Ok f) × (x ≡ (f.reply, after n v f))
@@ -73,7 +73,7 @@ step-ok n v fresh x e = by (effect_of n v fresh) refl e
     by (Ok f) at e = (f, at, cc)
 
 -- what a change that is not refused answers
-change-ok : (n : NodeState) (v : Change) (m : NodeState) → change n v ≡ Ok m → m ≡ after_change n v
+pub change-ok : (n : NodeState) (v : Change) (m : NodeState) → change n v ≡ Ok m → m ≡ after_change n v
 change-ok n v m e = by (is_in_use n v) (finds_no_room n v) e
   where
     by : (b c : Bool) → cond b (Err InUse) (cond c (Err Full) (Ok (after_change n v))) ≡ Ok m → m ≡ after_change n v
@@ -81,8 +81,8 @@ change-ok n v m e = by (is_in_use n v) (finds_no_room n v) e
     by false true e = absurd cc
     by false false e = cc
 
-told-acts : (F : Type 0) (w : World) (i : ℕ) (v : Event) (fresh : ℕ) (ds : List Conn) → (F → fresh < 2 ^ 32) → Ready w i v ds → Acts F w (tell (record w { conns = ds }) i v fresh)
-told-acts F w i v fresh ds fits ready = let P = Acted F w in
+told-acts : (h : Happening) (w : World) (i : ℕ) (v : Event) (fresh : ℕ) (ds : List Conn) → (Fits h → fresh < 2 ^ 32) → Ready w i v ds → Acts h w (tell (record w { conns = ds }) i v fresh)
+told-acts h w i v fresh ds fits ready = let P = Acted h w in
     if_there P (slice_get w.lives i) _ (λ l at.
     if_holds P (runs l) _ (λ live.
     if_ok P (step l.node v fresh) _ (λ x is.
@@ -97,8 +97,8 @@ told-acts F w i v fresh ds fits ready = let P = Acted F w in
           (ap (λ (y : Reply × NodeState). let r = y.0 in conns_after_saying ds (slice_get (rows_after w.clock v r l.rows) r.end_.0) r.say) same);
     })))
 
-plain-acts : (w : World) (a : ℕ) (v : Event) → IsPlain v → ((id : EndId) (link : ℕ) → v ≡ event.Opened id link → ⊥) → Acts (Unit {0}) w (tell_node w a v)
-plain-acts w a v plain not = if_there (Acted (Unit {0}) w) (running w a) _ (λ i e. told-acts (Unit {0}) w i v 0 w.conns (λ f. omega arith) (Plain plain (λ id link e. absurd (not id link e)) refl))
+plain-acts : (h : Happening) (w : World) (a : ℕ) (v : Event) → IsPlain v → ((id : EndId) (link : ℕ) → v ≡ event.Opened id link → ⊥) → Acts h w (tell_node w a v)
+plain-acts h w a v plain not = if_there (Acted h w) (running w a) _ (λ i e. told-acts h w i v 0 w.conns (λ f. omega arith) (Plain plain (λ id link e. absurd (not id link e)) refl))
 
 -- the running incarnation runs
 pub is-running : (w : World) (a i : ℕ) (l : Life) → running w a ≡ Some i → slice_get w.lives i ≡ Some l → (l.who ≡ a) × (runs l ≡ true)
@@ -124,21 +124,21 @@ none-by : {A : Type 0} (o : Option A) → is_none o ≡ true → o ≡ None
 none-by None h = refl
 none-by (Some x) h = absurd cc
 
-pub acts : (w : World) (h : Happening) → Acts (Fits h) w (world_after w h)
-acts w (happening.Begin a c) = let P = Acted (c.0 < 2 ^ 32) w in
+pub acts : (w : World) (h : Happening) → Acts h w (world_after w h)
+acts w (happening.Begin a c) = let P = Acted (happening.Begin a c) w in
     if_there P (slice_get w.setups a) _ (λ s at.
     if_holds P (is_none (running w a)) _ (λ free.
     if_holds P (ltb (length w.lives) most_begins) _ (λ few.
     record { setups = refl; clock = refl; act = Begins a s c (λ f. f) at (none-by (running w a) free) refl refl })))
-acts w (happening.Halt a) = let P = Acted (Unit {0}) w in
+acts w (happening.Halt a) = let P = Acted (happening.Halt a) w in
     if_there P (running w a) _ (λ i e.
     let g = life-of w a i e in
     let r = is-running w a i g.0 e g.1 in
     record { setups = refl; clock = refl; act = Ends i g.0 g.1 r.1 refl refl })
-acts w (happening.Dial a p o) = plain-acts w a (event.Dial p o) tt (λ id link e. absurd cc)
-acts w (happening.Tick a id) = plain-acts w a (event.Tick id) tt (λ x link e. absurd cc)
-acts w (happening.Lose a id y) = plain-acts w a (event.Lost id y) tt (λ x link e. absurd cc)
-acts w (happening.Reset a v) = let P = Acted (Unit {0}) w in
+acts w (happening.Dial a p o) = plain-acts (happening.Dial a p o) w a (event.Dial p o) tt (λ id link e. absurd cc)
+acts w (happening.Tick a id) = plain-acts (happening.Tick a id) w a (event.Tick id) tt (λ x link e. absurd cc)
+acts w (happening.Lose a id y) = plain-acts (happening.Lose a id y) w a (event.Lost id y) tt (λ x link e. absurd cc)
+acts w (happening.Reset a v) = let P = Acted (happening.Reset a v) w in
     if_there P (running w a) _ (λ i e.
     if_there P (slice_get w.lives i) _ (λ l at.
     if_ok P (change l.node v) _ (λ n is.
@@ -147,9 +147,9 @@ acts w (happening.Reset a v) = let P = Acted (Unit {0}) w in
     record {
       setups = refl;
       clock = refl;
-      act = Resets i l v at r.1 (is ∙ ap (λ (m : NodeState). Ok m) same) (ap (λ (m : NodeState). at_place i (with_node m) w.lives) same) refl;
+      act = Resets a i l v refl at r.1 (is ∙ ap (λ (m : NodeState). Ok m) same) (ap (λ (m : NodeState). at_place i (with_node m) w.lives) same) refl;
     })))
-acts w (happening.Reach a id b) = let P = Acted (Unit {0}) w in
+acts w (happening.Reach a id b) = let P = Acted (happening.Reach a id b) w in
     if_there P (running w a) _ (λ i e.
     if_there P (running w b) _ (λ j d.
     if_holds P (is_dialing (end_at w i id.0) && is_none (conn_of (row_at w i id.0)) && ltb (length w.conns) most_connections) _ (λ t.
@@ -160,15 +160,15 @@ acts w (happening.Reach a id b) = let P = Acted (Unit {0}) w in
     let f = life-of w b j d in
     let s = is-running w b j f.0 d f.1 in
     record { setups = refl; clock = refl; act = Reaches i id.0 j g.0 f.0 g.1 r.1 f.1 s.1 q.0 (none-by _ q.1) refl refl })))
-acts w (happening.Opened a id) = let P = Acted (Unit {0}) w in
+acts w (happening.Opened a id) = let P = Acted (happening.Opened a id) w in
     if_there P (running w a) _ (λ i e.
     if_there P (conn_of (row_at w i id.0)) _ (λ c on.
-    told-acts (Unit {0}) w i (event.Opened id c) 0 w.conns (λ f. omega arith) (Plain tt (λ x link q. (let y : id ≡ x = cc in let z : c ≡ link = cc in ap (λ (k : EndId). conn_of (row_at w i k.0)) (sym y) ∙ on ∙ ap Some z)) refl)))
-acts w (happening.Accept c) = let P = Acted (Unit {0}) w in
+    told-acts (happening.Opened a id) w i (event.Opened id c) 0 w.conns (λ f. omega arith) (Plain tt (λ x link q. (let y : id ≡ x = cc in let z : c ≡ link = cc in ap (λ (k : EndId). conn_of (row_at w i k.0)) (sym y) ∙ on ∙ ap Some z)) refl)))
+acts w (happening.Accept c) = let P = Acted (happening.Accept c) w in
     if_there P (slice_get w.conns c) _ (λ k at.
     if_holds P (is_none k.accepted) _ (λ free.
-    told-acts (Unit {0}) w k.target _ 0 _ (λ f. omega arith) (Accepts c k refl at (none-by k.accepted free) refl refl)))
-acts w (happening.Deliver a id n) = let P = Acted (Unit {0}) w in
+    told-acts (happening.Accept c) w k.target _ 0 _ (λ f. omega arith) (Accepts c k refl at (none-by k.accepted free) refl refl)))
+acts w (happening.Deliver a id n) = let P = Acted (happening.Deliver a id n) w in
     if_there P (running w a) _ (λ i e.
     if_holds P (is_open_end (end_at w i id.0)) _ (λ open_.
     if_there P (row_at w i id.0) _ (λ row at.
@@ -176,10 +176,10 @@ acts w (happening.Deliver a id n) = let P = Acted (Unit {0}) w in
     if_there P (slice_get w.conns c) _ (λ k at-c.
     if_holds P (ltb 0 n && is_nonempty (let t = text_to row.side k in t.said)) _ (λ some.
     record { setups = refl; clock = refl; act = Comes row.side c n refl refl }))))))
-acts w (happening.Take a id fresh) = let P = Acted (fresh < 2 ^ 32) w in
+acts w (happening.Take a id fresh) = let P = Acted (happening.Take a id fresh) w in
     if_there P (running w a) _ (λ i e.
     if_there P (row_at w i id.0) _ (λ row at.
     if_there P row.conn _ (λ c on.
     if_there P (slice_get w.conns c) _ (λ k at-c.
     if_there P (let t = text_to row.side k in first_body w16 t.come) _ (λ body is.
-    told-acts (fresh < 2 ^ 32) w i _ fresh _ (λ f. f) (Takes id row c k body refl at on at-c is refl))))))
+    told-acts (happening.Take a id fresh) w i _ fresh _ (λ f. f) (Takes id row c k body refl at on at-c is refl))))))

@@ -11,7 +11,6 @@ use Rattle.dist_world_model.specs.declared.happening.Happening.{Happening}
 use Rattle.dist_world_model.specs.World.{World, Life, Conn, runs, empty}
 use Rattle.dist_world_model.specs.Happenings.{life_after, new_life, life_after_end, reached_life, with_node, world_after, without_closing, ticked_on, most_applied, applied_at, happens}
 use Rattle.dist_world_model.specs.Run.{run}
-use Rattle.dist_world_model.specs.Agreement.{Fits}
 use Rattle.dist_world_model.specs.Laws.{AllLives}
 use Rattle.dist_world_model.proofs.Places.{at-one, at-more}
 use Rattle.dist_world_model.proofs.HappeningEffects.{Act, Acted, Begins, Ends, Reaches, Comes, Tells, Resets, acts}
@@ -31,13 +30,13 @@ same ls t i l h = Stays h
 pub alike : (xs : List Life) (i : ℕ) (x y : Life) → slice_get xs i ≡ Some x → slice_get xs i ≡ Some y → x ≡ y
 alike xs i x y h g = let e : Some x ≡ Some y = sym h ∙ g in cc
 
-turned-by : {F : Type 0} (w : World) (ls : List Life) (cs : List Conn) → Act F w ls cs → (i : ℕ) (l : Life) → slice_get ls i ≡ Some l → Turn w.lives w.clock i l
+turned-by : {hap : Happening} (w : World) (ls : List Life) (cs : List Conn) → Act hap w ls cs → (i : ℕ) (l : Life) → slice_get ls i ≡ Some l → Turn w.lives w.clock i l
 turned-by w ls cs (Begins who s c fc at r is k) i l h = at-more (Turn w.lives w.clock) w.lives _ (Starts who s c refl refl) (same w.lives w.clock) i l (ap (λ xs. slice_get xs i) (sym is) ∙ h)
 turned-by w ls cs (Ends j old at live is k) i l h = at-one (Turn w.lives w.clock) j _ w.lives (λ x e. Stops x e (ap runs (alike w.lives j x old e at) ∙ live) refl) (same w.lives w.clock) i l (ap (λ xs. slice_get xs i) (sym is) ∙ h)
 turned-by w ls cs (Reaches j id k old far at live atf livef d n is ks) i l h = at-one (Turn w.lives w.clock) j _ w.lives (λ x e. Links x id _ e (ap runs (alike w.lives j x old e at) ∙ live) refl) (same w.lives w.clock) i l (ap (λ xs. slice_get xs i) (sym is) ∙ h)
 turned-by w ls cs (Comes side c n is k) i l h = Stays (ap (λ xs. slice_get xs i) (sym is) ∙ h)
 turned-by w ls cs (Tells j old v fresh f ds fits at live ok ready is k) i l h = at-one (Turn w.lives w.clock) j _ w.lives (λ x e. Lives old v fresh f at live ok refl) (same w.lives w.clock) i l (ap (λ xs. slice_get xs i) (sym is) ∙ h)
-turned-by w ls cs (Resets j old v at live ok is k) i l h = at-one (Turn w.lives w.clock) j _ w.lives (λ x e. Changes old v at live ok (ap (with_node (after_change old.node v)) (alike w.lives j x old e at))) (same w.lives w.clock) i l (ap (λ xs. slice_get xs i) (sym is) ∙ h)
+turned-by w ls cs (Resets a j old v r at live ok is k) i l h = at-one (Turn w.lives w.clock) j _ w.lives (λ x e. Changes old v at live ok (ap (with_node (after_change old.node v)) (alike w.lives j x old e at))) (same w.lives w.clock) i l (ap (λ xs. slice_get xs i) (sym is) ∙ h)
 
 -- WHAT A STATEMENT ABOUT ONE INCARNATION AND THE CLOCK HAS TO KEEP
 pub record Keeps (P : ℕ → Life → Type 0) : Type 0 where
@@ -50,17 +49,17 @@ pub record Keeps (P : ℕ → Life → Type 0) : Type 0 where
 
 -- what each happening keeps holds after each list of them
 pub kept-by-all : (I : World → Type 0) (F : Happening → Type 0)
-    → ((w x : World) (h : Happening) → F h → Acted (Fits h) w x → I w → I (record x { clock = x.clock + 1 }))
+    → ((w x : World) (h : Happening) → F h → Acted h w x → I w → I (record x { clock = x.clock + 1 }))
     → ((w : World) → I w → I (without_closing w))
     → (hs : List Happening) (w : World) → Rattle.std.specs.List.AllByRecursion F hs → I w → I (run hs w)
 kept-by-all I F step clear [] w fs i = i
 kept-by-all I F step clear (h ∷ hs) w fs i = kept-by-all I F step clear hs (happens w h) fs.1 (one (applied_at w h) (at (ltb w.clock most_applied)))
   where
-    at : (b : Bool) → IfSome (cond b (world_after (without_closing w) h) None) (Acted (Fits h) (without_closing w))
+    at : (b : Bool) → IfSome (cond b (world_after (without_closing w) h) None) (Acted h (without_closing w))
     at true = acts (without_closing w) h
     at false = tt
 
-    one : (o : Option World) → IfSome o (Acted (Fits h) (without_closing w)) → I (ticked_on w o)
+    one : (o : Option World) → IfSome o (Acted h (without_closing w)) → I (ticked_on w o)
     one None g = i
     one (Some x) g = let P : ℕ → Type 0 = λ k. I (record x { clock = k + 1 }) in subst P g.clock (step (without_closing w) x h fs.0 g (clear w i))
 
@@ -79,7 +78,7 @@ module _ (P : ℕ → Life → Type 0) (k : Keeps P) where
   turned ls t i l h (Lives old v fresh f at live s is) = subst (P (t + 1)) (sym is) (k.lives t old v fresh f live s (h i old at))
   turned ls t i l h (Changes old v at live ok is) = subst (P (t + 1)) (sym is) (k.resets t old v live ok (h i old at))
 
-  pub one-step : {F : Type 0} (w x : World) → Acted F w x → AllLives (P w.clock) w → AllLives (P (w.clock + 1)) x
+  pub one-step : {hap : Happening} (w x : World) → Acted hap w x → AllLives (P w.clock) w → AllLives (P (w.clock + 1)) x
   one-step w x g a i l at = turned w.lives w.clock i l a (turned-by w x.lives x.conns g.act i l at)
 
   pub always : (ss : List Setup) (hs : List Happening) → (let x = run hs (empty ss) in AllLives (P x.clock) x)

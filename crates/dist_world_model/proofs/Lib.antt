@@ -47,5 +47,8 @@ pub mod SupersededEnds
 pub mod DialEvents
 pub mod RepeatedNames
 pub mod EndOrder
+pub mod OwnSetups
+pub mod Renewals
+pub mod CanonicalFrames
 pub mod NeededConnections
 pub mod EndConnections

@@ -18,7 +18,7 @@ use Rattle.dist_world_model.proofs.EndStates.{Fits}
 use Rattle.dist_world_model.proofs.HappeningEffects.{IsPlain}
 use Rattle.dist_world_model.proofs.StepEffects.{is_given}
 use Rattle.dist_world_model.proofs.WholeFrames.{Whole, on_way, whole-map, way-said, way-taken}
-use Rattle.dist_world_model.proofs.Wires.{MaySay, MayAnswer, Said, IsWire, Quiet, Hushed, quiet-refl, wire-quiet, named_of, replied_of, rose_of}
+use Rattle.dist_world_model.proofs.Wires.{MaySay, MayAnswer, Said, said-map, IsWire, Quiet, Hushed, quiet-refl, wire-quiet, named_of, replied_of, rose_of}
 use Rattle.dist_world_model.proofs.DialledSide.{DidDial, did-dial}
 use Rattle.dist_world_model.proofs.AcceptedSide.{DidAccept, did-accept}
 use Rattle.dist_world_model.proofs.EndRows.{once-past}
@@ -98,7 +98,7 @@ module _ (laws : NodeLaws) (telling : Telling) where
               let tk = taken (Said Acceptor (MayAnswer m s (named_of y) (rose_of y))) w0.back_said in
               let did : DidDial s m (named_of y) (rose_of y) x1 f.this f.reply.say = did-dial laws old.node m (fit i old at) w.clock x0 e0 dialled fits (named_of y) (rose_of y) fb.0 fb.1 w0.replies w0.follows w0.peer_back w0.noted_back v fresh f small tk.1 at-e (the-row laws telling) (dooms f.reply.note (me laws telling)) (shuts_end f.reply.closed (me laws telling)) in
               let made0 : IsWire s m (on_way (more_said f.reply.say k.there)) (on_way T) (Some x1) y (Some f.this) d = record {
-                there_said = way-said (Said Dialler (MaySay s x1.replied)) k.there f.reply.say (whole-map (Said Dialler (MaySay s x0.replied)) (Said Dialler (MaySay s x1.replied)) (λ body h g q. say-more s x0.replied x1.replied (once-keeps _ w.clock x0.replied) g (h g q)) (on_way k.there) w0.there_said) did.said;
+                there_said = way-said (Said Dialler (MaySay s x1.replied)) k.there f.reply.say (whole-map (Said Dialler (MaySay s x0.replied)) (Said Dialler (MaySay s x1.replied)) (said-map Dialler (MaySay s x0.replied) (MaySay s x1.replied) (say-more s x0.replied x1.replied (once-keeps _ w.clock x0.replied))) (on_way k.there) w0.there_said) did.said;
                 back_said = tk.0;
                 replies = did.replies;
                 rises = λ j q. once-past _ w.clock j x0.replied (w0.rises j q);
@@ -155,7 +155,7 @@ module _ (laws : NodeLaws) (telling : Telling) where
               let did : DidAccept s n (replied_of x) x1 f.this f.reply.say = did-accept laws old.node n (fit i old at) w.clock x0 e0 accepted fits (replied_of x) bl.2 w0.rises w0.peer_there w0.noted_there v fresh f small tk.1 at-e (the-row laws telling) (dooms f.reply.note (me laws telling)) (shuts_end f.reply.closed (me laws telling)) in
               let made0 : IsWire n s (on_way T) (on_way (more_said f.reply.say k.back)) x (Some x1) e (Some f.this) = record {
                 there_said = tk.0;
-                back_said = way-said (Said Acceptor (MayAnswer s n x1.named x1.rose)) k.back f.reply.say (whole-map (Said Acceptor (MayAnswer s n x0.named x0.rose)) (Said Acceptor (MayAnswer s n x1.named x1.rose)) (λ body h g q. answer-more s n x0.named x1.named x0.rose x1.rose (once-keeps _ w.clock x0.named) (once-keeps _ w.clock x0.rose) g (h g q)) (on_way k.back) w0.back_said) did.said;
+                back_said = way-said (Said Acceptor (MayAnswer s n x1.named x1.rose)) k.back f.reply.say (whole-map (Said Acceptor (MayAnswer s n x0.named x0.rose)) (Said Acceptor (MayAnswer s n x1.named x1.rose)) (said-map Acceptor (MayAnswer s n x0.named x0.rose) (MayAnswer s n x1.named x1.rose) (answer-more s n x0.named x1.named x0.rose x1.rose (once-keeps _ w.clock x0.named) (once-keeps _ w.clock x0.rose))) (on_way k.back) w0.back_said) did.said;
                 replies = λ j q. once-past _ w.clock j x0.named (w0.replies j q);
                 rises = did.rises;
                 follows = λ j q. once-past _ w.clock j x0.rose (w0.follows j q);

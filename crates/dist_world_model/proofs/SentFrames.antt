@@ -1,5 +1,5 @@
 -- What a node sends is whole frames of messages that it may send.
-use Rattle.std.proofs.Common.{◌≡◌, ℕ, ◌^◌, ◌<◌, true, false, cond, List, [], ◌∷◌, length, Option, Ok, refl, sym, ◌∙◌, subst, arith, is_some, lit<}
+use Rattle.std.proofs.Common.{◌≡◌, ℕ, ◌^◌, ◌<◌, true, false, cond, List, [], ◌∷◌, length, Option, Ok, inr, inl, refl, sym, ◌∙◌, subst, arith, is_some, lit<}
 use Rattle.dist_names.specs.NodeName.{IsNodeName}
 use Rattle.dist_messages.specs.Spelling.{Fits, is_said_by}
 use Rattle.dist_messages.specs.Canonical.{canonical}
@@ -38,7 +38,10 @@ framed-said P m f h = whole-one P (canonical m) f h
 
 module _ (laws : NodeLaws) where
   canonical-said : (side : Side) (P : Message → Type 0) (m : Message) → CanBeSaid side m → Fits m → P m → Said side P (canonical m)
-  canonical-said side P m c f h k e = let q : Ok m ≡ Ok k = sym (laws.sayings.read_back side m f c) ∙ e in let z : m ≡ k = cc in subst P z h
+  canonical-said side P m c f h = record {
+    spelled = inr (m, refl, f, h);
+    read_as = λ k e. let q : Ok m ≡ Ok k = sym (laws.sayings.read_back side m f c) ∙ e in let z : m ≡ k = cc in subst P z h;
+  }
 
   pub message-said : (side : Side) (P : Message → Type 0) (m : Message) → CanBeSaid side m → Fits m → P m → Whole (Said side P) (frames_of_messages (m ∷ []))
   message-said side P m c f h = framed-said (Said side P) m c.1 (canonical-said side P m c f h)
@@ -49,7 +52,7 @@ module _ (laws : NodeLaws) where
 -- nothing is read in a body of no byte
 empty-said : (side : Side) (P : Message → Type 0) → Said side P []
 unfolding read
-empty-said side P m e = absurd cc
+empty-said side P = record { spelled = inl refl; read_as = λ m e. absurd cc }
 
 pub tick-said : (side : Side) (P : Message → Type 0) → Whole (Said side P) tick_text
 tick-said side P = whole-append (Said side P) (0 ∷ 0 ∷ []) (0 ∷ 0 ∷ []) (whole-one (Said side P) [] (lit< tt) (empty-said side P)) (whole-one (Said side P) [] (lit< tt) (empty-said side P))

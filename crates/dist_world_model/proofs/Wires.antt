@@ -1,5 +1,5 @@
 -- What is kept of one connection.
-use Rattle.std.proofs.Common.{◌≡◌, ℕ, Bool, true, false, List, Option, Some, None, Ok, refl, sym, ap, ◌∙◌, subst, is_some}
+use Rattle.std.proofs.Common.{◌≡◌, ℕ, Bool, true, false, List, inl, inr, Option, Some, None, Ok, refl, sym, ap, ◌∙◌, subst, is_some}
 use Rattle.dist_names.specs.Order.{Name}
 use Rattle.dist_names.specs.declared.creation.Creation.{Creation}
 use Rattle.dist_names.specs.Flags.{low_half, high_half, common}
@@ -18,6 +18,7 @@ use Rattle.dist_core_ends.specs.declared.known.End.{End}
 use Rattle.dist_core_ends.specs.declared.known.End.TheVariants as ends
 use Rattle.dist_core_setup.specs.Rules.{announced_by, knows_six}
 use Rattle.dist_world_model.specs.Agreement.{both_six, known_creation}
+use Rattle.dist_world_model.specs.Frames.{IsCanonical}
 use Rattle.dist_world_model.specs.Rows.{EndRow, past}
 use Rattle.dist_world_model.proofs.WholeFrames.{Whole}
 
@@ -29,7 +30,8 @@ MaySay s replied (message.NewName f c p) = (knows_six s ≡ true) × (f.0 ≡ an
 MaySay s replied (message.OldName f p) = (f ≡ low_half (announced_by s)) × (p ≡ s.name)
 MaySay s replied (message.Complement high c) = (high ≡ high_half (announced_by s)) × (c ≡ s.creation)
 MaySay s replied (message.Reply c d) = is_some replied ≡ true
-MaySay s replied m = Unit {0}
+MaySay s replied (message.Status k) = Unit {0}
+MaySay s replied m = ⊥
 
 -- what the accepting node may have sent, by its setup, the other node's, and the numbers at which its end took a name and
 -- came up: the newer challenge where both know version 6, and else the older one
@@ -37,11 +39,22 @@ abbrev pub MayAnswer : Setup → Setup → Option ℕ → Option ℕ → Message
 MayAnswer s other named rose (message.NewChallenge f n c p) = (is_some named ≡ true) × (both_six s other ≡ true) × (f.0 ≡ announced_by s) × (c ≡ s.creation) × (p ≡ s.name)
 MayAnswer s other named rose (message.OldChallenge f n p) = (is_some named ≡ true) × (both_six s other ≡ false) × (f ≡ low_half (announced_by s)) × (p ≡ s.name)
 MayAnswer s other named rose (message.Ack d) = is_some rose ≡ true
-MayAnswer s other named rose m = Unit {0}
+MayAnswer s other named rose (message.Status k) = Unit {0}
+MayAnswer s other named rose m = ⊥
 
--- a body that is read as a message of this side is read as one of these
-abbrev pub Said : Side → (Message → Type 0) → List ℕ → Type 0
-Said side P body = (m : Message) → read side body ≡ Ok m → P m
+-- a body that spells one of these messages, or has no byte, and that is read as one of these where it is read as a message of
+-- this side
+pub record Said (side : Side) (P : Message → Type 0) (body : List ℕ) : Type 0 where
+  pub spelled : IsCanonical P body
+  pub read_as : (m : Message) → read side body ≡ Ok m → P m
+
+pub canonical-map : (P Q : Message → Type 0) → ((m : Message) → P m → Q m) → (body : List ℕ) → IsCanonical P body → IsCanonical Q body
+canonical-map P Q f body (inl e) = inl e
+canonical-map P Q f body (inr (m, is, fits, p)) = inr (m, is, fits, f m p)
+
+-- more that is true of each message
+pub said-map : (side : Side) (P Q : Message → Type 0) → ((m : Message) → P m → Q m) → (body : List ℕ) → Said side P body → Said side Q body
+said-map side P Q f body h = record { spelled = canonical-map P Q f body h.spelled; read_as = λ m e. f m (h.read_as m e) }
 
 -- ---- what an end has noted of the other node
 

@@ -167,13 +167,13 @@ module _ (w : World) (seen : AllLives (IsSeen w.clock) w) (order : InOrder w.liv
       last : (j : ℕ) → length w.lives ≡ j → slice_get (w.lives ++ new_life who w.clock s c ∷ []) j ≡ Some (new_life who w.clock s c)
       last j e = get-more w.lives (new_life who w.clock s c) j ∙ ap (λ t. cond t (Some (new_life who w.clock s c)) (slice_get w.lives j)) (ap (eqb (length w.lives)) (sym e) ∙ eqb-self (length w.lives))
 
-  order-after : {F : Type 0} (ls : List Life) (cs : List Conn) → Act F w ls cs → InOrder ls
+  order-after : {hap : Happening} (ls : List Life) (cs : List Conn) → Act hap w ls cs → InOrder ls
   order-after ls cs (Begins who s c fc at none is k) = subst InOrder (sym is) (begun-order who s c none)
   order-after ls cs (Ends i old at live is k) = subst InOrder (sym is) (heads-order w.clock w.lives _ (ends-heads w i old at live) order)
   order-after ls cs (Reaches i id j old away at live ata livea d n is k) = subst InOrder (sym is) (heads-order w.clock w.lives _ (reaches-heads w i id) order)
   order-after ls cs (Comes side c n is k) = subst InOrder (sym is) order
   order-after ls cs (Tells i old v fresh f ds fits at live ok ready is k) = subst InOrder (sym is) (heads-order w.clock w.lives _ (tells-heads w i old v f at) order)
-  order-after ls cs (Resets i old v at live ok is k) = subst InOrder (sym is) (heads-order w.clock w.lives _ (resets-heads w i old v at) order)
+  order-after ls cs (Resets a i old v r at live ok is k) = subst InOrder (sym is) (heads-order w.clock w.lives _ (resets-heads w i old v at) order)
 
 -- in every world, whatever its setups and numbers
 pub record IsTimely (w : World) : Type 0 where
@@ -181,7 +181,7 @@ pub record IsTimely (w : World) : Type 0 where
   pub order : InOrder w.lives
 
 module _ (laws : NodeLaws) where
-  seen-after : {F : Type 0} (w x : World) → Acted F w x → AllLives (IsSeen w.clock) w → AllLives (IsSeen (x.clock + 1)) x
+  seen-after : {hap : Happening} (w x : World) → Acted hap w x → AllLives (IsSeen w.clock) w → AllLives (IsSeen (x.clock + 1)) x
   seen-after w x a h = let Q : ℕ → Type 0 = λ n. AllLives (IsSeen (n + 1)) x in subst Q (sym a.clock) (one-step IsSeen (seen_keeps laws) w x a h)
 
   pub timely : (ss : List Setup) (hs : List Happening) → IsTimely (run hs (empty ss))
@@ -189,7 +189,7 @@ module _ (laws : NodeLaws) where
 
   -- ---- EVERY HAPPENING KEEPS IT
 
-  module _ (F : Type 0) (w : World) (known : F) (h : IsKept w) where
+  module _ (hap : Happening) (w : World) (known : Fits hap) (h : IsKept w) where
     lives : (i : ℕ) (l : Life) → slice_get w.lives i ≡ Some l → IsLife w.clock l
     lives i l at = let s = h.seen i l at in let t = s.timed in t.life
 
@@ -213,7 +213,7 @@ module _ (laws : NodeLaws) where
         new : Life
         new = new_life who w.clock s c
 
-    rest : (ls : List Life) (cs : List Conn) → Act F w ls cs → Rest ls cs
+    rest : (ls : List Life) (cs : List Conn) → Act hap w ls cs → Rest ls cs
     rest ls cs (Begins who s c fc at none is k) = let P : List Life → List Conn → Type 0 = λ x y. Rest x y in subst (λ x. P x cs) (sym is) (subst (P _) (sym k) (begins who s c (fc known) at none))
     rest ls cs (Ends i old at live is k) =
         let P : List Life → List Conn → Type 0 = λ x y. Rest x y in
@@ -235,13 +235,13 @@ module _ (laws : NodeLaws) where
         subst (λ x. P x cs) (sym is) (subst (P _) (sym k) (by-heads (at_place i (λ l. life_after w.clock v f.reply (after old.node v f) old) w.lives) _
         (tells-heads w i old v f at)
         g.0 g.1))
-    rest ls cs (Resets i old v at live ok is k) =
+    rest ls cs (Resets a i old v r at live ok is k) =
         let P : List Life → List Conn → Type 0 = λ x y. Rest x y in
         subst (λ x. P x cs) (sym is) (subst (P _) (sym k) (by-heads (at_place i (with_node (after_change old.node v)) w.lives) w.conns
         (resets-heads w i old v at)
         (reset-linked i v w.lives old at w.conns h.linked) (reset-wires i v w.lives old at w.conns h.linked h.wires)))
 
-    pub happening-keeps : (x : World) → Acted F w x → IsKept (record x { clock = x.clock + 1 })
+    pub happening-keeps : (x : World) → Acted hap w x → IsKept (record x { clock = x.clock + 1 })
     happening-keeps x a =
         let r = rest x.lives x.conns a.act in
         record {
@@ -268,4 +268,4 @@ kept-empty ss h = record {
 module _ (laws : NodeLaws) where
   -- EVERY WORLD IS KEPT
   pub kept : (ss : List Setup) (hs : List Happening) → AreSetups ss → AllFit hs → IsKept (run hs (empty ss))
-  kept ss hs h f = kept-by-all IsKept Fits (λ w x h g a k. (happening-keeps laws) (Fits h) w g k x a) (λ w k. record { setups = k.setups; seen = k.seen; fits = k.fits; owns = k.owns; linked = k.linked; wires = k.wires; order = k.order }) hs (empty ss) f (kept-empty ss h)
+  kept ss hs h f = kept-by-all IsKept Fits (λ w x h g a k. (happening-keeps laws) h w g k x a) (λ w k. record { setups = k.setups; seen = k.seen; fits = k.fits; owns = k.owns; linked = k.linked; wires = k.wires; order = k.order }) hs (empty ss) f (kept-empty ss h)

@@ -204,16 +204,21 @@ deliver w node id k = do
   nat_lt 0 k && is_nonempty text.said
   Some (record w { conns = at_place c (change_to row.side (after_delivery k)) w.conns })
 
--- TAKE: an end takes the first whole frame of what came, and is told its body, with the challenge that was drawn for it
-abbrev pub take_frame : World → ℕ → EndId → ℕ → Option World
-take_frame w node id fresh = do
+-- TAKE: an end takes the first whole frame of what came, and is told its body as it is read, with the challenge that was drawn
+-- for it
+abbrev pub take_read : (List ℕ → List ℕ) → World → ℕ → EndId → ℕ → Option World
+take_read reading w node id fresh = do
   i ← running w node
   row ← row_at w i id.0
   c ← row.conn
   conn ← slice_get w.conns c
   let text = text_to row.side conn
   body ← first_body w16 text.come
-  tell (record w { conns = at_place c (change_to row.side body_taken) w.conns }) i (event.Frame id body) fresh
+  tell (record w { conns = at_place c (change_to row.side body_taken) w.conns }) i (event.Frame id (reading body)) fresh
+
+-- as it came
+abbrev pub take_frame : World → ℕ → EndId → ℕ → Option World
+take_frame = take_read (λ body. body)
 
 -- ---- THE HAPPENINGS
 

@@ -10,4 +10,7 @@ pub mod Stones
 pub mod Order
 pub mod Laws
 pub mod Agreement
+pub mod Frames
+pub mod OwnSetups
+pub mod Renewals
 pub mod NodeLaws

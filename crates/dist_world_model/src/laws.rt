@@ -1,13 +1,16 @@
 //! Laws of all runs of a world: each is a function that does nothing, and whose contract is the law.
 
-ghost use Rattle.std.specs.Prelude.{◌≡◌, ℕ, List};
+ghost use Rattle.std.specs.Prelude.{◌≡◌, ℕ, List, [], Some, slice_get};
 ghost use Rattle.dist_core_setup.specs.declared.setup.Setup.{Setup};
 ghost use Rattle.dist_world_model.specs.declared.happening.Happening.{Happening};
-ghost use Rattle.dist_world_model.specs.World.{World, empty};
+ghost use Rattle.dist_world_model.specs.World.{World, Life, empty, running};
 ghost use Rattle.dist_world_model.specs.Run.{run};
 ghost use Rattle.dist_world_model.specs.Laws.{AllLives, Alone, Apart, Decided, InTurn, OwnDigests, UpsAreLinked};
 ghost use Rattle.dist_world_model.specs.Order.{AreAbove, AreInOrder, OnlyLastRuns};
 ghost use Rattle.dist_world_model.specs.Agreement.{Agreement, AreSetups, AllFit, IsReached, Counts, IsUp};
+ghost use Rattle.dist_world_model.specs.Frames.{AreCanonical};
+ghost use Rattle.dist_world_model.specs.Renewals.{HasOpened, HasRoom, renewal};
+ghost use Rattle.dist_world_model.specs.OwnSetups.{AreNoResets, HasSetDigests, IsSetUp, changes_at};
 
 use crate::node_laws::nodes_keep_laws;
 
@@ -76,6 +79,44 @@ pub fn ups_are_linked()
 pub fn nodes_agree()
     ensures runs { (setups : List Setup) (happenings : List Happening) → AreSetups setups → AllFit happenings → Agreement (run happenings (empty setups)) }
     ensures reached { (w : World) → IsReached w → Agreement w }
+{
+    nodes_keep_laws();
+}
+
+/// Every incarnation has its node's setup, but for the creation with which it began and for the changes of its own resets, in
+/// their order. Where nothing was reset it has the cookies and the list of that setup, and each of its ends that is up holds the
+/// digest of that setup's cookie for the peer.
+pub fn setups_are_own()
+    ensures changed { (setups : List Setup) (happenings : List Happening) (i : ℕ) (l : Life)
+        → (let w = run happenings (empty setups) in slice_get w.lives i ≡ Some l)
+        → IsSetUp setups (changes_at happenings (empty setups) i) l }
+    ensures unchanged { (setups : List Setup) (happenings : List Happening) → AreNoResets happenings
+        → AllLives (IsSetUp setups []) (run happenings (empty setups)) }
+    ensures digests { (setups : List Setup) (happenings : List Happening) → AreNoResets happenings
+        → AllLives (HasSetDigests setups) (run happenings (empty setups)) }
+{
+    nodes_keep_laws();
+}
+
+/// A node that is renewed is one that ended, began again at once with the creation that it had, and made again the changes that
+/// gave its setup its cookies and its list: after these happenings its running incarnation is the node that `Node::renew` leaves,
+/// wherever the limits of the world leave room for them.
+pub fn renewed_nodes_begin_again()
+    ensures { (setups : List Setup) (happenings : List Happening) (node place : ℕ) (l : Life)
+        → running (run happenings (empty setups)) node ≡ Some place
+        → (let w = run happenings (empty setups) in slice_get w.lives place ≡ Some l)
+        → HasRoom (run happenings (empty setups)) (changes_at happenings (empty setups) place)
+        → HasOpened
+        (run (renewal node (let n = l.node in let own = n.setup in own.creation) (changes_at happenings (empty setups) place))
+        (run happenings (empty setups))) node l.node.setup }
+{
+    incarnations_are_in_order();
+}
+
+/// Whatever happens, each body that an end can take next has no byte, or is the canonical spelling of a message whose flags,
+/// where it has any, are those that one of the nodes announces, or the lower half of them.
+pub fn frames_are_canonical()
+    ensures { (setups : List Setup) (happenings : List Happening) → AreSetups setups → AllFit happenings → AreCanonical setups (run happenings (empty setups)) }
 {
     nodes_keep_laws();
 }

@@ -14,7 +14,8 @@ mod node_laws;
 pub use happening::Happening;
 pub use laws::{
     connections_are_in_order, crossings_are_decided, digests_are_own, ends_are_in_turn,
-    holders_are_apart, incarnations_are_in_order, nodes_agree, replies_are_alone, ups_are_linked,
+    frames_are_canonical, holders_are_apart, incarnations_are_in_order, nodes_agree,
+    renewed_nodes_begin_again, replies_are_alone, setups_are_own, ups_are_linked,
     worlds_are_reached,
 };
 pub use node_laws::nodes_keep_laws;

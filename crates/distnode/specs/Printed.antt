@@ -54,8 +54,8 @@ refusal_text e closed = closed_text closed ++ refused_line e
 abbrev pub IsHeld : World → List ℕ → Type 0
 IsHeld w text = (agreements : List ℕ) × AreAgreements w agreements × (text ≡ nodes_text w ++ agreements ++ codes "audit holds\n")
 
--- WHAT IS PRINTED OF CLOSED NODES, by the exit status: with 0 they are of one world, whose text it is; with 1 the audit's first
--- refusal is printed
+-- WHAT IS PRINTED OF CLOSED NODES, by the exit status: with 0 they are of one world, whose text it is, and whose ends that are up
+-- hold the digests of the cookies that these nodes were set up with; with 1 the audit's first refusal is printed
 abbrev pub IsAudited : ℕ → List Closed → List ℕ → Type 0
 IsAudited zero closed text = (w : World) × IsWorldOf closed w × IsHeld w text
 IsAudited (suc zero) closed text = (e : AuditError) × Tells e closed × TellsFirst e closed × (text ≡ refusal_text e closed)

@@ -55,7 +55,12 @@ DisallowsText false text code old new = Disallows (name_of_bytes text) code old 
 abbrev pub Keys : Result (List ℕ) NameError → Result (List ℕ) CookieError → ℕ → Guest → Guest → Type 0
 Keys (Err e) cookie code old new = Stays (name_code e) code old new
 Keys (Ok p) (Err e) code old new = Stays (cookie_code e) code old new
-Keys (Ok p) (Ok c) code old new = Amends (change old.node (Cookie p c)) code old new ⊎ Stays 3 code old new
+Keys (Ok p) (Ok c) code old new = Amends (change old.node (Cookie p (Some c))) code old new ⊎ Stays 3 code old new
+
+-- a peer has no cookie of its own, or the first reason why not; memory may run out for its name, whatever the change
+abbrev pub Unkeys : Result (List ℕ) NameError → ℕ → Guest → Guest → Type 0
+Unkeys (Ok p) code old new = Amends (change old.node (Cookie p None)) code old new ⊎ Stays 3 code old new
+Unkeys (Err e) code old new = Stays (name_code e) code old new
 
 -- every peer has this cookie that has none of its own, or the reason why not
 abbrev pub KeysUsually : Result (List ℕ) CookieError → ℕ → Guest → Guest → Type 0

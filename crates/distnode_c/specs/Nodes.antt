@@ -1,5 +1,5 @@
 -- The contracts of the exports that make a node, let it go or ask it.
-use Rattle.std.specs.Prelude.{◌≡◌, ℕ, ◌⊎◌, ◌||◌, ◌==◌, if◌then◌else◌, List, [], length, nat_le, Option, Some, None, Result, Ok, Err}
+use Rattle.std.specs.Prelude.{◌≡◌, ℕ, true, false, ◌⊎◌, ◌||◌, ◌==◌, if◌then◌else◌, List, [], length, nat_le, Option, Some, None, Result, Ok, Err}
 use Rattle.dist_names.specs.Order.{Name}
 use Rattle.dist_names.specs.declared.name_error.NameError.{NameError}
 use Rattle.dist_secret.specs.declared.cookie_error.CookieError.{CookieError}
@@ -12,6 +12,7 @@ use Rattle.dist_core_setup.specs.declared.version.Version.{Version}
 use Rattle.dist_core_setup.specs.declared.version.Version.TheVariants.{Five, Six}
 use Rattle.dist_c_guest.specs.Calls.{first_guest}
 use Rattle.dist_c_guest.specs.Reading.{plain}
+use Rattle.dist_c_guest.specs.Whole.{is_whole}
 use Rattle.dist_c_guest.specs.declared.guest.Guest.{Guest}
 use Rattle.distnode_c.specs.declared.nodes.DnSetup.{DnSetup}
 use Rattle.distnode_c.specs.declared.nodes.DnPeer.{DnPeer}
@@ -23,9 +24,11 @@ use Rattle.distnode_c.specs.Steps.{Copies, CopiesIf, sent_bytes}
 abbrev pub first_reader : Setup → ℕ → Guest
 first_reader setup mandatory = record (first_guest setup) { reading = record plain { mandatory = record { 0 = mandatory } } }
 
--- there is such a guest, or memory ran out and there is none
+-- THERE IS SUCH A GUEST where it is whole; there is none where it isn't (50), or where memory ran out
 abbrev pub MakesGuest : Setup → ℕ → ℕ → Option Guest → Type 0
-MakesGuest setup mandatory code new = ((code ≡ 0) × (new ≡ Some (first_reader setup mandatory))) ⊎ ((code ≡ 3) × (new ≡ None))
+MakesGuest setup mandatory code new =
+    ((code ≡ 0) × (is_whole setup mandatory ≡ true) × (new ≡ Some (first_reader setup mandatory)))
+    ⊎ ((code ≡ 50) × (is_whole setup mandatory ≡ false) × (new ≡ None)) ⊎ ((code ≡ 3) × (new ≡ None))
 
 -- the version of a number: 0 stands for 6
 abbrev pub version_of : ℕ → Option Version

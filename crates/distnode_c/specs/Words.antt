@@ -15,7 +15,8 @@ code_word n =
     else if n == 22 then codes "NameBadByte"
     else if n == 23 then codes "NameBadAt" else if n == 30 then codes "CookieEmpty" else if n == 31 then codes "CookieBadByte"
     else if n == 32 then codes "CookieTooLong"
-    else if n == 40 then codes "Malformed" else if n == 41 then codes "Short" else if n == 42 then codes "Trailing" else codes "Unknown"
+    else if n == 40 then codes "Malformed" else if n == 41 then codes "Short" else if n == 42 then codes "Trailing"
+    else if n == 50 then codes "HalfFlags" else codes "Unknown"
 
 -- the word of the cause of this number is copied, or there is no such cause (6)
 abbrev pub IsWordOf : ℕ → ℕ → ℕ → ℕ → List ℕ → List ℕ → Type 0

@@ -8,7 +8,7 @@ ghost use Rattle.dist_core.specs.Changing.{change};
 ghost use Rattle.dist_c_guest.specs.Forms.{form_of_text, has_form};
 ghost use Rattle.dist_c_guest.specs.Planning.{Changes};
 ghost use Rattle.dist_c_guest.specs.declared.guest.Guest.{Guest};
-ghost use Rattle.distnode_c.specs.Changes.{Allows, AllowsForm, AllowsText, Amends, AtGuest, Disallows, DisallowsForm, DisallowsText, Keys, KeysUsually};
+ghost use Rattle.distnode_c.specs.Changes.{Allows, AllowsForm, AllowsText, Amends, AtGuest, Disallows, DisallowsForm, DisallowsText, Keys, KeysUsually, Unkeys};
 
 use crate::codes::{NO_MEMORY, NOT_A_NODE, OK, change_code, cookie_code, name_code};
 use crate::held::DnNode;
@@ -125,7 +125,7 @@ fn set_cookie(guest: &mut Guest, alloc: Global, peer: &[u8], cookie: &[u8]) -> u
     ensures { Keys (name_of_bytes peer.now) (cookie_of cookie.now) result guest.old guest.new }
 {
     match read_both(alloc, peer, cookie) {
-        Ok((peer, cookie)) => code_of_change(guest.set_cookie(peer, cookie)),
+        Ok((peer, cookie)) => code_of_change(guest.set_cookie(peer, Some(cookie))),
         Err(code) => code,
     }
 }
@@ -144,6 +144,28 @@ pub extern "C" fn dn_node_cookie(
         return NOT_A_NODE;
     };
     let code = set_cookie(&mut guest, alloc, peer, cookie);
+    node.shut(guest);
+    code
+}
+
+fn take_cookie(guest: &mut Guest, alloc: Global, peer: &[u8]) -> u32
+    ensures { Unkeys (name_of_bytes peer.now) result guest.old guest.new }
+{
+    match NodeName::new(alloc, peer) {
+        Ok(peer) => code_of_change(guest.set_cookie(peer, None)),
+        Err(error) => name_code(error),
+    }
+}
+
+/// Takes away the cookie that this peer has of its own.
+#[unsafe(no_mangle)]
+pub extern "C" fn dn_node_no_cookie(node: &mut DnNode, alloc: Global, peer: &[u8]) -> u32
+    ensures { AtGuest (Unkeys (name_of_bytes peer.now) result) result node.old.slot.guest node.new.slot.guest }
+{
+    let Some(mut guest) = node.open(alloc) else {
+        return NOT_A_NODE;
+    };
+    let code = take_cookie(&mut guest, alloc, peer);
     node.shut(guest);
     code
 }

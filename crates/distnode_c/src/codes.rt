@@ -35,6 +35,9 @@ pub const TOO_LONG: u32 = 8;
 /// An end is open.
 pub const OPEN_ENDS: u32 = 16;
 
+/// The flags of a setup are half.
+pub const HALF_FLAGS: u32 = 50;
+
 /// Of a refused step.
 pub fn step_code(error: StepError) -> u32
     ensures code { result ≡ step_code error }

@@ -9,11 +9,13 @@ ghost use Rattle.dist_core_ends.specs.Ends.{up_from, up_ids, table_of, record_in
 ghost use Rattle.distnode_c.specs.Steps.{Copies, sent_bytes};
 ghost use Rattle.distnode_c.specs.Nodes.{MakesGuest, News, ReadsBoth, version_of, limit_of, limits_in, number_or, Frees, Says, Tells, TellsAt};
 
-use crate::codes::{IN_USE, NO_MEMORY, NO_SUCH, NOT_A_NODE, OK, cookie_code, name_code};
+use crate::codes::{
+    HALF_FLAGS, IN_USE, NO_MEMORY, NO_SUCH, NOT_A_NODE, OK, cookie_code, name_code,
+};
 use crate::copies::copy_out;
 use crate::held::{DnNode, MARK};
 use crate::replies::creation_parts;
-use dist_c_guest::Guest;
+use dist_c_guest::{Guest, is_whole};
 use dist_core::{Limits, NameList, Setup, UpRecord, Version};
 use dist_names::{Creation, Flags, NameError, NodeName};
 use dist_peers::EndId;
@@ -66,11 +68,14 @@ pub struct DnPeer {
     pub has_creation: u32,
 }
 
-// Puts a new guest in where there is none.
+// Puts a new guest in where there is none, where it is whole.
 fn put_new_guest(node: &mut DnNode, alloc: Global, setup: Setup, mandatory: Flags) -> u32
     requires { node.old.slot.guest ≡ None }
     ensures { MakesGuest setup mandatory.0 result node.new.slot.guest }
 {
+    if !is_whole(&setup, mandatory) {
+        return HALF_FLAGS;
+    }
     let mut guest = Guest::new(alloc, setup);
     guest.reading.mandatory = mandatory;
     match Box::new(alloc, guest) {
@@ -146,7 +151,8 @@ pub fn read_both(alloc: Global, name: &[u8], cookie: &[u8]) -> Result<(NodeName,
     }
 }
 
-/// Makes a node without ends, in a struct that holds none.
+/// Makes a node without ends, in a struct that holds none: one that is whole, so that `guests_agree` holds of it. `NO_MEMORY`
+/// may come before `HALF_FLAGS`.
 #[unsafe(no_mangle)]
 pub extern "C" fn dn_node_new(
     node: &mut DnNode,

@@ -36,6 +36,7 @@ fn code_word(code: u32) -> &'static str
         40 => "Malformed",
         41 => "Short",
         42 => "Trailing",
+        50 => "HalfFlags",
         _ => "Unknown",
     }
 }

@@ -133,7 +133,10 @@ fn change_of(alloc: Global, text: &str) -> Option<Change> {
     let peer = NodeName::new(alloc, value.as_bytes()).ok()?;
     if what == "cookie" {
         let cookie = cookie_of(alloc, word(text, 4))?;
-        return Some(Change::Cookie { peer, cookie });
+        return Some(Change::Cookie {
+            peer,
+            cookie: Some(cookie),
+        });
     }
     let mut names = Vec::new(alloc);
     names.push(peer).ok()?;

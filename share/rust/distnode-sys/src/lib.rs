@@ -36,6 +36,7 @@ pub const DN_COOKIE_TOO_LONG: dn_code = 32;
 pub const DN_EPMD_MALFORMED: dn_code = 40;
 pub const DN_EPMD_SHORT: dn_code = 41;
 pub const DN_EPMD_TRAILING: dn_code = 42;
+pub const DN_HALF_FLAGS: dn_code = 50;
 
 /// Why an end is closed.
 pub type dn_why = u32;
@@ -218,6 +219,7 @@ extern "C" {
         cookie: *const u8,
         cookie_len: usize,
     ) -> dn_code;
+    pub fn dn_node_no_cookie(node: *mut dn_node, peer: *const u8, peer_len: usize) -> dn_code;
     pub fn dn_node_usual_cookie(
         node: *mut dn_node,
         cookie: *const u8,

@@ -16,7 +16,7 @@ impl Error {
     pub const NO_SUCH: Self = Self(sys::DN_NO_SUCH);
     /// A body has more than 65,535 bytes, and no frame can have it.
     pub const TOO_LONG: Self = Self(sys::DN_TOO_LONG);
-    /// A peer whose cookie is to be changed is connected, or about to be.
+    /// A peer that is up would get another cookie.
     pub const PEER_IN_USE: Self = Self(sys::DN_PEER_IN_USE);
     /// The number was never given out.
     pub const NO_SUCH_END: Self = Self(sys::DN_NO_SUCH_END);
@@ -32,6 +32,8 @@ impl Error {
     pub const FULL: Self = Self(sys::DN_FULL);
     /// An end is open, and the node does not begin anew.
     pub const OPEN_ENDS: Self = Self(sys::DN_OPEN_ENDS);
+    /// A setup announces `DFLAG_MANDATORY_25_DIGEST` without the flags that it stands for.
+    pub const HALF_FLAGS: Self = Self(sys::DN_HALF_FLAGS);
 
     /// The code's number in the header.
     pub fn number(self) -> u32 {

@@ -152,7 +152,7 @@ impl Node {
         done(unsafe { sys::dn_node_disallow(&mut *self.0, peer.as_ptr(), peer.len()) })
     }
 
-    /// Keeps a cookie for this peer alone. Refused as `PEER_IN_USE` while the peer is connected, or about to be.
+    /// Keeps a cookie for this peer alone. Refused as `PEER_IN_USE` while the peer is connected, where it is another cookie.
     pub fn set_cookie(&mut self, peer: &[u8], cookie: &[u8]) -> Result<(), Error> {
         let cookie = cookie.to_vec();
         // SAFETY: as in `allow`.
@@ -167,8 +167,13 @@ impl Node {
         })
     }
 
-    /// Changes the cookie of each peer that has none of its own. Refused as `PEER_IN_USE` while one of those is connected, or
-    /// about to be.
+    /// Takes away the cookie that this peer has of its own. Refused as `PEER_IN_USE` while the peer is connected.
+    pub fn remove_cookie(&mut self, peer: &[u8]) -> Result<(), Error> {
+        // SAFETY: as in `allow`.
+        done(unsafe { sys::dn_node_no_cookie(&mut *self.0, peer.as_ptr(), peer.len()) })
+    }
+
+    /// Changes the cookie of each peer that has none of its own. Refused as `PEER_IN_USE` while one of those is connected.
     pub fn set_usual_cookie(&mut self, cookie: &[u8]) -> Result<(), Error> {
         // SAFETY: as in `allow`.
         done(unsafe { sys::dn_node_usual_cookie(&mut *self.0, cookie.as_ptr(), cookie.len()) })

@@ -1,12 +1,13 @@
-use Rattle.std.proofs.Common.{◌∙◌, List, None, arith, ap, sym, subst, slice_get}
+use Rattle.std.proofs.Common.{ℕ, ◌∙◌, [], List, None, arith, ap, sym, subst, slice_get}
 use Rattle.dist_core_ends.specs.declared.known.End.{End}
 use Rattle.dist_core_ends.specs.declared.known.End.TheVariants as ends
 use Rattle.dist_core_ends.specs.Change.{put_end}
-use Rattle.dist_core_ends.specs.Keeping.{ends_of_rows, AreSettled}
+use Rattle.dist_core_ends.specs.declared.slots.Sought.{Sought}
+use Rattle.dist_core_ends.specs.declared.slots.Sought.TheVariants as sought
+use Rattle.dist_core_ends.specs.Keeping.{ends_of_rows, IsPast}
 use Rattle.dist_core_ends.specs.Progress.{at_stage, CanAdvance}
-use Rattle.dist_core_ends.proofs.Keeping.{shown-length}
 use Rattle.dist_core_ends.proofs.Legal.{agreed}
-use Rattle.dist_core_ends.proofs.Settled.{changed-settled}
+use Rattle.dist_core_ends.proofs.Settled.{past-changed}
 use Rattle.dist_core_ends.proofs.Progress.{put-there, advance-fits, advance-table}
 use Rattle.dist_core_ends.proofs.ends.Ends.advance.Goals as goal
 
@@ -27,12 +28,12 @@ invariant_of-self c =
     let b = h.0 in
     let f = advance-fits es t c.self.invariant.agree c.args.id c.args.to b h.1 h.2 in
     let is = put-there es _ c.args.id.0 (ends.Attempt b) (ends.Attempt (at_stage b c.args.to)) h.1 (c.change_attempt.ensures.ends b h.1) in
-    let Q : List End → Type 0 = λ xs. AreSettled xs c.self.inside.passed in
+    let past : (k : Sought) (n : ℕ) → IsPast k rows slots n → IsPast k rows c.change_attempt.new.slots.slots n = λ k n p. past-changed k [] t rows rows slots c.change_attempt.new.slots.slots n c.args.id (ends.Attempt (at_stage b c.args.to)) None p f is in
     record {
       agree = agreed t _ _ _ (advance-table es t c.self.invariant.agree c.args.id c.args.to b h.1 h.2) is f.agree;
       kept = c.change_attempt.ensures.kept;
-      within = c.self.invariant.within;
-      settled = subst Q (sym is) (changed-settled es c.self.inside.passed c.args.id (ends.Attempt (at_stage b c.args.to)) None c.self.invariant.settled (omega (arith, c.self.invariant.within, shown-length rows slots)) f.place f.stays f.other_there f.other_stays);
+      pending = past sought.Pending c.self.inside.passed c.self.invariant.pending;
+      nameless = past sought.Nameless c.self.inside.named c.self.invariant.nameless;
     }
 
 pub returns : goal.returns

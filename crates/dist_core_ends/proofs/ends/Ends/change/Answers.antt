@@ -1,12 +1,13 @@
-use Rattle.std.proofs.Common.{◌≡◌, ◌≤◌, length, arith, List, Result, Ok, Err, OnOk, OnErr, ap}
+use Rattle.std.proofs.Common.{ℕ, ◌≡◌, length, arith, List, Result, Ok, Err, OnOk, OnErr, ap}
 use Rattle.std.specs.FinMap as map
 use Rattle.dist_peers.specs.Table.{Table}
 use Rattle.dist_core_ends.specs.declared.known.End.{End}
-use Rattle.dist_core_ends.specs.Keeping.{ends_of_rows}
+use Rattle.dist_core_ends.specs.Keeping.{ends_of_rows, IsPast}
 use Rattle.dist_core_ends.proofs.Keeping.{shown-length}
 use Rattle.dist_core_ends.specs.Ends.{Agree}
-use Rattle.dist_core_ends.specs.Change.{with_change}
-use Rattle.dist_core_ends.proofs.Settled.{changed-settled, changed-longer, either-settled, either-longer}
+use Rattle.dist_core_ends.specs.declared.slots.Sought.{Sought}
+use Rattle.dist_core_ends.specs.declared.slots.Sought.TheVariants as sought
+use Rattle.dist_core_ends.proofs.Settled.{past-either}
 use Rattle.dist_core_ends.proofs.Legal.{agreed}
 use Rattle.dist_core_ends.proofs.Progress.{fit-kept}
 use Rattle.dist_core_ends.proofs.ends.Ends.change.Goals as goal
@@ -62,13 +63,11 @@ invariant_of-self c =
     let rows = c.self.inside.rows.items in
     let slots = c.self.inside.slots.slots in
     let es = ends_of_rows rows slots in
-    let n = c.self.inside.passed in
-    let fs = with_change es c.args.id c.args.this c.args.other in
     let stay = ends-stay c.apply.result c.self.inside.peers c.apply.new.peers es (ends_of_rows c.apply.new.rows.items c.apply.new.slots.slots) c.apply.ensures.err in
-    let within : n ≤ length es = omega (arith, c.self.invariant.within, shown-length rows slots) in
+    let past : (k : Sought) (n : ℕ) → IsPast k rows slots n → IsPast k c.apply.new.rows.items c.apply.new.slots.slots n = λ k n p. past-either k c.apply.result c.args.me.now c.self.inside.peers rows c.apply.new.rows.items slots c.apply.new.slots.slots n c.args.id c.args.this c.args.other p h c.apply.ensures.ends stay in
     record {
       agree = agrees c.apply.result _ _ _ _ _ _ c.self.invariant.agree h.agree c.apply.ensures.peers c.apply.ensures.ends c.apply.ensures.err;
       kept = c.apply.ensures.kept;
-      within = either-longer c.apply.result rows _ slots _ fs n c.self.invariant.within (changed-longer es c.args.id c.args.this c.args.other) c.apply.ensures.ends stay;
-      settled = either-settled c.apply.result es fs _ n c.self.invariant.settled (changed-settled es n c.args.id c.args.this c.args.other c.self.invariant.settled within h.place h.stays h.other_there h.other_stays) c.apply.ensures.ends stay;
+      pending = past sought.Pending c.self.inside.passed c.self.invariant.pending;
+      nameless = past sought.Nameless c.self.inside.named c.self.invariant.nameless;
     }

@@ -1,12 +1,14 @@
-use Rattle.std.proofs.Common.{◌≡◌, ◌∙◌, List, ap, subst, sym, length, arith}
+use Rattle.std.proofs.Common.{ℕ, ◌≡◌, ◌∙◌, List, ap, subst, sym, length, arith}
 use Rattle.std.specs.FinMap as map
 use Rattle.dist_core_ends.specs.declared.known.End.{End}
 use Rattle.dist_core_ends.specs.declared.slots.Row.{Row}
 use Rattle.dist_core_ends.specs.Ends.{Agree}
 use Rattle.dist_core_ends.specs.Forgetting.{without_causes_below}
-use Rattle.dist_core_ends.specs.Keeping.{ends_of_rows, AreSettled, AreKept}
+use Rattle.dist_core_ends.specs.declared.slots.Sought.{Sought}
+use Rattle.dist_core_ends.specs.declared.slots.Sought.TheVariants as sought
+use Rattle.dist_core_ends.specs.Keeping.{ends_of_rows, AreKept, IsPast}
 use Rattle.dist_core_ends.proofs.Forgotten.{kept-shown, kept-forgotten, agree-forgotten, rows-length}
-use Rattle.dist_core_ends.proofs.Settled.{forgotten-settled}
+use Rattle.dist_core_ends.proofs.Settled.{past-forgotten}
 use Rattle.dist_core_ends.proofs.ends.Ends.forget.Goals as goal
 
 pub returns : goal.returns
@@ -23,10 +25,10 @@ invariant_of-self c =
     let is : ends_of_rows c.forget.new.self.items slots ≡ without_causes_below b (ends_of_rows rows slots) = ap (λ (rs : List Row). ends_of_rows rs slots) c.forget.ensures ∙ kept-shown b rows slots c.self.invariant.kept in
     let P : List Row → Type 0 = λ rs. AreKept rs slots in
     let Q : List End → Type 0 = λ es. Agree (map.get c.self.inside.peers) es in
-    let R : List End → Type 0 = λ es. AreSettled es c.self.inside.passed in
+    let past : (k : Sought) (n : ℕ) → IsPast k rows slots n → IsPast k c.forget.new.self.items slots n = λ k n p. past-forgotten k b rows c.forget.new.self.items slots n p (ap length c.forget.ensures ∙ rows-length b rows) is in
     record {
       agree = subst Q (sym is) (agree-forgotten c.self.inside.peers b (ends_of_rows rows slots) c.self.invariant.agree);
       kept = subst P (sym c.forget.ensures) (kept-forgotten b rows slots c.self.invariant.kept);
-      within = omega (arith, c.self.invariant.within, ap length c.forget.ensures, rows-length b rows);
-      settled = subst R (sym is) (forgotten-settled b (ends_of_rows rows slots) c.self.inside.passed c.self.invariant.settled);
+      pending = past sought.Pending c.self.inside.passed c.self.invariant.pending;
+      nameless = past sought.Nameless c.self.inside.named c.self.invariant.nameless;
     }

@@ -8,6 +8,6 @@ pub invariant_of-result : goal.invariant_of-result
 invariant_of-result c = record {
   agree = agree-empty c.new.result (ends_of_rows c.new-2.result.items c.new-3.result.slots) c.new.ensures (ap (λ rs. ends_of_rows rs c.new-3.result.slots) c.new-2.ensures);
   kept = none-kept c.new-2.result.items c.new-3.result.slots c.new-2.ensures c.new-3.ensures.empty;
-  within = omega arith;
-  settled = λ i h. absurd (omega (arith, h));
+  pending = record { within = omega arith; settled = λ i h. absurd (omega (arith, h)) };
+  nameless = record { within = omega arith; settled = λ i h. absurd (omega (arith, h)) };
 }

@@ -1,13 +1,14 @@
-use Rattle.std.proofs.Common.{◌∙◌, List, length, arith, ap, sym, subst, slice_get}
+use Rattle.std.proofs.Common.{ℕ, ◌∙◌, List, length, arith, ap, sym, subst, slice_get}
 use Rattle.dist_peers.specs.Table.{entry_of, replaced_by}
 use Rattle.dist_core_ends.specs.declared.known.End.{End}
 use Rattle.dist_core_ends.specs.declared.known.End.TheVariants as ends
 use Rattle.dist_core_ends.specs.Change.{with_change}
-use Rattle.dist_core_ends.specs.Keeping.{ends_of_rows, AreSettled}
+use Rattle.dist_core_ends.specs.declared.slots.Sought.{Sought}
+use Rattle.dist_core_ends.specs.declared.slots.Sought.TheVariants as sought
+use Rattle.dist_core_ends.specs.Keeping.{ends_of_rows, IsPast}
 use Rattle.dist_core_ends.specs.Progress.{replaced_end, CanRise}
-use Rattle.dist_core_ends.proofs.Keeping.{shown-length}
 use Rattle.dist_core_ends.proofs.Legal.{agreed}
-use Rattle.dist_core_ends.proofs.Settled.{changed-settled, changed-longer}
+use Rattle.dist_core_ends.proofs.Settled.{past-changed}
 use Rattle.dist_core_ends.proofs.Progress.{rise-fits, rise-waits, rise-table, entry-kept}
 use Rattle.dist_core_ends.proofs.ends.Ends.rise.Goals as goal
 
@@ -49,12 +50,12 @@ invariant_of-self c =
     let P : List End → Type 0 = λ xs. CanRise (slice_get xs c.args.id.0) c.args.kept.now.peer in
     let h = subst P (sym c.self.view_is) c.requires.attempt in
     let f = rise-fits me c.args.self.now es t c.args.id c.args.kept.now c.self.view_is c.requires.fits.1 c.self.invariant.agree in
-    let Q : List End → Type 0 = λ xs. AreSettled xs c.self.inside.passed in
+    let past : (k : Sought) (n : ℕ) → IsPast k rows slots n → IsPast k c.connect_end.new.rows.items c.connect_end.new.slots.slots n = λ k n p. past-changed k me t rows c.connect_end.new.rows.items slots c.connect_end.new.slots.slots n c.args.id up other p f c.connect_end.ensures.ends in
     record {
       agree = agreed _ _ _ _ (c.connect_end.ensures.peers ∙ rise-table t me c.args.id c.args.kept.now (slice_get es c.args.id.0) h) c.connect_end.ensures.ends f.agree;
       kept = c.connect_end.ensures.kept;
-      within = omega (arith, c.self.invariant.within, ap length c.connect_end.ensures.ends, changed-longer es c.args.id up other, shown-length c.connect_end.new.rows.items c.connect_end.new.slots.slots, shown-length rows slots);
-      settled = subst Q (sym c.connect_end.ensures.ends) (changed-settled es c.self.inside.passed c.args.id up other c.self.invariant.settled (omega (arith, c.self.invariant.within, shown-length rows slots)) f.place f.stays f.other_there f.other_stays);
+      pending = past sought.Pending c.self.inside.passed c.self.invariant.pending;
+      nameless = past sought.Nameless c.self.inside.named c.self.invariant.nameless;
     }
 
 pub returns-clause-replaced : goal.returns-clause-replaced

@@ -1,0 +1,184 @@
+-- A node that is renewed is one that ended and began again.
+use Rattle.std.proofs.Common.{◌≡◌, ◌≢◌, ℕ, zero, suc, ◌+◌, ◌<◌, ◌≤◌, Bool, true, false, cond, eqb, ltb, ◌&&◌, List, [], ◌∷◌, ◌++◌, length, Option, Some, None, Ok, Err, refl, sym, ap, ◌∙◌, subst, arith, is_none, slice_get}
+use Rattle.std.proofs.lemmas.Bool.{eqb-true, false≢true, lt-ltb}
+use Rattle.std.specs.Option.{option_map}
+use Rattle.std.specs.List.{list_any}
+use Rattle.std.specs.FinMap as finite
+use Rattle.dist_core_ends.specs.Ends.{table_of}
+use Rattle.dist_core_laws.proofs.Limits.{no-entries}
+use Rattle.dist_names.specs.declared.creation.Creation.{Creation}
+use Rattle.dist_core_setup.specs.declared.setup.Setup.{Setup}
+use Rattle.dist_core.specs.declared.changing.Change.{Change}
+use Rattle.dist_core.specs.declared.changing.Change.TheVariants as changes
+use Rattle.dist_core.specs.declared.changing.ChangeError.TheVariants as change_error
+use Rattle.dist_core.specs.Changing.{after_change, change, finds_no_room, has_usual, is_in_use, setup_after}
+use Rattle.dist_core.specs.Node.{NodeState}
+use Rattle.dist_core.specs.Runs.{opening}
+use Rattle.dist_world_model.specs.declared.happening.Happening.{Happening}
+use Rattle.dist_world_model.specs.declared.happening.Happening.TheVariants as happening
+use Rattle.dist_world_model.specs.Lists.{at_place, first_where}
+use Rattle.dist_world_model.specs.World.{World, Life, running, runs, runs_for, empty}
+use Rattle.dist_world_model.specs.Happenings.{applied_at, happens, life_after_end, most_applied, most_begins, new_life, ticked_on, with_node, without_closing, world_after}
+use Rattle.dist_world_model.specs.Run.{run}
+use Rattle.dist_world_model.specs.Order.{OnlyLastRuns}
+use Rattle.dist_world_model.specs.OwnSetups.{changes_at, setup_by}
+use Rattle.dist_world_model.specs.Renewals.{HasOpened, HasRoom, renewal, resets}
+use Rattle.dist_world_model.proofs.Conditions.{holds, succeeds, there}
+use Rattle.dist_world_model.proofs.Places.{and-none, eqb-self, get-more}
+use Rattle.dist_world_model.proofs.HappeningEffects.{is-running}
+use Rattle.dist_world_model.proofs.Lookups.{at-other, placed}
+use Rattle.dist_world_model.proofs.OwnSetups.{AllFindRoom, begun-with, run-setups}
+
+-- ---- the first that passes
+
+first-none : {A : Type 0} (test : A → Bool) (xs : List A) → ((j : ℕ) (x : A) → slice_get xs j ≡ Some x → test x ≡ false) → first_where test xs ≡ None
+first-none test [] h = refl
+first-none test (x ∷ xs) h = ap (λ b. cond b (Some 0) (option_map suc (first_where test xs))) (h 0 x refl) ∙ ap (option_map suc) (first-none test xs (λ j y at. h (suc j) y at))
+
+-- one that passes behind those of which none does
+first-last : {A : Type 0} (test : A → Bool) (xs : List A) (x : A) → ((j : ℕ) (y : A) → slice_get xs j ≡ Some y → test y ≡ false) → test x ≡ true → first_where test (xs ++ x ∷ []) ≡ Some (length xs)
+first-last test [] x h is = ap (λ b. cond b (Some 0) None) is
+first-last test (y ∷ xs) x h is =
+    ap (λ b. cond b (Some 0) (option_map suc (first_where test (xs ++ x ∷ [])))) (h 0 y refl) ∙ ap (option_map suc) (first-last test xs x (λ j z at. h (suc j) z at) is)
+
+-- a change that the test does not see
+first-same : {A : Type 0} (test : A → Bool) (i : ℕ) (f : A → A) (xs : List A) → ((x : A) → test (f x) ≡ test x) → first_where test (at_place i f xs) ≡ first_where test xs
+first-same test i f [] h = refl
+first-same test zero f (x ∷ xs) h = ap (λ b. cond b (Some 0) (option_map suc (first_where test xs))) (h x)
+first-same test (suc i) f (x ∷ xs) h = ap (λ o. cond (test x) (Some 0) (option_map suc o)) (first-same test i f xs h)
+
+-- the length stays
+same-count : {A : Type 0} (i : ℕ) (f : A → A) (xs : List A) → length (at_place i f xs) ≡ length xs
+same-count i f [] = refl
+same-count zero f (x ∷ xs) = refl
+same-count (suc i) f (x ∷ xs) = ap suc (same-count i f xs)
+
+-- ---- a happening for which there is room
+
+applies : (w : World) (h : Happening) (x : World) → w.clock < most_applied → world_after (without_closing w) h ≡ Some x → happens w h ≡ record x { clock = w.clock + 1 }
+applies w h x few is = ap (ticked_on w) (ap (λ b. cond b (world_after (without_closing w) h) None) (lt-ltb w.clock most_applied few) ∙ is)
+
+-- ---- the changes, one after another
+
+none-left : {A : Type 0} (xs : List A) → length xs ≡ 0 → xs ≡ []
+none-left [] h = refl
+none-left (x ∷ xs) h = absurd (omega (arith, h))
+
+-- no end stands in the way of a change
+none-in-use : (s : Setup) (v : Change) → is_in_use (opening s) v ≡ false
+none-in-use s (changes.Cookie p own) = refl
+none-in-use s (changes.UsualCookie cookie) = ap (list_any (has_usual s)) (none-left (finite.entries (table_of [])) (sym (finite.len-entries (table_of [])) ∙ no-entries))
+none-in-use s (changes.Allow names) = refl
+
+change-made : (s : Setup) (v : Change) → finds_no_room (opening s) v ≡ false → change (opening s) v ≡ Ok (opening (setup_after s v))
+change-made s v room =
+    ap (λ b. cond b (Err change_error.InUse) (cond (finds_no_room (opening s) v) (Err change_error.Full) (Ok (after_change (opening s) v)))) (none-in-use s v)
+    ∙ ap (λ b. cond b (Err change_error.Full) (Ok (after_change (opening s) v))) room
+
+module _ (node : ℕ) where
+  reset-once : (w : World) (s : Setup) (v : Change) → w.clock < most_applied → finds_no_room (opening s) v ≡ false → HasOpened w node s → HasOpened (happens w (happening.Reset node v)) node (setup_after s v)
+  reset-once w s v few room h =
+      let old = h.life in
+      let next : NodeState = opening (setup_after s v) in
+      let ok : change old.node v ≡ Ok next = ap (λ (n : NodeState). change n v) h.opened ∙ change-made s v room in
+      let done : happens w (happening.Reset node v) ≡ record w { lives = at_place h.place (with_node next) w.lives; last_closed = None; clock = w.clock + 1 } =
+      applies w (happening.Reset node v) _ few (there (running w node) h.place _ h.runs ∙ there (slice_get w.lives h.place) old _ h.lives ∙ succeeds (change old.node v) next _ ok) in
+      subst (λ x. HasOpened x node (setup_after s v)) (sym done) (record {
+        place = h.place;
+        life = with_node next old;
+        runs = first-same (runs_for node) h.place (with_node next) w.lives (λ l. refl) ∙ h.runs;
+        lives = placed h.place (with_node next) w.lives old h.lives;
+        opened = refl;
+        rows = h.rows;
+      })
+
+  clock-once : (w : World) (h : Happening) → (let x = happens w h in x.clock) ≤ w.clock + 1
+  clock-once w h = by (applied_at w h)
+    where
+      by : (o : Option World) → (let x = ticked_on w o in x.clock) ≤ w.clock + 1
+      by None = omega arith
+      by (Some x) = omega arith
+
+  reset-all : (vs : List Change) (w : World) (s : Setup) → w.clock + length vs ≤ most_applied → AllFindRoom vs s → HasOpened w node s → HasOpened (run (resets node vs) w) node (setup_by vs s)
+  reset-all [] w s few room h = h
+  reset-all (v ∷ vs) w s few room h =
+      let later = clock-once w (happening.Reset node v) in
+      reset-all vs (happens w (happening.Reset node v)) (setup_after s v) (omega (arith, few, later)) room.1 (reset-once w s v (omega (arith, few)) room.0 h)
+
+  -- ---- the end and the beginning
+
+  module _ (w : World) (place : ℕ) (l : Life) (runs-at : running w node ≡ Some place) (at : slice_get w.lives place ≡ Some l) (last : OnlyLastRuns w) (few : length w.lives < most_begins) (room : w.clock + 2 ≤ most_applied)
+      (c : Creation) (s : Setup) (has : slice_get w.setups l.who ≡ Some s) where
+    live : (l.who ≡ node) × (runs l ≡ true)
+    live = is-running w node place l runs-at at
+
+    abbrev ended : World
+    ended = record w { lives = at_place place (life_after_end w.clock) w.lives; last_closed = None; clock = w.clock + 1 }
+
+    ends : happens w (happening.Halt node) ≡ ended
+    ends = applies w (happening.Halt node) _ (omega (arith, room)) (there (running w node) place _ runs-at)
+
+    -- another one of this node is over
+    other-over : (j : ℕ) (x : Life) → place ≢ j → slice_get w.lives j ≡ Some x → x.who ≡ node → runs x ≡ false
+    other-over j x n ax who = by (ltb j place) refl
+      where
+        by : (b : Bool) → ltb j place ≡ b → runs x ≡ false
+        by true e = let lt : j < place = Rattle.std.proofs.lemmas.Bool.ltb-true j place e in last j place x l lt ax at (who ∙ sym live.0)
+        by false e =
+            let le : place < j = (let m = Rattle.std.proofs.lemmas.Bool.ltb-false j place e in omega (arith, m, n)) in
+            absurd (false≢true (sym (last place j l x le at ax (live.0 ∙ sym who)) ∙ live.1))
+
+    none-after : (j : ℕ) (x : Life) → slice_get ended.lives j ≡ Some x → runs_for node x ≡ false
+    none-after = at-other (λ j x. runs_for node x ≡ false) place (life_after_end w.clock) w.lives
+        (λ x ax. and-none (eqb x.who node) false refl)
+        (λ j x n ax. by j x n ax (eqb x.who node) refl)
+      where
+        by : (j : ℕ) (x : Life) → place ≢ j → slice_get w.lives j ≡ Some x → (b : Bool) → eqb x.who node ≡ b → runs_for node x ≡ false
+        by j x n ax true e = and-none (eqb x.who node) (runs x) (other-over j x n ax (eqb-true x.who node e))
+        by j x n ax false e = ap (λ b. b && runs x) e
+
+    abbrev new : Life
+    new = new_life node (w.clock + 1) s c
+
+    abbrev begun : World
+    begun = record ended { lives = ended.lives ++ new ∷ []; clock = w.clock + 1 + 1 }
+
+    begins : happens ended (happening.Begin node c) ≡ begun
+    begins =
+        applies ended (happening.Begin node c) _ (omega (arith, room))
+        (there (slice_get w.setups node) s _ (ap (slice_get w.setups) (sym live.0) ∙ has)
+        ∙ holds (is_none (running ended node)) _ (ap is_none (first-none (runs_for node) ended.lives none-after))
+        ∙ holds (ltb (length ended.lives) most_begins) _ (lt-ltb (length ended.lives) most_begins (let k = same-count place (life_after_end w.clock) w.lives in omega (arith, k, few))))
+
+    opened : HasOpened begun node (record s { creation = c })
+    opened = record {
+      place = length ended.lives;
+      life = new;
+      runs = first-last (runs_for node) ended.lives new none-after (ap (λ b. b && true) (eqb-self node));
+      lives = get-more ended.lives new (length ended.lives) ∙ ap (λ b. cond b (Some new) (slice_get ended.lives (length ended.lives))) (eqb-self (length ended.lives));
+      opened = refl;
+      rows = refl;
+    }
+
+    begun-again : HasOpened (happens (happens w (happening.Halt node)) (happening.Begin node c)) node (record s { creation = c })
+    begun-again = subst (λ x. HasOpened x node (record s { creation = c })) (sym (ap (λ x. happens x (happening.Begin node c)) ends ∙ begins)) opened
+
+    pub renewed : (vs : List Change) → w.clock + 2 + length vs ≤ most_applied → AllFindRoom vs (record s { creation = c }) → HasOpened (run (renewal node c vs) w) node (setup_by vs (record s { creation = c }))
+    renewed vs all rooms =
+        let two = ap (λ (x : World). x.clock) (ap (λ x. happens x (happening.Begin node c)) ends ∙ begins) in
+        reset-all vs (happens (happens w (happening.Halt node)) (happening.Begin node c)) (record s { creation = c }) (omega (arith, all, two)) rooms begun-again
+
+-- A NODE THAT IS RENEWED
+pub renews : ((ss : List Setup) (hs : List Happening) → OnlyLastRuns (run hs (empty ss)))
+    → (ss : List Setup) (hs : List Happening) (node place : ℕ) (l : Life) → running (run hs (empty ss)) node ≡ Some place → slice_get (let w = run hs (empty ss) in w.lives) place ≡ Some l
+    → HasRoom (run hs (empty ss)) (changes_at hs (empty ss) place)
+    → HasOpened (run (renewal node (let n = l.node in let own = n.setup in own.creation) (changes_at hs (empty ss) place)) (run hs (empty ss))) node l.node.setup
+renews last ss hs node place l runs-at at room =
+    let w : World = run hs (empty ss) in
+    let vs = changes_at hs (empty ss) place in
+    let own : Setup = (let n = l.node in n.setup) in
+    let g = begun-with ss hs place l at in
+    let made = g.2 in
+    let few = room.applied in
+    subst (HasOpened (run (renewal node own.creation vs) w) node) (sym made.0)
+    (renewed node w place l runs-at at (last ss hs) room.begins (omega (arith, few)) own.creation g.0 (ap (λ xs. slice_get xs l.who) (run-setups hs (empty ss)) ∙ g.1) vs few made.1)

@@ -1,0 +1,32 @@
+-- THE FRAMES OF A WORLD: how their bodies are spelled.
+use Rattle.std.specs.Prelude.{◌≡◌, ◌⊎◌, ℕ, List, [], Some, slice_get}
+use Rattle.std.specs.Int.{w16}
+use Rattle.dist_names.specs.Flags.{low_half}
+use Rattle.dist_messages.specs.declared.message.Side.{Side}
+use Rattle.dist_messages.specs.declared.message.Message.{Message}
+use Rattle.dist_messages.specs.declared.message.Message.TheVariants as message
+use Rattle.dist_messages.specs.Spelling.{Fits}
+use Rattle.dist_messages.specs.Canonical.{canonical}
+use Rattle.dist_frames.specs.Stream.{first_body}
+use Rattle.dist_core_setup.specs.declared.setup.Setup.{Setup}
+use Rattle.dist_core_setup.specs.Rules.{announced_by}
+use Rattle.dist_world_model.specs.World.{World, Conn}
+use Rattle.dist_world_model.specs.Delivery.{text_to}
+
+-- the body has no byte, as half a tick has none, or it is the canonical spelling of such a message, whose fields fit
+abbrev pub IsCanonical : (Message → Type 0) → List ℕ → Type 0
+IsCanonical P body = (body ≡ []) ⊎ ((m : Message) × (body ≡ canonical m) × Fits m × P m)
+
+-- the flags of the message, where it has any, are those that a node of this setup announces, or the lower half of them
+abbrev pub Announces : Setup → Message → Type 0
+Announces s (message.NewName flags c p) = flags.0 ≡ announced_by s
+Announces s (message.NewChallenge flags n c p) = flags.0 ≡ announced_by s
+Announces s (message.OldName flags p) = flags ≡ low_half (announced_by s)
+Announces s (message.OldChallenge flags n p) = flags ≡ low_half (announced_by s)
+Announces s m = Unit {0}
+
+-- EACH BODY THAT CAN BE TAKEN NEXT is such a spelling of a message with the flags of one of these setups
+abbrev pub AreCanonical : List Setup → World → Type 0
+AreCanonical setups w =
+    (c : ℕ) (k : Conn) (side : Side) (body : List ℕ) → slice_get w.conns c ≡ Some k → (let t = text_to side k in first_body w16 t.come) ≡ Some body
+    → (b : ℕ) × (s : Setup) × (slice_get setups b ≡ Some s) × IsCanonical (Announces s) body

@@ -1,0 +1,65 @@
+-- THE SETUP OF EACH INCARNATION: that of its node, with a creation of its own and the changes of its own resets, in order.
+use Rattle.std.specs.Prelude.{◌≡◌, ℕ, ◌==◌, Bool, true, false, if◌then◌else◌, List, [], ◌∷◌, ◌++◌, Option, Some, None, slice_get}
+use Rattle.std.specs.List.{AllByRecursion}
+use Rattle.dist_core_ends.specs.declared.known.UpRecord.{UpRecord}
+use Rattle.dist_core_ends.specs.declared.known.End.TheVariants as ends
+use Rattle.dist_core_setup.specs.declared.setup.Setup.{Setup}
+use Rattle.dist_core_setup.specs.Rules.{own_digest, same_bytes}
+use Rattle.dist_core.specs.declared.changing.Change.{Change}
+use Rattle.dist_core.specs.Changing.{setup_after}
+use Rattle.dist_world_model.specs.declared.happening.Happening.{Happening}
+use Rattle.dist_world_model.specs.declared.happening.Happening.TheVariants as happening
+use Rattle.dist_world_model.specs.World.{World, Life, running}
+use Rattle.dist_world_model.specs.Happenings.{applied_at, happens}
+
+-- ---- which changes are made of an incarnation's setup
+
+-- this is the place of the incarnation
+abbrev pub is_place : Option ℕ → ℕ → Bool
+is_place None i = false
+is_place (Some j) i = j == i
+
+-- the change of a happening, where it is a reset of the node whose incarnation i runs
+abbrev pub change_by : World → Happening → ℕ → List Change
+change_by w (happening.Reset node v) i = if is_place (running w node) i then v ∷ [] else []
+change_by w h i = []
+
+-- these, where a happening applies
+abbrev pub where_applied : Option World → List Change → List Change
+where_applied None vs = []
+where_applied (Some x) vs = vs
+
+-- the changes that these happenings make of the setup of incarnation i, in order
+abbrev pub changes_at : List Happening → World → ℕ → List Change
+changes_at [] w i = []
+changes_at (h ∷ hs) w i = where_applied (applied_at w h) (change_by w h i) ++ changes_at hs (happens w h) i
+
+-- the setup after these changes, one after another
+abbrev pub setup_by : List Change → Setup → Setup
+setup_by [] s = s
+setup_by (v ∷ vs) s = setup_by vs (setup_after s v)
+
+-- ---- the setup of an incarnation
+
+-- THE INCARNATION HAS THE SETUP OF ITS NODE, one of these, with a creation of its own and these changes
+abbrev pub IsSetUp : List Setup → List Change → Life → Type 0
+IsSetUp setups changes l =
+    (s : Setup) × (slice_get setups l.who ≡ Some s)
+    × (l.node.setup ≡ setup_by changes (record s { creation = (let n = l.node in let own = n.setup in own.creation) }))
+
+-- EVERY END THAT IS UP HOLDS THE DIGEST OF THE COOKIE that its node's setup, one of these, has for the peer
+abbrev pub HasSetDigests : List Setup → Life → Type 0
+HasSetDigests setups l =
+    (s : Setup) → slice_get setups l.who ≡ Some s → (i : ℕ) (r : UpRecord) → slice_get l.node.ends i ≡ Some (ends.Up r)
+    → same_bytes r.digest_received (own_digest s r.peer r.challenge) ≡ true
+
+-- ---- runs in which no setup is changed
+
+-- the happening is no reset
+abbrev pub IsNoReset : Happening → Type 0
+IsNoReset (happening.Reset node v) = ⊥
+IsNoReset h = Unit {0}
+
+-- none of them is
+abbrev pub AreNoResets : List Happening → Type 0
+AreNoResets = AllByRecursion IsNoReset

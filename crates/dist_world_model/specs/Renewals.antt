@@ -1,0 +1,33 @@
+-- A NODE THAT IS RENEWED, as a world has it: it ends, and begins again.
+use Rattle.std.specs.Prelude.{◌≡◌, ℕ, ◌+◌, ◌<◌, ◌≤◌, List, [], ◌∷◌, length, Some, slice_get}
+use Rattle.dist_names.specs.declared.creation.Creation.{Creation}
+use Rattle.dist_core_setup.specs.declared.setup.Setup.{Setup}
+use Rattle.dist_core.specs.declared.changing.Change.{Change}
+use Rattle.dist_core.specs.Runs.{opening}
+use Rattle.dist_world_model.specs.declared.happening.Happening.{Happening}
+use Rattle.dist_world_model.specs.declared.happening.Happening.TheVariants as happening
+use Rattle.dist_world_model.specs.World.{World, Life, running}
+use Rattle.dist_world_model.specs.Happenings.{most_applied, most_begins}
+
+-- the node changes its setup so, one change after another
+abbrev pub resets : ℕ → List Change → List Happening
+resets node [] = []
+resets node (v ∷ vs) = happening.Reset node v ∷ resets node vs
+
+-- THE NODE ENDS, begins again with this creation, and changes its setup so
+abbrev pub renewal : ℕ → Creation → List Change → List Happening
+renewal node creation vs = happening.Halt node ∷ happening.Begin node creation ∷ resets node vs
+
+-- the limits of a world leave room for all of this
+pub record HasRoom (w : World) (vs : List Change) : Type 0 where
+  pub begins : length w.lives < most_begins
+  pub applied : w.clock + 2 + length vs ≤ most_applied
+
+-- THE NODE RUNS AS ONE THAT OPENED with this setup: it has no ends, and none were given out
+pub record HasOpened (w : World) (node : ℕ) (s : Setup) : Type 0 where
+  pub place : ℕ
+  pub life : Life
+  pub runs : running w node ≡ Some place
+  pub lives : slice_get w.lives place ≡ Some life
+  pub opened : life.node ≡ opening s
+  pub rows : life.rows ≡ []
