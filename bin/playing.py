@@ -6,6 +6,7 @@ import contextlib
 import hashlib
 import itertools
 import os
+import resource
 import signal
 import socket
 import struct
@@ -135,6 +136,16 @@ def is_registered(port, name, seconds):
         return False
 
 
+def fields(name, extra=b""):
+    """What a node at port 9001 registers of itself. Source: ERTS User's Guide, EPMD Protocol."""
+    return b"\x23\x29M\0\0\x06\0\x05" + frame(name) + frame(extra)
+
+
+def registration(name):
+    """ALIVE2_REQ."""
+    return frame(b"x" + fields(name))
+
+
 def digest(cookie, challenge):
     return hashlib.md5(cookie + str(challenge).encode()).digest()
 
@@ -195,3 +206,37 @@ def line_of(run, seconds):
         return run.stdout.readline().rstrip("\n")
     finally:
         late.cancel()
+
+
+class Mapper:
+    """The port mapper of a program at a port that was free, with these words, and so many descriptors at most. Each answer is waited for so
+    many seconds at most."""
+
+    def __init__(self, program, seconds, *words, descriptors=None, **how):
+        self.port, self.seconds = free_port(), seconds
+        limit = descriptors and (lambda: resource.setrlimit(resource.RLIMIT_NOFILE, (descriptors, descriptors)))
+        self.runs = subprocess.Popen([program, "-port", str(self.port), *words], preexec_fn=limit or None, **how)
+        self.head = struct.pack(">I", self.port)
+        first_connection(self.runs, self.port, seconds).close()
+
+    def come(self, said=b"", source=None):
+        it = come(self.port, self.seconds, source)
+        it.setsockopt(socket.IPPROTO_TCP, socket.TCP_NODELAY, 1)
+        it.sendall(said)
+        return it
+
+    def asked(self, said):
+        """All that is said on a connection to its end; a reset is an end too."""
+        with self.come(said) as it:
+            return read_all(it, is_reset_end=True)
+
+    def memory(self, what="VmHWM"):
+        """In KiB: the most that it had, or what it has where that is named."""
+        with open(f"/proc/{self.runs.pid}/status", encoding="ascii") as it:
+            return int(it.read().split(what + ":")[1].split()[0])
+
+    def __enter__(self):
+        return self
+
+    def __exit__(self, *_):
+        end(self.runs)

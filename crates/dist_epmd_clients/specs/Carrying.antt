@@ -1,5 +1,5 @@
 -- What a read or a write of a connection changes: its stream, and nothing else.
-use Rattle.std.specs.Prelude.{◌≡◌, ℕ, Option, Some, None, ◌==◌, false, Bool}
+use Rattle.std.specs.Prelude.{◌≡◌, ℕ, Option, Some, None}
 use Rattle.std.specs.Ordering.{nat_cmp}
 use Rattle.std.specs.BTreeMap.{BTreeMap, get, Updates}
 use Rattle.dist_epmd_clients.specs.declared.client.Client.{Client}

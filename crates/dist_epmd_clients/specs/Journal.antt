@@ -1,5 +1,5 @@
 -- What happened at a port mapper, and how often.
-use Rattle.std.specs.Prelude.{◌≡◌, ◌⊎◌, ℕ, ◌+◌, Bool, true, false, List, [], ◌∷◌, ◌++◌, Option, Some, None, nat_lt, if◌then◌else◌}
+use Rattle.std.specs.Prelude.{◌≡◌, ℕ, ◌+◌, Bool, true, false, List, [], ◌∷◌, ◌++◌, Option, Some, None, length, nat_lt, if◌then◌else◌}
 use Rattle.dist_epmd_clients.specs.declared.counts.Counts.{Counts}
 use Rattle.dist_epmd_clients.specs.declared.event.ClientEvent.{ClientEvent}
 use Rattle.dist_epmd_clients.specs.declared.event.ClientEvent.TheVariants as event
@@ -80,15 +80,20 @@ most_in journal = journal.most
 abbrev pub with_miss : Journal → Journal
 with_miss journal = record journal { counts = missing journal.counts }
 
--- the journal where so many may wait
-abbrev pub keeping : ℕ → Journal → Journal
-keeping most journal = record journal { most = most }
+-- A journal has these events, that wait, and all else of another.
+pub record HasEvents (these : List ClientEvent) (old new : Journal) : Type 0 where
+  pub events : events_in new ≡ these
+  pub counts : counts_in new ≡ counts_in old
+  pub most : most_in new ≡ most_in old
 
--- AN EVENT IS KEPT behind those that wait, or, where as many wait as may or memory ran out, it is missed.
+-- what becomes of an event, by whether one more may wait
+abbrev pub ListsWhere : Bool → ClientEvent → Journal → Journal → Type 0
+ListsWhere true e old new = HasEvents (events_in old ++ e ∷ []) old new
+ListsWhere false e old new = new ≡ with_miss old
+
+-- AN EVENT IS KEPT behind those that wait where fewer wait than may, and otherwise it is missed. Its memory was taken before.
 abbrev pub Lists : ClientEvent → Journal → Journal → Type 0
-Lists e old new =
-    ((events_in new ≡ events_in old ++ e ∷ []) × (counts_in new ≡ counts_in old) × (most_in new ≡ most_in old))
-    ⊎ ((events_in new ≡ events_in old) × (counts_in new ≡ missing (counts_in old)) × (most_in new ≡ most_in old))
+Lists e old new = ListsWhere (nat_lt (length (events_in old)) (most_in old)) e old new
 
 -- the journal where an event is counted, and not kept
 abbrev pub with_count : EventKind → Journal → Journal

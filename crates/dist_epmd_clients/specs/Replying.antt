@@ -1,5 +1,5 @@
 -- What is sent to a client, and what is left of it and of the registry (ERTS User's Guide, Distribution Protocol, EPMD Protocol).
-use Rattle.std.specs.Prelude.{ℕ, Bool, List, [], ◌∷◌, ◌++◌, Option, Some, None, Result, Ok, Err}
+use Rattle.std.specs.Prelude.{ℕ, List, [], ◌∷◌, ◌++◌, Option, Some, None, Result, Ok, Err}
 use Rattle.dist_epmd.specs.declared.epmd_error.EpmdError.{EpmdError}
 use Rattle.dist_epmd.specs.declared.message.Request.{Request}
 use Rattle.dist_epmd.specs.declared.message.Request.TheVariants as request
@@ -33,6 +33,12 @@ abbrev pub registrations_after : ℕ → Request → Registrations → Registrat
 registrations_after conn (request.Alive info) registrations = after_request conn info registrations
 registrations_after conn (request.PortPlease name) registrations = registrations
 registrations_after conn request.Names registrations = registrations
+
+-- the name of the node that a request registers, if it registers one
+abbrev pub alive_name : Request → List ℕ
+alive_name (request.Alive info) = info.name
+alive_name (request.PortPlease name) = []
+alive_name request.Names = []
 
 -- the name that a request has, if it has one
 abbrev pub name_in : Request → List ℕ

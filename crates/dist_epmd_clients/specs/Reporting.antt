@@ -17,7 +17,7 @@ use Rattle.dist_epmd_clients.specs.declared.journal.Journal.{Journal}
 use Rattle.dist_epmd_clients.specs.declared.question.Question.{Question}
 use Rattle.dist_epmd_clients.specs.declared.question.Question.TheVariants.{Inside, Asks, Nothing}
 use Rattle.dist_epmd_clients.specs.Asking.{question}
-use Rattle.dist_epmd_clients.specs.Journal.{counts_in, events_in}
+use Rattle.dist_epmd_clients.specs.Journal.{counts_in, events_in, most_in}
 use Rattle.dist_epmd_clients.specs.Replying.{answer_for, registrations_after}
 
 -- ---- what happens
@@ -80,6 +80,10 @@ module _ {S : Type 0} where
   -- the events that wait
   abbrev pub events_of : Clients S → List ClientEvent
   events_of c = events_in c.journal
+
+  -- how many events may wait
+  abbrev pub most_of : Clients S → ℕ
+  most_of c = most_in c.journal
 
   -- how often what happened
   abbrev pub counts_of : Clients S → Counts

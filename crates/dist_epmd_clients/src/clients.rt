@@ -4,9 +4,9 @@ ghost use Rattle.std.specs.Prelude.{◌≡◌, ◌↔◌, ◌+◌, ◌^◌, ℕ,
 ghost use Rattle.std.specs.Prelude.{[], IfSome, None, Some, IsSome, option_map, option_copied, length, slice_get};
 ghost use Rattle.std.specs.List.{list_any, filter_map};
 ghost use Rattle.dist_epmd.specs.Registrations.{opening, after_closed, is_of};
-ghost use Rattle.dist_epmd_clients.specs.Journal.{keeping, no_counts, Journals};
+ghost use Rattle.dist_epmd_clients.specs.Journal.{no_counts, HasEvents, Journals};
 ghost use Rattle.dist_epmd_clients.specs.declared.event.ClientEvent.TheVariants.{NoMemory, Unanswered};
-ghost use Rattle.dist_epmd_clients.specs.Reporting.{asked_event, ended_event, piece_event, counts_of, events_of, journal_of};
+ghost use Rattle.dist_epmd_clients.specs.Reporting.{asked_event, ended_event, piece_event, counts_of, events_of, journal_of, most_of};
 ghost use Rattle.dist_epmd_clients.specs.Standing.{asking_since, is_registered};
 ghost use Rattle.dist_epmd_clients.specs.Replying.{after_piece, asks, leaves};
 ghost use Rattle.dist_epmd_clients.specs.Clients.{registrations_of, client_of, clients_of, next_of, new_client, Becomes, CanLack, Drops, IsKept, IsSame};
@@ -19,7 +19,7 @@ use crate::journal::Journal;
 use crate::open_error::OpenError;
 use crate::question::{Question, question_of};
 use crate::replying::{drop_registration, reply_to};
-use crate::reporting::{name_in, note_answer, note_end, note_registration};
+use crate::reporting::{alive_name, name_in, note_answer, note_end, note_registration};
 use crate::table::{client_in, client_name, first_asking, put_client, set_talk, take_client};
 use crate::turn::Turn;
 use dist_epmd::{Registry, Request};
@@ -38,6 +38,7 @@ impl<S: Drop> Clients<S> {
         ensures next { next_of result ≡ 0 }
         ensures counts { counts_of result ≡ no_counts }
         ensures events { events_of result ≡ [] }
+        ensures most { most_of result ≡ 0 }
     {
         Clients {
             registry: Registry::new(alloc, port, first),
@@ -70,31 +71,34 @@ impl<S: Drop> Clients<S> {
     pub fn counts(&self) -> &Counts
         ensures { result.now ≡ counts_of self.now }
     {
-        &self.journal.counts
+        self.journal.counts()
     }
 
     /// The events that wait for whoever reads them, the oldest first.
     pub fn events(&self) -> &[ClientEvent]
         ensures { result.now ≡ events_of self.now }
     {
-        &self.journal.events
+        self.journal.events()
     }
 
-    /// Keeps no event that waits: they were read.
+    /// Keeps no event that waits: they were read. As many may wait as before.
     pub fn forget_events(&mut self)
-        ensures events { events_of self.new ≡ [] }
+        ensures journal { HasEvents [] (journal_of self.old) (journal_of self.new) }
+        ensures same { IsSame self.old self.new }
+    {
+        self.journal.forget();
+    }
+
+    /// From now on so many events may wait for whoever reads them. Without this call none does, and only the counts rise. Their
+    /// memory is taken now; after an `Err` as many may wait as before.
+    pub fn keep_events(&mut self, most: usize) -> Result<(), AllocError>
+        ensures ok { OnOk result (most_of self.new ≡ most) }
+        ensures err { OnErr result (most_of self.new ≡ most_of self.old) }
+        ensures events { events_of self.new ≡ events_of self.old }
         ensures counts { counts_of self.new ≡ counts_of self.old }
         ensures same { IsSame self.old self.new }
     {
-        self.journal.events.clear();
-    }
-
-    /// From now on so many events may wait for whoever reads them. Without this call none does, and only the counts rise.
-    pub fn keep_events(&mut self, most: usize)
-        ensures journal { journal_of self.new ≡ keeping most (journal_of self.old) }
-        ensures same { IsSame self.old self.new }
-    {
-        self.journal.most = most;
+        self.journal.keep(most)
     }
 
     /// What carries the bytes of a connection, where its client is here.
@@ -289,9 +293,10 @@ impl<S: Drop> Clients<S> {
         ensures journal { OnOk result (Journals (asked_event conn request (registrations_of self.old)) (journal_of self.old) (journal_of self.new)) }
         ensures no_memory { OnErr result (journal_of self.new ≡ journal_of self.old) }
     {
+        let name = alive_name(alloc, &request)?;
         let (served, text) = reply_to(&mut self.registry, alloc, conn, &request)?;
         if let Served::Registered = served {
-            note_registration(&mut self.journal, alloc, conn, &request);
+            note_registration(&mut self.journal, conn, name, &request);
             set_talk(
                 &mut self.clients,
                 conn,

@@ -26,7 +26,7 @@ pub struct Counts {
     pub late: u64,
     /// Clients for which memory ran out.
     pub no_memory: u64,
-    /// Events that are kept nowhere: too many of them waited, or memory ran out.
+    /// Events that are kept nowhere: as many waited as may.
     pub missed: u64,
 }
 

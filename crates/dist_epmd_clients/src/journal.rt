@@ -1,25 +1,30 @@
 //! The events that wait for whoever reads them, and the counts of all.
 
-ghost use Rattle.std.specs.Prelude.{◌≡◌, [], Some};
-ghost use Rattle.dist_epmd_clients.specs.Journal.{counts_in, events_in, no_counts, with_count, with_miss, Lists, Journals};
+ghost use Rattle.std.specs.Prelude.{◌≤◌, vec_capacity};
 
 use crate::counts::Counts;
 use crate::event::{ClientEvent, EventKind};
-use std::alloc::Global;
+use std::alloc::{AllocError, Global};
 
 /// The events that wait for whoever reads them, at most so many, and the counts of all.
 #[derive(Drop)]
 pub struct Journal {
-    pub(crate) counts: Counts,
-    pub(crate) events: Vec<ClientEvent>,
-    pub(crate) most: usize,
+    counts: Counts,
+    events: Vec<ClientEvent>,
+    most: usize,
+    // The memory of all that may wait was taken when it was asked for.
+    ghost reserved: { most ≤ vec_capacity events },
 }
 
 impl Journal {
+    ghost use Rattle.std.specs.Prelude.{◌≡◌, [], Some, OnOk, OnErr};
+    ghost use Rattle.dist_epmd_clients.specs.Journal.{counts_in, events_in, most_in, no_counts, with_count, with_miss, HasEvents, Lists, Journals};
+
     /// Nothing happened yet, and no event is kept: it only counts. It takes no memory.
     pub fn new(alloc: Global) -> Journal
         ensures counts { counts_in result ≡ no_counts }
         ensures events { events_in result ≡ [] }
+        ensures most { most_in result ≡ 0 }
     {
         Journal {
             counts: Counts::new(),
@@ -28,29 +33,52 @@ impl Journal {
         }
     }
 
-    /// Keeps an event that was counted, or misses it.
-    pub fn list(&mut self, event: ClientEvent)
+    /// How often what happened.
+    pub fn counts(&self) -> &Counts
+        ensures { result.now ≡ counts_in self.now }
+    {
+        &self.counts
+    }
+
+    /// The events that wait, the oldest first.
+    pub fn events(&self) -> &[ClientEvent]
+        ensures { result.now ≡ events_in self.now }
+    {
+        &self.events
+    }
+
+    /// From now on so many events may wait: their memory is taken now.
+    pub fn keep(&mut self, most: usize) -> Result<(), AllocError>
+        ensures events { events_in self.new ≡ events_in self.old }
+        ensures counts { counts_in self.new ≡ counts_in self.old }
+        ensures ok { OnOk result (most_in self.new ≡ most) }
+        ensures err { OnErr result (most_in self.new ≡ most_in self.old) }
+    {
+        self.events.reserve(most.saturating_sub(self.events.len()))?;
+        self.most = most;
+        Ok(())
+    }
+
+    /// Keeps none of the events that wait.
+    pub fn forget(&mut self)
+        ensures { HasEvents [] self.old self.new }
+    {
+        self.events.clear();
+    }
+
+    /// Keeps an event that was counted, where fewer wait than may. Otherwise it is missed.
+    fn list(&mut self, event: ClientEvent)
         ensures { Lists event self.old self.new }
     {
         if self.events.len() >= self.most {
-            self.miss();
+            self.counts.miss();
             return;
         }
-        match self.events.push(event) {
-            Ok(()) => {}
-            Err(_) => self.miss(),
-        }
+        let _ = self.events.push(event);
     }
 
-    /// Misses an event that was counted.
-    pub fn miss(&mut self)
-        ensures { self.new ≡ with_miss self.old }
-    {
-        self.counts.miss();
-    }
-
-    /// Counts an event of this kind.
-    pub fn count(&mut self, kind: EventKind)
+    // Counts an event of this kind.
+    fn count(&mut self, kind: EventKind)
         ensures { self.new ≡ with_count kind self.old }
     {
         self.counts.count(kind);

@@ -1,19 +1,19 @@
 //! What the journal hears of what is done.
 
-ghost use Rattle.std.specs.Prelude.{◌≡◌, Some};
+ghost use Rattle.std.specs.Prelude.{◌≡◌, Some, IfOk};
 ghost use Rattle.dist_epmd_calls.specs.declared.serve.Served.TheVariants.{Registered};
 ghost use Rattle.dist_epmd_clients.specs.declared.event.ClientEvent.TheVariants as event;
 ghost use Rattle.dist_epmd_clients.specs.Journal.{Journals};
 ghost use Rattle.dist_epmd.specs.Registrations.{Registrations};
-ghost use Rattle.dist_epmd_clients.specs.Replying.{name_in};
+ghost use Rattle.dist_epmd_clients.specs.Replying.{alive_name, name_in};
 ghost use Rattle.dist_epmd_clients.specs.Reporting.{answered_event, served_event, talk_ended};
 
 use crate::client::Talk;
-use crate::event::{ClientEvent, EventKind};
+use crate::event::ClientEvent;
 use crate::journal::Journal;
 use dist_epmd::{NodeInfo, Registry, Request};
 use dist_names::ByteString;
-use std::alloc::Global;
+use std::alloc::{AllocError, Global};
 
 /// The name that a request has, and none where it has no name.
 pub fn name_in(alloc: Global, request: Request) -> ByteString
@@ -38,27 +38,29 @@ pub fn note_end(journal: &mut Journal, conn: u64, talk: Talk)
     }
 }
 
-// A node is registered. Where memory runs out for its name, the event is counted, and missed.
-fn note_node(journal: &mut Journal, alloc: Global, conn: u64, info: &NodeInfo)
-    ensures { Journals (Some (event.Registered conn info.now.name info.now.port)) journal.old journal.new }
+/// A copy of the name of the node that a request registers, for the event of it. It is made before the request is answered, so
+/// that no event is missed for want of memory.
+pub fn alive_name(alloc: Global, request: &Request) -> Result<ByteString, AllocError>
+    ensures { IfOk result (λ name. name ≡ alive_name request.now) }
 {
-    journal.count(EventKind::Registered);
-    match info.name.try_clone(alloc) {
-        Ok(name) => journal.list(ClientEvent::Registered {
-            conn,
-            name,
-            port: info.port,
-        }),
-        Err(_) => journal.miss(),
+    match request {
+        Request::Alive(info) => info.name.try_clone(alloc),
+        Request::PortPlease(_) | Request::Names => Ok(ByteString::new(alloc)),
     }
 }
 
 /// A request was answered so that its node is registered.
-pub fn note_registration(journal: &mut Journal, alloc: Global, conn: u64, request: &Request)
+pub fn note_registration(journal: &mut Journal, conn: u64, name: ByteString, request: &Request)
+    // The caller copied it.
+    requires { name ≡ alive_name request.now }
     ensures { (registrations : Registrations) → Journals (served_event Registered conn request.now registrations) journal.old journal.new }
 {
     if let Request::Alive(info) = request {
-        note_node(journal, alloc, conn, info);
+        journal.note(ClientEvent::Registered {
+            conn,
+            name,
+            port: info.port,
+        });
     }
 }
 

@@ -2,12 +2,16 @@
 use Rattle.std.specs.Prelude.{◌≡◌, ◌⊎◌, IfSome, ℕ, ◌+◌, Bool, true, false, Option, Some, None, drop, length, nat_lt, slice_get}
 use Rattle.std.specs.List.{filter_map}
 use Rattle.dist_epmd.specs.Registrations.{after_closed}
+use Rattle.dist_stream.specs.Stream.{StreamState}
 use Rattle.dist_stream.specs.declared.socket.SocketStream.{SocketStream}
 use Rattle.dist_epmd_clients.specs.declared.holding.Clients.{Clients}
 use Rattle.dist_epmd_clients.specs.Clients.{registrations_of, clients_of, next_of, new_client, Becomes, IsSame}
+use Rattle.dist_epmd_clients.specs.Journal.{most_in}
 use Rattle.dist_epmd_clients.specs.Standing.{asking_since}
+use Rattle.dist_epmd_server.specs.declared.attending.Watch.{Watch}
 use Rattle.dist_epmd_server.specs.declared.owing.Owing.{Owing}
 use Rattle.dist_epmd_server.specs.declared.server.Server.{Server}
+use Rattle.dist_epmd_server.specs.Attending.{Attends}
 use Rattle.dist_epmd_server.specs.Owing.{all_owed}
 
 -- its clients
@@ -25,6 +29,20 @@ swept_at server = server.swept
 -- after how many seconds one is late
 abbrev pub seconds_of : Server → ℕ
 seconds_of server = server.limits.seconds
+
+-- how many events may wait
+abbrev pub most_events : Server → ℕ
+most_events server = most_in server.clients.journal
+
+-- a connection, where it is ready
+abbrev pub if_ready : Option ℕ → Bool → Option ℕ
+if_ready None ready = None
+if_ready (Some conn) true = Some conn
+if_ready (Some conn) false = None
+
+-- the client that came last, which is waited for by itself, where it is ready
+abbrev pub ready_newest : Server → Option ℕ
+ready_newest server = if_ready server.newest server.is_newest_ready
 
 -- how many clients there may be at once, with those that have left and are owed something
 abbrev pub most_of : Server → ℕ
@@ -69,3 +87,9 @@ pub record ComesTo (now most : ℕ) (old new : Clients SocketStream) (owing left
   pub mid : Clients SocketStream
   pub takes : TakesIn stream local now most old mid owing left taken
   pub watched : (new ≡ mid) ⊎ IfSome taken (λ conn. Becomes None (after_closed conn (registrations_of mid)) conn mid new)
+
+-- THE CLIENT THAT CAME LAST IS SERVED where it is ready, like any other; else nothing is done for any client
+abbrev pub ServesNewest : (SocketStream → StreamState) → Option ℕ → ℕ →
+    Clients SocketStream → Clients SocketStream → Owing SocketStream → Owing SocketStream → Type 0
+ServesNewest meaning None now old new owing after = (new ≡ old) × (after ≡ owing)
+ServesNewest meaning (Some conn) now old new owing after = (made : Watch) × Attends meaning conn now old new owing after made

@@ -1,8 +1,12 @@
 //! The client that came last. Most ask at once and leave, so the system is not asked to keep a socket among those that it watches
 //! before its client has stayed; and whether others wait at its listener is looked at in the same wait.
 
+ghost use Rattle.std.specs.Prelude.{◌≡◌};
+ghost use Rattle.dist_epmd_server.specs.Serving.{clients_at, owing_at, ready_newest, ServesNewest};
+
 use crate::server::{Server, token_of_listener};
 use crate::waiting::{Found, wait_for};
+use dist_stream::{SocketStream, Stream};
 use mio::Events;
 use std::io;
 use std::os::fd::AsRawFd;
@@ -77,35 +81,50 @@ impl Server {
         }
     }
 
-    // Lets the system watch the client that came last, where it has not left; it is not the newest any more. Where the system
-    // does not, its connection is closed.
-    pub(crate) fn release_newest(&mut self) {
-        let Some(conn) = self.newest.take() else {
-            return;
-        };
-        let Some((fd, interest)) = self.socket_of(conn) else {
-            return;
-        };
-        if !self.watch(fd, conn, interest) {
-            let _ = self.clients.close(conn);
-            self.owing.close(conn);
+    // Has the system watch the client that came last, where it has not left. Returns whether there is no more to do for it.
+    fn watch_newest(&self, conn: u64) -> bool {
+        match self.socket_of(conn) {
+            Some((fd, interest)) => self.watch(fd, conn, interest) || interest.is_writable(),
+            None => true,
         }
     }
 
-    // Serves the client that came last, where it is ready. Where it has not left then, the system watches it.
-    fn attend_newest(&mut self, room: &mut [u8], now: u64) {
+    // Lets the system watch the client that came last: it is not the newest any more. Where the system does not watch it, it stays
+    // the newest, and is waited for by itself: it may have been answered that its node is registered. Nobody is closed.
+    pub(crate) fn release_newest(&mut self)
+        ensures clients { clients_at self.new ≡ clients_at self.old }
+        ensures owing { owing_at self.new ≡ owing_at self.old }
+    {
+        if let Some(conn) = self.newest
+            && self.watch_newest(conn)
+        {
+            self.newest = None;
+        }
+    }
+
+    // Serves the client that came last, where it is ready.
+    fn attend_newest(&mut self, room: &mut [u8], now: u64)
+        ensures { ServesNewest ⟦<SocketStream as Stream>⟧.meaning (ready_newest self.old) now
+            (clients_at self.old) (clients_at self.new) (owing_at self.old) (owing_at self.new) }
+    {
         if let Some(conn) = self.newest
             && self.is_newest_ready
         {
             let _ = self.attend(conn, room, now);
         }
+    }
+
+    /// Serves the client that came last, where it is ready, and has the system watch it: behind the clients among what is ready.
+    pub fn serve_newest(&mut self, room: &mut [u8], now: u64)
+        ensures { ServesNewest ⟦<SocketStream as Stream>⟧.meaning (ready_newest self.old) now
+            (clients_at self.old) (clients_at self.new) (owing_at self.old) (owing_at self.new) }
+    {
+        self.attend_newest(room, now);
         self.release_newest();
     }
 
-    /// Serves the client that came last, where it is ready, and then the listener at which it came: behind the clients among what
-    /// is ready, and before the listeners.
-    pub fn serve_newest(&mut self, room: &mut [u8], now: u64) {
-        self.attend_newest(room, now);
+    /// Serves the listener at which the client that came last came: behind that client, and before the other listeners.
+    pub fn serve_unsure(&mut self, now: u64) {
         if let Some(place) = self.unsure.take() {
             self.accept_all(place, now);
         }

@@ -1,15 +1,15 @@
 //! The sockets of a port mapper and their clients.
 
-ghost use Rattle.std.specs.Prelude.{[], length, ◌≡◌, ◌<◌, ◌≤◌, ◌-◌, not, filter, nat_le};
+ghost use Rattle.std.specs.Prelude.{[], length, ◌≡◌, ◌<◌, ◌≤◌, ◌-◌, not, filter, nat_le, OnOk, OnErr};
 ghost use Rattle.dist_epmd_clients.specs.Clients.{registrations_of, clients_of, IsSame};
-ghost use Rattle.dist_epmd_clients.specs.Journal.{keeping};
+ghost use Rattle.dist_epmd_clients.specs.Journal.{HasEvents};
 ghost use Rattle.dist_epmd_clients.specs.Reporting.{counts_of, events_of, journal_of};
 ghost use Rattle.dist_epmd_clients.specs.Sweeping.{is_late};
 ghost use Rattle.dist_epmd_server.specs.Attending.{Attends};
 ghost use Rattle.dist_epmd_server.specs.declared.attending.Watch.{Watch};
 ghost use Rattle.dist_epmd_server.specs.Owed.{since_of};
 ghost use Rattle.dist_epmd_server.specs.Owing.{all_owed};
-ghost use Rattle.dist_epmd_server.specs.Serving.{clients_at, oldest_of, owing_at, most_of, seconds_of, swept_at, ComesTo, MakesRoom};
+ghost use Rattle.dist_epmd_server.specs.Serving.{clients_at, oldest_of, owing_at, most_events, most_of, seconds_of, swept_at, ComesTo, MakesRoom};
 
 use crate::attending::{Ready, Watch, attend};
 use crate::owing::Owing;
@@ -19,7 +19,7 @@ use dist_stream::{SocketStream, Stream};
 use mio::net::{TcpListener, TcpStream};
 use mio::unix::SourceFd;
 use mio::{Interest, Poll, Token};
-use std::alloc::Global;
+use std::alloc::{AllocError, Global};
 use std::io::{self, ErrorKind};
 use std::net::{self, IpAddr, Net};
 use std::os::fd::AsRawFd;
@@ -150,19 +150,22 @@ impl Server {
         self.stuck
     }
 
-    /// From now on so many events may wait for whoever reads them. Without this call none does.
-    pub fn keep_events(&mut self, most: usize)
-        ensures journal { journal_of (clients_at self.new) ≡ keeping most (journal_of (clients_at self.old)) }
+    /// From now on so many events may wait for whoever reads them. Without this call none does. Their memory is taken now; after
+    /// an `Err` as many may wait as before.
+    pub fn keep_events(&mut self, most: usize) -> Result<(), AllocError>
+        ensures ok { OnOk result (most_events self.new ≡ most) }
+        ensures err { OnErr result (most_events self.new ≡ most_events self.old) }
+        ensures events { events_of (clients_at self.new) ≡ events_of (clients_at self.old) }
+        ensures counts { counts_of (clients_at self.new) ≡ counts_of (clients_at self.old) }
         ensures clients { IsSame (clients_at self.old) (clients_at self.new) }
         ensures owing { owing_at self.new ≡ owing_at self.old }
     {
-        self.clients.keep_events(most);
+        self.clients.keep_events(most)
     }
 
-    /// Keeps no event that waits: they were read.
+    /// Keeps no event that waits: they were read. As many may wait as before.
     pub fn forget_events(&mut self)
-        ensures events { events_of (clients_at self.new) ≡ [] }
-        ensures counts { counts_of (clients_at self.new) ≡ counts_of (clients_at self.old) }
+        ensures journal { HasEvents [] (journal_of (clients_at self.old)) (journal_of (clients_at self.new)) }
         ensures clients { IsSame (clients_at self.old) (clients_at self.new) }
         ensures owing { owing_at self.new ≡ owing_at self.old }
     {
@@ -230,7 +233,7 @@ impl Server {
         let Some(conn) = take_in(clients, owing, self.alloc, newcomer, most) else {
             return;
         };
-        if self.is_alone {
+        if self.is_alone && self.newest.is_none() {
             self.newest = Some(conn);
         } else if !self.watch(fd, conn, Interest::READABLE) {
             let _ = self.clients.close(conn);

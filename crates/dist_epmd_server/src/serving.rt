@@ -30,6 +30,7 @@ fn serve_listeners(server: &mut Server, events: &Events, now: u64) {
 pub fn serve_ready(server: &mut Server, events: &Events, room: &mut [u8], now: u64) {
     serve_clients(server, events, room, now);
     server.serve_newest(room, now);
+    server.serve_unsure(now);
     serve_listeners(server, events, now);
     server.sweep(now);
 }

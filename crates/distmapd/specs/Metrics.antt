@@ -1,43 +1,121 @@
 -- WHAT IS SAID OF A PORT MAPPER TO WHO WATCHES IT, as text of Prometheus (its text format, version 0.0.4), over HTTP (RFC 9112).
-use Rattle.std.specs.Prelude.{ℕ, Bool, true, false, List, ◌++◌, codes, length, if◌then◌else◌}
+use Rattle.std.specs.Prelude.{ℕ, ◌-◌, ◌==◌, ◌||◌, ◌&&◌, Bool, true, false, List, [], ◌∷◌, ◌++◌, codes, length, drop, if◌then◌else◌}
 use Rattle.std.specs.List.{flat_map, starts_with}
-use Rattle.std.specs.Prelude.{◌==◌}
 use Rattle.std.specs.Fmt.{decimal}
+use Rattle.dist_epmd_clients.specs.declared.counts.Counts.{Counts}
 use Rattle.distmapd.specs.declared.metrics.Figure.{Figure}
+use Rattle.distmapd.specs.declared.metrics.Figure.TheVariants as figure
+use Rattle.distmapd.specs.declared.metrics.Standing.{Standing}
 use Rattle.distmapd.specs.declared.page.Page.{Page}
 use Rattle.distmapd.specs.declared.page.Page.TheVariants as page
+use Rattle.distmapd.specs.declared.page.Request.{Request}
 
--- one figure: its kind, and its value
-unfoldable pub figure_text : Figure → List ℕ
-figure_text f = codes "# TYPE " ++ (f.name.now ++ (codes " " ++ (f.kind.now ++ (codes "\n" ++ (f.name.now ++ (codes " " ++ (decimal f.value ++ codes "\n")))))))
+-- ---- figures
 
--- all figures, one after the other
-abbrev pub figures_text : List Figure → List ℕ
-figures_text figures = flat_map figure_text figures
+-- by which name a figure is known
+abbrev pub figure_name : Figure → List ℕ
+figure_name figure.Registrations = codes "distmapd_registrations"
+figure_name figure.Clients = codes "distmapd_clients"
+figure_name figure.AnswersOwed = codes "distmapd_answers_owed"
+figure_name figure.Registered = codes "distmapd_registrations_total"
+figure_name figure.Ended = codes "distmapd_registrations_ended_total"
+figure_name figure.Refused = codes "distmapd_registrations_refused_total"
+figure_name figure.LookedUp = codes "distmapd_lookups_total"
+figure_name figure.Listed = codes "distmapd_listings_total"
+figure_name figure.Unanswered = codes "distmapd_unanswered_total"
+figure_name figure.MadeRoom = codes "distmapd_clients_made_room_total"
+figure_name figure.Late = codes "distmapd_clients_late_total"
+figure_name figure.NoMemory = codes "distmapd_clients_no_memory_total"
+figure_name figure.Missed = codes "distmapd_events_missed_total"
+
+-- whether it only rises
+abbrev pub figure_kind : Figure → List ℕ
+figure_kind figure.Registrations = codes "gauge"
+figure_kind figure.Clients = codes "gauge"
+figure_kind figure.AnswersOwed = codes "gauge"
+figure_kind _ = codes "counter"
+
+-- how much it is
+abbrev pub figure_value : Counts → Standing → Figure → ℕ
+figure_value c s figure.Registrations = c.registered - c.ended
+figure_value c s figure.Clients = s.clients
+figure_value c s figure.AnswersOwed = s.owed
+figure_value c s figure.Registered = c.registered
+figure_value c s figure.Ended = c.ended
+figure_value c s figure.Refused = c.refused
+figure_value c s figure.LookedUp = c.looked_up
+figure_value c s figure.Listed = c.listed
+figure_value c s figure.Unanswered = c.unanswered
+figure_value c s figure.MadeRoom = c.made_room
+figure_value c s figure.Late = c.late
+figure_value c s figure.NoMemory = c.no_memory
+figure_value c s figure.Missed = c.missed
+
+-- a figure by its name, its kind and its value
+unfoldable pub figure_line : List ℕ → List ℕ → ℕ → List ℕ
+figure_line name kind value =
+    codes "# TYPE " ++ (name ++ (codes " " ++ (kind ++ (codes "\n" ++ (name ++ (codes " " ++ (decimal value ++ codes "\n")))))))
+
+-- a figure of a port mapper whose counts are these
+abbrev pub figure_text : Counts → Standing → Figure → List ℕ
+figure_text c s f = figure_line (figure_name f) (figure_kind f) (figure_value c s f)
+
+abbrev pub all_figures : List Figure
+all_figures =
+    figure.Registrations ∷ figure.Clients ∷ figure.AnswersOwed ∷ figure.Registered ∷ figure.Ended ∷ figure.Refused ∷ figure.LookedUp ∷ figure.Listed
+    ∷ figure.Unanswered ∷ figure.MadeRoom ∷ figure.Late ∷ figure.NoMemory ∷ figure.Missed ∷ []
+
+-- ALL FIGURES, one after the other
+abbrev pub figures_text : Counts → Standing → List ℕ
+figures_text c s = flat_map (figure_text c s) all_figures
 
 -- ---- requests
 
--- WHICH PAGE A REQUEST ASKS FOR, by its front
-abbrev pub page_of : List ℕ → Page
-page_of head =
-    if starts_with ◌==◌ head (codes "GET /metrics ") then page.Metrics else (
-    if starts_with ◌==◌ head (codes "GET /ready ") then page.Ready else (
-    if starts_with ◌==◌ head (codes "GET /health ") then page.Health else (
-    if starts_with ◌==◌ head (codes "GET ") then page.Unknown else page.Refused)))
+-- a text that begins with a path, and then ends or has a query
+abbrev pub ends_path : List ℕ → Bool
+ends_path rest = starts_with ◌==◌ rest (codes " ") || starts_with ◌==◌ rest (codes "?")
+
+-- whether a target is this path, with a query or without
+abbrev pub asks_path : List ℕ → List ℕ → Bool
+asks_path target path = starts_with ◌==◌ target path && ends_path (drop (length path) target)
+
+-- the page of a target
+abbrev pub page_at : List ℕ → Page
+page_at target =
+    if asks_path target (codes "/metrics") then page.Metrics else (
+    if asks_path target (codes "/ready") then page.Ready else (
+    if asks_path target (codes "/health") then page.Health else page.Unknown))
+
+-- WHAT A REQUEST ASKS FOR, by its front
+abbrev pub request_of : List ℕ → Request
+request_of head =
+    if starts_with ◌==◌ head (codes "GET ") then record { page = page_at (drop 4 head); wants_body = true } else (
+    if starts_with ◌==◌ head (codes "HEAD ") then record { page = page_at (drop 5 head); wants_body = false } else
+    record { page = page.Refused; wants_body = true })
 
 -- ---- answers
 
--- the line of an answer with a body of plain text, and the whole answer: its connection ends behind it
-unfoldable pub answer_text : List ℕ → List ℕ → List ℕ
-answer_text status body =
-    codes "HTTP/1.1 " ++ (status ++ (codes "\r\nContent-Type: text/plain; version=0.0.4; charset=utf-8\r\nContent-Length: " ++ (decimal (length body)
-    ++ (codes "\r\nConnection: close\r\n\r\n" ++ body))))
+-- the line of an answer with a body of plain text that has so many bytes, and the lines behind it
+unfoldable pub head_text : List ℕ → List ℕ → ℕ → List ℕ
+head_text status more count =
+    codes "HTTP/1.1 " ++ (status ++ (codes "\r\n" ++ (more ++ (codes "Content-Type: text/plain; version=0.0.4; charset=utf-8\r\nContent-Length: "
+    ++ (decimal count ++ codes "\r\nConnection: close\r\n\r\n")))))
 
--- THE ANSWER TO A REQUEST, by whether connections are accepted and the text of the figures
-abbrev pub page_text : Page → Bool → List ℕ → List ℕ
-page_text page.Metrics ready figures = answer_text (codes "200 OK") figures
-page_text page.Health ready figures = answer_text (codes "200 OK") (codes "alive\n")
-page_text page.Ready true figures = answer_text (codes "200 OK") (codes "ready\n")
-page_text page.Ready false figures = answer_text (codes "503 Service Unavailable") (codes "no descriptor or no memory is left\n")
-page_text page.Unknown ready figures = answer_text (codes "404 Not Found") (codes "/metrics, /ready and /health are here\n")
-page_text page.Refused ready figures = answer_text (codes "405 Method Not Allowed") (codes "GET alone is served\n")
+-- the whole answer, with its body where that is wanted: its connection ends behind it
+abbrev pub answer_text : List ℕ → List ℕ → List ℕ → Bool → List ℕ
+answer_text status more body true = head_text status more (length body) ++ body
+answer_text status more body false = head_text status more (length body)
+
+-- the answer to a question whether connections are accepted
+abbrev pub ready_text : Bool → Bool → List ℕ
+ready_text true wanted = answer_text (codes "200 OK") [] (codes "ready\n") wanted
+ready_text false wanted = answer_text (codes "503 Service Unavailable") [] (codes "no descriptor or no memory is left\n") wanted
+
+-- THE ANSWER TO A REQUEST, by whether connections are accepted, the text of the figures, and whether the body is wanted
+abbrev pub page_text : Page → Bool → List ℕ → Bool → List ℕ
+page_text page.Metrics ready figures wanted = answer_text (codes "200 OK") [] figures wanted
+page_text page.Health ready figures wanted = answer_text (codes "200 OK") [] (codes "alive\n") wanted
+page_text page.Ready ready figures wanted = ready_text ready wanted
+page_text page.Unknown ready figures wanted = answer_text (codes "404 Not Found") [] (codes "/metrics, /ready and /health are here\n") wanted
+page_text page.Refused ready figures wanted =
+    answer_text (codes "405 Method Not Allowed") (codes "Allow: GET, HEAD\r\n") (codes "GET and HEAD alone are served\n") wanted

@@ -22,8 +22,8 @@ pub enum Fault {
     /// An address is no IP address. Whoever started it is to blame.
     #[error("-address and ERL_EPMD_ADDRESS want IP addresses with commas between them")]
     BadAddress,
-    /// It can't listen: the port is taken, an address is not this host's, or no socket was handed over.
-    #[error("ListenFailed: the port is taken, an address is not of this host, or no socket was handed over")]
+    /// It can't listen: the port is taken, an address is not this host's, or no socket that listens was handed over to it.
+    #[error("ListenFailed: the port is taken, an address is not of this host, or no socket that listens was handed over to it")]
     ListenFailed,
     /// It can't listen at the port of the figures.
     #[error("MetricsFailed: it can't listen at that port of 127.0.0.1")]

@@ -1,18 +1,20 @@
-//! The log on standard error. A standard error that fails, or takes no more, ends nothing and holds nothing up.
+//! The log. A writer that fails, or takes no more, ends nothing and holds nothing up: what it does not take is left out.
 
-ghost use Rattle.std.specs.Prelude.{◌≡◌, [], IfOk};
+ghost use Rattle.std.specs.Prelude.{◌≡◌, ◌-◌, ℕ, List, IfOk};
 ghost use Rattle.std.specs.String.{string_bytes};
 ghost use Rattle.distmapd.specs.Lines.{event_line, left_out_line};
+ghost use Rattle.dist_epmd_clients.specs.Reporting.{counts_of, events_of};
+ghost use Rattle.distmapd.specs.Logging.{after_missing, LogsEvent, LogsEvents, LogsRound, Puts, PutsFor, TellsLeftOut};
+ghost use Rattle.distmapd.specs.Logs.{form_in, missed_in, rates_in};
+ghost use Rattle.distmapd.specs.Rates.{new_rates};
 
 use crate::form::Form;
 use crate::json_line::{json_event, json_line};
-use crate::rate::Rate;
+use crate::rates::Rates;
 use crate::text_line::{text_event, text_line};
 use dist_epmd_clients::{ClientEvent, Clients};
-use libc::STDERR_FILENO;
-use libc::net::{POLLOUT, poll};
-use libc::types::pollfd;
 use std::alloc::{AllocError, Global};
+use std::io::Write;
 
 /// The line of an event.
 fn event_line(alloc: Global, form: Form, event: &ClientEvent) -> Result<String, AllocError>
@@ -34,21 +36,15 @@ fn left_out_line(alloc: Global, form: Form, count: u64) -> Result<String, AllocE
     }
 }
 
-// Whether standard error takes a line without a wait: a pipe that has room takes 4,096 bytes.
-fn is_open() -> bool {
-    let mut fds = [pollfd {
-        fd: STDERR_FILENO,
-        events: POLLOUT,
-        revents: 0,
-    }];
-    poll(&mut fds, 0) == 1 && fds[0].revents & POLLOUT != 0
-}
-
-// Writes a line to standard error. Returns whether it took it. The start of a program has SIGPIPE ignored, so where nobody reads
-// the write fails and ends nothing.
-fn put(line: Result<String, AllocError>) -> bool {
-    match line {
-        Ok(text) => is_open() && libc::write(STDERR_FILENO, text.as_bytes()) > 0,
+// Writes a line by one write. Returns whether it was taken whole.
+fn put<W: Write>(out: &mut W, line: Result<String, AllocError>) -> bool
+    ensures { (text : List ℕ) → IfOk line (λ l. string_bytes l ≡ text) → Puts text result (W.contents out.old) (W.contents out.new) }
+{
+    let Ok(text) = line else {
+        return false;
+    };
+    match out.write(text.as_bytes()) {
+        Ok(count) => count == text.len(),
         Err(_) => false,
     }
 }
@@ -57,44 +53,110 @@ fn put(line: Result<String, AllocError>) -> bool {
 #[derive(Drop)]
 pub struct Log {
     form: Form,
-    rate: Rate,
+    rates: Rates,
     // How many events were missed before it looked.
     missed: u64,
 }
 
 impl Log {
     /// A log in this form, of which nothing was written.
-    pub fn new(form: Form) -> Log {
+    pub fn new(form: Form) -> Log
+        ensures form { form_in result ≡ form }
+        ensures rates { rates_in result ≡ new_rates }
+        ensures missed { missed_in result ≡ 0 }
+    {
         Log {
             form,
-            rate: Rate::new(),
+            rates: Rates::new(),
             missed: 0,
         }
     }
 
-    // Writes the line of an event, where its second has room for one.
-    fn write_event(&mut self, alloc: Global, event: &ClientEvent, now: u64) {
-        if self.rate.admit(now) && !put(event_line(alloc, self.form, event)) {
-            self.rate.leave_out(1);
+    // Puts a line that stands for so many: where it is not taken whole, so many are left out.
+    fn put_for<W: Write>(
+        &mut self,
+        out: &mut W,
+        count: u64,
+        line: Result<String, AllocError>,
+        now: u64,
+    )
+        ensures puts { (text : List ℕ) → IfOk line (λ l. string_bytes l ≡ text) →
+            PutsFor count text now (rates_in self.old) (rates_in self.new) (W.contents out.old) (W.contents out.new) }
+        ensures form { form_in self.new ≡ form_in self.old }
+        ensures missed { missed_in self.new ≡ missed_in self.old }
+    {
+        if !put(out, line) {
+            self.rates.leave_out(count, now);
+        }
+    }
+
+    // Writes the line of an event, where its kind has room for one in this second.
+    fn write_event<W: Write>(&mut self, alloc: Global, out: &mut W, event: &ClientEvent, now: u64)
+        ensures logs { LogsEvent (form_in self.old) now event.now (rates_in self.old) (rates_in self.new) (W.contents out.old) (W.contents out.new) }
+        ensures form { form_in self.new ≡ form_in self.old }
+        ensures missed { missed_in self.new ≡ missed_in self.old }
+    {
+        if self.rates.admit(event.kind(), now) {
+            let line = event_line(alloc, self.form, event);
+            self.put_for(out, 1, line, now);
+        } else {
+            self.rates.leave_out(1, now);
+        }
+    }
+
+    // Writes the lines of events.
+    fn write_all<W: Write>(&mut self, alloc: Global, out: &mut W, events: &[ClientEvent], now: u64)
+        ensures logs { LogsEvents (form_in self.old) now events.now (rates_in self.old) (rates_in self.new) (W.contents out.old) (W.contents out.new) }
+        ensures form { form_in self.new ≡ form_in self.old }
+        ensures missed { missed_in self.new ≡ missed_in self.old }
+    {
+        for event in events {
+            self.write_event(alloc, out, event, now);
         }
     }
 
     // Says how many lines were left out, where that second is over.
-    fn write_left_out(&mut self, alloc: Global, now: u64) {
-        let count = self.rate.take_left_out(now);
-        if count > 0 && !put(left_out_line(alloc, self.form, count)) {
-            self.rate.leave_out(count);
+    fn write_left_out<W: Write>(&mut self, alloc: Global, out: &mut W, now: u64)
+        ensures tells { TellsLeftOut (form_in self.old) now (rates_in self.old) (rates_in self.new) (W.contents out.old) (W.contents out.new) }
+        ensures form { form_in self.new ≡ form_in self.old }
+        ensures missed { missed_in self.new ≡ missed_in self.old }
+    {
+        let count = self.rates.take_left_out(now);
+        if count > 0 {
+            let line = left_out_line(alloc, self.form, count);
+            self.put_for(out, count, line, now);
+        }
+    }
+
+    // Counts the events that were missed since it looked as left out.
+    fn leave_out_missed(&mut self, missed: u64, now: u64)
+        ensures rates { rates_in self.new ≡ after_missing (missed - missed_in self.old) now (rates_in self.old) }
+        ensures form { form_in self.new ≡ form_in self.old }
+        ensures missed { missed_in self.new ≡ missed }
+    {
+        let count = missed.saturating_sub(self.missed);
+        self.missed = missed;
+        if count > 0 {
+            self.rates.leave_out(count, now);
         }
     }
 
     /// Writes what happened to the clients since the events were forgotten, in this second.
-    pub fn write_events<S: Drop>(&mut self, alloc: Global, clients: &Clients<S>, now: u64) {
-        let missed = clients.counts().missed;
-        self.rate.leave_out(missed.saturating_sub(self.missed));
-        self.missed = missed;
-        self.write_left_out(alloc, now);
-        for event in clients.events() {
-            self.write_event(alloc, event, now);
-        }
+    pub fn write_events<S: Drop, W: Write>(
+        &mut self,
+        alloc: Global,
+        out: &mut W,
+        clients: &Clients<S>,
+        now: u64,
+    )
+        ensures logs { let missed = (counts_of clients.now).missed in
+            LogsRound (form_in self.old) now (missed - missed_in self.old) (events_of clients.now)
+            (rates_in self.old) (rates_in self.new) (W.contents out.old) (W.contents out.new) }
+        ensures form { form_in self.new ≡ form_in self.old }
+        ensures missed { missed_in self.new ≡ (counts_of clients.now).missed }
+    {
+        self.write_left_out(alloc, out, now);
+        self.leave_out_missed(clients.counts().missed, now);
+        self.write_all(alloc, out, clients.events(), now);
     }
 }

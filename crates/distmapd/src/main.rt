@@ -16,11 +16,14 @@ mod notice;
 mod output;
 mod page;
 mod rate;
+mod rates;
 mod reading;
 mod refusal;
 mod serving;
 mod settings;
 mod sockets;
+mod spares;
+mod standard_error;
 mod text_line;
 
 use crate::fault::Fault;
@@ -34,6 +37,7 @@ use crate::refusal::BadWords;
 use crate::serving::{Beside, serve};
 use crate::settings::{Settings, Task};
 use crate::sockets::{handed_over, listeners, port_of};
+use crate::standard_error::StandardError;
 use dist_epmd_server::{Limits, Server};
 use dist_names::quote;
 use dist_program::{mapper_port, report, texts, variable, words_of};
@@ -142,7 +146,10 @@ fn sockets_handed_over(rt: &HostRuntime, settings: &Settings<'_>) -> Result<u16,
         return Ok(0);
     }
     let said = variable(rt, "LISTEN_FDS")?;
-    handed_over(said.as_ref().map(|word| word.as_str())).ok_or(Fault::ListenFailed)
+    let process = variable(rt, "LISTEN_PID")?;
+    let said = said.as_ref().map(|word| word.as_str());
+    let process = process.as_ref().map(|word| word.as_str());
+    handed_over(said, process, libc::getpid()).ok_or(Fault::ListenFailed)
 }
 
 // What runs beside the port mapper.
@@ -157,6 +164,7 @@ fn beside<R: Net>(net: &R, alloc: Global, settings: &Settings<'_>) -> Result<Bes
     Ok(Beside {
         log: settings.log.map(|form| Log::new(form)),
         monitor,
+        standard_error: StandardError::open(),
     })
 }
 

@@ -1,22 +1,59 @@
 //! The figures of the port mapper, as text of Prometheus.
 
 ghost use Rattle.std.specs.Prelude.{◌≡◌, ◌++◌, IfOk, OnOk};
+ghost use Rattle.std.specs.List.{flat_map};
 ghost use Rattle.std.specs.String.{string_bytes};
-ghost use Rattle.distmapd.specs.Metrics.{figure_text, figures_text};
+ghost use Rattle.distmapd.specs.Metrics.{figure_kind, figure_line, figure_name, figure_text, figure_value, figures_text};
 
 use dist_epmd_clients::Counts;
 use std::alloc::{AllocError, Global};
 
-/// One figure.
-#[derive(Clone, Copy)]
-pub struct Figure {
-    /// By which name it is known.
-    pub name: &'static str,
-    /// Whether it only rises: `counter`, else `gauge`.
-    pub kind: &'static str,
-    /// How much it is.
-    pub value: u64,
+/// What is told.
+#[derive(Clone, Copy, PartialEq, Eq)]
+pub enum Figure {
+    /// Nodes that are registered.
+    Registrations,
+    /// Clients that are connected.
+    Clients,
+    /// Answers that are owed to clients that have left.
+    AnswersOwed,
+    /// Nodes that were registered.
+    Registered,
+    /// Registrations that ended.
+    Ended,
+    /// Registrations that were refused.
+    Refused,
+    /// Questions for one node.
+    LookedUp,
+    /// Questions for all names.
+    Listed,
+    /// Clients that asked for nothing that is served.
+    Unanswered,
+    /// Clients that made room.
+    MadeRoom,
+    /// Clients that had not asked in time.
+    Late,
+    /// Clients for which memory ran out.
+    NoMemory,
+    /// Events that no line could be kept for.
+    Missed,
 }
+
+const ALL: [Figure; 13] = [
+    Figure::Registrations,
+    Figure::Clients,
+    Figure::AnswersOwed,
+    Figure::Registered,
+    Figure::Ended,
+    Figure::Refused,
+    Figure::LookedUp,
+    Figure::Listed,
+    Figure::Unanswered,
+    Figure::MadeRoom,
+    Figure::Late,
+    Figure::NoMemory,
+    Figure::Missed,
+];
 
 /// What is counted nowhere, since it stands now.
 #[derive(Clone, Copy)]
@@ -27,67 +64,105 @@ pub struct Standing {
     pub owed: u64,
 }
 
-fn counter(name: &'static str, value: u64) -> Figure {
-    Figure {
-        name,
-        kind: "counter",
-        value,
+impl Figure {
+    // By which name it is known.
+    fn name(self) -> &'static str
+        ensures { result.now ≡ figure_name self }
+    {
+        match self {
+            Figure::Registrations => "distmapd_registrations",
+            Figure::Clients => "distmapd_clients",
+            Figure::AnswersOwed => "distmapd_answers_owed",
+            Figure::Registered => "distmapd_registrations_total",
+            Figure::Ended => "distmapd_registrations_ended_total",
+            Figure::Refused => "distmapd_registrations_refused_total",
+            Figure::LookedUp => "distmapd_lookups_total",
+            Figure::Listed => "distmapd_listings_total",
+            Figure::Unanswered => "distmapd_unanswered_total",
+            Figure::MadeRoom => "distmapd_clients_made_room_total",
+            Figure::Late => "distmapd_clients_late_total",
+            Figure::NoMemory => "distmapd_clients_no_memory_total",
+            Figure::Missed => "distmapd_events_missed_total",
+        }
+    }
+
+    // Whether it only rises.
+    fn kind(self) -> &'static str
+        ensures { result.now ≡ figure_kind self }
+    {
+        match self {
+            Figure::Registrations | Figure::Clients | Figure::AnswersOwed => "gauge",
+            _ => "counter",
+        }
+    }
+
+    // How much it is.
+    fn value(self, counts: &Counts, standing: Standing) -> u64
+        ensures { result ≡ figure_value counts.now standing self }
+    {
+        match self {
+            Figure::Registrations => counts.registered.saturating_sub(counts.ended),
+            Figure::Clients => standing.clients,
+            Figure::AnswersOwed => standing.owed,
+            Figure::Registered => counts.registered,
+            Figure::Ended => counts.ended,
+            Figure::Refused => counts.refused,
+            Figure::LookedUp => counts.looked_up,
+            Figure::Listed => counts.listed,
+            Figure::Unanswered => counts.unanswered,
+            Figure::MadeRoom => counts.made_room,
+            Figure::Late => counts.late,
+            Figure::NoMemory => counts.no_memory,
+            Figure::Missed => counts.missed,
+        }
     }
 }
 
-fn gauge(name: &'static str, value: u64) -> Figure {
-    Figure {
-        name,
-        kind: "gauge",
-        value,
-    }
-}
-
-/// The figures that are told.
-pub fn figures(counts: &Counts, standing: Standing) -> [Figure; 13] {
-    [
-        gauge(
-            "distmapd_registrations",
-            counts.registered.saturating_sub(counts.ended),
-        ),
-        gauge("distmapd_clients", standing.clients),
-        gauge("distmapd_answers_owed", standing.owed),
-        counter("distmapd_registrations_total", counts.registered),
-        counter("distmapd_registrations_ended_total", counts.ended),
-        counter("distmapd_registrations_refused_total", counts.refused),
-        counter("distmapd_lookups_total", counts.looked_up),
-        counter("distmapd_listings_total", counts.listed),
-        counter("distmapd_unanswered_total", counts.unanswered),
-        counter("distmapd_clients_made_room_total", counts.made_room),
-        counter("distmapd_clients_late_total", counts.late),
-        counter("distmapd_clients_no_memory_total", counts.no_memory),
-        counter("distmapd_events_missed_total", counts.missed),
-    ]
-}
-
-#[tactic(auto, unfolding(crate::specs::Metrics::figure_text))]
-fn figure_text(alloc: Global, figure: &Figure) -> Result<String, AllocError>
-    ensures { IfOk result (λ text. string_bytes text ≡ figure_text figure.now) }
+#[tactic(auto, unfolding(crate::specs::Metrics::figure_line))]
+fn figure_line(alloc: Global, name: &str, kind: &str, value: u64) -> Result<String, AllocError>
+    ensures { IfOk result (λ text. string_bytes text ≡ figure_line name.now kind.now value) }
 {
-    let Figure { name, kind, value } = *figure;
     format!(in alloc; "# TYPE {name} {kind}\n{name} {value}\n")
 }
 
 // Puts a figure.
-fn push_figure(text: &mut String, alloc: Global, figure: &Figure) -> Result<(), AllocError>
-    ensures { OnOk result (string_bytes text.new ≡ string_bytes text.old ++ figure_text figure.now) }
+fn push_figure(
+    text: &mut String,
+    alloc: Global,
+    figure: Figure,
+    counts: &Counts,
+    standing: Standing,
+) -> Result<(), AllocError>
+    ensures { OnOk result (string_bytes text.new ≡ string_bytes text.old ++ figure_text counts.now standing figure) }
 {
-    let line = figure_text(alloc, figure)?;
+    let value = figure.value(counts, standing);
+    let line = figure_line(alloc, figure.name(), figure.kind(), value)?;
     text.push_str(&line)
 }
 
-/// The text of figures.
-pub fn figures_text(alloc: Global, figures: &[Figure]) -> Result<String, AllocError>
-    ensures { IfOk result (λ text. string_bytes text ≡ figures_text figures.now) }
+// The text of these figures.
+fn text_of(
+    alloc: Global,
+    figures: &[Figure],
+    counts: &Counts,
+    standing: Standing,
+) -> Result<String, AllocError>
+    ensures { IfOk result (λ text. string_bytes text ≡ flat_map (figure_text counts.now standing) figures.now) }
 {
     let mut text = String::new(alloc);
     for figure in figures {
-        push_figure(&mut text, alloc, figure)?;
+        push_figure(&mut text, alloc, *figure, counts, standing)?;
     }
     Ok(text)
+}
+
+/// The text of all figures.
+pub fn figures_text(
+    alloc: Global,
+    counts: &Counts,
+    standing: Standing,
+) -> Result<String, AllocError>
+    ensures { IfOk result (λ text. string_bytes text ≡ figures_text counts.now standing) }
+{
+    text_of(alloc, &ALL, counts, standing)
 }

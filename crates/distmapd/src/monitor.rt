@@ -1,14 +1,15 @@
 //! Who watches the port mapper is answered at a port of its own, on the same thread. Nobody there is waited for.
 
-use crate::metrics::{Standing, figures, figures_text};
-use crate::page::{page_of, page_text};
+use crate::metrics::{Standing, figures_text};
+use crate::page::{page_text, request_of};
+use crate::spares::Spares;
 use dist_epmd_server::{Server, other_of};
 use dist_names::ByteString;
 use dist_stream::{Heard, SocketStream, Stream, Took};
 use mio::net::TcpListener;
 use mio::{Events, Token};
 use std::alloc::{AllocError, Global};
-use std::io;
+use std::io::{self, ErrorKind};
 use std::net::{self, IpAddr, Ipv4Addr, Net, SocketAddr};
 use std::os::fd::AsRawFd;
 
@@ -24,43 +25,80 @@ const SECONDS: u64 = 5;
 // The most connections that are accepted in one round.
 const ACCEPTS: usize = 16;
 
-// Who watches: a connection, and what came of its request.
+// The most reads of one connection before the others are looked at.
+const READS: usize = 16;
+
+// What a read of a connection came to.
+enum Came {
+    Bytes,
+    Nothing,
+    End,
+}
+
+// Who watches: a connection, and what came of its request. Once it is answered, what still comes is read and dropped: with bytes
+// unread the system would break the connection off, and the answer with it.
 #[derive(Drop)]
 struct Seat {
     stream: SocketStream,
     place: usize,
     since: u64,
     head: ByteString,
+    is_answered: bool,
 }
 
-// Whether the head of a request has ended. A request that is served has nothing behind it.
+// Whether the rest of a request's head behind a line feed begins with an empty line.
+fn begins_empty(rest: &[u8]) -> bool {
+    rest.starts_with(b"\n") || rest.starts_with(b"\r\n")
+}
+
+// Whether the head of a request has ended: with an empty line, or since it is as long as may be. A line ends with a line feed, with a
+// carriage return before it or without (RFC 9112, section 2.2). What stands behind the head is the body.
 fn is_whole(head: &[u8]) -> bool {
-    head.len() >= HEAD || head.ends_with(b"\r\n\r\n")
+    if head.len() >= HEAD {
+        return true;
+    }
+    for (place, byte) in head.iter().enumerate() {
+        if *byte == b'\n' && begins_empty(head.get(place + 1..).unwrap_or(b"")) {
+            return true;
+        }
+    }
+    false
 }
 
 impl Seat {
-    // Reads what came. Returns whether its head has ended; `None` where the connection is over.
-    fn read(&mut self, room: &mut [u8]) -> Option<bool> {
-        if room.is_empty() {
-            return None;
-        }
-        match self.stream.read(room) {
-            Heard::Bytes(count) => {
-                if count == 0 || self.head.append(&room[..count]).is_err() {
-                    return None;
-                }
-                Some(is_whole(self.head.as_slice()))
-            }
-            Heard::Quiet => Some(false),
-            Heard::Failed => None,
+    // Keeps what came of its request.
+    fn keep(&mut self, piece: &[u8]) -> Came {
+        if self.is_answered || self.head.append(piece).is_ok() {
+            Came::Bytes
+        } else {
+            Came::End
         }
     }
 
+    // Reads what came.
+    fn read(&mut self, room: &mut [u8]) -> Came {
+        if room.is_empty() {
+            return Came::End;
+        }
+        match self.stream.read(room) {
+            Heard::Bytes(0) | Heard::Failed => Came::End,
+            Heard::Bytes(count) => self.keep(&room[..count]),
+            Heard::Quiet => Came::Nothing,
+        }
+    }
+
+    // Whether it is to be answered.
+    fn is_due(&self) -> bool {
+        !self.is_answered && is_whole(self.head.as_slice())
+    }
+
     // Sends an answer by one write: what the socket does not take at once is lost, and nobody is waited for.
-    fn write(&mut self, text: &str) {
+    fn answer(&mut self, text: &str) {
+        self.is_answered = true;
         if !text.is_empty() {
             let _ = self.stream.write(text.as_bytes());
         }
+        let _ = self.stream.shut();
     }
 }
 
@@ -70,6 +108,8 @@ pub struct Monitor {
     alloc: Global,
     listener: TcpListener,
     seats: Vec<Seat>,
+    // With the seats, one more than there may be: clients take none of these.
+    spares: Spares,
     // Connections may wait at the listener.
     waits: bool,
 }
@@ -78,10 +118,14 @@ impl Monitor {
     /// Listens at a port of the loopback. An error is the system's, as where the port is taken.
     pub fn new(net: &impl Net, alloc: Global, port: u16) -> io::Result<Monitor> {
         let address = SocketAddr::new(IpAddr::V4(Ipv4Addr::LOCALHOST), port);
+        let listener = TcpListener::bind(net, address)?;
+        let mut spares = Spares::new(alloc, listener.as_raw_fd());
+        spares.hold(SEATS + 1);
         Ok(Monitor {
             alloc,
-            listener: TcpListener::bind(net, address)?,
+            listener,
             seats: Vec::new(alloc),
+            spares,
             waits: false,
         })
     }
@@ -127,18 +171,30 @@ impl Monitor {
             place,
             since: now,
             head: ByteString::new(self.alloc),
+            is_answered: false,
         });
     }
 
-    // Accepts who waits.
+    // Accepts the next who waits. Returns whether one more try may find another.
+    fn accept_next(&mut self, server: &Server, now: u64) -> bool {
+        match self.listener.accept() {
+            Ok((stream, _from)) => {
+                self.admit(server, net::TcpStream::from(stream), now);
+                true
+            }
+            Err(error) => {
+                self.waits = error.kind() != ErrorKind::WouldBlock;
+                false
+            }
+        }
+    }
+
+    // Accepts who waits: the descriptors that are kept back are for them.
     fn accept_some(&mut self, server: &Server, now: u64) {
+        self.spares.release();
         for _ in 0..ACCEPTS {
-            match self.listener.accept() {
-                Ok((stream, _from)) => self.admit(server, net::TcpStream::from(stream), now),
-                Err(_) => {
-                    self.waits = false;
-                    return;
-                }
+            if !self.accept_next(server, now) {
+                return;
             }
         }
     }
@@ -150,8 +206,8 @@ impl Monitor {
             clients: clients.len() as u64,
             owed: server.owing() as u64,
         };
-        let text = figures_text(self.alloc, &figures(clients.counts(), standing))?;
-        page_text(self.alloc, page_of(head), !server.is_stuck(), &text)
+        let text = figures_text(self.alloc, clients.counts(), standing)?;
+        page_text(self.alloc, request_of(head), !server.is_stuck(), &text)
     }
 
     // Takes the seat at a place out.
@@ -164,21 +220,30 @@ impl Monitor {
         }
     }
 
-    // Reads what came at a place. Whoever asked is answered, and leaves; whoever has not goes on.
-    fn attend(&mut self, server: &Server, place: usize, room: &mut [u8]) {
-        let Some(mut seat) = self.take_seat(place) else {
-            return;
-        };
-        match seat.read(room) {
-            Some(true) => {
-                if let Ok(text) = self.answer(server, seat.head.as_slice()) {
-                    seat.write(&text);
+    // Reads what came of a request, and answers it where it is whole. Returns whether the connection goes on.
+    fn hear(&self, server: &Server, seat: &mut Seat, room: &mut [u8]) -> bool {
+        for _ in 0..READS {
+            match seat.read(room) {
+                Came::Bytes => {}
+                Came::Nothing => return true,
+                Came::End => return false,
+            }
+            if seat.is_due() {
+                match self.answer(server, seat.head.as_slice()) {
+                    Ok(text) => seat.answer(&text),
+                    Err(_) => return false,
                 }
             }
-            Some(false) => {
-                let _ = self.seats.push(seat);
-            }
-            None => {}
+        }
+        true
+    }
+
+    // Serves who is at a place.
+    fn attend(&mut self, server: &Server, place: usize, room: &mut [u8]) {
+        if let Some(mut seat) = self.take_seat(place)
+            && self.hear(server, &mut seat, room)
+        {
+            let _ = self.seats.push(seat);
         }
     }
 
@@ -191,7 +256,8 @@ impl Monitor {
         }
     }
 
-    /// Serves who is ready, in this second, and closes who has not asked in time.
+    /// Serves who is ready, in this second, and closes who has not asked in time. As many descriptors are kept back as those who come may
+    /// want.
     pub fn serve(&mut self, server: &Server, events: &Events, room: &mut [u8], now: u64) {
         for event in events.iter() {
             self.serve_token(server, event.token(), room);
@@ -201,5 +267,7 @@ impl Monitor {
         }
         self.seats
             .retain(|seat| now.saturating_sub(seat.since) < SECONDS);
+        self.spares
+            .hold((SEATS + 1).saturating_sub(self.seats.len()));
     }
 }

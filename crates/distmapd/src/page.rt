@@ -1,9 +1,8 @@
 //! What is answered to who watches the port mapper, over HTTP (RFC 9112).
 
-ghost use Rattle.std.specs.Prelude.{◌≡◌, ℕ, List, IfOk};
+ghost use Rattle.std.specs.Prelude.{◌≡◌, IfOk};
 ghost use Rattle.std.specs.String.{string_bytes};
-ghost use Rattle.distmapd.specs.declared.page.Page.TheVariants.{Ready};
-ghost use Rattle.distmapd.specs.Metrics.{answer_text, page_of, page_text};
+ghost use Rattle.distmapd.specs.Metrics.{asks_path, answer_text, head_text, page_at, page_text, ready_text, request_of};
 
 use std::alloc::{AllocError, Global};
 
@@ -18,48 +17,106 @@ pub enum Page {
     Health,
     /// Something that is not here.
     Unknown,
-    /// Something that is no GET.
+    /// Something that is neither GET nor HEAD.
     Refused,
 }
 
-/// What a request asks for, by its front.
-pub fn page_of(head: &[u8]) -> Page
-    ensures { result ≡ page_of head.now }
+/// A request.
+#[derive(Clone, Copy)]
+pub struct Request {
+    /// What it asks for.
+    pub page: Page,
+    /// Whether it wants the body: HEAD does not.
+    pub wants_body: bool,
+}
+
+// Whether a target is this path, with a query or without.
+fn asks_path(target: &[u8], path: &[u8]) -> bool
+    ensures { result ≡ asks_path target.now path.now }
 {
-    if head.starts_with(b"GET /metrics ") {
-        Page::Metrics
-    } else if head.starts_with(b"GET /ready ") {
-        Page::Ready
-    } else if head.starts_with(b"GET /health ") {
-        Page::Health
-    } else if head.starts_with(b"GET ") {
-        Page::Unknown
-    } else {
-        Page::Refused
+    match target.strip_prefix(path) {
+        Some(rest) => rest.starts_with(b" ") || rest.starts_with(b"?"),
+        None => false,
     }
 }
 
-#[tactic(auto, unfolding(crate::specs::Metrics::answer_text))]
-fn answer_text(alloc: Global, status: &str, body: &str) -> Result<String, AllocError>
-    ensures { IfOk result (λ text. string_bytes text ≡ answer_text status.now body.now) }
+// The page of a target.
+fn page_at(target: &[u8]) -> Page
+    ensures { result ≡ page_at target.now }
 {
-    let length = body.len();
+    if asks_path(target, b"/metrics") {
+        Page::Metrics
+    } else if asks_path(target, b"/ready") {
+        Page::Ready
+    } else if asks_path(target, b"/health") {
+        Page::Health
+    } else {
+        Page::Unknown
+    }
+}
+
+/// What a request asks for, by its front.
+pub fn request_of(head: &[u8]) -> Request
+    ensures { result ≡ request_of head.now }
+{
+    if let Some(target) = head.strip_prefix(b"GET ") {
+        return Request {
+            page: page_at(target),
+            wants_body: true,
+        };
+    }
+    if let Some(target) = head.strip_prefix(b"HEAD ") {
+        return Request {
+            page: page_at(target),
+            wants_body: false,
+        };
+    }
+    Request {
+        page: Page::Refused,
+        wants_body: true,
+    }
+}
+
+// The line of an answer with a body of so many bytes, and the lines behind it.
+#[tactic(auto, unfolding(crate::specs::Metrics::head_text))]
+fn head_text(alloc: Global, status: &str, more: &str, length: usize) -> Result<String, AllocError>
+    ensures { IfOk result (λ text. string_bytes text ≡ head_text status.now more.now length) }
+{
     format!(in alloc;
-        "HTTP/1.1 {status}\r\nContent-Type: text/plain; version=0.0.4; charset=utf-8\r\nContent-Length: {length}\r\nConnection: close\r\n\r\n{body}"
+        "HTTP/1.1 {status}\r\n{more}Content-Type: text/plain; version=0.0.4; charset=utf-8\r\nContent-Length: {length}\r\nConnection: close\r\n\r\n"
     )
 }
 
+// The whole answer: its connection ends behind it.
+fn answer_text(
+    alloc: Global,
+    status: &str,
+    more: &str,
+    body: &str,
+    wants_body: bool,
+) -> Result<String, AllocError>
+    ensures { IfOk result (λ text. string_bytes text ≡ answer_text status.now more.now body.now wants_body) }
+{
+    let mut text = head_text(alloc, status, more, body.len())?;
+    if wants_body {
+        text.push_str(body)?;
+    }
+    Ok(text)
+}
+
 // The answer to a question whether connections are accepted.
-fn ready_text(alloc: Global, is_ready: bool) -> Result<String, AllocError>
-    ensures { (figures : List ℕ) → IfOk result (λ text. string_bytes text ≡ page_text Ready is_ready figures) }
+fn ready_text(alloc: Global, is_ready: bool, wants_body: bool) -> Result<String, AllocError>
+    ensures { IfOk result (λ text. string_bytes text ≡ ready_text is_ready wants_body) }
 {
     if is_ready {
-        answer_text(alloc, "200 OK", "ready\n")
+        answer_text(alloc, "200 OK", "", "ready\n", wants_body)
     } else {
         answer_text(
             alloc,
             "503 Service Unavailable",
+            "",
             "no descriptor or no memory is left\n",
+            wants_body,
         )
     }
 }
@@ -67,21 +124,30 @@ fn ready_text(alloc: Global, is_ready: bool) -> Result<String, AllocError>
 /// The answer to a request, by whether connections are accepted, and the text of the figures.
 pub fn page_text(
     alloc: Global,
-    page: Page,
+    request: Request,
     is_ready: bool,
     figures: &str,
 ) -> Result<String, AllocError>
-    ensures { IfOk result (λ text. string_bytes text ≡ page_text page is_ready figures.now) }
+    ensures { IfOk result (λ text. string_bytes text ≡ page_text request.page is_ready figures.now request.wants_body) }
 {
-    match page {
-        Page::Metrics => answer_text(alloc, "200 OK", figures),
-        Page::Health => answer_text(alloc, "200 OK", "alive\n"),
-        Page::Ready => ready_text(alloc, is_ready),
+    let wants_body = request.wants_body;
+    match request.page {
+        Page::Metrics => answer_text(alloc, "200 OK", "", figures, wants_body),
+        Page::Health => answer_text(alloc, "200 OK", "", "alive\n", wants_body),
+        Page::Ready => ready_text(alloc, is_ready, wants_body),
         Page::Unknown => answer_text(
             alloc,
             "404 Not Found",
+            "",
             "/metrics, /ready and /health are here\n",
+            wants_body,
         ),
-        Page::Refused => answer_text(alloc, "405 Method Not Allowed", "GET alone is served\n"),
+        Page::Refused => answer_text(
+            alloc,
+            "405 Method Not Allowed",
+            "Allow: GET, HEAD\r\n",
+            "GET and HEAD alone are served\n",
+            wants_body,
+        ),
     }
 }

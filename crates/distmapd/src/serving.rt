@@ -2,9 +2,10 @@
 
 use crate::log::Log;
 use crate::monitor::Monitor;
+use crate::standard_error::StandardError;
 use dist_epmd_server::Server;
 use mio::Events;
-use std::alloc::Global;
+use std::alloc::{AllocError, Global};
 use std::io;
 use std::sync::Wait;
 use std::time::{Clock, Duration, Instant};
@@ -26,17 +27,19 @@ const MOST_EVENTS: usize = 256;
 pub struct Beside {
     pub log: Option<Log>,
     pub monitor: Option<Monitor>,
+    pub standard_error: StandardError,
 }
 
 impl Beside {
     // Lets the server keep what these want.
-    fn begin(&self, server: &mut Server) {
+    fn begin(&self, server: &mut Server) -> Result<(), AllocError> {
         if self.log.is_some() {
-            server.keep_events(MOST_EVENTS);
+            server.keep_events(MOST_EVENTS)?;
         }
         if let Some(monitor) = &self.monitor {
             let _ = monitor.watch(server);
         }
+        Ok(())
     }
 
     // Serves who watches, among what was ready in a round.
@@ -49,7 +52,7 @@ impl Beside {
     // Writes what happened in a round.
     fn write(&mut self, alloc: Global, server: &mut Server, now: u64) {
         if let Some(log) = &mut self.log {
-            log.write_events(alloc, server.clients(), now);
+            log.write_events(alloc, &mut self.standard_error, server.clients(), now);
             server.forget_events();
         }
     }
@@ -79,12 +82,13 @@ pub fn serve<R: Wait + Clock>(
     let start = Instant::now(rt)?;
     let mut events = Events::with_capacity(alloc, EVENTS)?;
     let mut room = vec![in alloc; 0u8; ROOM]?;
-    beside.begin(server);
+    beside.begin(server)?;
     for _ in rt.forever() {
         server.wait(&mut events, Duration::from_secs(SECONDS))?;
         let now = start.elapsed(rt)?.as_secs();
         serve_clients(server, &events, &mut room, now);
         server.serve_newest(&mut room, now);
+        server.serve_unsure(now);
         serve_listeners(server, &events, now);
         // Before the sweep, which forgets whether connections wait that could not be accepted.
         beside.serve(server, &events, &mut room, now);

@@ -2,7 +2,9 @@
 
 use crate::fault::Fault;
 use crate::settings::Settings;
-use dist_names::number_16;
+use dist_names::{number_16, number_32};
+use libc::net::{POLLOUT, poll};
+use libc::types::pollfd;
 use mio::net::TcpListener;
 use os::FromRawFd;
 use std::alloc::Global;
@@ -41,12 +43,28 @@ fn listen_at_all(net: &impl Net, port: u16) -> io::Result<TcpListener> {
     }
 }
 
+// Whether a descriptor may be a socket at which somebody listens: no such socket is ever ready to be written, and a socket of UDP, one
+// that does not listen and a file are. Of a descriptor that is closed the system reports that.
+fn may_listen(fd: i32) -> bool {
+    let mut fds = [pollfd {
+        fd,
+        events: POLLOUT,
+        revents: 0,
+    }];
+    poll(&mut fds, 0) == 0
+}
+
 // A socket that the one who started the program handed over.
 fn inherited_socket(place: u16) -> io::Result<TcpListener> {
     let fd = HANDED_OVER + i32::from(place);
+    if !may_listen(fd) {
+        return Err(io::Error::from(ErrorKind::InvalidInput));
+    }
     let listener = unsafe { std::net::TcpListener::from_raw_fd(fd) };
     listener.set_nonblocking(true)?;
-    Ok(TcpListener::from_std(listener))
+    let listener = TcpListener::from_std(listener);
+    let _address = listener.local_addr()?;
+    Ok(listener)
 }
 
 // So many of them.
@@ -136,9 +154,20 @@ fn list_of(alloc: Global, listener: TcpListener) -> io::Result<Vec<TcpListener>>
     Ok(found)
 }
 
+// Whether LISTEN_PID names this process, or nobody.
+fn is_for(own: i32, process: Option<&str>) -> bool {
+    match process {
+        Some(word) => number_32(word.as_bytes()).map(i64::from) == Some(i64::from(own)),
+        None => true,
+    }
+}
+
 /// How many sockets were handed over, by LISTEN_FDS: from 1 to 16, and one where it is not set. `None` where it says another
-/// number.
-pub fn handed_over(said: Option<&str>) -> Option<u16> {
+/// number, or LISTEN_PID another process than this one.
+pub fn handed_over(said: Option<&str>, process: Option<&str>, own: i32) -> Option<u16> {
+    if !is_for(own, process) {
+        return None;
+    }
     let Some(word) = said else {
         return Some(1);
     };

@@ -31,8 +31,8 @@ returns-else-not-watch c = record {
   watched = inl refl;
 }
 
-pub returns-then-self : goal.returns-then-self
-returns-then-self c = record {
+pub returns-then-is_none : goal.returns-then-is_none
+returns-then-is_none c = record {
   stream = c.new-stream.result;
   local = c.is_local-local.result;
   taken = Some c.in-Some.conn;

@@ -1,0 +1,50 @@
+//! Descriptors that are kept back, so that there are some where clients have taken all others.
+
+use std::alloc::Global;
+
+/// Descriptors that are kept back: copies of one.
+#[derive(Drop)]
+pub struct Spares {
+    of: i32,
+    held: Vec<i32>,
+}
+
+impl Spares {
+    /// None yet. It takes no memory.
+    pub fn new(alloc: Global, of: i32) -> Spares {
+        Spares {
+            of,
+            held: Vec::new(alloc),
+        }
+    }
+
+    // One more. Returns whether there was a descriptor for it, and memory.
+    fn hold_one(&mut self) -> bool {
+        let fd = os::duplicate(self.of);
+        if fd < 0 {
+            return false;
+        }
+        if self.held.push(fd).is_err() {
+            let _ = libc::close(fd);
+            return false;
+        }
+        true
+    }
+
+    /// Holds so many, as far as there are descriptors and memory.
+    pub fn hold(&mut self, count: usize) {
+        for _ in self.held.len()..count {
+            if !self.hold_one() {
+                return;
+            }
+        }
+    }
+
+    /// Gives all of them back.
+    pub fn release(&mut self) {
+        for fd in &self.held {
+            let _ = libc::close(*fd);
+        }
+        self.held.clear();
+    }
+}
