@@ -56,8 +56,8 @@ def digest(cookie, challenge):
     return hashlib.md5(cookie.encode() + str(challenge).encode()).digest()
 
 
-def challenge_of(name):
-    return frame(b"sok") + frame(b"N" + struct.pack(">QIIH", FLAGS, 7, 1, len(name)) + name.encode())
+def challenge_of(name, flags=FLAGS):
+    return frame(b"sok") + frame(b"N" + struct.pack(">QIIH", flags, 7, 1, len(name)) + name.encode())
 
 
 def hold(address, port):
@@ -70,6 +70,16 @@ def say(address, port, text):
         talk.recv(1024)
         talk.sendall(text.encode())
         talk.close()
+    each(listener(address, port), answer)
+
+
+def give(address, port, digits):
+    """Says these bytes, and holds the connection."""
+    kept = []
+
+    def answer(talk):
+        talk.sendall(bytes.fromhex(digits))
+        kept.append(talk)
     each(listener(address, port), answer)
 
 
@@ -107,11 +117,11 @@ def old(address, name):
     each(listener(address, 0), answer)
 
 
-def up(address, name, cookie, wrong=False):
+def up(address, name, cookie, wrong=False, flags=FLAGS):
     """A node that takes this cookie."""
     def answer(talk):
         read_frame(talk)
-        talk.sendall(challenge_of(name))
+        talk.sendall(challenge_of(name, flags))
         reply = read_frame(talk)
         theirs = struct.unpack(">I", reply[1:5])[0]
         if reply[5:] == digest(cookie, 7):
@@ -123,6 +133,11 @@ def up(address, name, cookie, wrong=False):
 
 def badack(address, name, cookie):
     up(address, name, cookie, True)
+
+
+def flagged(address, name, cookie, digits):
+    """A node with these flags."""
+    up(address, name, cookie, flags=int(digits, 16))
 
 
 def map_node(address, port, name, at):
@@ -175,7 +190,7 @@ def dial(address, port, digits):
         pass
 
 
-ROLES = {"hold": hold, "say": say, "close": close, "reset": reset, "tls": tls, "old": old, "up": up, "badack": badack,
+ROLES = {"hold": hold, "say": say, "close": close, "reset": reset, "tls": tls, "old": old, "up": up, "badack": badack, "give": give, "flagged": flagged,
          "map": map_node, "dns": dns, "await": wait_for, "dial": dial}
 
 if __name__ == "__main__":

@@ -3,3 +3,4 @@ pub mod Lasts
 pub mod Watches
 pub mod Reports
 pub mod Tallies
+pub mod Counts

@@ -51,6 +51,16 @@ pair_word pairing.OtherCookies = codes "OtherCookies"
 pair_word pairing.Unsure = codes "Unsure"
 pair_word pairing.Agree = codes "Agree"
 
+-- what it means
+abbrev pub pair_cause : Pairing → List ℕ
+pair_cause pairing.SameName = codes "two nodes of one name never connect"
+pair_cause pairing.LongAndShort = codes "a node of -name and one of -sname never connect"
+pair_cause pairing.NotReached = codes "not both answered, so nothing is known of the pair"
+pair_cause (pairing.LacksFlags first second) = codes "one lacks flags that the other's release asks for"
+pair_cause pairing.OtherCookies = codes "they have different cookies: one takes ours, the other does not"
+pair_cause pairing.Unsure = codes "names and flags agree; not both took our cookie, so theirs are not compared"
+pair_cause pairing.Agree = codes "names, flags and cookie agree"
+
 -- something speaks against the two: the pair has a status of its own
 abbrev pub is_bad : Pairing → Bool
 is_bad pairing.NotReached = false

@@ -1,9 +1,11 @@
 -- How many nodes came to which verdict, and how many pairs of them to which word.
-use Rattle.std.specs.Prelude.{ℕ, ◌+◌, Bool, List, [], ◌∷◌, count_by}
+use Rattle.std.specs.Prelude.{◌≡◌, ℕ, ◌+◌, ◌-◌, ◌*◌, ◌/◌, ◌^◌, ◌==◌, Bool, List, [], ◌∷◌, codes, count_by, length, map, min, if◌then◌else◌}
 use Rattle.dist_names.specs.Order.{same_name}
 use Rattle.dist_probe.specs.Words.{verdict_word}
 use Rattle.dist_cluster.specs.Pairs.{pair_word, pairing_of}
 use Rattle.dist_cluster.specs.declared.pairs.Half.{Half}
+use Rattle.dist_cluster.specs.declared.summary.Summary.{Summary}
+use Rattle.dist_cluster.specs.declared.summary.WordCount.{WordCount}
 
 -- the verdict upon a node has this word
 abbrev pub comes_to : List ℕ → Half → Bool
@@ -17,3 +19,46 @@ makes_pair word first second = same_name (pair_word (pairing_of first second)) w
 abbrev pub pair_count : (Half → Half → Bool) → List Half → ℕ
 pair_count p [] = 0
 pair_count p (first ∷ rest) = count_by (p first) rest + pair_count p rest
+
+-- how many pairs have this word, up to the greatest number of 64 bits
+abbrev pub how_many : List Half → List ℕ → ℕ
+how_many halves word = min (pair_count (makes_pair word) halves) (2 ^ 64 - 1)
+
+-- the words of verdicts, in the order of their variants
+abbrev pub verdict_words : List (List ℕ)
+verdict_words =
+    codes "Up" ∷ codes "Reached" ∷ codes "NoHost" ∷ codes "ResolverSilent" ∷ codes "MapperRefused" ∷ codes "MapperUnreachable"
+    ∷ codes "MapperFault" ∷ codes "NotRegistered" ∷ codes "PortRefused" ∷ codes "PortUnreachable" ∷ codes "Silent" ∷ codes "Gone"
+    ∷ codes "Reset" ∷ codes "Foreign" ∷ codes "Unexpected" ∷ codes "OwnName" ∷ codes "Busy" ∷ codes "LacksFlags" ∷ codes "NotOnList"
+    ∷ codes "AlreadyUp" ∷ codes "OtherName" ∷ codes "Version5" ∷ codes "WrongCookie" ∷ codes "WrongAck" ∷ codes "NoMemory"
+    ∷ codes "NoDescriptors" ∷ []
+
+-- the words of pairs, in the order in which they are looked for
+abbrev pub pair_words : List (List ℕ)
+pair_words =
+    codes "SameName" ∷ codes "LongAndShort" ∷ codes "NotReached" ∷ codes "LacksFlags" ∷ codes "OtherCookies" ∷ codes "Unsure"
+    ∷ codes "Agree" ∷ []
+
+-- the words that some have, and how many have each
+abbrev pub tallied : (List ℕ → ℕ) → List (List ℕ) → List (List ℕ × ℕ)
+tallied count [] = []
+tallied count (word ∷ words) = if count word == 0 then tallied count words else (word, count word) ∷ tallied count words
+
+-- what counts say: each word, and how many have it
+abbrev pub told_counts : List WordCount → List (List ℕ × ℕ)
+told_counts counts = map (λ c. (c.word.now, c.count)) counts
+
+-- which verdicts the nodes came to, and how many to each
+abbrev pub verdict_counts : List Half → List (List ℕ × ℕ)
+verdict_counts halves = tallied (λ word. count_by (comes_to word) halves) verdict_words
+
+-- which words their pairs have, and how many have each
+abbrev pub pair_counts : List Half → List (List ℕ × ℕ)
+pair_counts halves = tallied (how_many halves) pair_words
+
+-- WHAT ALL NODES CAME TO: how many there are, and how many pairs they make (of at most 2^32 nodes), each with the words that some have
+pub record Summarizes (halves : List Half) (s : Summary) : Type 0 where
+  pub nodes : s.nodes ≡ length halves
+  pub verdicts : told_counts s.verdicts.items ≡ verdict_counts halves
+  pub pairs : s.pairs ≡ min (length halves * (length halves - 1)) (2 ^ 64 - 1) / 2
+  pub pairings : told_counts s.pairings.items ≡ pair_counts halves

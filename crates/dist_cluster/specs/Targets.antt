@@ -1,14 +1,20 @@
 -- What a word names: a node, or all nodes of a host.
-use Rattle.std.specs.Prelude.{◌≡◌, ⊤, ℕ, ◌==◌, Bool, true, false, List, [], ◌∷◌, ◌++◌, codes, Result, Ok, Err, if◌then◌else◌}
+use Rattle.std.specs.Prelude.{◌≡◌, ⊤, ℕ, ◌==◌, Bool, true, false, List, [], ◌∷◌, ◌++◌, codes, unwrap_or, Result, Ok, Err, if◌then◌else◌}
 use Rattle.dist_names.specs.Answer.{is_name_memory_error}
 use Rattle.dist_names.specs.NodeName.{name_of_bytes}
 use Rattle.dist_names.specs.declared.name_error.NameError.{NameError}
+use Rattle.dist_cluster.specs.Census.{behind_prefix}
+use Rattle.dist_cluster.specs.declared.targets.Group.{Group}
 use Rattle.dist_cluster.specs.declared.targets.Target.{Target}
 use Rattle.dist_cluster.specs.declared.targets.Target.TheVariants as target
 
 -- what stands before the @ in the probe's usual name
 abbrev pub usual_prefix : List ℕ
 usual_prefix = codes "distping"
+
+-- the word that names all nodes of a host: what stands behind that in the probe's usual name there
+abbrev pub group_word : Group → List ℕ
+group_word group = unwrap_or (behind_prefix usual_prefix group.own) []
 
 -- the character '#'
 abbrev pub is_hash : ℕ → Bool

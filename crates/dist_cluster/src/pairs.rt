@@ -3,7 +3,7 @@
 ghost use Rattle.std.specs.Prelude.{◌≡◌, ◌≢◌, ◌↔◌, IsTrue};
 ghost use Rattle.dist_probe.specs.Styles.{style_of};
 ghost use Rattle.dist_names.specs.Order.{same_name};
-ghost use Rattle.dist_cluster.specs.Pairs.{behind_cookies, behind_flags, is_bad, lacks, pairing_of, pair_status, pair_word};
+ghost use Rattle.dist_cluster.specs.Pairs.{behind_cookies, behind_flags, is_bad, lacks, pair_cause, pairing_of, pair_status, pair_word};
 
 use dist_flags::{missing, release_of};
 use dist_names::{Flags, NodeName};
@@ -81,7 +81,7 @@ pub fn pairing_of(first: &Half<'_>, second: &Half<'_>) -> Pairing
     if first.node.is_same(second.node) {
         return Pairing::SameName;
     }
-    if style_of(first.node) != style_of(second.node) {
+    if style_of(first.node.bytes()) != style_of(second.node.bytes()) {
         return Pairing::LongAndShort;
     }
     let cookies = behind_cookies(first.verdict, second.verdict);
@@ -104,8 +104,10 @@ impl Pairing {
         }
     }
 
-    // What it means, in a sentence without a full stop.
-    fn cause(self) -> &'static str {
+    /// What it means, in a sentence without a full stop.
+    pub fn cause(self) -> &'static str
+        ensures { result.now ≡ pair_cause self }
+    {
         match self {
             Pairing::SameName => "two nodes of one name never connect",
             Pairing::LongAndShort => "a node of -name and one of -sname never connect",
@@ -117,13 +119,6 @@ impl Pairing {
                 "names and flags agree; not both took our cookie, so theirs are not compared",
             Pairing::Agree => "names, flags and cookie agree",
         }
-    }
-
-    /// Its word, and what it means, in a sentence without a full stop.
-    pub fn texts(self) -> (&'static str, &'static str)
-        ensures { result.0.now ≡ pair_word self }
-    {
-        (self.name(), self.cause())
     }
 
     /// Whether something speaks against the two: not where they agree, nor where nothing is known.

@@ -1,14 +1,14 @@
 //! What is said of many nodes in few words: how many came to which verdict, and how many pairs to which word.
 
-ghost use Rattle.std.specs.Prelude.{◌≡◌, ◌^◌, ◌-◌, min, count_by};
-ghost use Rattle.dist_cluster.specs.Summary.{comes_to, makes_pair, pair_count};
+ghost use Rattle.std.specs.Prelude.{◌≡◌, ◌∷◌, ◌++◌, ◌^◌, ◌-◌, ◌*◌, ◌/◌, [], IfOk, OnOk, map, min, count_by};
+ghost use Rattle.dist_cluster.specs.Summary.{Summarizes, comes_to, how_many, makes_pair, pair_count, tallied, told_counts};
 
 use crate::pairs::{Half, pairing_of};
 use dist_names::is_same_text;
 use std::alloc::{AllocError, Global};
 
 /// The words of verdicts, in the order of their variants.
-const VERDICTS: [&str; 25] = [
+const VERDICTS: [&str; 26] = [
     "Up",
     "Reached",
     "NoHost",
@@ -34,6 +34,7 @@ const VERDICTS: [&str; 25] = [
     "WrongCookie",
     "WrongAck",
     "NoMemory",
+    "NoDescriptors",
 ];
 
 /// The words of pairs, in the order in which they are looked for.
@@ -118,45 +119,65 @@ fn push_tally(
     tallies: &mut Vec<WordCount>,
     word: &'static str,
     count: u64,
-) -> Result<(), AllocError> {
+) -> Result<(), AllocError>
+    ensures { OnOk result (told_counts tallies.new.items ≡ told_counts tallies.old.items ++ tallied (λ _. count) (word.now ∷ [])) }
+{
     if count > 0 {
         tallies.push(WordCount { word, count })?;
     }
     Ok(())
 }
 
-// The words of the nodes' verdicts.
-fn tally_verdicts(alloc: Global, halves: &[Half<'_>]) -> Result<Vec<WordCount>, AllocError> {
+// Which of these words the nodes' verdicts have.
+fn tally_verdicts(
+    alloc: Global,
+    halves: &[Half<'_>],
+    words: &[&'static str],
+) -> Result<Vec<WordCount>, AllocError>
+    ensures { IfOk result (λ tallies. told_counts tallies.items ≡ tallied (λ word. count_by (comes_to word) halves.now) (map (λ word. word.now) words.now)) }
+{
     let mut tallies = Vec::new(alloc);
-    for word in &VERDICTS {
+    for word in words {
         push_tally(&mut tallies, word, count_verdicts(halves, word) as u64)?;
     }
     Ok(tallies)
 }
 
-// The words of the pairs that the nodes make.
-fn tally_pairs(alloc: Global, halves: &[Half<'_>]) -> Result<Vec<WordCount>, AllocError> {
+// Which of these words the pairs have that the nodes make.
+fn tally_pairs(
+    alloc: Global,
+    halves: &[Half<'_>],
+    words: &[&'static str],
+) -> Result<Vec<WordCount>, AllocError>
+    ensures { IfOk result (λ tallies. told_counts tallies.items ≡ tallied (how_many halves.now) (map (λ word. word.now) words.now)) }
+{
     let mut tallies = Vec::new(alloc);
-    for word in &PAIRS {
+    for word in words {
         push_tally(&mut tallies, word, count_pairs(halves, word))?;
     }
     Ok(tallies)
 }
 
-// How many pairs so many nodes make.
-fn pairs_among(nodes: u64) -> u64 {
+// How many pairs so many nodes make, of at most 2^32 nodes.
+fn pairs_among(nodes: u64) -> u64
+    ensures { result ≡ min (nodes * (nodes - 1)) (2 ^ 64 - 1) / 2 }
+{
     nodes.saturating_mul(nodes.saturating_sub(1)) / 2
 }
 
 impl Summary {
     /// What these nodes came to.
-    pub fn of_nodes(alloc: Global, halves: &[Half<'_>]) -> Result<Summary, AllocError> {
+    pub fn of_nodes(alloc: Global, halves: &[Half<'_>]) -> Result<Summary, AllocError>
+        ensures { IfOk result (λ summary. Summarizes halves.now summary) }
+    {
+        let verdicts = tally_verdicts(alloc, halves, &VERDICTS)?;
+        let pairings = tally_pairs(alloc, halves, &PAIRS)?;
         let nodes = halves.len() as u64;
         Ok(Summary {
             nodes,
-            verdicts: tally_verdicts(alloc, halves)?,
+            verdicts,
             pairs: pairs_among(nodes),
-            pairings: tally_pairs(alloc, halves)?,
+            pairings,
         })
     }
 }

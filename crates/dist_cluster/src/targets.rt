@@ -4,7 +4,7 @@ ghost use Rattle.std.specs.Prelude.{◌≡◌, ◌∷◌, ◌++◌, true, false}
 ghost use Rattle.std.specs.List.{before_first, position, position_or_len};
 ghost use Rattle.std.specs.Str.{IsTrimAscii};
 ghost use Rattle.dist_names.specs.NodeName.{host_of};
-ghost use Rattle.dist_cluster.specs.Targets.{Names, NamesTarget, begins_with_at, is_hash, name_behind, usual_prefix};
+ghost use Rattle.dist_cluster.specs.Targets.{Names, NamesTarget, begins_with_at, group_word, is_hash, name_behind, usual_prefix};
 
 use dist_names::{NameError, NodeName};
 use std::alloc::Global;
@@ -33,8 +33,13 @@ pub struct Group {
 
 impl Group {
     /// The word that names it, `@HOST`.
-    pub fn word(&self) -> &[u8] {
-        self.own.bytes().strip_prefix(USUAL).unwrap_or(b"")
+    pub fn word(&self) -> &[u8]
+        ensures { result.now ≡ group_word self.now }
+    {
+        match self.own.bytes().strip_prefix(USUAL) {
+            Some(word) => word,
+            None => b"",
+        }
     }
 
     /// The name of a node at that host, from the part before its `@`, or why it is none.

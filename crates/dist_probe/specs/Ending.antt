@@ -58,7 +58,7 @@ Rests old new turns left = (new ≡ old) × (left ≡ turns)
 -- what is received behind a text: the next message where all of it was sent, else why not
 abbrev pub HearsBehindText : Option TurnError → StreamState → StreamState → ℕ → ℕ → Heard → Type 0
 HearsBehindText None old new turns left h = HearsMessage old new turns left h
-HearsBehindText (Some error) old new turns left h = Rests old new turns left × (h ≡ heard_instead error)
+HearsBehindText (Some error) old new turns left h = Rests old new turns left × (h ≡ heard_instead error 0)
 
 -- The text was sent, and then one message was received; or the text was not sent whole, and nothing was received.
 pub record Exchanges (text : List ℕ) (h : Heard) (old new : StreamState) (turns left : ℕ) : Type 0 where

@@ -1,5 +1,5 @@
 -- What is received of a node, where one message of it is awaited.
-use Rattle.std.specs.Prelude.{◌≡◌, ℕ, ◌<◌, false, List, [], ◌∷◌, ◌++◌, Option, Some, None}
+use Rattle.std.specs.Prelude.{◌≡◌, ℕ, false, List, [], ◌∷◌, ◌++◌, length, Option, Some, None}
 use Rattle.std.specs.Int.{w16}
 use Rattle.dist_names.specs.Bytes.{number}
 use Rattle.dist_frames.specs.Stream.{body_frame}
@@ -16,22 +16,17 @@ use Rattle.dist_probe.specs.Bodies.{is_one_of}
 use Rattle.dist_probe.specs.declared.hearing.Heard.{Heard}
 use Rattle.dist_probe.specs.declared.hearing.Heard.TheVariants as heard
 
--- A length above this one counts only before a tag of the accepting side: two bytes of another service may look like one. Our own
--- choice.
-abbrev pub most : ℕ
-most = 1024
-
 -- the first bytes of what an accepting side sends: s of a status, n of an older challenge, N of a newer one, a of an
 -- acknowledgement (ERTS User's Guide, Distribution Handshake)
 abbrev pub tags : List ℕ
 tags = 0x73 ∷ 0x6e ∷ 0x4e ∷ 0x61 ∷ []
 
--- what is received where the stream gave or took no more
-abbrev pub heard_instead : TurnError → Heard
-heard_instead fault.ReadFailed = heard.Broken
-heard_instead fault.WriteFailed = heard.Broken
-heard_instead fault.Ended = heard.Gone
-heard_instead fault.Limit = heard.Silent
+-- what is received where the stream gave or took no more, behind so many bytes of a message
+abbrev pub heard_instead : TurnError → ℕ → Heard
+heard_instead fault.ReadFailed count = heard.Broken
+heard_instead fault.WriteFailed count = heard.Broken
+heard_instead fault.Ended count = heard.Gone
+heard_instead fault.Limit count = heard.Silent count
 
 -- The bytes are the frame of a message of the accepting side.
 abbrev pub Frames : Message → List ℕ → Type 0
@@ -48,14 +43,14 @@ IsHeardIn other body = ⊥
 abbrev pub IsWhole : Heard → List ℕ → Type 0
 IsWhole (heard.Said m) bytes = Frames m bytes
 IsWhole (heard.NoMessage error) bytes = (body : List ℕ) × (bytes ≡ body_frame w16 body) × IsCause Acceptor body error
-IsWhole (heard.Length front) bytes = (first : ℕ) × (bytes ≡ number w16 front ++ first ∷ []) × (most < front) × (is_one_of tags first ≡ false)
+IsWhole (heard.Length front) bytes = (first : ℕ) × (bytes ≡ number w16 front ++ first ∷ []) × (is_one_of tags first ≡ false)
 IsWhole heard.NoMemory bytes = Unit {0}
 IsWhole other bytes = ⊥
 
 -- these bytes came, and that was received: a message, or that the stream gave no more inside of a frame
 abbrev pub IsHeardAs : Option TurnError → Heard → List ℕ → Type 0
 IsHeardAs None h bytes = IsWhole h bytes
-IsHeardAs (Some error) h bytes = (h ≡ heard_instead error) × IsInside bytes
+IsHeardAs (Some error) h bytes = (h ≡ heard_instead error (length bytes)) × IsInside bytes
 
 -- ONE MESSAGE WAS RECEIVED, or why none was, within the turns that were there; nothing was written.
 pub record HearsMessage (old new : StreamState) (turns left : ℕ) (h : Heard) : Type 0 where

@@ -8,3 +8,4 @@ pub mod Ending
 pub mod Unreached
 pub mod Places
 pub mod Reaching
+pub mod Sentences

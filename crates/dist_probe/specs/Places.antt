@@ -13,6 +13,7 @@ mapper_cause unreached.Prohibited =
     codes "the connection to the port mapper's port of that host is prohibited: a firewall or a rule of this machine answers so"
 mapper_cause unreached.NoAnswer = codes "the port mapper's port of that host does not answer"
 mapper_cause unreached.NoMemory = codes "memory ran out here"
+mapper_cause unreached.NoDescriptors = codes "no descriptor is left here"
 mapper_cause unreached.Failed = codes "this machine could not open a connection"
 
 -- what can be done there
@@ -34,6 +35,7 @@ mapper_remedy unreached.NoAnswer =
     codes "open TCP port 4369 (or ERL_EPMD_PORT) in the firewall between the hosts, " ++
     codes "or dial the node's port by --port; is the host up?"
 mapper_remedy unreached.NoMemory = codes "free some memory"
+mapper_remedy unreached.NoDescriptors = codes "raise the limit of descriptors (ulimit -n)"
 mapper_remedy unreached.Failed = codes "look at the limits of this machine (ulimit -n) and at its log"
 
 -- what happened at the node's port
@@ -45,6 +47,7 @@ port_cause unreached.HostDown = codes "that host cannot be reached: a router, a 
 port_cause unreached.Prohibited = codes "the connection to the node's port is prohibited: a firewall or a rule of this machine answers so"
 port_cause unreached.NoAnswer = codes "the node's port does not answer"
 port_cause unreached.NoMemory = codes "memory ran out here"
+port_cause unreached.NoDescriptors = codes "no descriptor is left here"
 port_cause unreached.Failed = codes "this machine could not open a connection"
 
 -- what can be done there
@@ -66,4 +69,5 @@ port_remedy unreached.NoAnswer =
     codes "open the node's port in the firewall; inet_dist_listen_min and inet_dist_listen_max give it a fixed range; " ++
     codes "behind NAT or a forwarded port dial the port that is forwarded by --port"
 port_remedy unreached.NoMemory = codes "free some memory"
+port_remedy unreached.NoDescriptors = codes "raise the limit of descriptors (ulimit -n)"
 port_remedy unreached.Failed = codes "look at the limits of this machine (ulimit -n) and at its log"

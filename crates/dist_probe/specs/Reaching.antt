@@ -4,6 +4,7 @@ use Rattle.dist_probe.specs.declared.unreached.Unreached.{Unreached}
 use Rattle.dist_probe.specs.declared.unreached.Unreached.TheVariants as unreached
 use Rattle.dist_probe.specs.declared.verdict.Awaited.{Awaited}
 use Rattle.dist_probe.specs.declared.verdict.Awaited.TheVariants as awaited
+use Rattle.dist_probe.specs.declared.verdict.Party.TheVariants as party
 use Rattle.dist_probe.specs.declared.verdict.Verdict.{Verdict}
 use Rattle.dist_probe.specs.declared.verdict.Verdict.TheVariants as verdict
 
@@ -11,6 +12,7 @@ use Rattle.dist_probe.specs.declared.verdict.Verdict.TheVariants as verdict
 abbrev pub unreached_reach : Unreached → ℕ
 unreached_reach unreached.NoRoute = 0
 unreached_reach unreached.NoMemory = 0
+unreached_reach unreached.NoDescriptors = 0
 unreached_reach unreached.Failed = 0
 unreached_reach other = 1
 
@@ -32,22 +34,24 @@ reach verdict.NotRegistered = 5
 reach (verdict.PortUnreachable unreached) = 6 + unreached_reach unreached
 reach verdict.PortRefused = 8
 reach (verdict.Foreign service) = 9
-reach (verdict.Silent awaited) = 9 + awaited_reach awaited
+reach (verdict.Silent awaited count) = 9 + awaited_reach awaited
 reach (verdict.Gone awaited) = 9 + awaited_reach awaited
 reach (verdict.Reset awaited) = 9 + awaited_reach awaited
 reach (verdict.Unexpected awaited) = 9 + awaited_reach awaited
 reach verdict.OwnName = 10
 reach verdict.Busy = 10
-reach (verdict.LacksFlags flags) = 10
+reach (verdict.LacksFlags party.Probe flags) = 10
 reach verdict.NotOnList = 10
 reach verdict.AlreadyUp = 10
-reach verdict.OtherName = 11
+reach (verdict.OtherName style) = 11
 reach verdict.Version5 = 11
+reach (verdict.LacksFlags party.Node flags) = 12
 reach verdict.WrongCookie = 12
 reach verdict.WrongAck = 12
 reach verdict.Reached = 13
 reach verdict.Up = 13
 reach verdict.NoMemory = 14
+reach verdict.NoDescriptors = 14
 
 -- the node itself was found, under its name, or a fault of this machine ended the way
 abbrev pub is_found : Verdict → Bool

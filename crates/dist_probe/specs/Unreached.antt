@@ -7,12 +7,14 @@ use Rattle.dist_probe.specs.declared.unreached.Unreached.TheVariants as unreache
 use Rattle.dist_probe.specs.declared.verdict.Verdict.{Verdict}
 use Rattle.dist_probe.specs.declared.verdict.Verdict.TheVariants as verdict
 
--- by a number of the system's that has no kind of its own (Linux): ENONET 64, EHOSTDOWN 112, ENOPROTOOPT 92, EAFNOSUPPORT 97
+-- by a number of the system's that has no kind of its own (Linux): ENONET 64, EHOSTDOWN 112, ENOPROTOOPT 92, EAFNOSUPPORT 97,
+-- ENFILE 23, EMFILE 24
 abbrev pub unreached_by_number : ℕ → Unreached
 unreached_by_number number =
     if (number == 64) || (number == 112) then unreached.HostDown else
     if number == 92 then unreached.Prohibited else
-    if number == 97 then unreached.NoRoute else unreached.Failed
+    if number == 97 then unreached.NoRoute else
+    if (number == 23) || (number == 24) then unreached.NoDescriptors else unreached.Failed
 
 -- by the kind of the error, and behind that by its number
 abbrev pub unreached_of : ErrorKind → ℕ → Unreached
@@ -40,6 +42,7 @@ unreached_word unreached.HostDown = codes "HostDown"
 unreached_word unreached.Prohibited = codes "Prohibited"
 unreached_word unreached.NoAnswer = codes "NoAnswer"
 unreached_word unreached.NoMemory = codes "NoMemory"
+unreached_word unreached.NoDescriptors = codes "NoDescriptors"
 unreached_word unreached.Failed = codes "Failed"
 
 -- what was answered
@@ -51,16 +54,19 @@ unreached_text unreached.HostDown = codes "host unreachable: something on the wa
 unreached_text unreached.Prohibited = codes "prohibited: something on the way, or this machine, does not allow it"
 unreached_text unreached.NoAnswer = codes "no answer"
 unreached_text unreached.NoMemory = codes "out of memory here"
+unreached_text unreached.NoDescriptors = codes "out of descriptors here"
 unreached_text unreached.Failed = codes "the system could not connect"
 
 -- the port mapper's port was not reached
 abbrev pub mapper_verdict : Unreached → Verdict
 mapper_verdict unreached.Refused = verdict.MapperRefused
 mapper_verdict unreached.NoMemory = verdict.NoMemory
+mapper_verdict unreached.NoDescriptors = verdict.NoDescriptors
 mapper_verdict other = verdict.MapperUnreachable other
 
 -- the node's port was not reached
 abbrev pub port_verdict : Unreached → Verdict
 port_verdict unreached.Refused = verdict.PortRefused
 port_verdict unreached.NoMemory = verdict.NoMemory
+port_verdict unreached.NoDescriptors = verdict.NoDescriptors
 port_verdict other = verdict.PortUnreachable other

@@ -2,24 +2,33 @@
 use Rattle.std.specs.Prelude.{ℕ, Bool, false, ◌==◌, List, Option, Some, None, if◌then◌else◌}
 use Rattle.std.specs.Cmp.Lexicographic.{pointwise}
 use Rattle.dist_names.specs.declared.flags.Flags.{Flags}
+use Rattle.dist_flags.specs.Releases.{is_refused_by_all, objection}
+use Rattle.dist_flags.specs.declared.release.Release.TheVariants as release
 use Rattle.dist_messages.specs.declared.message.Message.TheVariants as message
 use Rattle.dist_messages.specs.declared.message.Status.TheVariants as status
 use Rattle.dist_probe.specs.declared.hearing.Heard.{Heard}
 use Rattle.dist_probe.specs.declared.hearing.Heard.TheVariants as heard
 use Rattle.dist_probe.specs.declared.verdict.Awaited.{Awaited}
 use Rattle.dist_probe.specs.declared.verdict.Awaited.TheVariants as awaited
+use Rattle.dist_probe.specs.declared.verdict.Party.TheVariants as party
 use Rattle.dist_probe.specs.declared.verdict.Verdict.{Verdict}
 use Rattle.dist_probe.specs.declared.verdict.Verdict.TheVariants as verdict
 use Rattle.dist_probe.specs.Services.{service_of}
+use Rattle.dist_probe.specs.Styles.{style_of}
 
 -- `not_allowed`: the name is the node's own, or a flag that releases from 26 on ask for is missing, or the name is not on the
 -- node's list
 abbrev pub not_allowed : Bool → Flags → Verdict
-not_allowed is_own lacking = if is_own then verdict.OwnName else if lacking.0 == 0 then verdict.NotOnList else verdict.LacksFlags lacking
+not_allowed is_own lacking = if is_own then verdict.OwnName else if lacking.0 == 0 then verdict.NotOnList else verdict.LacksFlags party.Probe lacking
 
 -- `nok`: the name is the node's own, or the node dials it just now
 abbrev pub refused_nok : Bool → Verdict
 refused_nok is_own = if is_own then verdict.OwnName else verdict.Busy
+
+-- the flags of the node that was dialled: each release refuses them, and OTP 23 asks for the least; or some release takes them
+abbrev pub flags_verdict : Flags → Option Verdict
+flags_verdict flags =
+    if is_refused_by_all flags.0 then Some (verdict.LacksFlags party.Node (record { 0 = objection release.Otp23 flags.0 })) else None
 
 -- anything but the message that is awaited
 abbrev pub refusal : Awaited → Heard → Verdict
@@ -28,7 +37,7 @@ refusal a (heard.NoMessage error) = verdict.Unexpected a
 refusal a (heard.Length front) = verdict.Foreign (service_of front)
 refusal a heard.Gone = verdict.Gone a
 refusal a heard.Broken = verdict.Reset a
-refusal a heard.Silent = verdict.Silent a
+refusal a (heard.Silent count) = verdict.Silent a count
 refusal a heard.NoMemory = verdict.NoMemory
 
 -- behind the own name
@@ -42,8 +51,8 @@ status_verdict is_own lacking other = Some (refusal awaited.Status other)
 
 -- behind a status that goes on
 abbrev pub challenge_verdict : Flags → List ℕ → Heard → Option Verdict
-challenge_verdict lacking target (heard.Said (message.NewChallenge flags challenge creation name)) = if pointwise ◌==◌ name target then None
-    else Some verdict.OtherName
+challenge_verdict lacking target (heard.Said (message.NewChallenge flags challenge creation name)) = if pointwise ◌==◌ name target then flags_verdict flags
+    else Some (verdict.OtherName (style_of name))
 challenge_verdict lacking target (heard.Said (message.OldChallenge flags challenge name)) = Some verdict.Version5
 challenge_verdict lacking target (heard.Said (message.Status status.NotAllowed)) = Some (not_allowed false lacking)
 challenge_verdict lacking target other = Some (refusal awaited.Challenge other)

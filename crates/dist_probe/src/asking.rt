@@ -116,7 +116,7 @@ fn exchange<S: Stream>(alloc: Global, limited: &mut Limited<'_, S>, text: &ByteS
 {
     match limited.write_all(text.as_slice()) {
         Ok(()) => hear(alloc, limited),
-        Err(fault) => heard_instead(fault),
+        Err(fault) => heard_instead(fault, 0),
     }
 }
 

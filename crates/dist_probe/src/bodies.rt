@@ -1,12 +1,54 @@
 //! One frame, read where what comes may be no frame at all.
 
-ghost use Rattle.std.specs.Prelude.{◌≡◌, ◌<◌, ◌∷◌, IfOk};
-ghost use Rattle.dist_probe.specs.Bodies.{HearsBehind, HearsByte, HearsFrameOf, HearsRest};
+ghost use Rattle.std.specs.Prelude.{◌≡◌, ◌<◌, ◌∷◌, IfErr, IfOk, length};
+ghost use Rattle.dist_probe.specs.Bodies.{Fills, HearsBehind, HearsByte, HearsFrameOf, HearsLen, HearsRest};
 
-use dist_epmd_calls::{Arrived, read_frame};
 use dist_names::ByteString;
 use dist_stream::{Limited, Stream, TurnError};
 use std::alloc::{AllocError, Global};
+
+/// What came where a frame was awaited.
+#[derive(Drop)]
+pub enum Came {
+    /// The body of a frame.
+    Body(ByteString),
+    /// Two bytes that are the length of no frame that is awaited: the byte behind them begins no body. Nothing more was read.
+    Front(u16),
+    /// The stream gave no more inside of the frame, behind this many bytes of it.
+    Stopped(TurnError, usize),
+    /// No memory was left for the body.
+    NoMemory,
+}
+
+// Fills the room. Where the stream gives no more: why, and how many bytes came before.
+fn fill<S: Stream>(limited: &mut Limited<'_, S>, room: &mut [u8]) -> Result<(), (TurnError, usize)>
+    ensures hears { Fills (S.meaning limited.old.stream.now) (S.meaning limited.new.stream.now) limited.old.left limited.new.left result room.new }
+    ensures len { length room.new ≡ length room.old }
+    ensures cut { IfErr result (λ stop. stop.1 < length room.new) }
+    ensures loan { limited.new.stream.ghost_name ≡ limited.old.stream.ghost_name }
+{
+    let mut at = 0;
+    while at < room.len() {
+        match limited.read(&mut room[at..]) {
+            Ok(count) => at += count,
+            Err(fault) => return Err((fault, at)),
+        }
+    }
+    Ok(())
+}
+
+// The length of the next frame, which is read into the header.
+fn read_len<S: Stream>(
+    limited: &mut Limited<'_, S>,
+    header: &mut [u8],
+) -> Result<u16, (TurnError, usize)>
+    requires { length header.old ≡ 2 }
+    ensures hears { HearsLen (S.meaning limited.old.stream.now) (S.meaning limited.new.stream.now) limited.old.left limited.new.left result }
+    ensures loan { limited.new.stream.ghost_name ≡ limited.old.stream.ghost_name }
+{
+    fill(limited, header)?;
+    Ok(u16::from_be_bytes([header[0], header[1]]))
+}
 
 // The next byte.
 fn read_byte<S: Stream>(limited: &mut Limited<'_, S>) -> Result<u8, TurnError>
@@ -28,20 +70,20 @@ fn body_of(alloc: Global, tag: u8, rest: &[u8]) -> Result<ByteString, AllocError
 }
 
 // The body of this many bytes that this tag begins, of which the rest is still to be read.
-fn read_rest<S: Stream>(alloc: Global, limited: &mut Limited<'_, S>, len: u16, tag: u8) -> Arrived
+fn read_rest<S: Stream>(alloc: Global, limited: &mut Limited<'_, S>, len: u16, tag: u8) -> Came
     requires { 0 < len }
     ensures hears { HearsRest (S.meaning limited.old.stream.now) (S.meaning limited.new.stream.now) limited.old.left limited.new.left len tag result }
     ensures loan { limited.new.stream.ghost_name ≡ limited.old.stream.ghost_name }
 {
     let Ok(mut rest) = vec![in alloc; 0u8; len as usize - 1] else {
-        return Arrived::NoMemory;
+        return Came::NoMemory;
     };
-    if let Err(fault) = limited.read_exact(&mut rest) {
-        return Arrived::Stopped(fault);
+    if let Err((fault, at)) = fill(limited, &mut rest) {
+        return Came::Stopped(fault, at + 3);
     }
     match body_of(alloc, tag, &rest) {
-        Ok(body) => Arrived::Body(body),
-        Err(AllocError) => Arrived::NoMemory,
+        Ok(body) => Came::Body(body),
+        Err(AllocError) => Came::NoMemory,
     }
 }
 
@@ -51,7 +93,7 @@ fn read_behind<S: Stream>(
     limited: &mut Limited<'_, S>,
     len: u16,
     tags: &[u8],
-) -> Arrived
+) -> Came
     requires { 0 < len }
     ensures hears { HearsBehind (S.meaning limited.old.stream.now) (S.meaning limited.new.stream.now) limited.old.left limited.new.left len tags.now result }
     ensures loan { limited.new.stream.ghost_name ≡ limited.old.stream.ghost_name }
@@ -61,29 +103,25 @@ fn read_behind<S: Stream>(
             if tags.contains(&tag) {
                 read_rest(alloc, limited, len, tag)
             } else {
-                Arrived::Long(len)
+                Came::Front(len)
             }
         }
-        Err(fault) => Arrived::Stopped(fault),
+        Err(fault) => Came::Stopped(fault, 2),
     }
 }
 
-/// Reads the next frame, where what comes may be no frame at all: a length above `most` counts only if the body begins with
-/// one of these tags. Else the length and the byte behind it are all that is read, so that nobody waits for bytes that another
+/// Reads the next frame, where what comes may be no frame at all: a length counts only if one of these tags begins the body, or
+/// there is none. Else the length and the byte behind it are all that is read, so that nobody waits for bytes that another
 /// service never sends. It reads no byte behind the frame, and writes nothing.
 ///
 /// Source: our own choice.
-pub fn read_frame_of<S: Stream>(
-    alloc: Global,
-    limited: &mut Limited<'_, S>,
-    most: u16,
-    tags: &[u8],
-) -> Arrived
-    ensures hears { HearsFrameOf (S.meaning limited.old.stream.now) (S.meaning limited.new.stream.now) limited.old.left limited.new.left most tags.now result }
+pub fn read_frame_of<S: Stream>(alloc: Global, limited: &mut Limited<'_, S>, tags: &[u8]) -> Came
+    ensures hears { HearsFrameOf (S.meaning limited.old.stream.now) (S.meaning limited.new.stream.now) limited.old.left limited.new.left tags.now result }
     ensures loan { limited.new.stream.ghost_name ≡ limited.old.stream.ghost_name }
 {
-    match read_frame(alloc, limited, most) {
-        Arrived::Long(len) => read_behind(alloc, limited, len, tags),
-        arrived => arrived,
+    match read_len(limited, &mut [0; 2]) {
+        Ok(0) => Came::Body(ByteString::new(alloc)),
+        Ok(len) => read_behind(alloc, limited, len, tags),
+        Err((fault, at)) => Came::Stopped(fault, at),
     }
 }

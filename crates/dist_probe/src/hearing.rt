@@ -3,8 +3,7 @@
 ghost use Rattle.std.specs.Prelude.{◌≡◌};
 ghost use Rattle.dist_probe.specs.Hearing.{HearsMessage, IsHeardIn, heard_instead};
 
-use crate::bodies::read_frame_of;
-use dist_epmd_calls::Arrived;
+use crate::bodies::{Came, read_frame_of};
 use dist_messages::{Message, MessageError, Side, decode};
 use dist_stream::{Limited, Stream, TurnError};
 use std::alloc::Global;
@@ -16,33 +15,29 @@ pub enum Heard {
     Said(Message),
     /// A body that is no message of the accepting side.
     NoMessage(MessageError),
-    /// Two bytes that are the length of no frame of a handshake: above 1,024, and what stands behind them is no tag of the
-    /// accepting side.
+    /// Two bytes that are the length of no frame of a handshake: what stands behind them is no tag of the accepting side.
     Length(u16),
     /// The other side closed the connection.
     Gone,
     /// The connection broke: a read or a write failed.
     Broken,
-    /// Nothing whole came or went, and no turn is left.
-    Silent,
+    /// Nothing whole came or went, and no turn is left. So many bytes of a message came.
+    Silent(usize),
     /// Memory ran out here.
     NoMemory,
 }
 
-// A length above this one counts only before a tag: two bytes of another service may look like one, and nobody is to wait for a
-// body that never comes. Our own choice.
-const MOST: u16 = 1024;
-
 // The tags of the accepting side: a status, an older challenge, a newer one, an acknowledgement. Source: ERTS User's Guide,
-// Distribution Handshake.
+// Distribution Handshake. A length counts only before one of them: two bytes of another service may look like one, and nobody is
+// to wait for a body that never comes. Our own choice.
 const TAGS: [u8; 4] = [0x73, 0x6e, 0x4e, 0x61];
 
-/// What is received where the stream gave or took no more.
-pub fn heard_instead(fault: TurnError) -> Heard
-    ensures { result ≡ heard_instead fault }
+/// What is received where the stream gave or took no more, behind so many bytes of a message.
+pub fn heard_instead(fault: TurnError, count: usize) -> Heard
+    ensures { result ≡ heard_instead fault count }
 {
     match fault {
-        TurnError::Limit => Heard::Silent,
+        TurnError::Limit => Heard::Silent(count),
         TurnError::Ended => Heard::Gone,
         TurnError::ReadFailed | TurnError::WriteFailed => Heard::Broken,
     }
@@ -61,16 +56,15 @@ fn heard_in(alloc: Global, body: &[u8]) -> Heard
 
 /// The next message of the node, within the turns that are left. It writes nothing.
 ///
-/// A body has up to 65,535 bytes. Where a length is above 1,024, and the byte behind it is no tag, those three bytes alone are
-/// read.
+/// A body has up to 65,535 bytes. Where the byte behind a length is no tag, those three bytes alone are read.
 pub fn hear<S: Stream>(alloc: Global, limited: &mut Limited<'_, S>) -> Heard
     ensures hears { HearsMessage (S.meaning limited.old.stream.now) (S.meaning limited.new.stream.now) limited.old.left limited.new.left result }
     ensures loan { limited.new.stream.ghost_name ≡ limited.old.stream.ghost_name }
 {
-    match read_frame_of(alloc, limited, MOST, &TAGS) {
-        Arrived::Body(body) => heard_in(alloc, body.as_slice()),
-        Arrived::Long(len) => Heard::Length(len),
-        Arrived::Stopped(fault) => heard_instead(fault),
-        Arrived::NoMemory => Heard::NoMemory,
+    match read_frame_of(alloc, limited, &TAGS) {
+        Came::Body(body) => heard_in(alloc, body.as_slice()),
+        Came::Front(len) => Heard::Length(len),
+        Came::Stopped(fault, count) => heard_instead(fault, count),
+        Came::NoMemory => Heard::NoMemory,
     }
 }

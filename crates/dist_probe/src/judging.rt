@@ -1,11 +1,13 @@
 //! The table of verdicts: what it means that this was received.
 
 ghost use Rattle.std.specs.Prelude.{◌≡◌};
-ghost use Rattle.dist_probe.specs.Verdicts.{ack_verdict, challenge_verdict, not_allowed, refusal, refused_nok, status_verdict};
+ghost use Rattle.dist_probe.specs.Verdicts.{ack_verdict, challenge_verdict, flags_verdict, not_allowed, refusal, refused_nok, status_verdict};
 
 use crate::hearing::Heard;
+use crate::names::style_of;
 use crate::service::service_of;
-use crate::verdict::{Awaited, Verdict};
+use crate::verdict::{Awaited, Party, Verdict};
+use dist_flags::{Release, is_refused_by_all};
 use dist_messages::{Message, Status};
 use dist_names::Flags;
 
@@ -18,7 +20,7 @@ fn meaning_of_not_allowed(is_own: bool, lacking: Flags) -> Verdict
     } else if lacking.0 == 0 {
         Verdict::NotOnList
     } else {
-        Verdict::LacksFlags(lacking)
+        Verdict::LacksFlags(Party::Probe, lacking)
     }
 }
 
@@ -33,6 +35,17 @@ fn refused_nok(is_own: bool) -> Verdict
     }
 }
 
+// The verdict upon the flags of the node that was dialled, and `None` where some release takes them.
+fn flags_verdict(flags: Flags) -> Option<Verdict>
+    ensures { result ≡ flags_verdict flags }
+{
+    if is_refused_by_all(flags) {
+        Some(Verdict::LacksFlags(Party::Node, Release::Otp23.objection(flags)))
+    } else {
+        None
+    }
+}
+
 // What anything means but the message that is awaited.
 fn refusal(awaited: Awaited, heard: &Heard) -> Verdict
     ensures { result ≡ refusal awaited heard.now }
@@ -42,7 +55,7 @@ fn refusal(awaited: Awaited, heard: &Heard) -> Verdict
         Heard::Length(front) => Verdict::Foreign(service_of(*front)),
         Heard::Gone => Verdict::Gone(awaited),
         Heard::Broken => Verdict::Reset(awaited),
-        Heard::Silent => Verdict::Silent(awaited),
+        Heard::Silent(count) => Verdict::Silent(awaited, *count),
         Heard::NoMemory => Verdict::NoMemory,
     }
 }
@@ -65,16 +78,16 @@ pub fn status_verdict(is_own: bool, lacking: Flags, heard: &Heard) -> Option<Ver
 }
 
 /// The verdict upon what came behind a status that goes on, and `None` where it is the challenge of the node that was
-/// dialled.
+/// dialled, with flags that some release takes.
 pub fn challenge_verdict(lacking: Flags, target: &[u8], heard: &Heard) -> Option<Verdict>
     ensures { result ≡ challenge_verdict lacking target.now heard.now }
 {
     match heard {
-        Heard::Said(Message::NewChallenge { name, .. }) => {
+        Heard::Said(Message::NewChallenge { flags, name, .. }) => {
             if name.as_slice() == target {
-                None
+                flags_verdict(*flags)
             } else {
-                Some(Verdict::OtherName)
+                Some(Verdict::OtherName(style_of(name.as_slice())))
             }
         }
         Heard::Said(Message::OldChallenge { .. }) => Some(Verdict::Version5),

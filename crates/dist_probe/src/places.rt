@@ -22,6 +22,7 @@ pub fn mapper_cause(unreached: Unreached) -> &'static str
         }
         Unreached::NoAnswer => "the port mapper's port of that host does not answer",
         Unreached::NoMemory => "memory ran out here",
+        Unreached::NoDescriptors => "no descriptor is left here",
         Unreached::Failed => "this machine could not open a connection",
     }
 }
@@ -54,6 +55,7 @@ pub fn mapper_remedy(unreached: Unreached) -> &'static str
                 or dial the node's port by --port; is the host up?"
         }
         Unreached::NoMemory => "free some memory",
+        Unreached::NoDescriptors => "raise the limit of descriptors (ulimit -n)",
         Unreached::Failed => "look at the limits of this machine (ulimit -n) and at its log",
     }
 }
@@ -73,6 +75,7 @@ pub fn port_cause(unreached: Unreached) -> &'static str
             "the connection to the node's port is prohibited: a firewall or a rule of this machine answers so",
         Unreached::NoAnswer => "the node's port does not answer",
         Unreached::NoMemory => "memory ran out here",
+        Unreached::NoDescriptors => "no descriptor is left here",
         Unreached::Failed => "this machine could not open a connection",
     }
 }
@@ -105,6 +108,7 @@ pub fn port_remedy(unreached: Unreached) -> &'static str
                 behind NAT or a forwarded port dial the port that is forwarded by --port"
         }
         Unreached::NoMemory => "free some memory",
+        Unreached::NoDescriptors => "raise the limit of descriptors (ulimit -n)",
         Unreached::Failed => "look at the limits of this machine (ulimit -n) and at its log",
     }
 }

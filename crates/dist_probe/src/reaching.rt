@@ -5,14 +5,15 @@ ghost use Rattle.std.specs.List.{IsFirstBest};
 ghost use Rattle.dist_probe.specs.Reaching.{awaited_reach, is_found, is_further, reach, unreached_reach};
 
 use crate::unreached::Unreached;
-use crate::verdict::{Awaited, Verdict};
+use crate::verdict::{Awaited, Party, Verdict};
 
 // How far a connect got that made no connection: what no system on the way answered is less.
 fn unreached_reach(unreached: Unreached) -> u8
     ensures { result ≡ unreached_reach unreached }
 {
     match unreached {
-        Unreached::NoRoute | Unreached::NoMemory | Unreached::Failed => 0,
+        Unreached::NoRoute | Unreached::NoMemory | Unreached::NoDescriptors | Unreached::Failed =>
+            0,
         _ => 1,
     }
 }
@@ -42,19 +43,19 @@ pub fn reach(verdict: Verdict) -> u8
         Verdict::PortUnreachable(unreached) => 6 + unreached_reach(unreached),
         Verdict::PortRefused => 8,
         Verdict::Foreign(_) => 9,
-        Verdict::Silent(awaited)
+        Verdict::Silent(awaited, _)
         | Verdict::Gone(awaited)
         | Verdict::Reset(awaited)
         | Verdict::Unexpected(awaited) => 9 + awaited_reach(awaited),
         Verdict::OwnName
         | Verdict::Busy
-        | Verdict::LacksFlags(_)
+        | Verdict::LacksFlags(Party::Probe, _)
         | Verdict::NotOnList
         | Verdict::AlreadyUp => 10,
-        Verdict::OtherName | Verdict::Version5 => 11,
-        Verdict::WrongCookie | Verdict::WrongAck => 12,
+        Verdict::OtherName(_) | Verdict::Version5 => 11,
+        Verdict::LacksFlags(Party::Node, _) | Verdict::WrongCookie | Verdict::WrongAck => 12,
         Verdict::Reached | Verdict::Up => 13,
-        Verdict::NoMemory => 14,
+        Verdict::NoMemory | Verdict::NoDescriptors => 14,
     }
 }
 

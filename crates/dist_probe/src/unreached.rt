@@ -23,13 +23,15 @@ pub enum Unreached {
     NoAnswer,
     /// Memory ran out here.
     NoMemory,
-    /// The system failed in another way, as for want of descriptors.
+    /// This machine, or this process, may have no more descriptors open.
+    NoDescriptors,
+    /// The system failed in another way.
     Failed,
 }
 
 // How a connect ended by a number of the system's that has no kind of its own. The numbers are those of Linux: ENONET and
 // EHOSTDOWN, as for an ICMP answer that the host is not known; ENOPROTOOPT, as for one that it refuses the protocol; EAFNOSUPPORT,
-// where the system has no addresses of that kind.
+// where the system has no addresses of that kind; ENFILE and EMFILE, where no descriptor is left.
 fn unreached_by_number(number: u32) -> Unreached
     ensures { result ≡ unreached_by_number number }
 {
@@ -37,6 +39,7 @@ fn unreached_by_number(number: u32) -> Unreached
         64 | 112 => Unreached::HostDown,
         92 => Unreached::Prohibited,
         97 => Unreached::NoRoute,
+        23 | 24 => Unreached::NoDescriptors,
         _ => Unreached::Failed,
     }
 }
@@ -76,6 +79,7 @@ impl Unreached {
             Unreached::Prohibited => "Prohibited",
             Unreached::NoAnswer => "NoAnswer",
             Unreached::NoMemory => "NoMemory",
+            Unreached::NoDescriptors => "NoDescriptors",
             Unreached::Failed => "Failed",
         }
     }
@@ -94,6 +98,7 @@ impl Unreached {
                 "prohibited: something on the way, or this machine, does not allow it",
             Unreached::NoAnswer => "no answer",
             Unreached::NoMemory => "out of memory here",
+            Unreached::NoDescriptors => "out of descriptors here",
             Unreached::Failed => "the system could not connect",
         }
     }
@@ -106,6 +111,7 @@ pub fn mapper_verdict(unreached: Unreached) -> Verdict
     match unreached {
         Unreached::Refused => Verdict::MapperRefused,
         Unreached::NoMemory => Verdict::NoMemory,
+        Unreached::NoDescriptors => Verdict::NoDescriptors,
         other => Verdict::MapperUnreachable(other),
     }
 }
@@ -117,6 +123,7 @@ pub fn port_verdict(unreached: Unreached) -> Verdict
     match unreached {
         Unreached::Refused => Verdict::PortRefused,
         Unreached::NoMemory => Verdict::NoMemory,
+        Unreached::NoDescriptors => Verdict::NoDescriptors,
         other => Verdict::PortUnreachable(other),
     }
 }

@@ -11,6 +11,8 @@ use std::alloc::AllocError;
 pub enum CookieFault {
     /// It could not be opened.
     OpenFailed,
+    /// It is a pipe, a socket or a device.
+    NotStored,
     /// Others than its owner may use it, or the system does not say whether they may. The path is as it was named.
     NotPrivate(String),
     /// It has no cookie.

@@ -1,7 +1,8 @@
 //! The cookie: which file it stands in, and whether that file may be read. As a node does, a program takes no file that others than
-//! its owner may use, unless it is told to.
+//! its owner may use, unless it is told to, and none whose bytes come from somebody else while it waits.
 
-ghost use Rattle.std.specs.Prelude.{◌≡◌};
+ghost use Rattle.std.specs.Prelude.{◌≡◌, ◌↔◌, ◌⊎◌, IsTrue};
+ghost use Rattle.std.specs.Fs.{IsDir, IsFile};
 ghost use Rattle.dist_program.specs.CookieFile.{is_private, ReadsCookie};
 
 use crate::cookie_fault::CookieFault;
@@ -9,7 +10,7 @@ use crate::text_error::TextError;
 use crate::variables::variable;
 use dist_secret::{Cookie, read_cookie};
 use std::alloc::{AllocError, Global};
-use std::fs::File;
+use std::fs::{self, File, FileType};
 use std::io::Read;
 use std::os::unix::fs::PermissionsExt;
 
@@ -31,6 +32,29 @@ fn is_private_file(file: &File) -> bool {
     }
 }
 
+// Whether a file of this kind stands on a disk. The bytes of a pipe, a socket or a device come when somebody else sends them. (A
+// folder is opened, and cannot be read.)
+fn is_stored(kind: FileType) -> bool
+    ensures { IsTrue result ↔ (IsFile kind ⊎ IsDir kind) }
+{
+    kind.is_file() || kind.is_dir()
+}
+
+/// The file at this path, opened, where its kind is one that is read without waiting. The kind is looked at before: to open a named
+/// pipe alone waits until somebody writes into it.
+pub fn open_cookie(rt: &HostRuntime, path: &str) -> Result<File, CookieFault> {
+    let Ok(metadata) = fs::metadata(rt, path) else {
+        return Err(CookieFault::OpenFailed);
+    };
+    if !is_stored(metadata.file_type()) {
+        return Err(CookieFault::NotStored);
+    }
+    match File::open(rt, path) {
+        Ok(file) => Ok(file),
+        Err(_) => Err(CookieFault::OpenFailed),
+    }
+}
+
 /// The cookie of an open file.
 pub fn cookie_in<F: Read>(alloc: Global, file: &mut F) -> Result<Cookie, CookieFault>
     ensures { ReadsCookie (F.remaining file.old) (F.remaining file.new) result }
@@ -44,9 +68,7 @@ pub fn cookie_in<F: Read>(alloc: Global, file: &mut F) -> Result<Cookie, CookieF
 /// The cookie of the file at this path. The file that was opened is the one that is looked at, so that no other can be put in its
 /// place in between. With `is_unsafe` it may be one that others than its owner can use.
 pub fn cookie_at(rt: &HostRuntime, path: &str, is_unsafe: bool) -> Result<Cookie, CookieFault> {
-    let Ok(mut file) = File::open(rt, path) else {
-        return Err(CookieFault::OpenFailed);
-    };
+    let mut file = open_cookie(rt, path)?;
     if is_unsafe || is_private_file(&file) {
         cookie_in(rt.alloc(), &mut file)
     } else {

@@ -14,6 +14,8 @@ pub enum HostError {
     Failed,
     /// The resolver gave no answer in time.
     Silent,
+    /// The system had no descriptor left to ask with.
+    NoDescriptors,
     /// No memory was left, or none for a thread.
     NoMemory,
 }

@@ -26,7 +26,7 @@ pub use connecting::{
     talk_here, talk_over, this_host,
 };
 pub use cookie_fault::CookieFault;
-pub use cookie_file::{cookie_at, cookie_in, home_cookie, is_private};
+pub use cookie_file::{cookie_at, cookie_in, home_cookie, is_private, open_cookie};
 pub use drawing::draw;
 pub use epmd_port::{MAPPER_PORT, mapper_port, port_in};
 pub use host_error::HostError;

@@ -39,10 +39,18 @@ fn is_no_name(text: &str) -> bool {
     NO_NAME.iter().any(|end| text.ends_with(*end))
 }
 
+// Whether the process, or the whole system, may have no more descriptors open: EMFILE, ENFILE.
+fn lacks_descriptors(error: &io::Error) -> bool {
+    matches!(error.raw_os_error(), Some(23 | 24))
+}
+
 // What an error of the resolver says.
 fn host_error(alloc: Global, error: &io::Error) -> HostError {
     if error.kind() == ErrorKind::OutOfMemory {
         return HostError::NoMemory;
+    }
+    if lacks_descriptors(error) {
+        return HostError::NoDescriptors;
     }
     match format!(in alloc; "{error}") {
         Ok(text) if is_no_name(&text) => HostError::NoName,

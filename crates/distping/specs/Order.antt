@@ -1,5 +1,7 @@
 -- The order of what came of nodes that were dialled at once.
-use Rattle.std.specs.Prelude.{ℕ, List, map}
+use Rattle.std.specs.Prelude.{ℕ, List, [], ◌∷◌, map}
+use Rattle.dist_cluster.specs.Statuses.{first_of}
+use Rattle.dist_probe.specs.Words.{status_of}
 use Rattle.dist_cluster.specs.declared.pairs.Half.{Half}
 use Rattle.distping.specs.declared.reply.Reply.{Reply}
 
@@ -10,3 +12,8 @@ names_of halves = map (λ h. h.node.now) halves
 -- the names of the nodes that were dialled
 abbrev pub names_in : List Reply → List (List ℕ)
 names_in replies = map (λ r. r.node.now) replies
+
+-- the first status that is not 0 of the nodes of which this is left
+abbrev pub first_status : List Half → ℕ
+first_status [] = 0
+first_status (half ∷ halves) = first_of (status_of half.verdict) (first_status halves)

@@ -1,6 +1,6 @@
 //! Which nodes are dialled at once.
 
-ghost use Rattle.std.specs.Prelude.{◌≡◌, ◌≢◌, ◌++◌, ◌<◌, ◌≤◌, ℕ, length, take, AllPairs, false, slice_index_or};
+ghost use Rattle.std.specs.Prelude.{◌≡◌, ◌≢◌, ◌++◌, ◌<◌, ◌≤◌, ℕ, length, take, AllPairs, Contains, false, true, slice_index_or};
 
 use dist_names::NodeName;
 
@@ -10,6 +10,7 @@ const MOST_AT_ONCE: usize = 32;
 
 /// Whether a node is among these.
 pub fn is_among(nodes: &[NodeName], node: &NodeName) -> bool
+    ensures same { result ≡ true → Contains nodes.now node.now }
     ensures other { result ≡ false → (k : ℕ) (d : _) → k < length nodes.now → slice_index_or nodes.now k d ≢ node.now }
 {
     nodes.iter().any(|other| other.is_same(node))

@@ -8,6 +8,7 @@
 mod comparing;
 mod gathering;
 mod grouping;
+mod nodes;
 mod reply;
 mod rounds;
 mod together;
@@ -19,7 +20,7 @@ use dist_secret::Cookie;
 use distping_dial::{draw_challenge, setup_of};
 use distping_json::caller_object;
 use distping_listen::take_connection;
-use distping_report::{Caller, Lines, Listen, Taken};
+use distping_report::{Caller, Lines, Listed, Listen, Taken};
 use distping_words::{Fault, Instead, Refusal, Wanted, cookie_of, read_roster, wanted_of};
 use rounds::{Round, dial_all};
 use std::net::SocketAddr;
@@ -147,6 +148,7 @@ fn follow_with<R: Resolving + Sync>(
         _ => dial_all(&Round {
             rt,
             resolver,
+            listed: &Listed::nothing(rt.alloc()),
             wanted,
             cookie,
         }),

@@ -13,7 +13,7 @@ use dist_program::{Addresses, Resolving, lookup_host};
 use dist_secret::Cookie;
 use distping_dial::probe;
 use distping_json::object_of;
-use distping_report::{Dial, Found, Lines, Outcome};
+use distping_report::{Dial, Found, Lines, Listed, Outcome};
 use distping_words::{Fault, Wanted, parse_name};
 use std::alloc::Global;
 
@@ -24,13 +24,29 @@ pub struct Round<'a, R: Resolving> {
     pub rt: &'a HostRuntime,
     /// What may wait for the resolver.
     pub resolver: &'a R,
+    /// Of which hosts it was printed what their port mappers know.
+    pub listed: &'a Listed,
     /// What the command line asks for.
     pub wanted: &'a Wanted<'a>,
     /// The cookie that is tried.
     pub cookie: Option<&'a Cookie>,
 }
 
-impl<R: Resolving> Round<'_, R> {
+impl<'a, R: Resolving> Round<'a, R> {
+    // The same, of which this was printed.
+    fn with<'b>(&self, listed: &'b Listed) -> Round<'b, R>
+    where
+        'a: 'b,
+    {
+        Round {
+            rt: self.rt,
+            resolver: self.resolver,
+            listed,
+            wanted: self.wanted,
+            cookie: self.cookie,
+        }
+    }
+
     /// Lines on the screen: those of objects alone, where these are asked for.
     pub fn screen(&self) -> Lines<'static> {
         Lines::on_screen(self.rt, self.wanted.choices.json)
@@ -62,7 +78,18 @@ fn tell(dial: &Dial<'_>, outcome: &Outcome) -> Result<(), Fault> {
         lines.write_made(object_of(lines.alloc, dial, outcome))
     } else {
         tell_furthest(lines, outcome)?;
+        tell_other_way(dial, outcome.verdict)?;
         lines.put_verdict(outcome.verdict)
+    }
+}
+
+// Prints that nodes go another way than `--address`, where the node was found by that.
+fn tell_other_way(dial: &Dial<'_>, verdict: Verdict) -> Result<(), Fault> {
+    match dial.choices.address {
+        Some(host) if verdict.status() == 0 && host.as_bytes() != dial.node.host() => {
+            dial.lines.put_other_way(dial.node)
+        }
+        _ => Ok(()),
     }
 }
 
@@ -99,6 +126,7 @@ fn dial_one<'n, R: Resolving>(
     let dial = Dial {
         rt: round.rt,
         lines,
+        listed: round.listed,
         own: &own,
         node,
         cookie: round.cookie,
@@ -115,6 +143,7 @@ pub fn verdict_upon<R: Resolving>(round: &Round<'_, R>, node: &NodeName) -> Resu
     let dial = Dial {
         rt: round.rt,
         lines,
+        listed: round.listed,
         own: &own,
         node,
         cookie: round.cookie,
@@ -138,10 +167,11 @@ fn probe_one<'n>(
 
 // What is left of a node. What another node said of itself is nothing of it.
 fn half_of<'n>(node: &'n NodeName, found: &Found, verdict: Verdict) -> Half<'n>
-    ensures { result.node.now ≡ node.now }
+    ensures node { result.node.now ≡ node.now }
+    ensures verdict { result.verdict ≡ verdict }
 {
     let flags = match (verdict, &found.peer) {
-        (Verdict::OtherName, _) | (_, None) => None,
+        (Verdict::OtherName(_), _) | (_, None) => None,
         (_, Some(peer)) => Some(peer.flags),
     };
     Half {
@@ -188,10 +218,11 @@ fn dial_and_compare<R: Resolving + Sync>(
 
 /// Dials all nodes, and prints what can be said of each two of them, or watches them.
 pub fn dial_all<R: Resolving + Sync>(round: &Round<'_, R>) -> Result<u8, Fault> {
-    let mut nodes = Vec::new(round.rt.alloc());
-    let status = gather(round, &mut nodes)?;
+    let (nodes, status) = gather(round)?;
+    let listed = Listed::new(round.rt.alloc(), &nodes.names)?;
+    let round = round.with(&listed);
     match round.wanted.choices.watch {
-        Some(rhythm) if !nodes.is_empty() => watch_all(round, &nodes, rhythm),
-        _ => dial_and_compare(round, &nodes, status),
+        Some(rhythm) if !nodes.names.is_empty() => watch_all(&round, &nodes.names, rhythm),
+        _ => dial_and_compare(&round, &nodes.names, status),
     }
 }

@@ -5,7 +5,10 @@
 //! stands before it is printed.
 
 ghost use Rattle.std.specs.Prelude.{◌≡◌, ◌++◌, ◌∷◌, [], ◌<◌, length, IfOk, OnOk, slice_index_or};
-ghost use Rattle.distping.specs.Order.{names_in, names_of};
+ghost use Rattle.std.specs.Result.{ForOk};
+ghost use Rattle.dist_cluster.specs.Statuses.{first_of};
+ghost use Rattle.dist_probe.specs.Words.{status_of};
+ghost use Rattle.distping.specs.Order.{first_status, names_in, names_of};
 
 use crate::grouping::split_group;
 use crate::reply::Reply;
@@ -81,12 +84,16 @@ fn put_text(lines: Lines<'_>, text: &str) -> Result<(), Fault> {
 }
 
 // Prints what is still to be printed of a node, keeps what is left of it, and returns its status.
+#[tactic(auto, using(crate::proofs::Firsts::first_status_push))]
 fn take_reply<'n>(
     lines: Lines<'_>,
     reply: Reply<'n>,
     halves: &mut Vec<Half<'n>>,
 ) -> Result<u8, Fault>
-    ensures { OnOk result (names_of halves.new.items ≡ names_of halves.old.items ++ reply.entry.node.now ∷ []) }
+    ensures names { OnOk result (names_of halves.new.items ≡ names_of halves.old.items ++ reply.entry.node.now ∷ []) }
+    ensures half { OnOk result (ForOk reply.entry.half (λ half. halves.new.items ≡ halves.old.items ++ half ∷ [])) }
+    ensures status { IfOk result (λ status. ForOk reply.entry.half (λ half. status ≡ status_of half.verdict)) }
+    ensures first { IfOk result (λ status. first_status halves.new.items ≡ first_of (first_status halves.old.items) status) }
 {
     let Reply { text, half, .. } = reply;
     put_text(lines, &text)?;
@@ -96,12 +103,14 @@ fn take_reply<'n>(
 }
 
 // Takes what came of each node of a group, in their order, and returns the first status that is not 0.
+#[tactic(auto, using(crate::proofs::Firsts::first_of_assoc, crate::proofs::Firsts::first_of_none))]
 fn take_replies<'n>(
     lines: Lines<'_>,
     replies: Vec<Reply<'n>>,
     halves: &mut Vec<Half<'n>>,
 ) -> Result<u8, Fault>
-    ensures { OnOk result (names_of halves.new.items ≡ names_of halves.old.items ++ names_in replies.entry.items) }
+    ensures names { OnOk result (names_of halves.new.items ≡ names_of halves.old.items ++ names_in replies.entry.items) }
+    ensures first { IfOk result (λ status. first_status halves.new.items ≡ first_of (first_status halves.old.items) status) }
 {
     let mut status = 0;
     for reply in replies {
@@ -112,12 +121,15 @@ fn take_replies<'n>(
 
 /// Dials all nodes, group by group, prints what comes of them, puts what is left of each behind these, in the order of the nodes,
 /// and returns the first status that is not 0.
+#[tactic(auto, using(crate::proofs::Firsts::first_of_assoc, crate::proofs::Firsts::first_of_none))]
 pub fn dial_each<'n, R: Resolving + Sync>(
     round: &Round<'_, R>,
     nodes: &'n [NodeName],
     halves: &mut Vec<Half<'n>>,
 ) -> Result<u8, Fault>
-    ensures { OnOk result (names_of halves.new.items ≡ names_of halves.old.items ++ nodes.now) }
+    ensures names { OnOk result (names_of halves.new.items ≡ names_of halves.old.items ++ nodes.now) }
+    // Where nothing was left before, the status is the first that is not 0 of what is left now.
+    ensures first { IfOk result (λ status. first_status halves.new.items ≡ first_of (first_status halves.old.items) status) }
 {
     if nodes.is_empty() {
         return Ok(0);

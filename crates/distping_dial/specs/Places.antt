@@ -1,4 +1,5 @@
 -- What it means that a host's name gave no address, and that a lookup went wrong.
+use Rattle.std.specs.Prelude.{Bool, if◌then◌else◌}
 use Rattle.dist_epmd_calls.specs.declared.lookup_error.LookupError.{LookupError}
 use Rattle.dist_epmd_calls.specs.declared.lookup_error.LookupError.TheVariants as lookup
 use Rattle.dist_probe.specs.declared.verdict.Unresolved.TheVariants as unresolved
@@ -7,12 +8,13 @@ use Rattle.dist_probe.specs.declared.verdict.Verdict.TheVariants as verdict
 use Rattle.dist_program.specs.declared.host_error.HostError.{HostError}
 use Rattle.dist_program.specs.declared.host_error.HostError.TheVariants as host
 
--- the host's name gave no address
-abbrev pub host_verdict : HostError → Verdict
-host_verdict host.NoName = verdict.NoHost unresolved.NoName
-host_verdict host.Failed = verdict.NoHost unresolved.Failed
-host_verdict host.Silent = verdict.ResolverSilent
-host_verdict host.NoMemory = verdict.NoMemory
+-- the host gave no address: that of `--address`, where it is given, or that of the node's name
+abbrev pub host_verdict : Bool → HostError → Verdict
+host_verdict has_address host.NoName = verdict.NoHost (if has_address then unresolved.NoAddress else unresolved.NoName)
+host_verdict has_address host.Failed = verdict.NoHost unresolved.Failed
+host_verdict has_address host.Silent = verdict.ResolverSilent
+host_verdict has_address host.NoDescriptors = verdict.NoDescriptors
+host_verdict has_address host.NoMemory = verdict.NoMemory
 
 -- the port mapper was reached, and gave no registration
 abbrev pub lookup_verdict : LookupError → Verdict

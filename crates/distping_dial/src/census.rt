@@ -1,11 +1,11 @@
 //! The port mapper of a host is asked for all nodes that it knows.
 
-use crate::dialling::Connection;
-use crate::mapper::{lookup_verdict, mapper_at, no_mapper};
+use crate::announcing::put_address;
+use crate::front::FrontStream;
+use crate::mapper::{Names, ask_front, lookup_verdict, mapper_at, no_mapper};
+use crate::outcomes::{no_host, outcome_of};
 use crate::stop::{Stop, stop_after};
-use crate::tries::{Tries, nowhere, outcome_of};
-use dist_epmd_calls::ask_names;
-use dist_names::ByteString;
+use crate::tries::Tries;
 use dist_probe::Verdict;
 use dist_program::{Addresses, Budget, Step};
 use distping_report::{Dial, Found, Outcome};
@@ -16,8 +16,8 @@ use std::net::SocketAddr;
 /// What the port mapper of a host says of its nodes.
 #[derive(Drop)]
 pub enum Census {
-    /// It gave these lines, at this address.
-    Lines(SocketAddr, ByteString),
+    /// It gave these, at this address.
+    Names(SocketAddr, Names),
     /// It gave none.
     Nobody(Outcome),
 }
@@ -33,9 +33,9 @@ pub fn empty_host(alloc: Global, address: SocketAddr) -> Outcome {
 }
 
 // Asks for all names over this connection.
-fn names_over(dial: &Dial<'_>, stream: &mut Connection) -> Result<ByteString, Stop> {
-    match ask_names(dial.lines.alloc, stream, dial.choices.turns()) {
-        Ok((_port, text)) => Ok(text),
+fn names_over(dial: &Dial<'_>, stream: &mut FrontStream) -> Result<Names, Stop> {
+    match ask_front(dial, stream) {
+        Ok(names) => Ok(names),
         Err(error) => {
             let told = dial.lines.put_no_answer(dial.choices.mapper_port, error);
             Err(stop_after(told, lookup_verdict(error)))
@@ -44,11 +44,7 @@ fn names_over(dial: &Dial<'_>, stream: &mut Connection) -> Result<ByteString, St
 }
 
 // Asks the port mapper at this address for all names, and prints each step.
-fn names_at(
-    dial: &Dial<'_>,
-    address: &SocketAddr,
-    budget: &mut Budget,
-) -> Result<ByteString, Stop> {
+fn names_at(dial: &Dial<'_>, address: &SocketAddr, budget: &mut Budget) -> Result<Names, Stop> {
     match mapper_at(dial, address, budget) {
         Ok(mut stream) => {
             let names = names_over(dial, &mut stream);
@@ -65,14 +61,13 @@ fn try_names(
     address: &SocketAddr,
     budget: &mut Budget,
     all: &mut Tries,
-) -> Result<Option<ByteString>, Fault> {
+) -> Result<Option<Names>, Fault> {
     let verdict = match names_at(dial, address, budget) {
         Ok(names) => return Ok(Some(names)),
         Err(Stop::Fault(fault)) => return Err(fault),
         Err(Stop::Verdict(verdict)) => verdict,
     };
-    all.found.push(Found::nothing(Some(*address)))?;
-    all.verdicts.push(verdict)?;
+    all.push(Found::nothing(Some(*address)), verdict)?;
     budget.go_on();
     Ok(None)
 }
@@ -82,13 +77,12 @@ fn first_names(
     dial: &Dial<'_>,
     addresses: &[SocketAddr],
     all: &mut Tries,
-) -> Result<Option<(SocketAddr, ByteString)>, Fault> {
+) -> Result<Option<(SocketAddr, Names)>, Fault> {
     let count = u32::try_from(addresses.len()).unwrap_or(u32::MAX);
     let mut budget = Budget::new(dial.choices.seconds, count);
     let has_ipv4 = addresses.iter().any(|address| address.is_ipv4());
     for address in addresses {
-        let host = dial.choices.host(dial.node);
-        dial.lines.put_address(host, address, has_ipv4)?;
+        put_address(dial, address, has_ipv4)?;
         if let Some(names) = try_names(dial, address, &mut budget, all)? {
             return Ok(Some((*address, names)));
         }
@@ -100,7 +94,7 @@ fn first_names(
 fn ask_addresses(dial: &Dial<'_>, addresses: Vec<SocketAddr>) -> Result<Census, Fault> {
     let mut all = Tries::nothing(dial.lines.alloc);
     match first_names(dial, &addresses, &mut all)? {
-        Some((address, names)) => Ok(Census::Lines(address, names)),
+        Some((address, names)) => Ok(Census::Names(address, names)),
         None => Ok(Census::Nobody(outcome_of(addresses, all))),
     }
 }
@@ -110,6 +104,6 @@ pub fn ask_census(dial: &Dial<'_>, addresses: Addresses) -> Result<Census, Fault
     let alloc = dial.lines.alloc;
     match addresses {
         Ok(addresses) => ask_addresses(dial, addresses),
-        Err(error) => Ok(Census::Nobody(nowhere(Vec::new(alloc), Vec::new(alloc), error))),
+        Err(error) => Ok(Census::Nobody(no_host(alloc, &dial.choices, error))),
     }
 }

@@ -5,9 +5,12 @@
 //! them, is the program's.
 #![tactic(auto)]
 
+mod announcing;
 mod census;
 mod dialling;
+mod front;
 mod mapper;
+mod outcomes;
 mod own_setup;
 mod probing;
 mod stop;
@@ -15,5 +18,6 @@ mod talking;
 mod tries;
 
 pub use census::{Census, ask_census, empty_host};
+pub use mapper::Names;
 pub use own_setup::{draw_challenge, setup_of};
 pub use probing::probe;

@@ -3,7 +3,8 @@
 ghost use Rattle.std.specs.Prelude.{◌≡◌};
 ghost use Rattle.distping_dial.specs.Places.{lookup_verdict};
 
-use crate::dialling::{Connection, connect_to, connected_until, limit_step};
+use crate::dialling::{connect_to, connected_until, limit_step};
+use crate::front::FrontStream;
 use crate::stop::{Stop, stop_after};
 use dist_epmd::PortInfo;
 use dist_epmd_calls::{LookupError, ask_names, lookup};
@@ -24,15 +25,25 @@ enum Unknown {
     Lookup(LookupError, Instant),
 }
 
+/// What a port mapper knows: whole lines.
+#[derive(Drop)]
+pub struct Names {
+    /// The lines.
+    pub text: ByteString,
+    /// It says more than is taken of its answer.
+    pub is_cut: bool,
+}
+
 /// A connection to the port mapper.
 pub fn mapper_at(
     dial: &Dial<'_>,
     address: &SocketAddr,
     budget: &mut Budget,
-) -> Result<Connection, Unreached> {
+) -> Result<FrontStream, Unreached> {
     let port = dial.choices.mapper_port;
     let stream = connect_to(dial.rt, address, port, Step::Mapper, budget)?;
-    limit_step(dial.rt, stream, Step::Lookup, budget)
+    let stream = limit_step(dial.rt, stream, Step::Lookup, budget)?;
+    Ok(FrontStream::new(stream))
 }
 
 /// Prints that the port mapper was not reached.
@@ -54,25 +65,57 @@ pub fn lookup_verdict(error: LookupError) -> Verdict
     }
 }
 
-// The lines of all names that the port mapper knows, asked for until this time.
-fn names_at(dial: &Dial<'_>, address: &SocketAddr, until: Instant) -> Option<ByteString> {
-    let mut stream = connected_until(dial.rt, address, dial.choices.mapper_port, until)?;
-    match ask_names(dial.lines.alloc, &mut stream, dial.choices.turns()) {
-        Ok((_port, text)) => Some(text),
-        Err(_) => None,
+// The lines of a text that end in it.
+fn whole_lines(text: &[u8]) -> &[u8] {
+    match text.iter().rposition(|byte| *byte == b'\n') {
+        Some(at) => text.get(..=at).unwrap_or(b""),
+        None => b"",
     }
+}
+
+/// Asks for all names over this connection. Of an answer that is cut the whole lines are taken.
+pub fn ask_front(dial: &Dial<'_>, stream: &mut FrontStream) -> Result<Names, LookupError> {
+    let alloc = dial.lines.alloc;
+    let (_port, text) = ask_names(alloc, stream, dial.choices.turns())?;
+    let is_cut = stream.is_cut();
+    if !is_cut {
+        return Ok(Names { text, is_cut });
+    }
+    match ByteString::from_slice(alloc, whole_lines(text.as_slice())) {
+        Ok(text) => Ok(Names { text, is_cut }),
+        Err(_) => Err(LookupError::NoMemory),
+    }
+}
+
+// The names that the port mapper knows, asked for until this time.
+fn names_at(dial: &Dial<'_>, address: &SocketAddr, until: Instant) -> Option<Names> {
+    let stream = connected_until(dial.rt, address, dial.choices.mapper_port, until)?;
+    ask_front(dial, &mut FrontStream::new(stream)).ok()
 }
 
 // Prints the names that are registered there, where the port mapper gives them by this time.
 fn put_names(dial: &Dial<'_>, address: &SocketAddr, until: Instant) -> Result<(), Fault> {
-    match names_at(dial, address, until) {
-        Some(names) => dial.lines.put_names(names.as_slice()),
-        None => Ok(()),
+    let Some(names) = names_at(dial, address, until) else {
+        return Ok(());
+    };
+    dial.lines.put_names(names.text.as_slice())?;
+    if names.is_cut {
+        dial.lines.put_cut()?;
+    }
+    Ok(())
+}
+
+// Prints the names that are registered there, where they were not printed with another node.
+fn put_registered(dial: &Dial<'_>, address: &SocketAddr, until: Instant) -> Result<(), Fault> {
+    if dial.listed.is_first(dial.node.host()) {
+        put_names(dial, address, until)
+    } else {
+        dial.lines.put_listed()
     }
 }
 
 // Prints why there is no registration, with the names that are registered there. They are asked for only where they are
-// printed.
+// printed: once for each host.
 fn put_unregistered(
     dial: &Dial<'_>,
     address: &SocketAddr,
@@ -81,7 +124,7 @@ fn put_unregistered(
 ) -> Result<(), Fault> {
     dial.lines.put_no_answer(dial.choices.mapper_port, error)?;
     match error {
-        LookupError::NotThere if !dial.lines.quiet => put_names(dial, address, until),
+        LookupError::NotThere if !dial.lines.quiet => put_registered(dial, address, until),
         _ => Ok(()),
     }
 }
@@ -103,7 +146,7 @@ fn looked_up(
 }
 
 // The same over this connection.
-fn asked_for(dial: &Dial<'_>, stream: &mut Connection) -> Result<PortInfo, Unknown> {
+fn asked_for(dial: &Dial<'_>, stream: &mut FrontStream) -> Result<PortInfo, Unknown> {
     let (short, limit) = (dial.node.short(), dial.choices.turns());
     match lookup(dial.lines.alloc, stream, short, limit) {
         Ok(info) => Ok(info),

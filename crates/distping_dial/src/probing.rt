@@ -1,9 +1,11 @@
 //! One node is dialled, at each address of its host until it is found, and each step is printed.
 
+use crate::announcing::put_address;
 use crate::mapper::port_of;
+use crate::outcomes::{no_host, outcome_of};
 use crate::stop::Stop;
 use crate::talking::probe_node;
-use crate::tries::{Tries, nowhere, outcome_of};
+use crate::tries::Tries;
 use dist_probe::{Verdict, is_found};
 use dist_program::{Addresses, Budget};
 use distping_report::{Dial, Found, Outcome};
@@ -44,8 +46,7 @@ fn try_address(
 ) -> Result<bool, Fault> {
     let mut found = Found::nothing(Some(*address));
     let verdict = probe_address(dial, address, budget, &mut found)?;
-    all.found.push(found)?;
-    all.verdicts.push(verdict)?;
+    all.push(found, verdict)?;
     budget.go_on();
     Ok(is_found(verdict))
 }
@@ -56,8 +57,7 @@ fn try_each(dial: &Dial<'_>, addresses: &[SocketAddr], all: &mut Tries) -> Resul
     let mut budget = Budget::new(dial.choices.seconds, count);
     let has_ipv4 = addresses.iter().any(|address| address.is_ipv4());
     for address in addresses {
-        let host = dial.choices.host(dial.node);
-        dial.lines.put_address(host, address, has_ipv4)?;
+        put_address(dial, address, has_ipv4)?;
         if try_address(dial, address, &mut budget, all)? {
             return Ok(());
         }
@@ -78,6 +78,6 @@ pub fn probe(dial: &Dial<'_>, addresses: Addresses) -> Result<Outcome, Fault> {
     dial.lines.put_styles(dial.own, dial.node)?;
     match addresses {
         Ok(addresses) => probe_addresses(dial, addresses),
-        Err(error) => Ok(nowhere(Vec::new(alloc), Vec::new(alloc), error)),
+        Err(error) => Ok(no_host(alloc, &dial.choices, error)),
     }
 }

@@ -1,13 +1,10 @@
-//! What was tried, and what it comes to.
+//! What was tried.
 
-ghost use Rattle.std.specs.Prelude.{◌≡◌};
-ghost use Rattle.distping_dial.specs.Places.{host_verdict};
+ghost use Rattle.std.specs.Prelude.{◌≡◌, ◌++◌, ◌∷◌, [], length, OnOk};
 
-use dist_probe::{Unresolved, Verdict, furthest};
-use dist_program::HostError;
-use distping_report::{Found, Outcome};
-use std::alloc::Global;
-use std::net::SocketAddr;
+use dist_probe::Verdict;
+use distping_report::Found;
+use std::alloc::{AllocError, Global};
 
 /// What was found at each address so far, and the verdict upon it.
 #[derive(Drop)]
@@ -16,54 +13,33 @@ pub struct Tries {
     pub found: Vec<Found>,
     /// The verdict upon each.
     pub verdicts: Vec<Verdict>,
+    // There are as many of both.
+    pub ghost paired: { length found.items ≡ length verdicts.items },
 }
 
 impl Tries {
     /// No address so far.
-    pub fn nothing(alloc: Global) -> Tries {
+    pub fn nothing(alloc: Global) -> Tries
+        ensures { result.verdicts.items ≡ [] }
+    {
         Tries {
             found: Vec::new(alloc),
             verdicts: Vec::new(alloc),
         }
     }
-}
 
-// That a host's name gave no address, as a verdict.
-fn host_verdict(error: HostError) -> Verdict
-    ensures { result ≡ host_verdict error }
-{
-    match error {
-        HostError::NoName => Verdict::NoHost(Unresolved::NoName),
-        HostError::Failed => Verdict::NoHost(Unresolved::Failed),
-        HostError::Silent => Verdict::ResolverSilent,
-        HostError::NoMemory => Verdict::NoMemory,
-    }
-}
-
-/// What the addresses come to: the verdict of the first of those that got furthest. There is no host where there is none.
-pub fn outcome_of(addresses: Vec<SocketAddr>, all: Tries) -> Outcome {
-    let Tries { found, verdicts } = all;
-    if verdicts.is_empty() {
-        return nowhere(addresses, verdicts, HostError::NoName);
-    }
-    let at = furthest(&verdicts);
-    match (verdicts.get(at).copied(), found.into_iter().nth(at)) {
-        (Some(verdict), Some(found)) => Outcome {
-            verdict,
-            found,
-            addresses,
-            verdicts,
-        },
-        _ => nowhere(addresses, verdicts, HostError::NoName),
-    }
-}
-
-/// What it comes to where the host has no address.
-pub fn nowhere(addresses: Vec<SocketAddr>, verdicts: Vec<Verdict>, error: HostError) -> Outcome {
-    Outcome {
-        verdict: host_verdict(error),
-        found: Found::nothing(None),
-        addresses,
-        verdicts,
+    /// One address more.
+    pub fn push(&mut self, found: Found, verdict: Verdict) -> Result<(), AllocError>
+        ensures found { OnOk result (self.new.found.items ≡ self.old.found.items ++ found ∷ []) }
+        ensures verdict { OnOk result (self.new.verdicts.items ≡ self.old.verdicts.items ++ verdict ∷ []) }
+    {
+        self.verdicts.push(verdict)?;
+        match self.found.push(found) {
+            Ok(()) => Ok(()),
+            Err(error) => {
+                self.verdicts.pop();
+                Err(error.into())
+            }
+        }
     }
 }

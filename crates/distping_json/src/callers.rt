@@ -19,7 +19,7 @@ fn put_call(
     listen: &Listen<'_>,
     caller: &Caller,
 ) -> Result<(), AllocError>
-    ensures { OnOk result (PutsMembers (call_layout listen.now) out.old out.new) }
+    ensures { OnOk result (PutsMembers (call_layout listen.now caller.now) out.old out.new) }
 {
     let members = [
         ("name", Value::Name(listen.setup.name.bytes())),
@@ -38,11 +38,10 @@ fn put_taken(
 ) -> Result<(), AllocError>
     ensures { OnOk result (PutsMembers (taken_layout taken) out.old out.new) }
 {
-    let (name, cause) = taken.texts();
     let members = [
         ("lacking", Value::Names(lacking)),
-        ("verdict", Value::Text(name)),
-        ("cause", Value::Text(cause)),
+        ("verdict", Value::Text(taken.name())),
+        ("cause", Value::Text(taken.cause())),
         ("exit", small_number(u16::from(taken.status()))),
     ];
     put_members(alloc, out, &members)

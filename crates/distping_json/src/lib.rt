@@ -14,6 +14,6 @@ mod values;
 mod watched;
 
 pub use callers::caller_object;
-pub use many::{left_out_object, pair_object, summary_object};
+pub use many::{left_out_object, more_left_out_object, pair_object, summary_object};
 pub use nodes::{group_object, object_of};
 pub use watched::{change_object, latency_object};

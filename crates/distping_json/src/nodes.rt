@@ -2,8 +2,9 @@
 
 ghost use Rattle.std.specs.Prelude.{IfOk, OnOk, codes, string_bytes};
 ghost use Rattle.dist_names.specs.Escaped.{escapes_of};
-ghost use Rattle.distping_json.specs.Layouts.{group_layout, node_layout};
-ghost use Rattle.distping_json.specs.Objects.{IsObjectLine, PutsMembers, member, no_member, nothing, or_null, some_text, text};
+ghost use Rattle.dist_cluster.specs.Targets.{group_word};
+ghost use Rattle.distping_json.specs.Layouts.{address_shape, group_layout, node_layout};
+ghost use Rattle.distping_json.specs.Objects.{IsObjectLine, PutsMembers, member, no_member, nothing, text};
 
 use crate::member::{Value, begin_line, end_line, put_members};
 use crate::parts::{
@@ -25,7 +26,7 @@ fn put_node_names(
 ) -> Result<(), AllocError>
     ensures { OnOk result (PutsMembers (member (codes "node") (text (escapes_of dial.now.node.now))
         (member (codes "name") (text (escapes_of dial.now.own.now))
-        (member (codes "address") (or_null some_text) no_member))) out.old out.new) }
+        (member (codes "address") (address_shape found.now.address) no_member))) out.old out.new) }
 {
     let members = [
         ("node", Value::Name(dial.node.bytes())),
@@ -70,9 +71,9 @@ fn put_group_names(
     group: &Group,
     found: &Found,
 ) -> Result<(), AllocError>
-    ensures { OnOk result (PutsMembers (member (codes "node") some_text
+    ensures { OnOk result (PutsMembers (member (codes "node") (text (escapes_of (group_word group.now)))
         (member (codes "name") nothing
-        (member (codes "address") (or_null some_text)
+        (member (codes "address") (address_shape found.now.address)
         (member (codes "epmd") nothing no_member)))) out.old out.new) }
 {
     let members = [
@@ -91,7 +92,7 @@ fn put_group(
     group: &Group,
     outcome: &Outcome,
 ) -> Result<(), AllocError>
-    ensures { OnOk result (PutsMembers (group_layout outcome.now) out.old out.new) }
+    ensures { OnOk result (PutsMembers (group_layout group.now outcome.now) out.old out.new) }
 {
     let (found, verdict) = (&outcome.found, outcome.verdict);
     put_group_names(alloc, out, group, found)?;
@@ -103,7 +104,8 @@ fn put_group(
 
 /// What a host that gave no node comes to, as one line.
 pub fn group_object(alloc: Global, group: &Group, outcome: &Outcome) -> Result<String, AllocError>
-    ensures { IfOk result (λ line. IsObjectLine (group_layout outcome.now) (string_bytes line)) }
+    ensures { IfOk result
+        (λ line. IsObjectLine (group_layout group.now outcome.now) (string_bytes line)) }
 {
     let mut out = begin_line(alloc)?;
     put_group(alloc, &mut out, group, outcome)?;

@@ -2,8 +2,8 @@
 //! what each address gave.
 
 ghost use Rattle.std.specs.Prelude.{◌≡◌, OnOk, Some, codes};
-ghost use Rattle.distping_json.specs.Layouts.{number_or_null, peer_shape, registration_shape, try_layout, verdict_layout};
-ghost use Rattle.distping_json.specs.Objects.{PutsMembers, PutsValue, member, no_member, object, objects, or_null, some_text};
+ghost use Rattle.distping_json.specs.Layouts.{number_or_null, peer_shape, registration_shape, status_shape, try_layout, verdict_layout};
+ghost use Rattle.distping_json.specs.Objects.{PutsMembers, PutsValue, member, no_member, object, objects};
 
 use crate::member::{Value, put_inner, put_members, put_object};
 use crate::values::{answer_or_null, number_or_null, small_number, status_or_null};
@@ -26,7 +26,7 @@ pub fn peer_lacks(peer: &Option<Peer>) -> Flags {
 /// The missing flags: of the probe where the node refuses it for them, else of the node where newer releases refuse it.
 pub fn lacking_flags(verdict: Verdict, peer: &Option<Peer>) -> Flags {
     match verdict {
-        Verdict::LacksFlags(flags) => flags,
+        Verdict::LacksFlags(_, flags) => flags,
         _ => peer_lacks(peer),
     }
 }
@@ -89,7 +89,7 @@ pub fn put_peer_or_null(
 /// Writes the port that was dialled and the status that the node sent.
 pub fn put_answer(alloc: Global, out: &mut Writer, found: &Found) -> Result<(), AllocError>
     ensures { OnOk result (PutsMembers (member (codes "port") (number_or_null found.now.port)
-        (member (codes "status") (or_null some_text) no_member)) out.old out.new) }
+        (member (codes "status") (status_shape found.now.status) no_member)) out.old out.new) }
 {
     let members = [
         ("port", number_or_null(found.port)),

@@ -1,13 +1,13 @@
 //! Values that objects of several kinds have.
 
 ghost use Rattle.std.specs.Prelude.{◌≡◌};
-ghost use Rattle.distping_json.specs.Layouts.{number_or_null};
+ghost use Rattle.distping_json.specs.Layouts.{address_shape, number_or_null, status_shape};
 ghost use Rattle.distping_json.specs.Objects.{Narrows, number, or_null, shape_of, some_text};
 
 use crate::member::Value;
 use dist_messages::Status;
 use dist_probe::{Unreached, Verdict};
-use distping_report::{Piece, static_text};
+use distping_report::{Piece, status_word};
 use std::net::SocketAddr;
 
 /// A number of 16 bits.
@@ -29,7 +29,7 @@ pub fn number_or_null(value: Option<u16>) -> Value<'static>
 
 /// An address without its port, where there is one.
 pub fn address_or_null(address: Option<SocketAddr>) -> Value<'static>
-    ensures { Narrows (shape_of result) (or_null some_text) }
+    ensures { shape_of result ≡ address_shape address }
 {
     match address {
         Some(address) => Value::Piece(Piece::Host(address.ip())),
@@ -39,10 +39,10 @@ pub fn address_or_null(address: Option<SocketAddr>) -> Value<'static>
 
 /// The status that the node sent, where it sent one.
 pub fn status_or_null(status: Option<Status>) -> Value<'static>
-    ensures { Narrows (shape_of result) (or_null some_text) }
+    ensures { shape_of result ≡ status_shape status }
 {
     match status {
-        Some(status) => Value::Text(static_text(status.text())),
+        Some(status) => Value::Text(status_word(status)),
         None => Value::Null,
     }
 }

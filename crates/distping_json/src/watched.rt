@@ -1,8 +1,8 @@
 //! What is said of a node that is watched, as objects of JSON in a line each.
 
-ghost use Rattle.std.specs.Prelude.{IfOk, OnOk, string_bytes};
-ghost use Rattle.distping_json.specs.Layouts.{change_layout};
-ghost use Rattle.distping_json.specs.Objects.{IsObjectLine, Narrows, PutsMembers, or_null, shape_of, some_text};
+ghost use Rattle.std.specs.Prelude.{◌≡◌, IfOk, OnOk, string_bytes};
+ghost use Rattle.distping_json.specs.Layouts.{before_shape, change_layout};
+ghost use Rattle.distping_json.specs.Objects.{IsObjectLine, PutsMembers, shape_of};
 
 use crate::member::{Value, begin_line, end_line, put_members};
 use dist_cluster::Change;
@@ -12,7 +12,7 @@ use std::alloc::{AllocError, Global};
 
 // The word of the verdict before, where there was one.
 fn before_or_null(change: &Change) -> Value<'_>
-    ensures { Narrows (shape_of result) (or_null some_text) }
+    ensures { shape_of result ≡ before_shape change.now.before }
 {
     match &change.before {
         Some(before) => Value::Name(verdict_word_in(before)),
@@ -28,7 +28,7 @@ fn put_change<'x>(
     seen: &Seen<'x>,
     change: &'x Change,
 ) -> Result<(), AllocError>
-    ensures { OnOk result (PutsMembers (change_layout seen.now) out.old out.new) }
+    ensures { OnOk result (PutsMembers (change_layout time.now seen.now change.now) out.old out.new) }
 {
     let members = [
         ("time", Value::Name(time.as_bytes())),
@@ -48,7 +48,7 @@ pub fn change_object(
     seen: &Seen<'_>,
     change: &Change,
 ) -> Result<String, AllocError>
-    ensures { IfOk result (λ line. IsObjectLine (change_layout seen.now) (string_bytes line)) }
+    ensures { IfOk result (λ line. IsObjectLine (change_layout time.now seen.now change.now) (string_bytes line)) }
 {
     let mut out = begin_line(alloc)?;
     put_change(alloc, &mut out, time, seen, change)?;

@@ -26,8 +26,8 @@ use Rattle.dist_core.specs.declared.event.Event.TheVariants as event
 use Rattle.dist_core.specs.declared.reply.Reply.{Reply}
 use Rattle.dist_core.specs.declared.step_error.StepError.{StepError}
 use Rattle.dist_core.specs.declared.step_error.StepError.TheVariants as error
-use Rattle.dist_epmd_calls.specs.declared.bodies.Arrived.{Arrived}
-use Rattle.dist_epmd_calls.specs.declared.bodies.Arrived.TheVariants as arrived
+use Rattle.dist_probe.specs.declared.bodies.Came.{Came}
+use Rattle.dist_probe.specs.declared.bodies.Came.TheVariants as came
 use Rattle.dist_probe.specs.declared.asking.Peer.{Peer}
 use Rattle.dist_stream.specs.Stream.{StreamState}
 use Rattle.dist_stream.specs.declared.turn_error.TurnError.{TurnError}
@@ -262,18 +262,18 @@ module _ (s : Setup) (steps fresh : ℕ) (compares : Bool) (peer : Peer) (body :
 -- ---- the talk
 
 -- what was heard in the place of a body shows how the end stands
-instead-shows : (e : Option End) (came : Arrived) (t : Taken) → IsHeardAs (awaited_of e) came (Err t) → ShowsEnd t e
-instead-shows e (arrived.Body body) t is = subst (λ (v : Taken). ShowsEnd v e) (sym is) tt
-instead-shows e (arrived.Long front) t is = let same : t ≡ taken.Foreign (service_of front) = cc in subst (λ (v : Taken). ShowsEnd v e) (sym same) tt
-instead-shows e (arrived.Stopped stop) t is = let same : t ≡ fault_verdict (awaited_of e) stop = cc in subst (λ (v : Taken). ShowsEnd v e) (sym same) (fault-shows (awaited_of e) e refl stop)
-instead-shows e arrived.NoMemory t is = let same : t ≡ taken.NoMemory = cc in subst (λ (v : Taken). ShowsEnd v e) (sym same) tt
+instead-shows : (e : Option End) (frame : Came) (t : Taken) → IsHeardAs (awaited_of e) frame (Err t) → ShowsEnd t e
+instead-shows e (came.Body body) t is = subst (λ (v : Taken). ShowsEnd v e) (sym is) tt
+instead-shows e (came.Front front) t is = let same : t ≡ taken.Foreign (service_of front) = cc in subst (λ (v : Taken). ShowsEnd v e) (sym same) tt
+instead-shows e (came.Stopped stop count) t is = let same : t ≡ fault_verdict (awaited_of e) stop = cc in subst (λ (v : Taken). ShowsEnd v e) (sym same) (fault-shows (awaited_of e) e refl stop)
+instead-shows e came.NoMemory t is = let same : t ≡ taken.NoMemory = cc in subst (λ (v : Taken). ShowsEnd v e) (sym same) tt
 
 -- what was heard as a body says what it reads as
-body-says : (waits : Option Awaited) (came : Arrived) (inbound : Inbound) → IsHeardAs waits came (Ok inbound) → inbound.content ≡ content_as (read Dialler inbound.body)
-body-says waits (arrived.Body body) inbound is = is.1 ∙ ap (λ (x : List ℕ). content_as (read Dialler x)) (sym is.0)
-body-says waits (arrived.Long front) inbound is = absurd cc
-body-says waits (arrived.Stopped stop) inbound is = absurd cc
-body-says waits arrived.NoMemory inbound is = absurd cc
+body-says : (waits : Option Awaited) (frame : Came) (inbound : Inbound) → IsHeardAs waits frame (Ok inbound) → inbound.content ≡ content_as (read Dialler inbound.body)
+body-says waits (came.Body body) inbound is = is.1 ∙ ap (λ (x : List ℕ). content_as (read Dialler x)) (sym is.0)
+body-says waits (came.Front front) inbound is = absurd cc
+body-says waits (came.Stopped stop count) inbound is = absurd cc
+body-says waits came.NoMemory inbound is = absurd cc
 
 -- the last verdict shows what it has to, where each does
 last-shows : (s : Setup) (fresh : ℕ) (compares : Bool) (says : Content) (m : NodeState) (o : Option Taken) → AllShow s fresh compares says m o → Shows s fresh compares says (last_verdict o) m
@@ -284,19 +284,19 @@ module _ (s : Setup) (fresh : ℕ) (compares : Bool) (peer : Peer) (steps : ℕ)
   abbrev named : NodeState
   named = alone s steps (named_end fresh peer.flags peer.creation peer.name)
 
-  decided : (heard : Result Inbound Taken) (came : Arrived) (mid : StreamState) (between : ℕ) → IsHeardAs (awaited_of (only named)) came heard → DecidesBy heard fresh compares named m mid new between left t → Shows s fresh compares (content.Name peer) t m
-  decided (Ok inbound) came mid between is d =
-      let says = body-says (awaited_of (only named)) came inbound is in
+  decided : (heard : Result Inbound Taken) (frame : Came) (mid : StreamState) (between : ℕ) → IsHeardAs (awaited_of (only named)) frame heard → DecidesBy heard fresh compares named m mid new between left t → Shows s fresh compares (content.Name peer) t m
+  decided (Ok inbound) frame mid between is d =
+      let says = body-says (awaited_of (only named)) frame inbound is in
       let takes = subst (λ (x : Content). TakesUnless fresh inbound.body named m mid new between left d.verdict (own_verdict compares (Some awaited.Reply) x)) says d.takes in
       let all = second-part s steps fresh compares peer inbound.body m mid new between left d.verdict (read Dialler inbound.body) refl compares refl takes in
       subst (λ (v : Taken). Shows s fresh compares (content.Name peer) v m) (sym d.is) (last-shows s fresh compares (content.Name peer) m d.verdict all)
-  decided (Err v) came mid between is d =
-      let shown : ShowsEnd v (only m) = subst (λ (k : NodeState). ShowsEnd v (only k)) (sym d.0) (instead-shows (only named) came v is) in
+  decided (Err v) frame mid between is d =
+      let shown : ShowsEnd v (only m) = subst (λ (k : NodeState). ShowsEnd v (only k)) (sym d.0) (instead-shows (only named) frame v is) in
       subst (λ (v : Taken). Shows s fresh compares (content.Name peer) v m) (sym d.2)
       (put s fresh compares (content.Name peer) m (never-up m named (named_end fresh peer.flags peer.creation peer.name) d.0 refl (λ kept e. absurd cc)) v shown)
 
   talked-on : (old : StreamState) (turns : ℕ) → TalksOn fresh compares named m old new turns left t → Shows s fresh compares (content.Name peer) t m
-  talked-on old turns h = let hears = h.hears in decided h.heard hears.came h.mid h.between hears.means h.decides
+  talked-on old turns h = let hears = h.hears in decided h.heard hears.frame h.mid h.between hears.means h.decides
 
 module _ (s : Setup) (steps fresh : ℕ) (compares : Bool) (body : List ℕ) (m : NodeState) (new : StreamState) (left : ℕ) (t : Taken) where
   behind : (verdict : Option Taken) (after : NodeState) (mid : StreamState) (between : ℕ) → First s steps fresh compares (content_as (read Dialler body)) after verdict → GoesOn verdict fresh compares after m mid new between left t → Shows s fresh compares (content_as (read Dialler body)) t m

@@ -22,9 +22,9 @@ use Rattle.dist_core.specs.Step.{step}
 use Rattle.dist_core.specs.declared.event.Event.TheVariants as event
 use Rattle.dist_core.specs.declared.reply.Reply.{Reply}
 use Rattle.dist_core.specs.declared.step_error.StepError.{StepError}
-use Rattle.dist_epmd_calls.specs.declared.bodies.Arrived.{Arrived}
-use Rattle.dist_epmd_calls.specs.declared.bodies.Arrived.TheVariants as arrived
 use Rattle.dist_probe.specs.Bodies.{HearsFrameOf}
+use Rattle.dist_probe.specs.declared.bodies.Came.{Came}
+use Rattle.dist_probe.specs.declared.bodies.Came.TheVariants as came
 use Rattle.dist_probe.specs.Ending.{Rests}
 use Rattle.dist_probe.specs.Services.{service_of}
 use Rattle.dist_probe.specs.declared.asking.Peer.{Peer}
@@ -68,29 +68,24 @@ abbrev pub content_as : Result Message MessageError → Content
 content_as (Ok m) = content_in m
 content_as (Err e) = content.Other
 
--- A length above this one counts only before a tag of the dialling side: two bytes of another service may look like one. Our own
--- choice.
-abbrev pub most : ℕ
-most = 1024
-
 -- the first bytes of what a dialling side says: n of an older name, N of a newer one, s of a status, c of a complement, r of a reply
 -- (ERTS User's Guide, Distribution Handshake)
 abbrev pub tags : List ℕ
 tags = 0x6e ∷ 0x4e ∷ 0x73 ∷ 0x63 ∷ 0x72 ∷ []
 
 -- what is heard where the node awaits this: a body and what it says, or the verdict upon what stands in its place
-abbrev pub IsHeardAs : Option Awaited → Arrived → Result Inbound Taken → Type 0
-IsHeardAs waits (arrived.Body body) (Ok inbound) = (inbound.body ≡ body) × (inbound.content ≡ content_as (read Dialler body))
-IsHeardAs waits (arrived.Body body) (Err t) = t ≡ taken.NoMemory
-IsHeardAs waits (arrived.Long front) heard = heard ≡ Err (taken.Foreign (service_of front))
-IsHeardAs waits (arrived.Stopped stop) heard = heard ≡ Err (fault_verdict waits stop)
-IsHeardAs waits arrived.NoMemory heard = heard ≡ Err taken.NoMemory
+abbrev pub IsHeardAs : Option Awaited → Came → Result Inbound Taken → Type 0
+IsHeardAs waits (came.Body body) (Ok inbound) = (inbound.body ≡ body) × (inbound.content ≡ content_as (read Dialler body))
+IsHeardAs waits (came.Body body) (Err t) = t ≡ taken.NoMemory
+IsHeardAs waits (came.Front front) heard = heard ≡ Err (taken.Foreign (service_of front))
+IsHeardAs waits (came.Stopped stop count) heard = heard ≡ Err (fault_verdict waits stop)
+IsHeardAs waits came.NoMemory heard = heard ≡ Err taken.NoMemory
 
 -- One body was heard where the node awaits this, or why none was, within the turns that were there; nothing was written.
 pub record HearsBody (waits : Option Awaited) (old new : StreamState) (turns left : ℕ) (heard : Result Inbound Taken) : Type 0 where
-  pub came : Arrived
-  pub hears : HearsFrameOf old new turns left most tags came
-  pub means : IsHeardAs waits came heard
+  pub frame : Came
+  pub hears : HearsFrameOf old new turns left tags frame
+  pub means : IsHeardAs waits frame heard
 
 -- ---- what becomes of a body
 

@@ -11,20 +11,16 @@ ghost use Rattle.distping_listen.specs.Listening.{close_verdict, cut_verdict, en
 
 use dist_core::{Awaited, Event, Node, StepError, Still, Why};
 use dist_core_setup::Setup;
-use dist_epmd_calls::Arrived;
 use dist_messages::{Message, MessageError, Side, decode};
 use dist_names::ByteString;
 use dist_peers::EndId;
-use dist_probe::{Peer, read_frame_of, service_of};
+use dist_probe::{Came, Peer, read_frame_of, service_of};
 use dist_stream::{Limited, Stream, TurnError};
 use distping_report::{Listen, Taken};
 use std::alloc::Global;
 
-// A length above this one counts only before a tag, as at the dialling probe. Our own choice.
-const MOST: u16 = 1024;
-
 // The tags of the dialling side: an older name, a newer one, a status, a complement, a reply. Source: ERTS User's Guide,
-// Distribution Handshake.
+// Distribution Handshake. A length counts only before one of them, as at the dialling probe.
 const TAGS: [u8; 5] = [0x6e, 0x4e, 0x73, 0x63, 0x72];
 
 /// The node's one end.
@@ -176,8 +172,7 @@ fn read_body(alloc: Global, body: ByteString) -> Result<Inbound, Taken>
 
 /// The next body of the dialling side, or the verdict upon what stands in its place, where this is awaited. It writes nothing.
 ///
-/// A body has up to 65,535 bytes. Where a length is above 1,024, and the byte behind it is no tag, those three bytes alone are
-/// read.
+/// A body has up to 65,535 bytes. Where the byte behind a length is no tag, those three bytes alone are read.
 pub fn hear<S: Stream>(
     alloc: Global,
     limited: &mut Limited<'_, S>,
@@ -187,11 +182,11 @@ pub fn hear<S: Stream>(
     ensures hears { HearsBody awaited (S.meaning limited.old.stream.now) (S.meaning limited.new.stream.now) limited.old.left limited.new.left result }
     ensures loan { limited.new.stream.ghost_name ≡ limited.old.stream.ghost_name }
 {
-    match read_frame_of(alloc, limited, MOST, &TAGS) {
-        Arrived::Body(body) => read_body(alloc, body),
-        Arrived::Long(front) => Err(Taken::Foreign(service_of(front))),
-        Arrived::Stopped(fault) => Err(fault_verdict(awaited, fault)),
-        Arrived::NoMemory => Err(Taken::NoMemory),
+    match read_frame_of(alloc, limited, &TAGS) {
+        Came::Body(body) => read_body(alloc, body),
+        Came::Front(front) => Err(Taken::Foreign(service_of(front))),
+        Came::Stopped(fault, _) => Err(fault_verdict(awaited, fault)),
+        Came::NoMemory => Err(Taken::NoMemory),
     }
 }
 

@@ -1,3 +1,5 @@
 pub mod Texts
-pub mod TakenStatus
+pub mod TakenWords
 pub mod ManyTexts
+pub mod Watched
+pub mod Shown

@@ -1,6 +1,7 @@
 //! What is asked for: a node that is to be dialled, or a node that listens.
 
 use crate::lines::Lines;
+use crate::listed::Listed;
 use dist_core_setup::Setup;
 use dist_names::NodeName;
 use dist_secret::Cookie;
@@ -14,6 +15,8 @@ pub struct Dial<'a> {
     pub rt: &'a HostRuntime,
     /// Where the steps are printed.
     pub lines: Lines<'a>,
+    /// Of which hosts it was printed what their port mappers know.
+    pub listed: &'a Listed,
     /// The name that the probe gives itself.
     pub own: &'a NodeName,
     /// The node's name.

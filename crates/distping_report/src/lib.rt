@@ -7,21 +7,27 @@
 
 mod asked;
 mod found;
+mod left_out;
 mod lines;
+mod listed;
 mod many_texts;
 mod marks;
 mod moment;
 mod page;
 mod piece;
+mod shown;
 mod taken;
 mod watched;
 
 pub use asked::{Dial, Listen};
 pub use found::{Found, Outcome, Registration};
+pub use left_out::LeftOut;
 pub use lines::{Lines, Output};
-pub use marks::release_texts;
+pub use listed::Listed;
+pub use marks::{release_texts, status_word};
 pub use moment::{now_seconds, utc_text};
 pub use page::Page;
-pub use piece::{Piece, push_piece, static_text};
+pub use piece::{Piece, push_piece};
+pub use shown::MOST_SHOWN;
 pub use taken::{Caller, Taken};
 pub use watched::{Answers, Seen, verdict_word_in};

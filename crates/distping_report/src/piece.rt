@@ -1,10 +1,10 @@
 //! The pieces of a line: what the program says itself, and what somebody else gave, escaped.
 
 ghost use Rattle.std.specs.Prelude.{◌≡◌, ◌++◌, OnOk, string_bytes};
+ghost use Rattle.std.specs.List.{flat_map};
 ghost use Rattle.dist_names.specs.Escaped.{escapes_of, in_double_quotes};
-ghost use Rattle.distping_report.specs.Texts.{PutsPiece};
+ghost use Rattle.distping_report.specs.Texts.{PutsPiece, flag_text};
 
-use dist_epmd_calls::LookupError;
 use dist_flags::Dflag;
 use dist_names::{Flags, escape, quote};
 use std::alloc::{AllocError, Global};
@@ -31,30 +31,25 @@ pub enum Piece<'a> {
     Names(Flags),
     /// An address without a port.
     Host(IpAddr),
-    /// Why a lookup went wrong.
-    Lookup(LookupError),
 }
 
-/// The text that bytes of the program itself are.
-pub fn static_text(bytes: &'static [u8]) -> &'static str {
-    std::str::from_utf8(bytes).unwrap_or("?")
+// Puts a flag behind a text by name, a blank before it, where it is one of these flags.
+fn push_flag(text: &mut String, flags: Flags, flag: Dflag) -> Result<(), AllocError>
+    ensures { OnOk result (string_bytes text.new ≡ string_bytes text.old ++ flag_text flags.0 flag) }
+{
+    if flags.has(flag.flags()) {
+        text.push_str(" ")?;
+        text.push_str(flag.name())?;
+    }
+    Ok(())
 }
 
-/// Puts the flags behind a text by name: this before the first and that before each other, and this behind each.
-pub fn push_flags<'x>(
-    text: &mut String,
-    flags: Flags,
-    first: &'x str,
-    other: &'x str,
-    behind: &str,
-) -> Result<(), AllocError> {
-    let mut any = false;
-    for flag in Dflag::all() {
-        if flags.has(flag.flags()) {
-            let before = if any { other } else { first };
-            push_within(text, before, flag.name(), behind)?;
-            any = true;
-        }
+// Puts those of all flags behind a text by name that are among these flags.
+fn push_flags(text: &mut String, flags: Flags, all: &[Dflag]) -> Result<(), AllocError>
+    ensures { OnOk result (string_bytes text.new ≡ string_bytes text.old ++ flat_map (flag_text flags.0) all.now) }
+{
+    for flag in all {
+        push_flag(text, flags, *flag)?;
     }
     Ok(())
 }
@@ -73,18 +68,6 @@ fn push_foreign(alloc: Global, text: &mut String, bytes: &[u8]) -> Result<(), Al
     text.push_str(&escape(alloc, bytes)?)
 }
 
-// Puts a name behind a text, with this before it and that behind it.
-fn push_within(
-    text: &mut String,
-    before: &str,
-    name: &str,
-    behind: &str,
-) -> Result<(), AllocError> {
-    text.push_str(before)?;
-    text.push_str(name)?;
-    text.push_str(behind)
-}
-
 /// Puts a piece behind a text.
 pub fn push_piece(alloc: Global, text: &mut String, piece: Piece<'_>) -> Result<(), AllocError>
     ensures { OnOk result (PutsPiece piece.entry (string_bytes text.old) (string_bytes text.new)) }
@@ -96,9 +79,8 @@ pub fn push_piece(alloc: Global, text: &mut String, piece: Piece<'_>) -> Result<
         Piece::Escaped(part) => text.push_str(part),
         Piece::Number(number) => write!(text, "{number}"),
         Piece::Digits(flags) => write!(text, "{:x}", flags.0),
-        Piece::Names(flags) => push_flags(text, flags, " ", " ", ""),
+        Piece::Names(flags) => push_flags(text, flags, &Dflag::all()),
         Piece::Host(host) => write!(text, "{host}"),
-        Piece::Lookup(error) => write!(text, "{error}"),
     }
 }
 

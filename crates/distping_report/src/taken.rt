@@ -1,7 +1,7 @@
 //! What came of a connection that was taken.
 
 ghost use Rattle.std.specs.Prelude.{◌≡◌};
-ghost use Rattle.distping_report.specs.TakenStatus.{taken_status};
+ghost use Rattle.distping_report.specs.TakenWords.{taken_cause, taken_status, taken_word, what_dials};
 
 use dist_probe::{Peer, Service};
 use std::net::SocketAddr;
@@ -36,46 +36,59 @@ pub enum Taken {
 }
 
 // What dials, where it is no node.
-fn what_dials(service: Service) -> &'static str {
+fn what_dials(service: Service) -> &'static str
+    ensures { result.now ≡ what_dials service }
+{
     match service {
         Service::Tls => {
             "what dials speaks TLS: a node started with -proto_dist inet_tls, or another client; this listener speaks none"
         }
-        _ => "what dials is no node",
+        Service::Http | Service::Ssh | Service::Other => "what dials is no node",
     }
 }
 
 impl Taken {
-    /// Its word, and what it means, in a sentence without a full stop.
-    pub fn texts(self) -> (&'static str, &'static str) {
+    /// The variant's name, as a program prints it.
+    pub fn name(self) -> &'static str
+        ensures { result.now ≡ taken_word self }
+    {
         match self {
-            Taken::Up => ("Up", "the node reaches us, and has our cookie"),
-            Taken::Answered => (
-                "Answered",
-                "the node reaches us and took our name; no cookie was compared",
-            ),
-            Taken::WrongCookie => ("WrongCookie", "the node reaches us, and has another cookie"),
-            Taken::NoName => ("NoName", "the connection ended before a name was said"),
-            Taken::Left => (
-                "Left",
+            Taken::Up => "Up",
+            Taken::Answered => "Answered",
+            Taken::WrongCookie => "WrongCookie",
+            Taken::NoName => "NoName",
+            Taken::Left => "Left",
+            Taken::Stopped => "Stopped",
+            Taken::WantsName => "WantsName",
+            Taken::NoCaller => "NoCaller",
+            Taken::Silent => "Silent",
+            Taken::Unexpected => "Unexpected",
+            Taken::Foreign(_) => "Foreign",
+            Taken::NoMemory => "NoMemory",
+        }
+    }
+
+    /// What it means, in a sentence without a full stop.
+    pub fn cause(self) -> &'static str
+        ensures { result.now ≡ taken_cause self }
+    {
+        match self {
+            Taken::Up => "the node reaches us, and has our cookie",
+            Taken::Answered => "the node reaches us and took our name; no cookie was compared",
+            Taken::WrongCookie => "the node reaches us, and has another cookie",
+            Taken::NoName => "the connection ended before a name was said",
+            Taken::Left =>
                 "the node closed the connection upon our challenge: it dialled another name than --name, or is a probe without a cookie",
-            ),
-            Taken::Stopped => (
-                "Stopped",
+            Taken::Stopped =>
                 "a distping reaches us, and stopped at our challenge: it tries no cookie, or it dialled another name than --name",
-            ),
-            Taken::WantsName => (
-                "WantsName",
+            Taken::WantsName =>
                 "the node reaches us, and asks for a name (a dynamic name, -name undefined), which this listener does not give",
-            ),
-            Taken::NoCaller => ("NoCaller", "nobody dialled in the time of --seconds"),
-            Taken::Silent => ("Silent", "nothing whole came in time"),
-            Taken::Unexpected => (
-                "Unexpected",
+            Taken::NoCaller => "nobody dialled in the time of --seconds",
+            Taken::Silent => "nothing whole came in time",
+            Taken::Unexpected =>
                 "what came is none that a node of OTP 23 or newer says at this place",
-            ),
-            Taken::Foreign(service) => ("Foreign", what_dials(service)),
-            Taken::NoMemory => ("NoMemory", "memory ran out here"),
+            Taken::Foreign(service) => what_dials(service),
+            Taken::NoMemory => "memory ran out here",
         }
     }
 

@@ -1,5 +1,9 @@
 //! What was seen of a node that is watched.
 
+ghost use Rattle.std.specs.Prelude.{◌≡◌};
+ghost use Rattle.std.specs.List.{before_first, position, position_or_len};
+ghost use Rattle.distping_report.specs.Watched.{is_colon, word_in_verdict};
+
 use dist_cluster::LatencySummary;
 use dist_names::{ByteString, NodeName};
 use dist_probe::Verdict;
@@ -28,11 +32,30 @@ pub struct Answers<'a> {
     pub summary: Option<LatencySummary>,
 }
 
+fn first_colon(text: &[u8]) -> Option<usize>
+    ensures { result ≡ position is_colon text.now }
+{
+    text.iter().position(|byte| *byte == b':')
+}
+
+// Where the first colon of a text stands, or its length where there is none.
+#[tactic(auto, using(dist_names::proofs::Places::place_or_length))]
+fn colon_place(text: &[u8]) -> usize
+    ensures { result ≡ position_or_len is_colon text.now }
+{
+    first_colon(text).unwrap_or(text.len())
+}
+
+// What stands before the first colon of a text.
+fn before_colon(text: &[u8]) -> &[u8]
+    ensures { result.now ≡ before_first is_colon text.now }
+{
+    &text[..colon_place(text)]
+}
+
 /// The word in the text of a verdict.
-pub fn verdict_word_in(text: &ByteString) -> &[u8] {
-    let bytes = text.as_slice();
-    match bytes.iter().position(|byte| *byte == b':') {
-        Some(place) => &bytes[..place],
-        None => bytes,
-    }
+pub fn verdict_word_in(text: &ByteString) -> &[u8]
+    ensures { result.now ≡ word_in_verdict text.now }
+{
+    before_colon(text.as_slice())
 }

@@ -2,7 +2,7 @@
 
 use crate::fault::Fault;
 use crate::refusal::Refusal;
-use crate::refusing::{bad_flags, bad_group, bad_name, bad_number, bad_words};
+use crate::refusing::{bad_address, bad_flags, bad_group, bad_name, bad_number, bad_words};
 use crate::roster::push_target;
 use clap::error::ErrorKind;
 use clap::{Arg, ArgAction, ArgMatches, Command, Error};
@@ -136,7 +136,7 @@ impl<'a> Choices<'a> {
     }
 
     /// How many reads and writes a lookup or a talk may take. The clock ends it before: a quiet one waits for a second, and
-    /// beside those there are turns in plenty. An answer of the port mapper, of 4,096 bytes a turn, is bounded by them.
+    /// beside those there are turns in plenty.
     pub fn turns(&self) -> usize {
         self.seconds as usize + TURNS_IN_PLENTY
     }
@@ -322,6 +322,22 @@ fn cookie_in<'a>(matches: &ArgMatches<'a>) -> Result<CookieSource<'a>, Fault> {
     }
 }
 
+// Whether a port stands behind a host, as in `10.0.0.2:4369` and `[::1]:4369`.
+fn has_port(host: &str) -> bool {
+    match host.rsplit_once(':') {
+        Some((front, _)) => front.ends_with(']') || !front.contains(':'),
+        None => false,
+    }
+}
+
+// The host to connect to, where one is given.
+fn address_in<'a>(alloc: Global, matches: &ArgMatches<'a>) -> Result<Option<&'a str>, Refusal> {
+    match matches.get_str("address") {
+        Some(host) if has_port(host) => Err(bad_address(alloc, host)),
+        address => Ok(address),
+    }
+}
+
 // How often nodes are probed, where they are watched.
 fn rhythm_in(watch: Option<u16>, count: Option<u16>) -> Result<Option<Rhythm>, Fault> {
     match (watch, count) {
@@ -345,7 +361,7 @@ fn choices_in<'a>(
         flags,
         mapper_port: mapper_port.unwrap_or(usual_port),
         port,
-        address: matches.get_str("address"),
+        address: address_in(alloc, matches)?,
         seconds: seconds.unwrap_or(CONNECT_SECONDS),
         has_limit: seconds.is_some(),
         listen,

@@ -20,6 +20,7 @@ fn not_private(alloc: Global, path: &str) -> Refusal {
 fn refusal_of(alloc: Global, fault: CookieFault) -> Refusal {
     match fault {
         CookieFault::OpenFailed => Refusal::Fault(Fault::OpenFailed),
+        CookieFault::NotStored => Refusal::Fault(Fault::NotStored),
         CookieFault::NotPrivate(path) => not_private(alloc, &path),
         CookieFault::NoCookie(error) => Refusal::Fault(Fault::NoCookie(error)),
         CookieFault::NoMemory => Refusal::Fault(Fault::NoMemory),

@@ -25,6 +25,8 @@ pub enum Fault {
     OneNodeAlone,
     /// The cookie's file could not be opened.
     OpenFailed,
+    /// The cookie's file is a pipe, a socket or a device.
+    NotStored,
     /// The cookie's file has no cookie.
     NoCookie(CookieError),
     /// The file of names could not be opened.
@@ -106,8 +108,9 @@ impl Fault {
             Fault::RosterClosed => "OpenFailed: the file of --nodes",
             Fault::RosterUnread => "ReadFailed: the file of --nodes",
             Fault::RosterTooLong => "TooLong: the file of --nodes has more than 1048576 bytes",
-            Fault::TooManyNodes => "more than 1024 nodes are named, or known to the port mappers",
+            Fault::TooManyNodes => "more than 1024 nodes are named",
             Fault::OpenFailed => "OpenFailed: the cookie's file",
+            Fault::NotStored => "OpenFailed: the cookie's file is a pipe, a socket or a device",
             Fault::NoCookie(error) => error.name(),
             Fault::ListenFailed(_) => "ListenFailed",
             Fault::NoListenAddress => "ListenFailed: the host of --address has no address",

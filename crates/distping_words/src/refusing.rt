@@ -56,6 +56,15 @@ pub fn bad_flags(alloc: Global, word: &str) -> Refusal {
     refuse(with_word(alloc, text, word))
 }
 
+/// What stands behind `--address`, with a port.
+pub fn bad_address(alloc: Global, word: &str) -> Refusal {
+    refuse(with_word(
+        alloc,
+        "--address takes a host, and no port behind it: ",
+        word,
+    ))
+}
+
 /// A word that should be a number, behind this one.
 pub fn bad_number(alloc: Global, id: &str, word: &str) -> Refusal {
     refuse(number_sentence(alloc, PROGRAM, id, word))

@@ -11,6 +11,7 @@ use std::alloc::Global;
 fn fault_of(alloc: Global, fault: CookieFault) -> Fault {
     match fault {
         CookieFault::OpenFailed => Fault::OpenFailed,
+        CookieFault::NotStored => Fault::NotStored,
         CookieFault::NotPrivate(path) => not_private(alloc, &path),
         CookieFault::NoCookie(error) => Fault::NoCookie(error),
         CookieFault::NoMemory => Fault::NoMemory,

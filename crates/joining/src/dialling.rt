@@ -143,6 +143,7 @@ fn link_over(
         stream: with_turns(stream)?,
         record,
         packets: Packets::behind_handshake(alloc, MOST_OF_PACKET, rest),
+        waiting: None,
     })
 }
 

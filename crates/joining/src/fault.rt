@@ -24,6 +24,8 @@ pub enum Fault {
     BadName,
     /// The cookie's file could not be opened.
     OpenFailed,
+    /// The cookie's file is a pipe, a socket or a device.
+    NotStored,
     /// Others than its owner may use the cookie's file of this name, which stands between double quotes and is safe to print.
     NotPrivate(String),
     /// The cookie's file has no cookie.
@@ -86,6 +88,7 @@ fn no_host_text(error: HostError) -> &'static str {
         HostError::NoName => "NoHost: the host's name has no address here",
         HostError::Failed => "NoHost: the resolver failed, as where no name server answers it",
         HostError::Silent => "NoHost: the resolver gave no answer in time",
+        HostError::NoDescriptors => "NoHost: no descriptor was left to ask the resolver with",
         HostError::NoMemory => "NoMemory",
     }
 }
@@ -112,6 +115,7 @@ impl Fault {
             Fault::BadName =>
                 "a node's name has one @, something on both sides, and 3 to 255 bytes",
             Fault::OpenFailed => "OpenFailed: the cookie's file",
+            Fault::NotStored => "OpenFailed: the cookie's file is a pipe, a socket or a device",
             Fault::NotPrivate(_) => "NotPrivate",
             Fault::NoCookie(error) => error.name(),
             Fault::NoHost(error) => no_host_text(*error),

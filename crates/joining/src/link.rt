@@ -2,9 +2,13 @@
 //! up.
 
 use crate::fault::{Fault, loss_fault};
+use crate::printing::{hand_on, try_hand_on};
+use crossbeam_channel::Sender;
+use dist_program::{Resolving, one_turn};
 use distribution::{Due, Limited, Packets, SocketStream, Ticker, UpRecord, Why, tick};
-use std::io::Write;
+use std::alloc::Global;
 use std::sync::atomic::{AtomicBool, Ordering};
+use std::thread;
 use std::time::{Clock, Instant};
 
 // The most bytes of one read.
@@ -12,6 +16,19 @@ const PIECE: usize = 4096;
 
 // How many writes a tick may take.
 const TURNS_OF_A_TICK: usize = 10;
+
+/// What a link is kept with.
+#[derive(Clone, Copy)]
+pub struct Keeping<'a, R: Resolving> {
+    /// The clock, and what may wait.
+    pub rt: &'a R,
+    /// Where memory for lines comes from.
+    pub alloc: Global,
+    /// Where lines go.
+    pub lines: &'a Sender<String>,
+    /// Whether the program is to leave.
+    pub ended: &'a AtomicBool,
+}
 
 /// A link that is up.
 #[derive(Drop)]
@@ -22,6 +39,8 @@ pub struct Link {
     pub record: UpRecord,
     /// The packets that come on it.
     pub packets: Packets,
+    /// The line of the last packet, where there is no room for it yet. Until there is, nothing is read.
+    pub waiting: Option<String>,
 }
 
 // How many milliseconds have gone by since then.
@@ -50,25 +69,53 @@ impl Link {
         }
     }
 
-    // Prints the next packet that came whole. Whether there was one.
-    fn print_packet<W: Write>(&mut self, out: &mut W) -> Result<bool, Fault> {
+    // Hands on the line that waits, and returns whether none waits any more.
+    fn hand_on_waiting<R: Resolving>(&mut self, with: &Keeping<'_, R>) -> Result<bool, Fault> {
+        if let Some(line) = self.waiting.take() {
+            self.waiting = try_hand_on(with.rt, with.lines, line)?;
+        }
+        Ok(self.waiting.is_none())
+    }
+
+    // Prints the next packet that came whole, unless it is a tick. Whether there was one, and no line waits.
+    fn print_packet<R: Resolving>(&mut self, with: &Keeping<'_, R>) -> Result<bool, Fault> {
+        if !self.hand_on_waiting(with)? {
+            return Ok(false);
+        }
         let len = match self.packets.front()? {
             Some(packet) => packet.len(),
             None => return Ok(false),
         };
         self.packets.drop_front();
-        writeln!(out, "packet {len}")?;
+        if len > 0 {
+            self.waiting = Some(format!(in with.alloc; "packet {len}\n")?);
+        }
         Ok(true)
     }
 
-    // Prints the packets that came whole. A piece has fewer than it has bytes.
-    fn print_packets<W: Write>(&mut self, out: &mut W) -> Result<(), Fault> {
+    // Prints the packets that came whole, for as long as there is room for lines. A piece has fewer than it has bytes.
+    fn print_packets<R: Resolving>(&mut self, with: &Keeping<'_, R>) -> Result<(), Fault> {
         for _ in 0..PIECE {
-            if !self.print_packet(out)? {
+            if !self.print_packet(with)? {
                 break;
             }
         }
-        Ok(out.flush()?)
+        Ok(())
+    }
+
+    // Reads what has come, unless a line waits. Nobody is silent to whom nobody listens.
+    fn listen<R: Resolving>(
+        &mut self,
+        with: &Keeping<'_, R>,
+        ticker: &mut Ticker,
+        now: u64,
+    ) -> Result<(), Fault> {
+        if self.waiting.is_some() {
+            ticker.note_read(now);
+            thread::sleep(with.rt, one_turn());
+            return Ok(());
+        }
+        self.read_piece(ticker, now)
     }
 
     // Sends a tick.
@@ -87,15 +134,15 @@ impl Link {
     }
 
     // Does what is due now. `start` is the time from which the ticker counts.
-    fn take_turn<R: Clock>(
+    fn take_turn<R: Resolving>(
         &mut self,
-        rt: &R,
+        with: &Keeping<'_, R>,
         start: &Instant,
         ticker: &mut Ticker,
     ) -> Result<(), Fault> {
-        let now = millis_since(rt, start)?;
+        let now = millis_since(with.rt, start)?;
         match ticker.due(now) {
-            Due::Nothing { wait: _ } => self.read_piece(ticker, now),
+            Due::Nothing { wait: _ } => self.listen(with, ticker, now),
             Due::Tick => self.send_tick(ticker, now),
             Due::GiveUp => Err(Fault::Lost(Why::GaveUp)),
         }
@@ -103,24 +150,21 @@ impl Link {
 
     /// Keeps the link until `ended` says that the program is to leave, or the link is lost. `quarter` is a quarter of the time
     /// after which a silent peer is given up, in milliseconds.
-    pub fn stay<R: Clock, W: Write>(
-        &mut self,
-        rt: &R,
-        quarter: u32,
-        ended: &AtomicBool,
-        out: &mut W,
-    ) -> Result<(), Fault> {
-        let Ok(start) = Instant::now(rt) else {
+    pub fn stay<R: Resolving>(&mut self, with: &Keeping<'_, R>, quarter: u32) -> Result<(), Fault> {
+        let Ok(start) = Instant::now(with.rt) else {
             return Err(Fault::SystemFailed);
         };
         let mut ticker = Ticker::new(quarter, 0);
         for _ in 0..u64::MAX {
-            self.print_packets(out)?;
-            if ended.load(Ordering::SeqCst) {
+            self.print_packets(with)?;
+            if with.ended.load(Ordering::SeqCst) {
                 break;
             }
-            self.take_turn(rt, &start, &mut ticker)?;
+            self.take_turn(with, &start, &mut ticker)?;
         }
-        Ok(())
+        match self.waiting.take() {
+            Some(line) => hand_on(with.rt, with.lines, line),
+            None => Ok(()),
+        }
     }
 }

@@ -16,20 +16,20 @@ mod refusing;
 
 use command::{Asked, Wanted, name_of, request_of};
 use cookie::cookie_of;
+use crossbeam_channel::{Sender, bounded};
 use dialling::{Dial, draw_number, join_node};
 use dist_program::{CONNECT_SECONDS, Resolving, lookup_host, mapper_port, report, words_of};
 use distribution::{Cookie, Cookies, Creation, Flags, Limits, NodeName, Release, Setup, Version};
 use fault::Fault;
-use link::Link;
-use printing::print_up;
+use link::{Keeping, Link};
+use printing::{MOST_WAITING, hand_on, up_text, write_lines};
 use std::alloc::{AllocError, Global};
-use std::io::{self, Write};
 use std::net::SocketAddr;
 use std::process::ExitCode;
 use std::sync::Arc;
 use std::sync::atomic::{AtomicBool, Ordering};
-use std::thread;
 use std::time::Duration;
+use std::{io, thread};
 
 /// How the program is called.
 const HELP: &str =
@@ -59,17 +59,29 @@ const VERSION: &str = "joining 0.2.0, distribution handshake of version 6\n";
 type Mark = Arc<AtomicBool, Global>;
 
 fn main(rt: HostRuntime) -> ExitCode {
-    let done = match marks(rt.alloc()) {
-        Ok((ended, theirs)) => match thread::spawn(&rt, move || watch(rt, &theirs)) {
-            Ok(_) => perform(&rt, &rt, &ended),
-            Err(_) => Err(Fault::SystemFailed),
-        },
-        Err(_) => Err(Fault::NoMemory),
-    };
-    ExitCode::from(match done {
+    ExitCode::from(match play(rt, rt) {
         Ok(()) => 0,
         Err(fault) => report(&mut rt.stderr(), "joining", &fault, fault.status()),
     })
+}
+
+// Does what the command line asks for, while one thread waits for the end of the input, and another one prints. The second handle is
+// the same: what may wait.
+fn play<R: Resolving + Copy + Send + 'static>(rt: HostRuntime, own: R) -> Result<(), Fault> {
+    let (ended, theirs) = marks(rt.alloc())?;
+    let (lines, waiting) = bounded(rt.alloc(), MOST_WAITING)?;
+    let Ok(_) = thread::spawn(&own, move || watch(rt, &theirs)) else {
+        return Err(Fault::SystemFailed);
+    };
+    let Ok(printer) = thread::spawn(&own, move || write_lines(&own, &waiting, &mut rt.stdout()))
+    else {
+        return Err(Fault::SystemFailed);
+    };
+    let done = perform(&rt, &own, &ended, &lines);
+    drop(lines);
+    let printed = printer.join(&own);
+    done?;
+    printed
 }
 
 // One mark twice: for who leaves once it is set, and for the thread that sets it at the end of the input.
@@ -86,25 +98,38 @@ fn watch<R: Input + Drop>(rt: R, ended: &AtomicBool) {
 }
 
 // Does what the command line asks for. The second handle is the same: what may wait for a thread.
-fn perform<R: Resolving>(rt: &HostRuntime, resolver: &R, ended: &AtomicBool) -> Result<(), Fault> {
-    let words = words_of(rt)?;
-    let mapper_port = mapper_port(rt)?;
-    let asked = request_of(rt.alloc(), &words, mapper_port)?;
-    follow(rt, resolver, &asked, ended)
-}
-
-// Does what is asked for.
-fn follow<R: Resolving>(
+fn perform<R: Resolving>(
     rt: &HostRuntime,
     resolver: &R,
-    asked: &Asked<'_>,
     ended: &AtomicBool,
+    lines: &Sender<String>,
 ) -> Result<(), Fault> {
-    match asked {
-        Asked::Help => Ok(rt.stdout().write_all(HELP.as_bytes())?),
-        Asked::Version => Ok(rt.stdout().write_all(VERSION.as_bytes())?),
-        Asked::Joins(wanted) => join_and_stay(rt, resolver, wanted, ended),
+    let words = words_of(rt)?;
+    let mapper_port = mapper_port(rt)?;
+    match request_of(rt.alloc(), &words, mapper_port)? {
+        Asked::Help => hand_text(rt, resolver, lines, HELP),
+        Asked::Version => hand_text(rt, resolver, lines, VERSION),
+        Asked::Joins(wanted) => join_and_stay(
+            rt,
+            &wanted,
+            &Keeping {
+                rt: resolver,
+                alloc: rt.alloc(),
+                lines,
+                ended,
+            },
+        ),
     }
+}
+
+// Prints a text of the program itself.
+fn hand_text<R: Resolving>(
+    rt: &HostRuntime,
+    resolver: &R,
+    lines: &Sender<String>,
+    text: &str,
+) -> Result<(), Fault> {
+    hand_on(resolver, lines, text.to_owned(rt.alloc())?)
 }
 
 // A name at the node's host, so that it is as long or short as the node's.
@@ -169,27 +194,20 @@ fn join<R: Resolving>(rt: &HostRuntime, resolver: &R, wanted: &Wanted<'_>) -> Re
 }
 
 // Keeps the link until the input ends, and leaves.
-fn stay<W: Write>(
-    rt: &HostRuntime,
-    link: &mut Link,
-    quarter: u32,
-    ended: &AtomicBool,
-    out: &mut W,
-) -> Result<(), Fault> {
-    print_up(out, &link.record)?;
-    link.stay(rt, quarter, ended, out)?;
+fn stay<R: Resolving>(with: &Keeping<'_, R>, link: &mut Link, quarter: u32) -> Result<(), Fault> {
+    hand_on(with.rt, with.lines, up_text(with.alloc, &link.record)?)?;
+    link.stay(with, quarter)?;
     let _ = link.stream.shut();
-    Ok(out.write_all(b"left\n")?)
+    hand_on(with.rt, with.lines, "left\n".to_owned(with.alloc)?)
 }
 
 // Joins the node, and keeps the link until the input ends.
 fn join_and_stay<R: Resolving>(
     rt: &HostRuntime,
-    resolver: &R,
     wanted: &Wanted<'_>,
-    ended: &AtomicBool,
+    with: &Keeping<'_, R>,
 ) -> Result<(), Fault> {
-    let mut link = join(rt, resolver, wanted)?;
+    let mut link = join(rt, with.rt, wanted)?;
     let quarter = u32::from(wanted.choices.net_ticktime) * 250;
-    stay(rt, &mut link, quarter, ended, &mut rt.stdout())
+    stay(with, &mut link, quarter)
 }

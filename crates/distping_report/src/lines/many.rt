@@ -1,6 +1,7 @@
 //! The lines that speak of several nodes: where they come from, what can be said of each two of them, what they came to, and what
 //! changes where they are watched.
 
+use crate::left_out::LeftOut;
 use crate::lines::Lines;
 use crate::many_texts::{answers_line, left_out_line, summary_lines};
 use crate::marks::exit_mark;
@@ -47,6 +48,38 @@ impl Lines<'_> {
         self.put_made(left_out_line(self.alloc, text))
     }
 
+    /// So much of what the port mapper says is left out.
+    pub fn put_more_left_out(self, left_out: LeftOut) -> Result<(), Fault> {
+        if left_out.lines > 0 {
+            self.put_count(
+                "!  epmd      no nodes' names, and left out: ",
+                left_out.lines,
+                " more lines\n",
+            )?;
+        }
+        if left_out.nodes > 0 {
+            self.put_count(
+                "!  epmd      more nodes than the 1024 that are dialled, and left out: ",
+                left_out.nodes,
+                "\n",
+            )?;
+        }
+        if left_out.is_cut {
+            self.put_cut()?;
+        }
+        Ok(())
+    }
+
+    // A number between two texts.
+    pub fn put_count(
+        self,
+        front: &'static str,
+        count: u32,
+        back: &'static str,
+    ) -> Result<(), Fault> {
+        self.put(&[Piece::Text(front), Piece::Number(count), Piece::Text(back)])
+    }
+
     // What can be said of two nodes, in a line.
     fn put_pair_line<'x>(
         self,
@@ -54,7 +87,6 @@ impl Lines<'_> {
         second: &'x NodeName,
         pairing: Pairing,
     ) -> Result<(), Fault> {
-        let (name, cause) = pairing.texts();
         self.put(&[
             Piece::Text(pairing_mark(pairing)),
             Piece::Text("  pair      "),
@@ -62,9 +94,9 @@ impl Lines<'_> {
             Piece::Text(" and "),
             Piece::Name(second.bytes()),
             Piece::Text(": "),
-            Piece::Text(name),
+            Piece::Text(pairing.name()),
             Piece::Text(": "),
-            Piece::Text(cause),
+            Piece::Text(pairing.cause()),
             Piece::Text("\n"),
         ])
     }
@@ -78,15 +110,20 @@ impl Lines<'_> {
     ) -> Result<(), Fault> {
         self.put_pair_line(first, second, pairing)?;
         match pairing {
-            Pairing::LacksFlags(of_first, of_second) => self.put_lacks(of_first, of_second),
+            Pairing::LacksFlags(of_first, of_second) => {
+                self.put_lacks("   lacking   the first:", of_first)?;
+                self.put_lacks("   lacking   the second:", of_second)
+            }
             _ => Ok(()),
         }
     }
 
-    // The flags that each of two nodes lacks.
-    fn put_lacks(self, of_first: Flags, of_second: Flags) -> Result<(), Fault> {
-        self.put_flags("   lacking   the first:", of_first)?;
-        self.put_flags("   lacking   the second:", of_second)
+    // The flags that one of two nodes lacks, where it lacks any.
+    fn put_lacks(self, front: &'static str, flags: Flags) -> Result<(), Fault> {
+        if flags.0 == 0 {
+            return Ok(());
+        }
+        self.put_flags(front, flags)
     }
 
     /// How many nodes came to which verdict, and how many pairs have which word.

@@ -1,11 +1,12 @@
 //! The lines of the steps of a probe, and of a connection that is taken.
 
 use crate::lines::Lines;
-use crate::marks::release_texts;
-use crate::piece::{Piece, static_text};
+use crate::marks::{release_texts, status_word};
+use crate::piece::Piece;
+use crate::shown::{count_lines, split_shown};
 use dist_epmd::PortInfo;
 use dist_epmd_calls::LookupError;
-use dist_flags::{Dflag, Release, Told, missing, told_by};
+use dist_flags::{Dflag, Release, Told, oldest_refusal, told_by};
 use dist_messages::Status;
 use dist_names::{Flags, NodeName, escape_lines};
 use dist_probe::{Peer, Unreached, Verdict, style_of};
@@ -20,6 +21,32 @@ fn told_texts(flags: Flags) -> (&'static str, &'static str) {
     };
     let (text, _) = release_texts(release);
     (before, text)
+}
+
+// Which release refuses a node, the oldest that does, before the flags that it lacks.
+fn refusal_text(release: Release) -> &'static str {
+    match release {
+        Release::Before23 | Release::Otp23 =>
+            "!  flags     a node of OTP 23 or 24 refuses this one, since these lack:",
+        Release::Otp24 | Release::Otp25 =>
+            "!  flags     a node of OTP 25 or newer refuses this one, since these lack:",
+        Release::Otp28 | Release::Otp29 =>
+            "!  flags     a node of OTP 26 or newer refuses this one, since these lack:",
+    }
+}
+
+// How a lookup failed, behind the port of the port mapper.
+fn lookup_text(error: LookupError) -> &'static str {
+    match error {
+        LookupError::NotThere => "no node of this name is registered",
+        LookupError::Malformed => "what came is no answer of a port mapper",
+        LookupError::ReadFailed | LookupError::WriteFailed =>
+            "the connection was taken, and broke before an answer",
+        LookupError::Ended => "the connection was taken, and closed before an answer",
+        LookupError::NoMemory => "out of memory here",
+        LookupError::Limit => "the connection was taken, and no answer came in time",
+        LookupError::Refused(_) => "the registration was refused",
+    }
 }
 
 // The mark before a status.
@@ -69,7 +96,7 @@ fn address_texts(is_ipv4: bool, has_ipv4: bool) -> (&'static str, &'static str) 
 impl Lines<'_> {
     /// A warning where the two names could not dial each other.
     pub fn put_styles(self, own: &NodeName, node: &NodeName) -> Result<(), Fault> {
-        if style_of(own) == style_of(node) {
+        if style_of(own.bytes()) == style_of(node.bytes()) {
             return Ok(());
         }
         self.put(&[Piece::Text(
@@ -91,6 +118,22 @@ impl Lines<'_> {
             Piece::Text(" is "),
             Piece::Host(address.ip()),
             Piece::Text(hint),
+        ])
+    }
+
+    /// The address of a name is one of this machine itself.
+    pub fn put_own_address(self) -> Result<(), Fault> {
+        self.put(&[Piece::Text(
+            "   host      that address is this machine itself: the name leads to no other host from here\n",
+        )])
+    }
+
+    /// The node was found by way of `--address`, which nodes do not go.
+    pub fn put_other_way(self, node: &NodeName) -> Result<(), Fault> {
+        self.put(&[
+            Piece::Text("!  address   nodes do not know --address: they dial what "),
+            Piece::Name(node.host()),
+            Piece::Text(" resolves to, which was not tried\n"),
         ])
     }
 
@@ -135,16 +178,44 @@ impl Lines<'_> {
             Piece::Text("✗  epmd      port "),
             Piece::Number(u32::from(mapper_port)),
             Piece::Text(": "),
-            Piece::Lookup(error),
+            Piece::Text(lookup_text(error)),
             Piece::Text("\n"),
         ])
     }
 
-    /// The port mapper knows these names, which stand in lines.
+    /// The port mapper knows these names, which stand in lines: as many as are shown, and how many more there are.
     pub fn put_names(self, names: &[u8]) -> Result<(), Fault> {
         if names.is_empty() {
             return self.put(&[Piece::Text("   epmd      no node at all is registered there\n")]);
         }
+        let (shown, others) = split_shown(names);
+        self.put_shown(shown)?;
+        if others.is_empty() {
+            return Ok(());
+        }
+        self.put_count(
+            "   epmd      and ",
+            count_lines(others),
+            " more lines, left out\n",
+        )
+    }
+
+    /// The port mapper says more than is taken of its answer.
+    pub fn put_cut(self) -> Result<(), Fault> {
+        self.put(&[Piece::Text(
+            "!  epmd      the answer has more than 65535 bytes: what stands behind them is left out\n",
+        )])
+    }
+
+    /// The names that the port mapper knows are printed once.
+    pub fn put_listed(self) -> Result<(), Fault> {
+        self.put(&[Piece::Text(
+            "   epmd      what is registered there is printed with another node of this host\n",
+        )])
+    }
+
+    // The names in these lines.
+    fn put_shown(self, names: &[u8]) -> Result<(), Fault> {
         let text = escape_lines(self.alloc, names)?;
         for line in text.lines() {
             self.put(&[
@@ -176,7 +247,7 @@ impl Lines<'_> {
             Piece::Text(" with flags "),
             Piece::Digits(flags.announced()),
             Piece::Text("; the node says "),
-            Piece::Text(static_text(status.text())),
+            Piece::Text(status_word(status)),
             Piece::Text("\n"),
         ])
     }
@@ -197,23 +268,19 @@ impl Lines<'_> {
         ])
     }
 
-    // The flags that releases from 26 on ask for and that are missing here.
-    fn put_lacking(self, flags: Flags) -> Result<(), Fault> {
-        let lacking = missing(flags, Release::Otp28.required());
-        if lacking.0 == 0 {
-            return Ok(());
+    // The oldest release that refuses a node with these flags, and the flags that it lacks there.
+    fn put_refusal(self, flags: Flags) -> Result<(), Fault> {
+        match oldest_refusal(flags) {
+            Some(release) => self.put_flags(refusal_text(release), release.objection(flags)),
+            None => Ok(()),
         }
-        self.put_flags(
-            "!  flags     a node of OTP 26 or newer refuses this one, since these lack:",
-            lacking,
-        )
     }
 
     /// What the node said of itself.
     pub fn put_peer(self, peer: &Peer) -> Result<(), Fault> {
         self.put_peer_line(peer)?;
         self.put_flags("   flags    ", peer.flags)?;
-        self.put_lacking(peer.flags)
+        self.put_refusal(peer.flags)
     }
 
     /// What became of the cookie.

@@ -1,7 +1,7 @@
 //! The lines of what a probe comes to, and of what came of a connection.
 
-ghost use Rattle.std.specs.Prelude.{◌≡◌, ◌++◌, IfOk, string_bytes};
-ghost use Rattle.distping_report.specs.Texts.{TellsVerdict};
+ghost use Rattle.std.specs.Prelude.{◌≡◌, IfOk, string_bytes};
+ghost use Rattle.distping_report.specs.Texts.{verdict_lines};
 
 use crate::lines::Lines;
 use crate::marks::exit_mark;
@@ -12,36 +12,35 @@ use distping_words::Fault;
 use std::alloc::{AllocError, Global};
 use std::net::SocketAddr;
 
-// A mark, a word and sentences.
-fn with_mark(alloc: Global, mark: &str, word: &str, sentences: &str) -> Result<String, AllocError>
-    ensures { IfOk result (λ text. string_bytes text ≡ mark.now ++ word.now ++ sentences.now) }
-{
-    let mut text = String::from_str(alloc, mark)?;
-    text.push_str(word)?;
-    text.push_str(sentences)?;
-    Ok(text)
-}
-
 // The two lines of a verdict: its word and its cause, and the remedy.
 fn verdict_lines(alloc: Global, verdict: Verdict) -> Result<String, AllocError>
-    ensures { IfOk result (λ text. TellsVerdict verdict (string_bytes text)) }
+    ensures { IfOk result (λ text. string_bytes text ≡ verdict_lines verdict) }
 {
-    let mark = if verdict.status() == 0 { "✓  " } else { "✗  " };
-    let (cause, remedy) = (verdict.cause(), verdict.remedy());
-    let sentences = format!(in alloc; ": {cause}\n   remedy    {remedy}\n")?;
-    with_mark(alloc, mark, verdict.name(), &sentences)
+    let mark = exit_mark(verdict.status());
+    let (name, cause, remedy) = (verdict.name(), verdict.cause(), verdict.remedy());
+    let text = [
+        mark,
+        "  ",
+        name,
+        ": ",
+        cause,
+        "\n   remedy    ",
+        remedy,
+        "\n",
+    ]
+    .concat(alloc)?;
+    Ok(text)
 }
 
 impl Lines<'_> {
     /// What came of a connection that was taken.
     pub fn put_outcome(self, taken: Taken) -> Result<(), Fault> {
-        let (name, cause) = taken.texts();
         self.put(&[
             Piece::Text(exit_mark(taken.status())),
             Piece::Text("  "),
-            Piece::Text(name),
+            Piece::Text(taken.name()),
             Piece::Text(": "),
-            Piece::Text(cause),
+            Piece::Text(taken.cause()),
             Piece::Text("\n"),
         ])
     }
@@ -57,11 +56,27 @@ impl Lines<'_> {
         ])
     }
 
+    // So many bytes came, and no whole message.
+    fn put_came(self, count: usize) -> Result<(), Fault> {
+        self.put(&[
+            Piece::Text("   came      "),
+            Piece::Number(u32::try_from(count).unwrap_or(u32::MAX)),
+            Piece::Text(" bytes, and no whole message\n"),
+        ])
+    }
+
+    // What stands before the lines of a verdict: the flags that are lacking, or how many bytes came.
+    fn put_details(self, verdict: Verdict) -> Result<(), Fault> {
+        match verdict {
+            Verdict::LacksFlags(_, flags) => self.put_flags("   lacking  ", flags),
+            Verdict::Silent(_, count) if count > 0 => self.put_came(count),
+            _ => Ok(()),
+        }
+    }
+
     /// What it comes to.
     pub fn put_verdict(self, verdict: Verdict) -> Result<(), Fault> {
-        if let Verdict::LacksFlags(flags) = verdict {
-            self.put_flags("   lacking  ", flags)?;
-        }
+        self.put_details(verdict)?;
         self.write_made(verdict_lines(self.alloc, verdict))
     }
 }

@@ -1,7 +1,9 @@
 -- What is left is what was there before, and one of each node whose reply was taken.
 use Rattle.std.proofs.Common.{◌≡◌, ◌++◌}
-use Rattle.distping.specs.Order.{names_in, names_of}
+use Rattle.dist_cluster.specs.Statuses.{first_of}
+use Rattle.distping.specs.Order.{first_status, names_in, names_of}
 use Rattle.distping.proofs.together.take_replies.Given as goal
 
 abbrev pub invariant-loop-reply : goal.invariant-loop-reply
-invariant-loop-reply l = names_of l.halves.items ≡ names_of l.initial.halves.items ++ names_in l.yielded
+invariant-loop-reply l = (names_of l.halves.items ≡ names_of l.initial.halves.items ++ names_in l.yielded)
+    × (first_status l.halves.items ≡ first_of (first_status l.initial.halves.items) l.status)

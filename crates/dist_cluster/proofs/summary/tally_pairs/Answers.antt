@@ -1,0 +1,12 @@
+use Rattle.std.proofs.Common.{take, arith, sym, ap, ◌∙◌}
+use Rattle.std.proofs.lemmas.List.{take_more}
+use Rattle.dist_cluster.specs.Summary.{how_many, tallied}
+use Rattle.dist_cluster.proofs.Counts.{one_more, words_of}
+use Rattle.dist_cluster.proofs.summary.tally_pairs.Goals as goal
+
+pub loop-word-preserved : goal.loop-word-preserved
+loop-word-preserved c =
+    let i = c.loop-word.word-index in
+    let words = c.args.words.now in
+    one_more (how_many c.args.halves.now) (take i words) _ _ _ _ c.count_pairs.ensures c.loop-word.invariant c.in_ok-push_tally.ensures
+    ∙ sym (ap (λ l. tallied (how_many c.args.halves.now) (words_of l)) (take_more words i _ (omega arith)))

@@ -1,0 +1,15 @@
+-- What was read is the front of the room.
+use Rattle.std.proofs.Common.{◌≡◌, ◌≤◌, None, length, take}
+use Rattle.dist_stream.specs.Turns.{Hears}
+use Rattle.dist_probe.proofs.bodies.fill.Given as goal
+
+abbrev pub invariant-loop-at : goal.invariant-loop-at
+invariant-loop-at g l = record {
+  len : length l.room ≡ length l.initial.room;
+  at : l.at ≤ length l.room;
+  hears : Hears (g.S.Stream.meaning l.initial.limited.stream.now) (g.S.Stream.meaning l.limited.stream.now) l.initial.limited.left l.limited.left None (take l.at l.room);
+  loan : l.limited.stream.ghost_name ≡ l.initial.limited.stream.ghost_name;
+}
+
+abbrev pub decreases-loop-at : goal.decreases-loop-at
+decreases-loop-at g l = l.limited.left

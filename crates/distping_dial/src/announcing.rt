@@ -1,0 +1,26 @@
+//! The addresses of a host, as they are printed before each is tried.
+
+use dist_program::{at_port, without_brackets};
+use distping_report::Dial;
+use distping_words::Fault;
+use std::net::{IpAddr, SocketAddr, TcpListener};
+
+// Whether a host is a name, and no address.
+fn is_name(host: &str) -> bool {
+    without_brackets(host).parse::<IpAddr>().is_err()
+}
+
+// Whether an address is one of this machine itself: those alone can be listened at.
+fn is_own_address(rt: &HostRuntime, address: &SocketAddr) -> bool {
+    TcpListener::bind(rt, at_port(address, 0)).is_ok()
+}
+
+/// Prints an address of the host, and where the host is a name whether that leads to this machine itself.
+pub fn put_address(dial: &Dial<'_>, address: &SocketAddr, has_ipv4: bool) -> Result<(), Fault> {
+    let host = dial.choices.host(dial.node);
+    dial.lines.put_address(host, address, has_ipv4)?;
+    if !dial.lines.quiet && is_name(host) && is_own_address(dial.rt, address) {
+        dial.lines.put_own_address()?;
+    }
+    Ok(())
+}
