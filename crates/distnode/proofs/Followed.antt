@@ -1,9 +1,18 @@
--- An order that was done.
-use Rattle.std.proofs.Common.{◌≡◌, ℕ, Bool, true, false, List, Option, sym, subst}
+-- An order that was done, or ended.
+use Rattle.std.proofs.Common.{◌≡◌, ◌⊎◌, inl, inr, ℕ, Bool, true, false, List, Option, codes, refl, sym, subst}
 use Rattle.dist_stream.specs.Stream.{StreamState}
+use Rattle.dist_script_words.specs.Texts.{PutsFront}
+use Rattle.dist_script_words.specs.declared.fault.ScriptFault.{ScriptFault}
+use Rattle.dist_script_words.specs.Fault as script
+use Rattle.dist_script_play.specs.Scenes.{IsBad, IsCut}
+use Rattle.dist_short_commands.specs.declared.fault.Fault.{Fault}
+use Rattle.dist_short_commands.specs.declared.fault.Fault.TheVariants as fault
+use Rattle.dist_short_commands.specs.Fault.{status_of, fault_line}
 use Rattle.dist_short_commands.specs.Printed.{PrintsCookie, PrintsNames, PrintsEscapedNames}
+use Rattle.dist_short_commands.specs.Stopped.{EndsByFault, StopsCookie, StopsNames, StopsEscapedNames}
 use Rattle.distnode.specs.Printed.{PrintsRunOf}
-use Rattle.distnode.specs.Followed.{PrintsAnswer}
+use Rattle.distnode.specs.Stopped.{IsNoNodesFile, StopsRunOf}
+use Rattle.distnode.specs.Followed.{PrintsAnswer, StopsCookieAt, StopsTalk, StopsAnswer, StopsRunAt, EndsPlay}
 
 -- of the file that was opened
 pub cookie_done : (bytes here left : Option (List ℕ)) (challenge : ℕ) (a b : Option (List ℕ)) → here ≡ bytes → PrintsCookie here left challenge a b → (l : Option (List ℕ)) × PrintsCookie bytes l challenge a b
@@ -20,3 +29,116 @@ names_done terminal talk here left a b is same prints =
 pub escaped_done : (terminal : Bool) (talk here left : StreamState) (a b : Option (List ℕ)) → terminal ≡ true → here ≡ talk → PrintsEscapedNames here left 1280 a b → PrintsAnswer terminal talk a b
 escaped_done terminal talk here left a b is same prints =
     subst (λ t. PrintsAnswer t talk a b) (sym is) (left, subst (λ x. PrintsEscapedNames x left 1280 a b) same prints)
+
+-- ---- a fault that ended it
+
+-- what stops it so stops it in another way as well
+pub weaken : (Stops Others : Fault → Type 0) (status : ℕ) (c d : Option (List ℕ)) → ((f : Fault) → Stops f → Others f) → EndsByFault Stops status c d → EndsByFault Others status c d
+weaken Stops Others status c d stronger by = record { cause = by.cause; stops = stronger by.cause by.stops; status_is = by.status_is; line = by.line }
+
+-- the fault of this line
+pub ended_by : (Stops : Fault → Type 0) (f : Fault) (c d : Option (List ℕ)) → Stops f → PutsFront (fault_line f) c d → EndsByFault Stops (status_of f) c d
+ended_by Stops f c d stops line = record { cause = f; stops = stops; status_is = refl; line = line }
+
+-- ---- `cookie`
+
+cookie_at : (bytes here left : Option (List ℕ)) (challenge : ℕ) (a b : Option (List ℕ)) → here ≡ bytes → (f : Fault) → StopsCookie here left challenge a b f → StopsCookieAt bytes challenge a b f
+cookie_at bytes here left challenge a b same fault.BadCommandLine stops = (left, subst (λ x. StopsCookie x left challenge a b fault.BadCommandLine) same stops)
+cookie_at bytes here left challenge a b same fault.BadNodesFile stops = (left, subst (λ x. StopsCookie x left challenge a b fault.BadNodesFile) same stops)
+cookie_at bytes here left challenge a b same (fault.RunEnded why) stops = (left, subst (λ x. StopsCookie x left challenge a b (fault.RunEnded why)) same stops)
+cookie_at bytes here left challenge a b same fault.ReadFailed stops = (left, subst (λ x. StopsCookie x left challenge a b fault.ReadFailed) same stops)
+cookie_at bytes here left challenge a b same fault.WriteFailed stops = (left, subst (λ x. StopsCookie x left challenge a b fault.WriteFailed) same stops)
+cookie_at bytes here left challenge a b same fault.OpenFailed stops = absurd stops
+cookie_at bytes here left challenge a b same (fault.NoCookie why) stops = (left, subst (λ x. StopsCookie x left challenge a b (fault.NoCookie why)) same stops)
+cookie_at bytes here left challenge a b same fault.ConnectFailed stops = (left, subst (λ x. StopsCookie x left challenge a b fault.ConnectFailed) same stops)
+cookie_at bytes here left challenge a b same (fault.NoAnswer why) stops = (left, subst (λ x. StopsCookie x left challenge a b (fault.NoAnswer why)) same stops)
+cookie_at bytes here left challenge a b same fault.NoMemory stops = (left, subst (λ x. StopsCookie x left challenge a b fault.NoMemory) same stops)
+
+-- of the file that was opened
+pub cookie_ended : (bytes here left : Option (List ℕ)) (challenge : ℕ) (a b c d : Option (List ℕ)) → here ≡ bytes → EndsByFault (StopsCookie here left challenge a b) 1 c d → EndsByFault (StopsCookieAt bytes challenge a b) 1 c d
+cookie_ended bytes here left challenge a b c d same by = weaken (StopsCookie here left challenge a b) (StopsCookieAt bytes challenge a b) 1 c d (cookie_at bytes here left challenge a b same) by
+
+-- which could not be opened
+pub cookie_unopened : (bytes : Option (List ℕ)) (challenge : ℕ) (a c d : Option (List ℕ)) → PutsFront (fault_line fault.OpenFailed) c d → EndsByFault (StopsCookieAt bytes challenge a a) 1 c d
+cookie_unopened bytes challenge a c d line = ended_by (StopsCookieAt bytes challenge a a) fault.OpenFailed c d refl line
+
+-- ---- `names`
+
+names_of_talk : (terminal : Bool) (talk here left : StreamState) (a b : Option (List ℕ)) → terminal ≡ false → here ≡ talk → (f : Fault) → StopsNames here left 1280 a b f → StopsTalk terminal talk a b f
+names_of_talk terminal talk here left a b is same f stops =
+    subst (λ t. StopsTalk t talk a b f) (sym is) (left, subst (λ x. StopsNames x left 1280 a b f) same stops)
+
+escaped_of_talk : (terminal : Bool) (talk here left : StreamState) (a b : Option (List ℕ)) → terminal ≡ true → here ≡ talk → (f : Fault) → StopsEscapedNames here left 1280 a b f → StopsTalk terminal talk a b f
+escaped_of_talk terminal talk here left a b is same f stops =
+    subst (λ t. StopsTalk t talk a b f) (sym is) (left, subst (λ x. StopsEscapedNames x left 1280 a b f) same stops)
+
+names_at : (terminal : Bool) (talk here left : StreamState) (a b : Option (List ℕ)) → terminal ≡ false → here ≡ talk → (f : Fault) → StopsNames here left 1280 a b f → StopsAnswer terminal talk a b f
+names_at terminal talk here left a b is same fault.BadCommandLine stops = names_of_talk terminal talk here left a b is same fault.BadCommandLine stops
+names_at terminal talk here left a b is same fault.BadNodesFile stops = names_of_talk terminal talk here left a b is same fault.BadNodesFile stops
+names_at terminal talk here left a b is same (fault.RunEnded why) stops = names_of_talk terminal talk here left a b is same (fault.RunEnded why) stops
+names_at terminal talk here left a b is same fault.ReadFailed stops = names_of_talk terminal talk here left a b is same fault.ReadFailed stops
+names_at terminal talk here left a b is same fault.WriteFailed stops = names_of_talk terminal talk here left a b is same fault.WriteFailed stops
+names_at terminal talk here left a b is same fault.OpenFailed stops = names_of_talk terminal talk here left a b is same fault.OpenFailed stops
+names_at terminal talk here left a b is same (fault.NoCookie why) stops = names_of_talk terminal talk here left a b is same (fault.NoCookie why) stops
+names_at terminal talk here left a b is same fault.ConnectFailed stops = absurd stops
+names_at terminal talk here left a b is same (fault.NoAnswer why) stops = names_of_talk terminal talk here left a b is same (fault.NoAnswer why) stops
+names_at terminal talk here left a b is same fault.NoMemory stops = names_of_talk terminal talk here left a b is same fault.NoMemory stops
+
+escaped_at : (terminal : Bool) (talk here left : StreamState) (a b : Option (List ℕ)) → terminal ≡ true → here ≡ talk → (f : Fault) → StopsEscapedNames here left 1280 a b f → StopsAnswer terminal talk a b f
+escaped_at terminal talk here left a b is same fault.BadCommandLine stops = escaped_of_talk terminal talk here left a b is same fault.BadCommandLine stops
+escaped_at terminal talk here left a b is same fault.BadNodesFile stops = escaped_of_talk terminal talk here left a b is same fault.BadNodesFile stops
+escaped_at terminal talk here left a b is same (fault.RunEnded why) stops = escaped_of_talk terminal talk here left a b is same (fault.RunEnded why) stops
+escaped_at terminal talk here left a b is same fault.ReadFailed stops = escaped_of_talk terminal talk here left a b is same fault.ReadFailed stops
+escaped_at terminal talk here left a b is same fault.WriteFailed stops = escaped_of_talk terminal talk here left a b is same fault.WriteFailed stops
+escaped_at terminal talk here left a b is same fault.OpenFailed stops = escaped_of_talk terminal talk here left a b is same fault.OpenFailed stops
+escaped_at terminal talk here left a b is same (fault.NoCookie why) stops = escaped_of_talk terminal talk here left a b is same (fault.NoCookie why) stops
+escaped_at terminal talk here left a b is same fault.ConnectFailed stops = absurd stops
+escaped_at terminal talk here left a b is same (fault.NoAnswer why) stops = escaped_of_talk terminal talk here left a b is same (fault.NoAnswer why) stops
+escaped_at terminal talk here left a b is same fault.NoMemory stops = escaped_of_talk terminal talk here left a b is same fault.NoMemory stops
+
+-- over the connection that was made
+pub names_ended : (terminal : Bool) (talk here left : StreamState) (a b c d : Option (List ℕ)) → terminal ≡ false → here ≡ talk → EndsByFault (StopsNames here left 1280 a b) 1 c d → EndsByFault (StopsAnswer terminal talk a b) 1 c d
+names_ended terminal talk here left a b c d is same by = weaken (StopsNames here left 1280 a b) (StopsAnswer terminal talk a b) 1 c d (names_at terminal talk here left a b is same) by
+
+pub escaped_ended : (terminal : Bool) (talk here left : StreamState) (a b c d : Option (List ℕ)) → terminal ≡ true → here ≡ talk → EndsByFault (StopsEscapedNames here left 1280 a b) 1 c d → EndsByFault (StopsAnswer terminal talk a b) 1 c d
+escaped_ended terminal talk here left a b c d is same by = weaken (StopsEscapedNames here left 1280 a b) (StopsAnswer terminal talk a b) 1 c d (escaped_at terminal talk here left a b is same) by
+
+-- which could not be made
+pub names_unconnected : (terminal : Bool) (talk : StreamState) (a c d : Option (List ℕ)) → PutsFront (fault_line fault.ConnectFailed) c d → EndsByFault (StopsAnswer terminal talk a a) 1 c d
+names_unconnected terminal talk a c d line = ended_by (StopsAnswer terminal talk a a) fault.ConnectFailed c d refl line
+
+-- ---- `run`
+
+run_at : (bytes here left : Option (List ℕ)) (a b : Option (List ℕ)) → here ≡ bytes → (f : Fault) → StopsRunOf here left a b f → StopsRunAt bytes a b f
+run_at bytes here left a b same fault.BadCommandLine stops = (left, subst (λ x. StopsRunOf x left a b fault.BadCommandLine) same stops)
+run_at bytes here left a b same fault.BadNodesFile stops = (left, subst (λ x. StopsRunOf x left a b fault.BadNodesFile) same stops)
+run_at bytes here left a b same (fault.RunEnded why) stops = (left, subst (λ x. StopsRunOf x left a b (fault.RunEnded why)) same stops)
+run_at bytes here left a b same fault.ReadFailed stops = (left, subst (λ x. StopsRunOf x left a b fault.ReadFailed) same stops)
+run_at bytes here left a b same fault.WriteFailed stops = (left, subst (λ x. StopsRunOf x left a b fault.WriteFailed) same stops)
+run_at bytes here left a b same fault.OpenFailed stops = absurd stops.3
+run_at bytes here left a b same (fault.NoCookie why) stops = (left, subst (λ x. StopsRunOf x left a b (fault.NoCookie why)) same stops)
+run_at bytes here left a b same fault.ConnectFailed stops = (left, subst (λ x. StopsRunOf x left a b fault.ConnectFailed) same stops)
+run_at bytes here left a b same (fault.NoAnswer why) stops = (left, subst (λ x. StopsRunOf x left a b (fault.NoAnswer why)) same stops)
+run_at bytes here left a b same fault.NoMemory stops = (left, subst (λ x. StopsRunOf x left a b fault.NoMemory) same stops)
+
+-- of the file that was opened
+pub run_ended : (bytes here left : Option (List ℕ)) (a b c d : Option (List ℕ)) → here ≡ bytes → (PrintsRunOf here left 1 a b × (d ≡ c)) ⊎ EndsByFault (StopsRunOf here left a b) 1 c d → ((l : Option (List ℕ)) × PrintsRunOf bytes l 1 a b × (d ≡ c)) ⊎ EndsByFault (StopsRunAt bytes a b) 1 c d
+run_ended bytes here left a b c d same (inl prints) = inl (left, subst (λ x. PrintsRunOf x left 1 a b) same prints.0, prints.1)
+run_ended bytes here left a b c d same (inr by) = inr (weaken (StopsRunOf here left a b) (StopsRunAt bytes a b) 1 c d (run_at bytes here left a b same) by)
+
+-- which is no nodes file
+pub run_refused : (bytes here left : Option (List ℕ)) (a b c d : Option (List ℕ)) → here ≡ bytes → IsNoNodesFile here left → b ≡ a → PutsFront (codes "distnode: bad nodes file\n") c d → EndsByFault (StopsRunAt bytes a b) 2 c d
+run_refused bytes here left a b c d same none unprinted line =
+    ended_by (StopsRunAt bytes a b) fault.BadNodesFile c d (left, (subst (λ x. IsNoNodesFile x left) same none, unprinted)) line
+
+-- which could not be opened
+pub run_unopened : (bytes : Option (List ℕ)) (a c d : Option (List ℕ)) → PutsFront (fault_line fault.OpenFailed) c d → ((l : Option (List ℕ)) × PrintsRunOf bytes l 1 a a × (d ≡ c)) ⊎ EndsByFault (StopsRunAt bytes a a) 1 c d
+run_unopened bytes a c d line = inr (ended_by (StopsRunAt bytes a a) fault.OpenFailed c d refl line)
+
+-- ---- `enact`
+
+pub play_ended : (before after a b c d : Option (List ℕ)) (f : ScriptFault) → IsCut before after a b f → script.status_of f ≡ 1 → PutsFront (script.fault_line f) c d → EndsPlay before after 1 a b c d
+play_ended before after a b c d f cut one line = (f, inr (refl, one, cut), line)
+
+pub play_refused : (before after a b c d : Option (List ℕ)) (f : ScriptFault) → IsBad before after a b f → PutsFront (script.fault_line f) c d → EndsPlay before after 2 a b c d
+play_refused before after a b c d f bad line = (f, inl (refl, bad), line)

@@ -1,11 +1,21 @@
 -- WHICH COMMAND AN ORDER LEADS TO.
-use Rattle.std.specs.Prelude.{ℕ, Bool, true, false, List, Option}
+use Rattle.std.specs.Prelude.{◌≡◌, ◌⊎◌, ℕ, Bool, true, false, List, Option, Result, Err}
 use Rattle.dist_stream.specs.Stream.{StreamState}
 use Rattle.dist_commands.specs.declared.order_of_words.Order.{Order}
 use Rattle.dist_commands.specs.declared.order_of_words.Order.TheVariants as order
-use Rattle.dist_script_play.specs.Scenes.{Plays}
+use Rattle.dist_program.specs.declared.port_error.PortError.{PortError}
+use Rattle.dist_program.specs.PortTexts.{port_error_status}
+use Rattle.dist_script_words.specs.Texts.{PutsFront}
+use Rattle.dist_script_words.specs.declared.fault.ScriptFault.{ScriptFault}
+use Rattle.dist_script_words.specs.Fault as script
+use Rattle.dist_script_play.specs.Scenes.{Plays, IsBad, IsCut}
+use Rattle.dist_short_commands.specs.declared.fault.Fault.{Fault}
+use Rattle.dist_short_commands.specs.declared.fault.Fault.TheVariants.{OpenFailed, ConnectFailed}
+use Rattle.dist_short_commands.specs.Fault.{port_line}
 use Rattle.dist_short_commands.specs.Printed.{PrintsCookie, PrintsNames, PrintsEscapedNames}
+use Rattle.dist_short_commands.specs.Stopped.{EndsByFault, StopsCookie, StopsNames, StopsEscapedNames}
 use Rattle.distnode.specs.Printed.{PrintsRunOf}
+use Rattle.distnode.specs.Stopped.{StopsRunOf}
 
 -- the answer of the port mapper over a connection that stands so was put there, in at most 1,280 turns: by its escape on a terminal
 abbrev pub PrintsAnswer : Bool → StreamState → Option (List ℕ) → Option (List ℕ) → Type 0
@@ -21,3 +31,51 @@ Follows files talks terminal before after (order.Cookie file challenge) old new 
     (left : Option (List ℕ)) × PrintsCookie (files file.now) left challenge old new
 Follows files talks terminal before after (order.Names port) old new = PrintsAnswer terminal (talks port) old new
 Follows files talks terminal before after (order.Run file) old new = (left : Option (List ℕ)) × PrintsRunOf (files file.now) left 0 old new
+
+-- a script that was read is at fault, with status 2, or its playing was cut, with status 1: the line of that fault stands on standard
+-- error, or a beginning of it
+abbrev pub EndsPlay : Option (List ℕ) → Option (List ℕ) → ℕ → Option (List ℕ) → Option (List ℕ) → Option (List ℕ) → Option (List ℕ) → Type 0
+EndsPlay before after status old new err_old err_new =
+    (fault : ScriptFault)
+    × (((status ≡ 2) × IsBad before after old new fault) ⊎ ((status ≡ 1) × (script.status_of fault ≡ 1) × IsCut before after old new fault))
+    × PutsFront (script.fault_line fault) err_old err_new
+
+-- what stops `cookie` of the file at a path: it could not be opened, or what stops it of what that file has
+abbrev pub StopsCookieAt : Option (List ℕ) → ℕ → Option (List ℕ) → Option (List ℕ) → Fault → Type 0
+StopsCookieAt file challenge old new OpenFailed = new ≡ old
+StopsCookieAt file challenge old new fault = (left : Option (List ℕ)) × StopsCookie file left challenge old new fault
+
+-- what stops `names` over a connection that stands so, by its escape on a terminal
+abbrev pub StopsTalk : Bool → StreamState → Option (List ℕ) → Option (List ℕ) → Fault → Type 0
+StopsTalk true talk old new fault = (left : StreamState) × StopsEscapedNames talk left 1280 old new fault
+StopsTalk false talk old new fault = (left : StreamState) × StopsNames talk left 1280 old new fault
+
+-- the same of a connection that is to be made: it could not be made
+abbrev pub StopsAnswer : Bool → StreamState → Option (List ℕ) → Option (List ℕ) → Fault → Type 0
+StopsAnswer terminal talk old new ConnectFailed = new ≡ old
+StopsAnswer terminal talk old new fault = StopsTalk terminal talk old new fault
+
+-- what stops `run` of the file at a path: it could not be opened, or what stops it of what that file has
+abbrev pub StopsRunAt : Option (List ℕ) → Option (List ℕ) → Option (List ℕ) → Fault → Type 0
+StopsRunAt file old new OpenFailed = new ≡ old
+StopsRunAt file old new fault = (left : Option (List ℕ)) × StopsRunOf file left old new fault
+
+-- the environment names no port for the port mapper: its line stands on standard error, or a beginning of it, and nothing was printed
+abbrev pub EndsByPort : Result ℕ PortError → ℕ → Option (List ℕ) → Option (List ℕ) → Option (List ℕ) → Option (List ℕ) → Type 0
+EndsByPort named status old new err_old err_new =
+    (error : PortError) × (named ≡ Err error) × (port_error_status error ≡ status) × (new ≡ old) × PutsFront (port_line error) err_old err_new
+
+-- AN ORDER THAT WAS NOT DONE, and ended with this status: what stopped its command, the line of which stands on standard error, or a
+-- beginning of it; or the audit of its run refused, which is printed, and nothing stands on standard error
+abbrev pub Ends : (List ℕ → Option (List ℕ)) → (ℕ → StreamState) → Bool → Result ℕ PortError → Option (List ℕ) → Option (List ℕ) → Order
+    → ℕ → Option (List ℕ) → Option (List ℕ) → Option (List ℕ) → Option (List ℕ) → Type 0
+Ends files talks terminal named before after order.Enact status old new err_old err_new =
+    EndsPlay before after status old new err_old err_new
+Ends files talks terminal named before after (order.Cookie file challenge) status old new err_old err_new =
+    EndsByFault (StopsCookieAt (files file.now) challenge old new) status err_old err_new
+Ends files talks terminal named before after (order.Names port) status old new err_old err_new =
+    EndsByPort named status old new err_old err_new
+    ⊎ EndsByFault (StopsAnswer terminal (talks port) old new) status err_old err_new
+Ends files talks terminal named before after (order.Run file) status old new err_old err_new =
+    ((left : Option (List ℕ)) × PrintsRunOf (files file.now) left 1 old new × (status ≡ 1) × (err_new ≡ err_old))
+    ⊎ EndsByFault (StopsRunAt (files file.now) old new) status err_old err_new

@@ -1,10 +1,11 @@
 //! Which command an order leads to.
 
-ghost use Rattle.std.specs.Prelude.{◌≡◌, ◌≤◌, Option, List, ℕ};
+ghost use Rattle.std.specs.Prelude.{◌≡◌, ◌≤◌, ◌⊎◌, Option, List, ℕ};
 ghost use Rattle.std.specs.Io.KnownBytes.{Keeps};
 ghost use Rattle.dist_short_commands.specs.Printed.{PrintsCookie};
+ghost use Rattle.dist_short_commands.specs.Stopped.{EndsByFault};
 ghost use Rattle.distnode.specs.Printed.{PrintsRunOf};
-ghost use Rattle.distnode.specs.Followed.{PrintsAnswer, Follows};
+ghost use Rattle.distnode.specs.Followed.{PrintsAnswer, Follows, StopsCookieAt, StopsAnswer, StopsRunAt, EndsByPort, Ends};
 
 use crate::run::run_file;
 use crate::system::System;
@@ -21,6 +22,7 @@ use std::thread::Threads;
 use std::time::Clock;
 
 // The command `cookie`, of the file at a path.
+#[tactic(auto, using(crate::proofs::Followed::cookie_ended, crate::proofs::Followed::cookie_unopened))]
 fn follow_cookie<S: System, W: Write, E: Write>(
     system: &S,
     alloc: Global,
@@ -33,14 +35,17 @@ fn follow_cookie<S: System, W: Write, E: Write>(
     ensures done { result ≡ 0 → (left : Option (List ℕ))
         × PrintsCookie (S.bytes_at system.now path.now) left challenge (W.contents out.old) (W.contents out.new) }
     ensures silent { result ≡ 0 → E.contents err.new ≡ E.contents err.old }
+    ensures ended { result ≡ 1 → EndsByFault (StopsCookieAt (S.bytes_at system.now path.now) challenge (W.contents out.old) (W.contents out.new))
+        1 (E.contents err.old) (E.contents err.new) }
 {
-    match system.open(path) {
+    match system.open_cookie(path) {
         Ok(mut file) => cookie(alloc, &mut file, challenge, out, err),
         Err(_) => Fault::OpenFailed.tell(err),
     }
 }
 
 // What the port mapper at a port knows, as it came, or by its escape where standard output is a terminal.
+#[tactic(auto, using(crate::proofs::Followed::names_ended, crate::proofs::Followed::escaped_ended, crate::proofs::Followed::names_unconnected))]
 fn print_names<S: System, W: Write, E: Write>(
     system: &S,
     alloc: Global,
@@ -51,6 +56,8 @@ fn print_names<S: System, W: Write, E: Write>(
     ensures status { result ≤ 1 }
     ensures done { result ≡ 0 → PrintsAnswer (S.has_terminal system.now) (S.talk_at system.now port) (W.contents out.old) (W.contents out.new) }
     ensures silent { result ≡ 0 → E.contents err.new ≡ E.contents err.old }
+    ensures ended { result ≡ 1 → EndsByFault (StopsAnswer (S.has_terminal system.now) (S.talk_at system.now port) (W.contents out.old) (W.contents out.new))
+        1 (E.contents err.old) (E.contents err.new) }
 {
     match system.connect(port) {
         Ok(mut stream) => if system.is_terminal() {
@@ -74,6 +81,10 @@ fn follow_names<S: System, W: Write, E: Write>(
     ensures status { result ≤ 2 }
     ensures done { result ≡ 0 → PrintsAnswer (S.has_terminal system.now) (S.talk_at system.now port) (W.contents out.old) (W.contents out.new) }
     ensures silent { result ≡ 0 → E.contents err.new ≡ E.contents err.old }
+    ensures ended { result ≡ 1 → EndsByPort named.now 1 (W.contents out.old) (W.contents out.new) (E.contents err.old) (E.contents err.new)
+        ⊎ EndsByFault (StopsAnswer (S.has_terminal system.now) (S.talk_at system.now port) (W.contents out.old) (W.contents out.new))
+        1 (E.contents err.old) (E.contents err.new) }
+    ensures refused { result ≡ 2 → EndsByPort named.now 2 (W.contents out.old) (W.contents out.new) (E.contents err.old) (E.contents err.new) }
 {
     match named {
         Ok(_) => print_names(system, alloc, port, out, err),
@@ -100,6 +111,11 @@ where
     ensures status { result ≤ 2 }
     ensures done { result ≡ 0 → (left : Option (List ℕ)) × PrintsRunOf (S.bytes_at system.now path.now) left 0 (W.contents out.old) (W.contents out.new) }
     ensures silent { result ≡ 0 → E.contents err.new ≡ E.contents err.old }
+    ensures ended { result ≡ 1 → ((left : Option (List ℕ))
+        × PrintsRunOf (S.bytes_at system.now path.now) left 1 (W.contents out.old) (W.contents out.new) × (E.contents err.new ≡ E.contents err.old))
+        ⊎ EndsByFault (StopsRunAt (S.bytes_at system.now path.now) (W.contents out.old) (W.contents out.new)) 1 (E.contents err.old) (E.contents err.new) }
+    ensures refused { result ≡ 2 → EndsByFault (StopsRunAt (S.bytes_at system.now path.now) (W.contents out.old) (W.contents out.new))
+        2 (E.contents err.old) (E.contents err.new) }
 {
     match system.open(path) {
         Ok(mut file) => run_file(host, alloc, &mut file, out, err),
@@ -109,6 +125,7 @@ where
 
 /// Does what an order says, and returns the exit status. `named` is the port of the environment: a bad one is reported where a port
 /// mapper would be asked. What starts threads is handed in as `host`.
+#[tactic(auto, using(crate::proofs::Followed::play_ended, crate::proofs::Followed::play_refused))]
 pub fn follow<S: System, R, I: Read, W: Write, E: Write>(
     system: &S,
     host: &R,
@@ -132,6 +149,12 @@ where
     ensures done { result ≡ 0 → Follows (S.bytes_at system.now) (S.talk_at system.now) (S.has_terminal system.now)
         (I.remaining input.old) (I.remaining input.new) order.entry (W.contents out.old) (W.contents out.new) }
     ensures silent { result ≡ 0 → Keeps (E.contents err.old) (E.contents err.new) }
+
+    // With status 1 or 2 it was not done: which fault ended it, whose line stands on `err`, and what was printed until then.
+    ensures ended { result ≡ 1 → Ends (S.bytes_at system.now) (S.talk_at system.now) (S.has_terminal system.now) named.now
+        (I.remaining input.old) (I.remaining input.new) order.entry 1 (W.contents out.old) (W.contents out.new) (E.contents err.old) (E.contents err.new) }
+    ensures refused { result ≡ 2 → Ends (S.bytes_at system.now) (S.talk_at system.now) (S.has_terminal system.now) named.now
+        (I.remaining input.old) (I.remaining input.new) order.entry 2 (W.contents out.old) (W.contents out.new) (E.contents err.old) (E.contents err.new) }
 {
     match order {
         Order::Enact => enact(alloc, input, out, err),

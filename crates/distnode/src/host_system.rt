@@ -4,10 +4,10 @@ ghost use Rattle.std.specs.Prelude.{None};
 ghost use Rattle.dist_stream.specs.Stream.{new_stream};
 
 use crate::system::System;
-use dist_program::talk_here;
+use dist_program::{open_cookie, talk_here};
 use dist_stream::DeadlineStream;
 use std::fs::File;
-use std::io::{self, IsTerminal};
+use std::io::{self, ErrorKind, IsTerminal};
 
 /// The system of the process. What a file or a connection gives is not known.
 #[derive(Clone, Copy)]
@@ -40,6 +40,13 @@ impl<'a> System for HostSystem<'a> {
 
     fn open(&self, path: &str) -> io::Result<File> {
         File::open(self.rt, path)
+    }
+
+    fn open_cookie(&self, path: &str) -> io::Result<File> {
+        match open_cookie(self.rt, path) {
+            Ok(file) => Ok(file),
+            Err(_) => Err(io::Error::from(ErrorKind::InvalidInput)),
+        }
     }
 
     // Made within 8 seconds, and quiet 5 seconds later.

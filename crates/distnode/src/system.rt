@@ -27,6 +27,10 @@ pub trait System {
     fn open(&self, path: &str) -> io::Result<Self::File>
         ensures { IfOk result (λ file. Self.File.remaining file ≡ bytes_at self.now path.now) };
 
+    /// Opens the file of a cookie at a path. One whose bytes come when somebody else sends them is refused, so that nobody waits.
+    fn open_cookie(&self, path: &str) -> io::Result<Self::File>
+        ensures { IfOk result (λ file. Self.File.remaining file ≡ bytes_at self.now path.now) };
+
     /// Connects to the port mapper at a port of this host.
     fn connect(&self, port: u16) -> io::Result<Self::Talk>
         ensures { IfOk result (λ talk. Self.Talk.meaning talk ≡ talk_at self.now port) };
