@@ -214,7 +214,7 @@ static int keeps_who_is_up(void) {
     if (dn_node_forget(&node, 2) || !end_is(&node, 0, DN_PHASE_CLOSED, DN_WHY_ENDED, 0)) return 110;
     if (!end_is(&node, 1, DN_PHASE_UP, 0, 1) || dn_node_lost(&node, 0, DN_WHY_ENDED, &reply) != DN_GONE) return 111;
     if (dn_node_renew(&node) != DN_OPEN_ENDS || !end_is(&node, 1, DN_PHASE_UP, 0, 1)) return 112;
-    if (dn_node_lost(&node, 1, DN_WHY_READ_FAILED, &reply)) return 112;
+    if (dn_node_lost(&node, 1, DN_WHY_READ_FAILED, &reply) || dn_node_forget(&node, 1)) return 112;
     if (!end_is(&node, 1, DN_PHASE_CLOSED, DN_WHY_READ_FAILED, 0)) return 113;
     if (dn_node_renew(&node) || !end_is(&node, 0, DN_PHASE_NONE, 0, 0)) return 114;
     if (dn_node_incoming(&node, &reply) || reply.id != 0 || dn_node_free(&node)) return 115;

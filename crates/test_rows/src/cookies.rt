@@ -1,11 +1,12 @@
 //! Cookies: `text BYTES` takes the cookie of a text, `digest TEXT CHALLENGE` digests it with a challenge, and
 //! `file BYTES CALL CALL ..` reads the text by these calls of its reader, or by the pieces that are played where the row has
-//! no calls.
+//! no calls. `own TEXT COUNT NAME` gives a name the cookie of a text, where so many others have one of their own: n0@h, n1@h, ..
 
 use crate::digits::{bytes_in, put_bytes, put_number, put_word, word};
 use crate::readers::Scripted;
 use crate::refusals::put_refused;
-use dist_secret::{Cookie, CookieError, digest, read_cookie};
+use dist_names::NodeName;
+use dist_secret::{Cookie, CookieError, Cookies, digest, read_cookie};
 use std::alloc::Global;
 
 /// Reports the cookie or the refusal, for a file with the number of reads; or the digest.
@@ -14,6 +15,7 @@ pub fn put_cookie(alloc: Global, told: &mut String, case: &str, pieces: &str) ->
     match word(case, 0) {
         "text" => put_found(alloc, told, Cookie::from_bytes(alloc, &text)),
         "digest" => put_digest(alloc, told, &text, word(case, 2)),
+        "own" => put_own(alloc, told, &text, case),
         _ => put_file(alloc, told, &text, calls_of(case, pieces)),
     }
 }
@@ -29,6 +31,29 @@ fn put_digest(alloc: Global, told: &mut String, text: &[u8], challenge: &str) ->
     let challenge = challenge.parse::<u32>().ok()?;
     let cookie = Cookie::from_bytes(alloc, text).ok()?;
     put_bytes(alloc, told, &digest(&cookie, challenge))
+}
+
+fn put_own(alloc: Global, told: &mut String, text: &[u8], case: &str) -> Option<()> {
+    let mut cookies = cookies_of(alloc, word(case, 2).parse::<u32>().ok()?)?;
+    let peer = NodeName::new(alloc, word(case, 3).as_bytes()).ok()?;
+    let cookie = Cookie::from_bytes(alloc, text).ok()?;
+    match cookies.set(peer.try_clone(alloc).ok()?, cookie) {
+        Ok(()) => put_bytes(alloc, told, cookies.for_peer(&peer).bytes()),
+        Err(why) => put_refused(told, &why),
+    }
+}
+
+// The cookies of a node that has one of its own for each of so many names.
+fn cookies_of(alloc: Global, count: u32) -> Option<Cookies> {
+    let mut cookies = Cookies::new(alloc, Cookie::from_bytes(alloc, b"usual").ok()?);
+    for number in 0..count {
+        let name = format!(in alloc; "n{number}@h").ok()?;
+        let name = NodeName::new(alloc, name.as_bytes()).ok()?;
+        cookies
+            .set(name, Cookie::from_bytes(alloc, b"own").ok()?)
+            .ok()?;
+    }
+    Some(cookies)
 }
 
 // The calls behind the bytes of a row.

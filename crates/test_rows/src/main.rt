@@ -1,7 +1,7 @@
-//! Plays rows of bytes: what comes of names, cookies and their digests, frames, packets and handshake messages, and over
-//! streams in memory what a registry, a client or the codec of the port mapper makes of them, and what a probe makes of the
-//! bytes of a node and sends to it; and rows of scripts, with what they print. The rows are files in the folder that the
-//! program runs in.
+//! Plays rows of bytes: what comes of names, cookies and their digests, frames, packets, handshake messages and the words of a
+//! command line, and of calls of a table of peers and of a watch; over streams in memory what a registry, a client or the codec
+//! of the port mapper makes of them, and what a probe makes of the bytes of a node and sends to it; and rows of scripts, with
+//! what they print. The rows are files in the folder that the program runs in.
 //!
 //! What the rows expect is typed from the ERTS User's Guide (EPMD Protocol, Distribution Protocol), from captured handshakes,
 //! from other programs (digests) and from the rules of `docs/PROTOCOL.md`. Each file is played with its bytes in one piece
@@ -10,12 +10,15 @@
 
 mod asked;
 mod carriers;
+mod changes;
 mod cookies;
 mod digits;
 mod frames;
 mod handshake;
 mod names;
+mod orders;
 mod packets;
+mod peer_table;
 mod readers;
 mod reading;
 mod refusals;
@@ -30,12 +33,13 @@ use std::process::ExitCode;
 use std::{fs, io};
 
 /// The files of rows, and what they are about.
-const FILES: [(&str, Subject); 16] = [
+const FILES: [(&str, Subject); 19] = [
     ("node_names", Subject::Names),
     ("cookies", Subject::Cookies),
     ("digests", Subject::Cookies),
     ("frames", Subject::Frames),
     ("packets", Subject::Packets),
+    ("peer_table", Subject::PeerTable),
     ("handshake_messages", Subject::Handshake),
     ("sentences", Subject::Refusals),
     ("registry_session", Subject::PortMapper),
@@ -47,6 +51,8 @@ const FILES: [(&str, Subject); 16] = [
     ("full_registry", Subject::PortMapper),
     ("talks", Subject::Talks),
     ("other_talks", Subject::Talks),
+    ("orders", Subject::Orders),
+    ("changes", Subject::Changes),
 ];
 
 /// Prints how many rows each file has, or the first row that goes otherwise.

@@ -2,12 +2,15 @@
 //! reported.
 
 use crate::asked::put_asked;
+use crate::changes::put_changes;
 use crate::cookies::put_cookie;
-use crate::digits::word;
+use crate::digits::{bytes_in, word};
 use crate::frames::put_frames;
 use crate::handshake::put_message;
 use crate::names::put_name;
+use crate::orders::put_order;
 use crate::packets::put_packets;
+use crate::peer_table::put_calls;
 use crate::reading::{put_length, put_read};
 use crate::refusals::put_sentences;
 use crate::served::put_served;
@@ -22,10 +25,13 @@ pub enum Subject {
     Cookies,
     Frames,
     Packets,
+    PeerTable,
     Handshake,
     Refusals,
     PortMapper,
     Talks,
+    Orders,
+    Changes,
 }
 
 /// How many rows a file has.
@@ -103,10 +109,13 @@ fn tell(
         Subject::Cookies => put_cookie(alloc, told, case, pieces),
         Subject::Frames => put_frames(alloc, told, case, pieces),
         Subject::Packets => put_packets(alloc, told, case, pieces),
+        Subject::PeerTable => put_calls(alloc, told, case),
         Subject::Handshake => put_message(alloc, told, case),
         Subject::Refusals => put_sentences(told),
         Subject::PortMapper => tell_mapper(alloc, told, registry, case, pieces),
         Subject::Talks => put_talk(alloc, told, case, pieces),
+        Subject::Orders => put_order(alloc, told, case),
+        Subject::Changes => put_changes(alloc, told, case),
     }
 }
 
@@ -127,7 +136,7 @@ fn tell_mapper(
 }
 
 // A case is a new `registry` by its port and its first creation, a connection that is `closed`, or a request on the connection of
-// this number.
+// this number. With `closed` the name may stand that the connection is known to have registered.
 fn tell_registry(
     alloc: Global,
     told: &mut String,
@@ -137,8 +146,17 @@ fn tell_registry(
 ) -> Option<()> {
     match word(case, 0) {
         "registry" => *registry = new_registry(alloc, case)?,
-        "closed" => registry.closed(word(case, 1).parse::<u64>().ok()?),
+        "closed" => close_connection(alloc, registry, case)?,
         _ => return put_served(alloc, told, registry, case, pieces),
+    }
+    Some(())
+}
+
+fn close_connection(alloc: Global, registry: &mut Registry, case: &str) -> Option<()> {
+    let conn = word(case, 1).parse::<u64>().ok()?;
+    match word(case, 2) {
+        "" => registry.closed(conn),
+        name => registry.closed_as(conn, &bytes_in(alloc, name)?),
     }
     Some(())
 }

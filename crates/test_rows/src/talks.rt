@@ -31,7 +31,9 @@ pub fn put_talk(alloc: Global, told: &mut String, case: &str, pieces: &str) -> O
 
 fn put_verdict(told: &mut String, verdict: Verdict) -> Option<()> {
     match verdict {
-        Verdict::LacksFlags(_) => put_word(told, "LacksFlags"),
+        Verdict::LacksFlags(party, flags) => {
+            write!(told, "LacksFlags({party:?}, {:x}) ", flags.0).ok()
+        }
         other => write!(told, "{other:?} ").ok(),
     }
 }
@@ -158,11 +160,12 @@ fn behind_cut(talk: &str, whole: Verdict, len: u64) -> Verdict {
     }
 }
 
-// How many reads a talk in one piece makes: two for each message, and one more where the node ends.
+// How many reads a talk in one piece makes: three for each message, of its length, its tag and the rest; and one more where the node
+// ends.
 fn reads(talk: &str, whole: Verdict) -> u64 {
     let messages = word(talk, 5).split('+').count() as u64;
     let ends = u64::from(whole == Verdict::WrongCookie);
-    messages.saturating_mul(2).saturating_add(ends)
+    messages.saturating_mul(3).saturating_add(ends)
 }
 
 // Where this read fails, counted from 1.
@@ -170,8 +173,8 @@ fn at_read(talk: &str, whole: Verdict, read: u64) -> Verdict {
     match read {
         0 => whole,
         _ if read > reads(talk, whole) => whole,
-        1 | 2 => Verdict::Reset(Awaited::Status),
-        3 | 4 => Verdict::Reset(Awaited::Challenge),
+        1..=3 => Verdict::Reset(Awaited::Status),
+        4..=6 => Verdict::Reset(Awaited::Challenge),
         _ => Verdict::Reset(Awaited::Ack),
     }
 }

@@ -13,10 +13,11 @@ fn standing(clients: &Clients<u8>) -> (usize, bool) {
     (clients.len(), is_registered)
 }
 
-// Whether a client that is answered, or for which memory runs out, has left, and everything else stands.
-fn leaves_alone(clients: &mut Clients<u8>, alloc: Global, question: &[u8]) -> bool {
+// Whether a client of this host or of another, which is answered or not, or for which memory runs out, has left, and everything
+// else stands.
+fn leaves_alone(clients: &mut Clients<u8>, alloc: Global, is_local: bool, question: &[u8]) -> bool {
     let before = standing(clients);
-    if let Ok(conn) = clients.open(alloc, 1, true, 9) {
+    if let Ok(conn) = clients.open(alloc, 1, is_local, 9) {
         let _ = clients.hear(alloc, conn, question);
     }
     standing(clients) == before
@@ -29,11 +30,12 @@ fn registers_or_leaves(clients: &mut Clients<u8>, alloc: Global) -> Option<bool>
     Some(standing(clients) == (usize::from(is_registered), is_registered))
 }
 
-// The same, and whether each client after it leaves alone.
+// The same, and whether each client after it leaves alone, and before it one of another host that registers.
 fn each_leaves_alone(clients: &mut Clients<u8>, alloc: Global) -> Option<bool> {
-    let mut is_so = registers_or_leaves(clients, alloc)?;
+    let is_other_kept_out = leaves_alone(clients, alloc, false, REGISTRATION);
+    let mut is_so = registers_or_leaves(clients, alloc)? && is_other_kept_out;
     for question in [REGISTRATION, LOOKUP, NAMES] {
-        is_so = leaves_alone(clients, alloc, question) && is_so;
+        is_so = leaves_alone(clients, alloc, true, question) && is_so;
     }
     Some(is_so)
 }

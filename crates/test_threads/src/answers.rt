@@ -1,11 +1,12 @@
-//! What a node returns beforehand, and then for the step itself; a node whose steps are spent; and the opening that the version
-//! of a peer asks for.
+//! What a node returns beforehand, and then for the step itself; a node whose steps are spent, and one that forgets why ends were
+//! closed; and the opening that the version of a peer asks for.
 
-use crate::setting::{CHALLENGE, event, setup_of};
+use crate::setting::{CHALLENGE, event, number, setup_of, still_word, word};
 use dist_core::{Event, Node, Opening, Reply, StepError};
 use dist_drive::opening_for;
 use dist_epmd::PortInfo;
 use dist_names::ByteString;
+use dist_peers::EndId;
 use dist_script::{Line, Script, script_of};
 use std::alloc::Global;
 use std::test::*;
@@ -129,6 +130,56 @@ fn spend_steps(alloc: Global) -> Option<(u32, [&'static str; 3])> {
 fn steps_spent(rt: HostRuntime) {
     let wanted = (1_048_573, ["Spent", "taken", "Spent"]);
     assert_eq!(rt; spend_steps(rt.alloc()), Some(wanted));
+}
+
+// How ends 0 and 1 stand, and which end is the oldest pending one, where 9 is none, once node b was given this. A number is
+// one below which the causes of ends that were closed are forgotten: then they were ended.
+const FORGOTTEN: &str = "\
+Replaced Pending 1 incoming incoming replaced
+Replaced Pending 1 incoming incoming replaced 0
+Ended Pending 1 incoming incoming replaced 1
+Ended Pending 1 incoming incoming replaced 2
+Pending NoSuchEnd 0 incoming 9
+Up Pending 1 incoming name reply incoming
+Up NoSuchEnd 9 incoming name reply 9";
+
+fn do_or_forget(alloc: Global, node: &mut Node, word: &str) -> Option<()> {
+    match word.parse::<u32>() {
+        Ok(below) => node.forget(EndId(below)),
+        Err(_) => {
+            let _ = answer_word(alloc, node, word)?;
+        }
+    }
+    Some(())
+}
+
+// How ends 0 and 1 of a node stand, and which end is the oldest pending one.
+fn ends_of(node: &mut Node) -> (&'static str, &'static str, u64) {
+    let oldest = match node.oldest_pending() {
+        Some(id) => u64::from(id.0),
+        None => 9,
+    };
+    (
+        still_word(node.still(EndId(0))),
+        still_word(node.still(EndId(1))),
+        oldest,
+    )
+}
+
+fn ends_after(alloc: Global, row: &str) -> Option<(&'static str, &'static str, u64)> {
+    let mut node = Node::new(alloc, setup_of(alloc, false)?);
+    for word in row.split(' ').skip(3) {
+        do_or_forget(alloc, &mut node, word)?;
+    }
+    Some(ends_of(&mut node))
+}
+
+#[test]
+fn causes_are_forgotten(rt: HostRuntime) {
+    for row in FORGOTTEN.lines() {
+        let wanted = (word(row, 0), word(row, 1), number(word(row, 2), 0));
+        assert_eq!(rt; ends_after(rt.alloc(), row), Some(wanted), "{row}");
+    }
 }
 
 #[test]

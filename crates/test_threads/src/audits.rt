@@ -1,10 +1,14 @@
-//! Histories of two nodes under locks, and what the audit returns for them: as they were kept, and altered in one place.
+//! Histories of two nodes under locks, and what the audit returns for them, as they were kept and altered in one place; and
+//! whether they follow the order to dial of a nodes file.
 
+use crate::runs::A_PEER;
 use crate::setting::{CHALLENGE, event, frame, setup_of, word};
 use dist_audit::audit;
 use dist_core::Event;
 use dist_locked::{Closed, Line, LockedNode, Seat, SharedLine, Tickets, close};
 use dist_names::{ByteString, Creation, Flags};
+use dist_run_hosts::are_obeyed;
+use dist_run_plan::plan_of;
 use dist_world::Agreement;
 use std::alloc::Global;
 use std::sync::{Arc, Wait};
@@ -236,15 +240,43 @@ fn audited_handshake(rt: HostRuntime) {
     assert_eq!(rt; wrong(&rt, rt.alloc()), None);
 }
 
-// What the audit returns for no history, and for one node alone, to which a connection came that nobody dialled.
-fn small(rt: &impl Wait, alloc: Global) -> Option<(&'static str, &'static str)> {
+// What the audit returns for no history, for one node alone, to which a connection came that nobody dialled, and for nodes of which
+// one dialled the other again once its end was lost.
+fn small(rt: &impl Wait, alloc: Global) -> Option<[&'static str; 3]> {
     let all = play_text(rt, alloc, "b incoming")?;
-    Some((answer(alloc, &[]), answer(alloc, all.get(1..)?)))
+    let again = play_text(rt, alloc, "a dial\na ended\na dial")?;
+    Some([
+        answer(alloc, &[]),
+        answer(alloc, all.get(1..)?),
+        answer(alloc, &again),
+    ])
 }
 
 #[test]
 fn small_audits(rt: HostRuntime) {
-    assert_eq!(rt; small(&rt, rt.alloc()), Some(("not agreed", "Unpaired")));
+    let wanted = Some(["not agreed", "Unpaired", "not agreed"]);
+    assert_eq!(rt; small(&rt, rt.alloc()), wanted);
+}
+
+// Whether node a, which has one order to dial node b, is found to have followed it by these steps.
+const FOLLOWED: [(&str, bool); 3] = [
+    ("a dial", true),
+    ("b incoming", false),
+    ("a dial\na ended\na dial", false),
+];
+
+fn is_order_followed(rt: &impl Wait, alloc: Global, text: &str) -> Option<bool> {
+    let plan = plan_of(alloc, A_PEER).ok()?;
+    let all = play_text(rt, alloc, text)?;
+    Some(are_obeyed(plan.dial.as_slice(), &[], all.as_slice()))
+}
+
+#[test]
+fn an_order_is_followed_once(rt: HostRuntime) {
+    for (text, wanted) in FOLLOWED {
+        let is_followed = is_order_followed(&rt, rt.alloc(), text);
+        assert_eq!(rt; is_followed, Some(wanted), "{text}");
+    }
 }
 
 // Whether an audit returns that both agree, or runs out of memory and the next audit of the same histories returns so.

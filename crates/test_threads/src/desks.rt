@@ -2,7 +2,7 @@
 
 use crate::drives::desk_of;
 use crate::seats::{Closing, closing_with, make_steps, seated_node};
-use crate::setting::{CHALLENGE, Same, event, number, still_word, word};
+use crate::setting::{CHALLENGE, Rising, event, number, still_word, word};
 use dist_core::StepError;
 use dist_drive::{Desk, FaultStream};
 use dist_locked::{Driven, LockedNode, Seat, SeatDesk, drive_end, settle};
@@ -97,7 +97,7 @@ fn drive_without_turns<R: Wait>(
     seat: Seat,
 ) -> Result<Driven, (AllocError, Seat)> {
     let mut stream = FaultStream::new(alloc, Vec::new(alloc));
-    let mut draws = Same(CHALLENGE);
+    let mut draws = Rising(CHALLENGE);
     drive_end(
         rt,
         alloc,

@@ -1,8 +1,8 @@
 //! Driven calls whose stream fails, ends, is cut or is quiet, calls that end at their limit, and calls that run out of memory.
 
-use crate::setting::{CHALLENGE, Same, event, number, setup_of, still_word, word};
+use crate::setting::{CHALLENGE, Rising, event, number, setup_of, still_word, word};
 use dist_core::Node;
-use dist_drive::{Desk, FaultStream, MemoryDesk, Outcome, drive};
+use dist_drive::{Desk, FaultStream, MemoryDesk, Outcome, Reached, drive, handshake};
 use dist_peers::EndId;
 use std::alloc::Global;
 use std::test::*;
@@ -127,16 +127,15 @@ fn loss_and_frames(desk: &MemoryDesk) -> (&'static str, u64) {
     }
 }
 
-// Drives the end of the desk, which sent this first.
+// Drives the end of the desk, which sent this first, with these numbers.
 fn drive_and_see(
     alloc: Global,
     desk: &mut MemoryDesk,
     stream: &mut FaultStream,
+    mut draws: Rising,
     first: &[u8],
-    limit: u64,
+    limit: usize,
 ) -> Seen {
-    let mut draws = Same(CHALLENGE);
-    let limit = limit as usize;
     let outcome = drive(alloc, stream, desk, &mut draws, EndId(0), first, limit);
     let (told, frames) = loss_and_frames(desk);
     let still = still_word(desk.still(EndId(0)));
@@ -147,14 +146,20 @@ fn drive_and_see(
     )
 }
 
-// What is seen of the call of a row, with the row's number. A dialled end sent its name first.
+// What is seen of the call of a row, with the row's number. A dialled end sent its name first, and its challenge is the number
+// of the second frame, where that of an accepted end is the number of the first.
 fn play_row(alloc: Global, row: &str, at: u64) -> Option<Seen> {
     let side = word(row, 0);
-    let first = if side == "dialled" { NAME_OF_A } else { b"" };
+    let (first, number_of_first): (&[u8], u32) = if side == "dialled" {
+        (NAME_OF_A, CHALLENGE - 1)
+    } else {
+        (b"", CHALLENGE)
+    };
     let mut stream = stream_of(alloc, row, at)?;
     let mut desk = desk_of(alloc, side)?;
-    let limit = number(word(row, 7), 0);
-    Some(drive_and_see(alloc, &mut desk, &mut stream, first, limit))
+    let limit = number(word(row, 7), 0) as usize;
+    let draws = Rising(number_of_first);
+    Some(drive_and_see(alloc, &mut desk, &mut stream, draws, first, limit))
 }
 
 // The side; what it receives, and how many bytes of it; the most bytes of each read and of each write in turn, 0 where the stream
@@ -239,6 +244,34 @@ fn first_wrong(alloc: Global, row: &'static str) -> Option<u64> {
 fn driven_calls_go_as_their_rows_say(rt: HostRuntime) {
     for row in ROWS.lines() {
         assert_eq!(rt; first_wrong(rt.alloc(), row), None, "{row}");
+    }
+}
+
+// What a handshake leaves of a stream, in hexadecimal digits, where its first read gives this many bytes.
+fn rest_of(alloc: Global, read: usize) -> Option<String> {
+    let mut desk = desk_of(alloc, "accepted")?;
+    let mut stream = FaultStream::new(alloc, hex::decode(alloc, NAME_REPLY_AND_PACKETS).ok()?);
+    stream.read_sizes.push(read).ok()?;
+    let mut draws = Rising(CHALLENGE);
+    match handshake(alloc, &mut stream, &mut desk, &mut draws, EndId(0), b"", 9) {
+        Reached::Up { record: _, rest } => hex::encode(alloc, &rest).ok(),
+        Reached::Ended(_) => None,
+    }
+}
+
+// The frames have 51 bytes: how many are read at first, and what is left of them behind the frames.
+const RESTS: [(usize, &str); 4] = [
+    (51, ""),
+    (52, "00"),
+    (59, "0000000000000005"),
+    (64, "00000000000000050102030405"),
+];
+
+#[test]
+fn a_handshake_leaves_what_came_behind_it(rt: HostRuntime) {
+    for (read, wanted) in RESTS {
+        let rest = rest_of(rt.alloc(), read);
+        assert_eq!(rt; rest.as_deref(), Some(wanted), "{read}");
     }
 }
 

@@ -6,7 +6,8 @@ use dist_locked::Moment;
 use std::test::*;
 use std::thread::map_indices;
 
-const A_PEER: &str = r#"node = [
+/// Node a, which has one order to dial node b.
+pub const A_PEER: &str = r#"node = [
   { name = "a@127.0.0.1", cookie = "secret", flags = "401000004" },
   { name = "b@127.0.0.1", cookie = "secret", flags = "101000104" },
 ]
@@ -20,6 +21,13 @@ dial = [
   { from = "a@127.0.0.1", to = "b@127.0.0.1" },
   { from = "b@127.0.0.1", to = "a@127.0.0.1" },
 ]"#;
+
+// Node b asks for a flag that node a does not announce.
+const ASKS_FOR_A_FLAG: &str = r#"node = [
+  { name = "a@127.0.0.1", cookie = "secret", flags = "401000004" },
+  { name = "b@127.0.0.1", cookie = "secret", flags = "101000104", required = "8" },
+]
+dial = [{ from = "a@127.0.0.1", to = "b@127.0.0.1" }]"#;
 
 // Two nodes that dial one each.
 const FOUR_NODES: &str = r#"turns = 2000
@@ -64,6 +72,12 @@ fn what_is_wrong_is_told(rt: HostRuntime) {
 fn two_nodes_that_dial_each_other_come_up_once(rt: HostRuntime) {
     let ran = run_of(&rt, rt.alloc(), Wrong::Holds, EACH_OTHER);
     assert_eq!(rt; text_of(&ran), "up 1 1, audit holds");
+}
+
+#[test]
+fn a_peer_without_a_required_flag_is_refused(rt: HostRuntime) {
+    let ran = run_of(&rt, rt.alloc(), Wrong::Nothing, ASKS_FOR_A_FLAG);
+    assert_eq!(rt; text_of(&ran), "up 0 0, audit holds");
 }
 
 // A body with one worker alone, or with one lock for both, has no second order that could go first.

@@ -2,7 +2,9 @@
 
 use crate::setting::{CHALLENGE, event, setup_of};
 use dist_core::StepError;
-use dist_locked::{CloseError, Closed, DialOrder, LockedNode, Orders, Seat, Tickets, close};
+use dist_locked::{
+    CloseError, Closed, DialOrder, LockedNode, Orders, Seat, Tickets, close, dispatch,
+};
 use std::alloc::Global;
 use std::sync::{Arc, Wait};
 use std::test::*;
@@ -129,11 +131,11 @@ fn refused_order(answer: Result<(), DialOrder>) -> u32 {
     }
 }
 
-// The order that was taken, or 0.
+// The order that was taken, or 9.
 fn taken_order(answer: Option<DialOrder>) -> u32 {
     match answer {
         Some(order) => order.0,
-        None => 0,
+        None => 9,
     }
 }
 
@@ -152,6 +154,19 @@ fn orders_in_turn<R: Wait>(rt: &R, alloc: Global) -> Option<([u32; 8], u64)> {
         taken_order(orders.take(rt, &mut one)),
     ];
     Some((answers, orders.settle(rt, put, one, two)))
+}
+
+// The orders of a run with two dials, as the first worker takes them: the dials, and the last order of each worker.
+fn take_dispatched<R: Wait>(rt: &R, alloc: Global) -> Option<[u32; 5]> {
+    let (orders, put, mut one, _) = Orders::new(alloc, 4).ok()?;
+    let _ = dispatch(rt, &orders, put, 2);
+    Some([
+        taken_order(orders.take(rt, &mut one)),
+        taken_order(orders.take(rt, &mut one)),
+        taken_order(orders.take(rt, &mut one)),
+        taken_order(orders.take(rt, &mut one)),
+        taken_order(orders.take(rt, &mut one)),
+    ])
 }
 
 // What `close` says after two steps where the second seat is missing.
@@ -185,8 +200,10 @@ fn two_seats_and_orders(rt: HostRuntime) {
     let is_kept = is_kept(&rt, rt.alloc());
     let is_closed = is_closed(&rt, rt.alloc());
     let orders = orders_in_turn(&rt, rt.alloc());
-    let wanted = (Some(true), Some(true), Some(([0, 0, 6, 4, 5, 0, 0, 7], 0)));
+    let wanted = (Some(true), Some(true), Some(([0, 0, 6, 4, 5, 9, 0, 7], 0)));
     assert_eq!(rt; (is_kept, is_closed, orders), wanted);
+    let taken = take_dispatched(&rt, rt.alloc());
+    assert_eq!(rt; taken, Some([0, 1, u32::MAX, u32::MAX, 9]));
     let refused = (
         closing_with_one(&rt, rt.alloc()),
         closing_with_another(&rt, rt.alloc()),

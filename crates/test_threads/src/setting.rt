@@ -18,15 +18,17 @@ pub const CHALLENGE: u32 = 123456789;
 
 const COOKIE: &str = "ABCDEFGHIJKLMNOPQRSTUVWXYZabcdefghijklmnopqrstuvwxyz0";
 
-/// The same number again and again.
+/// A number, and then each time the next one.
 #[derive(Drop)]
-pub struct Same(pub u32);
+pub struct Rising(pub u32);
 
-impl Draws for Same {
+impl Draws for Rising {
     ghost gives = { λ before number after. Unit {0} };
 
     fn draw(&mut self) -> u32 {
-        self.0
+        let number = self.0;
+        self.0 = number.wrapping_add(1);
+        number
     }
 }
 

@@ -4,7 +4,7 @@
 
 use crate::drives::NAME_AND_REPLY;
 use crate::seats::{Closing, closing, seated_node};
-use crate::setting::{CHALLENGE, Same};
+use crate::setting::{CHALLENGE, Rising};
 use dist_core::{Event, Still};
 use dist_drive::{FaultStream, Heard, Stream, Took};
 use dist_locked::{LockedNode, Seat, drive_end};
@@ -65,7 +65,7 @@ fn drive_patiently<R: Wait + Clock>(
         looks: 0,
         inner: FaultStream::new(alloc, hex::decode(alloc, says).ok()?),
     };
-    let mut draws = Same(CHALLENGE);
+    let mut draws = Rising(CHALLENGE);
     let end_ = EndId(end);
     let driven = drive_end(rt, alloc, node, seat, &mut stream, &mut draws, end_, &[], 3).ok()?;
     Some((driven.seat, stream.looks))

@@ -98,24 +98,25 @@ fn agreement_is_symmetric(rt: HostRuntime) {
 // How many of these happenings apply, whether nodes a and b agree then, and which end was closed last, for which cause. Beside
 // the lines of scripts there are `reset NODE cookie PEER COOKIE`, `reset NODE usual COOKIE` and `reset NODE allow PEER`.
 //
-// A cookie that was in use at a dial stays, also that of a peer which has none of its own, as long as the peer has an entry; a
-// list of the peers that may connect concerns later names alone. No node that is halted changes anything.
+// A handshake hinders no change of a cookie, and comes up under the new one or not at all. The cookie of a peer that is up stays;
+// such a peer may be given the cookie that it has as its own, and then the usual one changes. A list of the peers that may connect
+// concerns later names alone. No node that is halted changes anything. Without COOKIE the peer's own one is taken away.
 const CHANGES: &str = "\
 4 false - begin 0 5, begin 1 6, reset 0 cookie b@127.0.0.1 secret, reset 1 usual secret
 4 false - dial 0 b@127.0.0.1 new, reach 0 0 1, opened 0 0, accept 0
-0 false - reset 0 cookie b@127.0.0.1 other
-2 false - reset 0 usual other, reset 1 cookie c@127.0.0.1 other
+1 false - reset 0 cookie b@127.0.0.1 other
+2 false - reset 0 usual secret, reset 1 cookie c@127.0.0.1 secret
 2 false - deliver 1 0 999, take 1 0 11
-0 false - reset 1 usual other, reset 1 cookie a@127.0.0.1 other
-7 true - deliver 0 0 999, take 0 0 0, take 0 0 12, deliver 1 0 999, take 1 0 0, deliver 0 0 999, take 0 0 0
-1 true - reset 1 allow c@127.0.0.1
-0 true - reset 1 usual other
-2 false Ended lose 0 0 Ended, lose 1 0 Ended
 1 false - reset 1 usual other
+7 true - deliver 0 0 999, take 0 0 0, take 0 0 12, deliver 1 0 999, take 1 0 0, deliver 0 0 999, take 0 0 0
+0 true - reset 0 cookie b@127.0.0.1 secret, reset 0 cookie b@127.0.0.1, reset 1 cookie a@127.0.0.1 secret, reset 1 usual secret
+3 true - reset 1 cookie a@127.0.0.1 other, reset 1 usual secret, reset 1 allow c@127.0.0.1
+2 false Ended lose 0 0 Ended, lose 1 0 Ended
 6 false Refused dial 0 b@127.0.0.1 new, reach 0 1 1, opened 0 1, accept 1, deliver 1 1 999, take 1 1 13
 2 false StatusRefused deliver 0 1 999, take 0 1 0
 1 false - reset 1 allow a@127.0.0.1
 6 false - dial 0 b@127.0.0.1 new, reach 0 2 1, opened 0 2, accept 2, deliver 1 2 999, take 1 2 14
+1 false - reset 1 cookie a@127.0.0.1
 5 false WrongDigest deliver 0 2 999, take 0 2 0, take 0 2 15, deliver 1 2 999, take 1 2 0
 0 false WrongDigest reset 2 usual other";
 
@@ -132,11 +133,11 @@ fn change_of(alloc: Global, text: &str) -> Option<Change> {
     }
     let peer = NodeName::new(alloc, value.as_bytes()).ok()?;
     if what == "cookie" {
-        let cookie = cookie_of(alloc, word(text, 4))?;
-        return Some(Change::Cookie {
-            peer,
-            cookie: Some(cookie),
-        });
+        let cookie = match word(text, 4) {
+            "" => None,
+            own => Some(cookie_of(alloc, own)?),
+        };
+        return Some(Change::Cookie { peer, cookie });
     }
     let mut names = Vec::new(alloc);
     names.push(peer).ok()?;
