@@ -6,7 +6,7 @@ use crate::piece::Piece;
 use crate::shown::{count_lines, split_shown};
 use dist_epmd::PortInfo;
 use dist_epmd_calls::LookupError;
-use dist_flags::{Dflag, Release, Told, oldest_refusal, told_by};
+use dist_flags::{Dflag, Release, Told, is_refused_by_all, oldest_refusal, told_by};
 use dist_messages::Status;
 use dist_names::{Flags, NodeName, escape_lines};
 use dist_probe::{Peer, Unreached, Verdict, style_of};
@@ -23,7 +23,7 @@ fn told_texts(flags: Flags) -> (&'static str, &'static str) {
     (before, text)
 }
 
-// Which release refuses a node, the oldest that does, before the flags that it lacks.
+// Which release refuses a node, before the flags that it lacks.
 fn refusal_text(release: Release) -> &'static str {
     match release {
         Release::Before23 | Release::Otp23 =>
@@ -268,11 +268,26 @@ impl Lines<'_> {
         ])
     }
 
-    // The oldest release that refuses a node with these flags, and the flags that it lacks there.
+    // The flags for which a release refuses a node, where it lacks any.
+    fn put_objection(self, release: Release, flags: Flags) -> Result<(), Fault> {
+        let lacking = release.objection(flags);
+        if lacking.0 == 0 {
+            return Ok(());
+        }
+        self.put_flags(refusal_text(release), lacking)
+    }
+
+    // The oldest release that refuses a node with these flags. What OTP 25 refuses, newer ones do too; OTP 23 and 24 refuse nodes that
+    // OTP 25 takes for DFLAG_MANDATORY_25_DIGEST. Where all refuse it, the verdict says so.
     fn put_refusal(self, flags: Flags) -> Result<(), Fault> {
         match oldest_refusal(flags) {
-            Some(release) => self.put_flags(refusal_text(release), release.objection(flags)),
-            None => Ok(()),
+            Some(Release::Otp23) if !is_refused_by_all(flags) => {
+                self.put_objection(Release::Otp23, flags)?;
+                self.put_objection(Release::Otp28, flags)
+            }
+            Some(Release::Otp25) => self.put_objection(Release::Otp25, flags),
+            Some(Release::Otp28) => self.put_objection(Release::Otp28, flags),
+            _ => Ok(()),
         }
     }
 
