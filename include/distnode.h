@@ -371,6 +371,13 @@ uint32_t dn_node_oldest(dn_node *node, uint32_t *id);
 uint32_t dn_node_peer_at(dn_node *node, size_t place, dn_peer *peer, uint8_t *room, size_t room_len);
 uint32_t dn_node_peer_of(dn_node *node, uint32_t id, dn_peer *peer, uint8_t *room, size_t room_len);
 
+/* The peer that is up and comes next behind this name, in the order of names, whether or not the name is known; the first of all
+ * where name_len is 0. Called again with the name that it found, it goes through all peers, and each call searches the table once:
+ * dn_node_peer_at walks the table from its beginning each time. A peer that comes up or is lost in between is met or not. The room
+ * is another one than the name's.
+ * Errors: DN_NOT_A_NODE, DN_NAME_*, DN_NO_MEMORY, DN_NO_SUCH (no peer is behind), DN_NO_ROOM. */
+uint32_t dn_node_next_peer(dn_node *node, const uint8_t *name, size_t name_len, dn_peer *peer, uint8_t *room, size_t room_len);
+
 /* The digest of a challenge under a cookie's text: MD5 of the cookie and of the challenge in decimal digits.
  * Errors: DN_COOKIE_*, DN_NO_MEMORY. */
 uint32_t dn_cookie_digest(const uint8_t *cookie, size_t cookie_len, uint32_t challenge, uint8_t digest[16]);

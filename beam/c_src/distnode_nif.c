@@ -218,15 +218,22 @@ static ERL_NIF_TERM nif_disallow(ErlNifEnv *env, int argc, const ERL_NIF_TERM ar
     return listed(env, argv, dn_node_disallow);
 }
 
+/* a node and a peer are given: takes the node's lock and the peer's entry */
+static int entry_of(ErlNifEnv *env, const ERL_NIF_TERM argv[], kept **k, ErlNifBinary *peer, dn_entry *entry, uint32_t *code) {
+    if (!kept_of(env, argv[0], k) || !bytes_of(env, argv[1], peer)) return 0;
+    enif_mutex_lock((*k)->lock);
+    *code = dn_node_entry(&(*k)->node, peer->data, peer->size, entry);
+    return 1;
+}
+
 /* no_cookie(Node, Peer): of a peer without an end */
 static ERL_NIF_TERM nif_no_cookie(ErlNifEnv *env, int argc, const ERL_NIF_TERM argv[]) {
     kept *k;
     ErlNifBinary peer;
     dn_entry entry = {0, 0, 0};
+    uint32_t code;
     (void)argc;
-    if (!kept_of(env, argv[0], &k) || !bytes_of(env, argv[1], &peer)) return enif_make_badarg(env);
-    enif_mutex_lock(k->lock);
-    uint32_t code = dn_node_entry(&k->node, peer.data, peer.size, &entry);
+    if (!entry_of(env, argv, &k, &peer, &entry, &code)) return enif_make_badarg(env);
     if (!code) code = entry.state ? DN_PEER_IN_USE : dn_node_no_cookie(&k->node, peer.data, peer.size);
     if (!code) k->changes++;
     enif_mutex_unlock(k->lock);
@@ -449,10 +456,9 @@ static ERL_NIF_TERM nif_up_end(ErlNifEnv *env, int argc, const ERL_NIF_TERM argv
     kept *k;
     ErlNifBinary peer;
     dn_entry entry = {0, 0, 0};
+    uint32_t code;
     (void)argc;
-    if (!kept_of(env, argv[0], &k) || !bytes_of(env, argv[1], &peer)) return enif_make_badarg(env);
-    enif_mutex_lock(k->lock);
-    uint32_t code = dn_node_entry(&k->node, peer.data, peer.size, &entry);
+    if (!entry_of(env, argv, &k, &peer, &entry, &code)) return enif_make_badarg(env);
     enif_mutex_unlock(k->lock);
     if (code || (entry.state != DN_STATE_UP && entry.state != DN_STATE_CHALLENGED)) return a_none;
     return enif_make_uint(env, entry.up);
@@ -461,13 +467,14 @@ static ERL_NIF_TERM nif_up_end(ErlNifEnv *env, int argc, const ERL_NIF_TERM argv
 /* peers(Node): [{Peer, Id, Common, Creation}], the peers that are up */
 static ERL_NIF_TERM nif_peers(ErlNifEnv *env, int argc, const ERL_NIF_TERM argv[]) {
     kept *k;
-    uint8_t name[255];
+    uint8_t name[255], last[255];
     dn_peer peer;
     (void)argc;
     if (!kept_of(env, argv[0], &k)) return enif_make_badarg(env);
     ERL_NIF_TERM list = enif_make_list(env, 0);
     enif_mutex_lock(k->lock);
-    for (size_t place = 0; !dn_node_peer_at(&k->node, place, &peer, name, sizeof name); place++) {
+    for (size_t len = 0; !dn_node_next_peer(&k->node, last, len, &peer, name, sizeof name); len = peer.name) {
+        memcpy(last, name, peer.name);
         ERL_NIF_TERM row =
             enif_make_tuple4(env, binary_of(env, name, peer.name), enif_make_uint(env, peer.id),
                              enif_make_uint64(env, peer.common),

@@ -15,7 +15,7 @@ import tempfile
 
 HERE = os.path.dirname(os.path.realpath(__file__))
 sys.dont_write_bytecode = True
-sys.path.insert(0, os.path.join(HERE, "../../bin"))
+sys.path.insert(0, os.path.join(HERE, "../../bin/lib"))
 import playing
 
 EXAMPLES = os.path.join(HERE, "../../examples/python")

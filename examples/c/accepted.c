@@ -64,6 +64,11 @@ int main(void) {
     size_t n;
     if (dn_node_tick(&node, 0, &reply) || dn_node_say(&node, say, 3, &n) != DN_NO_ROOM || n != 4) return 13;
     if (dn_node_say(&node, say, 4, &n) || memcmp(say, "\0\0\0\0", 4)) return 14;
+    const uint8_t *before = (const uint8_t *)"a@1";
+    if (dn_node_next_peer(&node, before, 3, &peer, name, sizeof name) || peer.name != 11 || peer.id != 0) return 18;
+    if (dn_node_next_peer(&node, before, 0, &peer, name, sizeof name) || memcmp(name, "a@127.0.0.1", 11)) return 19;
+    if (dn_node_next_peer(&node, (const uint8_t *)"a@127.0.0.1", 11, &peer, name, sizeof name) != DN_NO_SUCH) return 20;
+    if (dn_node_next_peer(&node, before, 2, &peer, name, sizeof name) != DN_NAME_TOO_SHORT) return 21;
     if (dn_node_lost(&node, 0, DN_WHY_ENDED, &reply) || reply.closed != DN_WHY_ENDED) return 15;
     if (dn_node_tick(&node, 0, &reply) != DN_GONE) return 16;
     if (dn_node_free(&node) || dn_node_free(&node) != DN_NOT_A_NODE) return 17;

@@ -355,9 +355,9 @@ class Node:
         _check(code)
         return end.value
 
-    def _peer(self, call, number) -> Optional[Peer]:
+    def _peer(self, call, *which) -> Optional[Peer]:
         p, room = _Peer(), (c.c_uint8 * 255)()
-        code = call(c.byref(self._node), number, c.byref(p), room, c.c_size_t(255))
+        code = call(c.byref(self._node), *which, c.byref(p), room, c.c_size_t(255))
         if code == Code.NO_SUCH:
             return None
         _check(code)
@@ -369,10 +369,10 @@ class Node:
 
     def peers(self) -> Iterator[Peer]:
         """The peers that are up, in the order of their names."""
-        place = 0
-        while (peer := self._peer(_library.dn_node_peer_at, c.c_size_t(place))) is not None:
+        name = b""
+        while (peer := self._peer(_library.dn_node_next_peer, *_given(name))) is not None:
             yield peer
-            place += 1
+            name = peer.name
 
 
 class Registry:

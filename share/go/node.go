@@ -296,9 +296,11 @@ func (n *Node) PeerOf(end uint32) (Peer, error) {
 // Peers tells the peers that are up, in the order of their names.
 func (n *Node) Peers() ([]Peer, error) {
 	var peers []Peer
+	var last []byte
 	for {
+		name, length := bytesOf(last)
 		peer, err := n.peer(func(peer *C.dn_peer, room *C.uint8_t) C.uint32_t {
-			return C.dn_node_peer_at(n.node, C.size_t(len(peers)), peer, room, longestName)
+			return C.dn_node_next_peer(n.node, name, length, peer, room, longestName)
 		})
 		if err == NoSuch {
 			return peers, nil
@@ -307,6 +309,7 @@ func (n *Node) Peers() ([]Peer, error) {
 			return nil, err
 		}
 		peers = append(peers, peer)
+		last = peer.Name
 	}
 }
 

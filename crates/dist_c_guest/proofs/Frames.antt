@@ -13,7 +13,7 @@ use Rattle.dist_core.specs.declared.reply.Reply.{Reply}
 use Rattle.dist_core.specs.declared.step_error.StepError.{StepError}
 use Rattle.dist_core.specs.declared.step_error.StepError.TheVariants as error
 use Rattle.dist_core.specs.Node.{NodeState, is_spent}
-use Rattle.dist_core.specs.Answers.{Refuses, reply_of}
+use Rattle.dist_core.specs.Answers.{Refuses}
 use Rattle.dist_names.specs.Order.{Name}
 use Rattle.dist_c_guest.specs.Calls.{answer_to, node_letting, answer_after}
 use Rattle.dist_c_guest.specs.Forms.{allowed_names}
@@ -60,10 +60,6 @@ module _ (n : NodeState) (names : Option (List Name)) (id : EndId) (empty body :
   unfolding effect_of
   alike = by_end (slice_get n.ends id.0)
 
-made : (s t : Answer) (r : Reply) → reply_of s ≡ Ok r → Alike s t → IsOk t
-made (Ok x) t r e a = a
-made (Err x) t r e a = absurd cc
-
 at_want : (s t : Answer) → IsOk s → Alike s t → IsOk t
 at_want (Ok x) t o a = a
 at_want (Err x) t o a = absurd (false≢true o)
@@ -106,9 +102,6 @@ module _ (g : Guest) (id : EndId) (empty body : List ℕ) (fresh : ℕ) where
 
   like : Alike (step g.node (event.Frame id empty) 0) (step (node_letting g.node names) (event.Frame id came) fresh)
   like = alike g.node names id empty came fresh
-
-  pub no_memory : (r : Reply) → reply_of (step g.node (event.Frame id empty) 0) ≡ Ok r → Refuses error.NoMemory (answer_to g id body fresh)
-  no_memory r e = ok-back g.node (step (node_letting g.node names) (event.Frame id came) fresh) (made (step g.node (event.Frame id empty) 0) (step (node_letting g.node names) (event.Frame id came) fresh) r e like)
 
   pub same_refusal : (x : StepError) → Refuses x (step g.node (event.Frame id empty) 0) → Refuses x (answer_to g id body fresh)
   same_refusal x h = refuses-back g.node x (step (node_letting g.node names) (event.Frame id came) fresh) (refuses x (step g.node (event.Frame id empty) 0) (step (node_letting g.node names) (event.Frame id came) fresh) h like)

@@ -65,10 +65,7 @@ impl Guest {
             end_: id,
             body: ByteString::new(alloc),
         };
-        match self.node.answer(alloc, &event, 0) {
-            Ok(_) => StepError::NoMemory,
-            Err(error) => error,
-        }
+        self.node.refusal_without_memory(alloc, &event, 0)
     }
 
     // The body as it is read, and the names that may connect where they aren't the node's own.

@@ -1,1 +1,4 @@
 pub mod CommandLine
+pub mod Fault
+pub mod Printed
+pub mod Stopped

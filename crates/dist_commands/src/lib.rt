@@ -1,9 +1,19 @@
-//! What the words of the command line ask for. The parser of command lines matches a command and its arguments in them;
-//! the order is what it matched.
+//! The command line of the program `distnode`: which order its words give, by the parser of command lines; the commands `cookie` and
+//! `names`; and how each command ends by a fault.
+//!
+//! A command is a function over any reader, stream and writers, which returns the exit status. It opens no file and no socket.
 #![tactic(auto)]
 
+mod cookie_command;
+mod fault;
 mod matched;
+mod names_command;
 mod order_of_words;
+mod output;
 mod program;
 
+pub use cookie_command::cookie;
+pub use fault::{Fault, tell_port};
+pub use names_command::{names, names_on_terminal};
 pub use order_of_words::{Order, OrderError, order_of, order_with};
+pub use output::write_text;

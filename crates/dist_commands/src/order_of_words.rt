@@ -9,11 +9,9 @@ ghost use Rattle.dist_commands.specs.CommandLine.{Asks, AsksWith};
 use crate::matched::order_in;
 use crate::program::program;
 use clap::error::ErrorKind;
+use dist_program::MAPPER_PORT;
 use std::alloc::{AllocError, Global};
 use thiserror::Error;
-
-// Where a port mapper listens, unless the environment or the command line says otherwise. Source: ERTS User's Guide, epmd.
-const MAPPER_PORT: u16 = 4369;
 
 /// What the program is asked to do.
 #[derive(Clone, Copy)]

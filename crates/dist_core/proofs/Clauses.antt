@@ -54,6 +54,16 @@ accepted (Err x) s h ok apart = by x h apart
 pub is-loss : (v : Event) (x : EndId) (w : Why) → v ≡ event.Lost x w → IsTrue (is_loss v)
 is-loss v x w is = ap is_loss is
 
+-- what holds of each event that reports a loss
+pub loss-ready : (v : Event) (r : Result Reply StepError) → IsTrue (is_loss v)
+    → ((x : EndId) (w : Why) → v ≡ event.Lost x w → r ≢ Err error.NoMemory) → r ≢ Err error.NoMemory
+loss-ready (event.Lost x w) r h f = f x w refl
+loss-ready (event.Dial p k) r h f = absurd cc
+loss-ready (event.Opened x l) r h f = absurd cc
+loss-ready (event.Incoming l) r h f = absurd cc
+loss-ready (event.Frame x b) r h f = absurd cc
+loss-ready (event.Tick x) r h f = absurd cc
+
 module _ (n : NodeState) where
   -- what an end that is not open has done to an event that names it
   stopped : (v : Event) (fresh : ℕ) (x : EndId) (o : Option End) (e : StepError) → end_of v ≡ Some x → slice_get n.ends x.0 ≡ o → ((f : End → Result Effect StepError) → at_end o f ≡ Err e) → effect_of n v fresh ≡ Err e

@@ -1,5 +1,5 @@
 -- Steps that change an attempt in its place.
-use Rattle.std.proofs.Common.{◌≡◌, ◌≢◌, ℕ, ◌+◌, ◌≤◌, List, Some, Result, Ok, Err, length, refl, sym, ap, ◌∙◌, slice_get}
+use Rattle.std.proofs.Common.{◌≡◌, ℕ, ◌+◌, ◌≤◌, List, Some, Ok, length, refl, slice_get}
 use Rattle.dist_peers.specs.declared.entry.EndId.{EndId}
 use Rattle.dist_core_ends.specs.declared.known.Attempt.{Attempt}
 use Rattle.dist_core_ends.specs.declared.known.End.{End}
@@ -11,13 +11,9 @@ use Rattle.dist_core.specs.declared.event.Event.{Event}
 use Rattle.dist_core.specs.declared.event.Event.TheVariants as event
 use Rattle.dist_core.specs.declared.progress.Progress.{Progress}
 use Rattle.dist_core.specs.declared.progress.Progress.TheVariants as progress
-use Rattle.dist_core.specs.declared.reply.Reply.{Reply}
-use Rattle.dist_core.specs.declared.step_error.StepError.{StepError}
-use Rattle.dist_core.specs.declared.step_error.StepError.TheVariants as error
-use Rattle.dist_core.specs.Answers.{Refuses}
 use Rattle.dist_core.specs.Node.{NodeState, ends_after, limits_of}
-use Rattle.dist_core.specs.Progress.{CanProgress, HoldsOn, effect_by, node_by}
-use Rattle.dist_core.specs.Step.{effect_of, step, step_result, at_end, opening_effect, framed_from, sender_to, cost_of, after}
+use Rattle.dist_core.specs.Progress.{CanProgress, HoldsOn, effect_by}
+use Rattle.dist_core.specs.Step.{effect_of, at_end, opening_effect, framed_from, sender_to, cost_of}
 use Rattle.dist_core.proofs.Counts.{counts, of_ok}
 use Rattle.dist_core.proofs.Steps.{fits}
 
@@ -27,26 +23,6 @@ end-by es id a (progress.Goes say to) = refl
 end-by es id a (progress.Replies say to) = refl
 end-by es id a (progress.Rises say r) = refl
 end-by es id a (progress.Shuts say w) = refl
-
--- a refusal other than that memory ran out is the definition's
-pub refuses : {X : Type 0} (e : StepError) (s : Result X StepError) → e ≢ error.NoMemory → s ≡ Err e → Refuses e s
-refuses error.NoSuchEnd s n h = h
-refuses (error.Gone w) s n h = h
-refuses error.WrongPhase s n h = h
-refuses (error.Busy x) s n h = h
-refuses error.Spent s n h = h
-refuses error.Full s n h = h
-refuses error.NoMemory s n h = absurd (n refl)
-
-refused : (n : NodeState) (v : Event) (e : StepError) (s : Result Effect StepError) → Refuses e s → Refuses e (step_result n v s)
-refused n v error.NoSuchEnd s h = ap (step_result n v) h
-refused n v (error.Gone w) s h = ap (step_result n v) h
-refused n v error.WrongPhase s h = ap (step_result n v) h
-refused n v (error.Busy x) s h = ap (step_result n v) h
-refused n v error.Spent s h = ap (step_result n v) h
-refused n v error.Full s h = ap (step_result n v) h
-refused n v error.NoMemory (Ok f) h = refl
-refused n v error.NoMemory (Err e) h = absurd cc
 
 -- what an event does at the end that it names
 pub opened-effect : (n : NodeState) (id : EndId) (link fresh : ℕ) → effect_of n (event.Opened id link) fresh ≡ at_end (slice_get n.ends id.0) (opening_effect n id)
@@ -58,10 +34,6 @@ unfolding effect_of
 frame-effect n id body fresh = refl
 
 module _ (n : NodeState) (v : Event) (fresh : ℕ) where
-  -- the step is refused as what the event does is
-  pub step-refused : (e : StepError) → Refuses e (effect_of n v fresh) → Refuses e (step n v fresh)
-  step-refused e h = refused n v e (effect_of n v fresh) h
-
   module _ (id : EndId) (a : Attempt) (p : Progress) (is : effect_of n v fresh ≡ Ok (effect_by n.ends id a p)) where
     pub can-be : slice_get n.ends id.0 ≡ Some (ends.Attempt a) → HoldsOn a p → CanProgress n.ends id p
     can-be at holds = record {
@@ -74,10 +46,3 @@ module _ (n : NodeState) (v : Event) (fresh : ℕ) where
 
     pub left-by : n.steps ≤ (let l = limits_of n in l.steps) → n.steps + cost_of v ≤ (let l = limits_of n in l.steps)
     left-by b = (of_ok (λ (f : Effect). (n.steps + cost_of v ≤ (let l = limits_of n in l.steps)) × (length (ends_after n.ends f) ≤ length n.ends + cost_of v)) _ _ is (counts n b v fresh)).0
-
-    -- the step that was made is the definition's
-    pub made-by : (r : Reply) (new : NodeState) → cost_of v ≡ 1 → r ≡ (let f = effect_by n.ends id a p in f.reply) → new ≡ node_by n id a p → step n v fresh ≡ Ok (r, new)
-    made-by r new cost said made =
-        let f = effect_by n.ends id a p in
-        let one : after n v f ≡ node_by n id a p = ap (λ (k : ℕ). record { setup = n.setup; steps = n.steps + k; ends = ends_after n.ends f }) cost in
-        ap (step_result n v) is ∙ (λ j. Ok (sym said j, (one ∙ sym made) j))

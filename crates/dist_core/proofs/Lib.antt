@@ -10,6 +10,6 @@ pub mod Losses
 pub mod Numbers
 pub mod UsualCookies
 pub mod Forgetting
-pub mod Prepares
 pub mod InPlace
 pub mod Doing
+pub mod Kept

@@ -1,13 +1,10 @@
--- That a node can do an effect as a step that counts, and that it did. No public contract speaks of them.
-use Rattle.std.specs.Prelude.{◌≡◌, ◌≤◌, ◌+◌, length, Result, Ok, Err, false, Some, slice_get}
+-- That a node can do an effect as a step that counts, and the node after it. No public contract speaks of them.
+use Rattle.std.specs.Prelude.{◌≡◌, ◌≤◌, ◌+◌, length, false, Some, slice_get}
 use Rattle.dist_peers.specs.declared.entry.EndId.{EndId}
 use Rattle.dist_core_ends.specs.declared.known.End.TheVariants as ends
 use Rattle.dist_core_ends.specs.declared.known.UpRecord.{UpRecord}
 use Rattle.dist_core_ends.specs.Ends.{AreLegal, table_of}
 use Rattle.dist_core.specs.declared.effect.Effect.{Effect}
-use Rattle.dist_core.specs.declared.reply.Reply.{Reply}
-use Rattle.dist_core.specs.declared.step_error.StepError.{StepError}
-use Rattle.dist_core.specs.declared.step_error.StepError.TheVariants as error
 use Rattle.dist_core.specs.Fitting.{FitsNodeTable}
 use Rattle.dist_core.specs.Node.{NodeState, ends_after, is_spent, limits_of}
 
@@ -21,11 +18,6 @@ pub record CanDo (n : NodeState) (f : Effect) : Type 0 where
 -- the node after it
 abbrev pub node_with : NodeState → Effect → NodeState
 node_with n f = record { setup = n.setup; steps = n.steps + 1; ends = ends_after n.ends f }
-
--- it was done, or memory ran out and nothing changed
-abbrev pub Does : Effect → Result Reply StepError → NodeState → NodeState → Type 0
-Does f (Ok r) old new = (r ≡ f.reply) × (new ≡ node_with old f)
-Does f (Err e) old new = (e ≡ error.NoMemory) × (new ≡ old)
 
 -- the end is up, and a step is left for a tick
 pub record TakesTick (n : NodeState) (id : EndId) : Type 0 where

@@ -14,6 +14,5 @@ pub mod Losses
 pub mod Words
 pub mod Changing
 pub mod Acts
-pub mod Preparing
 pub mod Progress
 pub mod Keeping

@@ -22,6 +22,20 @@ pub struct Effect {
     pub other: Option<(EndId, End)>,
 }
 
+impl Effect {
+    // What is returned, where the step is not made.
+    pub fn into_reply(self) -> Reply
+        ensures { result ≡ self.reply }
+    {
+        let Effect {
+            reply,
+            this: _,
+            other: _,
+        } = self;
+        reply
+    }
+}
+
 pub fn goes_on(id: EndId, say: ByteString, this: End, note: Note) -> Effect
     ensures { result ≡ goes_on id say this note }
 {

@@ -1,16 +1,18 @@
 //! Steps whose reply is kept before they are made: so that no memory is wanted for it once they are.
-ghost use Rattle.std.specs.Prelude.{◌≡◌, ℕ, ◌≤◌, ◌+◌, IfOk, IfErr, OnOk, OnErr, Some, slice_get};
+ghost use Rattle.std.specs.Prelude.{◌≡◌, ◌≢◌, ℕ, ◌≤◌, ◌+◌, IfOk, IfErr, OnOk, OnErr, Err, Some, slice_get};
 ghost use Rattle.dist_messages.specs.declared.message.Side.TheVariants.{Dialler};
 ghost use Rattle.dist_core_ends.specs.declared.known.Attempt.{Attempt};
+ghost use Rattle.dist_core_ends.specs.Ends.{entry_in};
 ghost use Rattle.dist_core.specs.declared.reply.Reply.{Reply};
 ghost use Rattle.dist_core.specs.Accepted.{name_taken};
 ghost use Rattle.dist_core.specs.Answers.{Refuses};
 ghost use Rattle.dist_core.specs.Arrival.{effect_on};
+ghost use Rattle.dist_core.specs.Clauses.{loss_reply};
 ghost use Rattle.dist_core.specs.Doing.{CanDo};
-ghost use Rattle.dist_core.specs.Keeping.{KeepsDone, KeepsStep};
+ghost use Rattle.dist_core.specs.Keeping.{KeepsDone, KeepsStep, RisesWith, with_rise};
 ghost use Rattle.dist_core.specs.Node.{ends_after, limits_of};
 ghost use Rattle.dist_core.specs.Progress.{CanProgress, effect_by, node_by};
-ghost use Rattle.dist_core.specs.Step.{at_end, framed_from, sender_to, step, step_result};
+ghost use Rattle.dist_core.specs.Step.{at_end, came_in, dial_effect, framed_from, opening_effect, sender_to, step, step_result, tick_effect};
 
 use crate::accepted::note_of_name;
 use crate::arrival::Arrival;
@@ -19,20 +21,19 @@ use crate::effect::Effect;
 use crate::event::Event;
 use crate::finding::open_end;
 use crate::node::{Node, reply_that_says};
-use crate::preparing::rise;
 use crate::progress::Progress;
 use crate::reply::{Note, Reply};
 use crate::step_error::StepError;
-use dist_core_ends::{Attempt, End, Ends};
+use dist_core_ends::{Attempt, End, Ends, Why};
 use dist_core_setup::greeting;
-use dist_messages::Status;
-use dist_names::ByteString;
+use dist_messages::{Opening, Status};
+use dist_names::{ByteString, NodeName};
 use dist_peers::{EndId, Verdict, replaced_end};
 use std::alloc::{AllocError, Global};
 
 /// Where the reply of a step is put before the step is made: for a caller that shares it with others, as a line of a history.
 pub trait Keeper {
-    ghost use Rattle.std.specs.Prelude.{◌≡◌, IfOk};
+    ghost use Rattle.std.specs.Prelude.{◌≡◌, IfOk, IsOk};
     ghost use Rattle.dist_core.specs.declared.reply.Reply.{Reply};
 
     /// What is made of a reply.
@@ -40,13 +41,41 @@ pub trait Keeper {
 
     ghost keeps: { Self → Reply → Self.Kept → Type 0 };
 
+    /// Which replies take no memory to keep.
+    ghost is_ready_for: { Self → Reply → Type 0 };
+
     /// Keeps a reply. Where memory runs out, the step is not made.
     fn keep(&self, alloc: Global, reply: Reply) -> Result<Self::Kept, AllocError>
-        ensures { IfOk result (keeps self.now reply) };
+        ensures kept { IfOk result (keeps self.now reply) }
+        ensures ready { is_ready_for self.now reply → IsOk result };
 
     /// The reply that was kept.
     fn reply<'k>(&self, kept: &'k Self::Kept) -> &'k Reply
         ensures { (reply : Reply) → keeps self.now reply kept.now → result.now ≡ reply };
+}
+
+// The reply itself, which is returned: for a step that nobody else keeps.
+#[derive(Clone, Copy)]
+pub struct Returned;
+
+impl Keeper for Returned {
+    ghost use Rattle.std.specs.Prelude.{◌≡◌};
+
+    type Kept = Reply;
+
+    ghost keeps = { λ s reply kept. kept ≡ reply };
+
+    ghost is_ready_for = { λ s reply. Unit {0} };
+
+    #[inline(always)]
+    fn keep(&self, _alloc: Global, reply: Reply) -> Result<Reply, AllocError> {
+        Ok(reply)
+    }
+
+    #[inline(always)]
+    fn reply<'k>(&self, kept: &'k Reply) -> &'k Reply {
+        kept
+    }
 }
 
 // Keeps the reply of what becomes of the attempt of an end, and then does it.
@@ -92,9 +121,19 @@ fn put_kept_progress<K: Keeper>(
     }
 }
 
+// The attempt of the reply's end comes up with the record of the reply.
+fn rise(ends: &mut Ends, reply: &Reply)
+    requires { RisesWith ends.old reply.now.end_ reply.now.up }
+    ensures { ends.new ≡ with_rise ends.old reply.now.end_ reply.now.up }
+{
+    if let Some(came) = &reply.up {
+        let _replaced = ends.rise(reply.end_, came);
+    }
+}
+
 impl Node {
-    /// Makes a step as [`Node::step`] does, whose reply is kept before it is made. Where there is no memory to keep it, the step is
-    /// refused as `NoMemory`, and changes nothing.
+    /// Makes a step whose reply is kept before it is made. Where there is no memory to keep it, the step is refused as `NoMemory`,
+    /// and changes nothing. [`Node::step`] is this step with a keeper that returns the reply.
     #[inline(always)]
     pub fn step_kept<K: Keeper>(
         &mut self,
@@ -104,30 +143,111 @@ impl Node {
         fresh: u32,
     ) -> Result<K::Kept, StepError>
         // What was kept is the reply of the definition's step, and the node afterwards is the definition's, or the refusal is.
-        ensures { KeepsStep (K.keeps keeper.now) result (step self.old event.now fresh) self.old self.new }
+        ensures step { KeepsStep (K.keeps keeper.now) result (step self.old event.now fresh) self.old self.new }
+
+        // A loss takes no memory but for its reply.
+        ensures loss { (x : EndId) (w : Why) → event.now ≡ Event.Lost x w → K.is_ready_for keeper.now (loss_reply x w) → result ≢ Err StepError.NoMemory }
     {
         match event {
+            Event::Dial { peer, opening } => self.keep_dial(alloc, keeper, peer, *opening),
+            Event::Incoming { link } => self.keep_incoming(alloc, keeper, *link),
+            Event::Opened { end_: id, link } => self.keep_opened(alloc, keeper, *id, *link),
             Event::Frame { end_: id, body } => self.keep_frame(alloc, keeper, *id, body, fresh),
-            _ => self.keep_prepared(alloc, keeper, event, fresh),
+            Event::Lost { end_: id, why } => self.keep_loss(alloc, keeper, *id, *why),
+            Event::Tick { end_: id } => self.keep_tick(alloc, keeper, *id),
         }
     }
 
-    // The same of a step that is prepared.
-    fn keep_prepared<K: Keeper>(
+    // A dial.
+    fn keep_dial<K: Keeper>(
         &mut self,
         alloc: Global,
         keeper: &K,
-        event: &Event,
-        fresh: u32,
+        peer: &NodeName,
+        opening: Opening,
     ) -> Result<K::Kept, StepError>
-        ensures { KeepsStep (K.keeps keeper.now) result (step self.old event.now fresh) self.old self.new }
+        ensures { KeepsStep (K.keeps keeper.now) result (step_result self.old (Event.Dial peer.now opening)
+            (dial_effect self.old peer.now opening (entry_in self.old.ends peer.now))) self.old self.new }
     {
-        let prepared = self.prepare(alloc, event, fresh)?;
-        let (reply, change) = prepared.into_parts();
+        self.show_legal();
+        // This shows what every node keeps.
+        let _ = self.counted_steps();
+        let effect = self.effect_of_dial(alloc, peer, opening)?;
+        self.keep_effect(alloc, keeper, effect)
+    }
+
+    // A connection came.
+    fn keep_incoming<K: Keeper>(
+        &mut self,
+        alloc: Global,
+        keeper: &K,
+        _link: u64,
+    ) -> Result<K::Kept, StepError>
+        ensures { KeepsStep (K.keeps keeper.now) result (step_result self.old (Event.Incoming _link) (came_in self.old)) self.old self.new }
+    {
+        self.show_legal();
+        // This shows what every node keeps.
+        let _ = self.counted_steps();
+        let effect = self.effect_of_incoming(alloc)?;
+        self.keep_effect(alloc, keeper, effect)
+    }
+
+    // The connection of a dialled end is there.
+    fn keep_opened<K: Keeper>(
+        &mut self,
+        alloc: Global,
+        keeper: &K,
+        id: EndId,
+        _link: u64,
+    ) -> Result<K::Kept, StepError>
+        ensures { KeepsStep (K.keeps keeper.now) result (step_result self.old (Event.Opened id _link)
+            (at_end (slice_get self.old.ends id.0) (opening_effect self.old id))) self.old self.new }
+    {
+        self.show_legal();
+        // This shows what every node keeps.
+        let _ = self.counted_steps();
+        let End::Attempt(attempt) = open_end(&self.ends, id)? else {
+            return Err(StepError::WrongPhase);
+        };
+        let progress = self.progress_of_opened(alloc, attempt)?;
+        self.keep_progress(alloc, keeper, id, progress)
+    }
+
+    // A loss, which closes its end and sends nothing.
+    #[tactic(auto, using(crate::proofs::Kept::given))]
+    fn keep_loss<K: Keeper>(
+        &mut self,
+        alloc: Global,
+        keeper: &K,
+        id: EndId,
+        why: Why,
+    ) -> Result<K::Kept, StepError>
+        ensures step { (fresh : ℕ) → KeepsStep (K.keeps keeper.now) result (step self.old (Event.Lost id why) fresh) self.old self.new }
+        ensures loss { K.is_ready_for keeper.now (loss_reply id why) → result ≢ Err StepError.NoMemory }
+    {
+        let reply = self.reply_to_loss(alloc, id, why)?;
         let Ok(kept) = keeper.keep(alloc, reply) else {
             return Err(StepError::NoMemory);
         };
-        self.commit_change(keeper.reply(&kept), change)?;
+        self.lose(id, why)?;
+        Ok(kept)
+    }
+
+    // A tick, with the packet that is sent.
+    fn keep_tick<K: Keeper>(
+        &mut self,
+        alloc: Global,
+        keeper: &K,
+        id: EndId,
+    ) -> Result<K::Kept, StepError>
+        ensures { KeepsStep (K.keeps keeper.now) result (step_result self.old (Event.Tick id)
+            (at_end (slice_get self.old.ends id.0) (tick_effect self.old id))) self.old self.new }
+    {
+        let reply = self.reply_to_tick(alloc, id)?;
+        let Ok(kept) = keeper.keep(alloc, reply) else {
+            return Err(StepError::NoMemory);
+        };
+        self.steps += 1;
         Ok(kept)
     }
 
@@ -257,11 +377,25 @@ impl Node {
         let Ok(effect) = self.effect_of_arrival(alloc, id, arrival) else {
             return Err(StepError::NoMemory);
         };
+        self.keep_effect(alloc, keeper, effect)
+    }
+
+    // An effect that can be had.
+    #[inline(always)]
+    fn keep_effect<K: Keeper>(
+        &mut self,
+        alloc: Global,
+        keeper: &K,
+        effect: Effect,
+    ) -> Result<K::Kept, StepError>
+        requires { CanDo self.old effect }
+        ensures { KeepsDone (K.keeps keeper.now) effect result self.old self.new }
+    {
         let Effect { reply, this, other } = effect;
         let Ok(kept) = keeper.keep(alloc, reply) else {
             return Err(StepError::NoMemory);
         };
-        self.change_ends(keeper.reply(&kept), this, other, 1)?;
+        self.change_ends(keeper.reply(&kept), this, other)?;
         Ok(kept)
     }
 
@@ -279,13 +413,8 @@ impl Node {
         let Ok(reply) = self.reply_of_welcome(alloc, id, &attempt) else {
             return Err(StepError::NoMemory);
         };
-        let Ok(kept) = keeper.keep(alloc, reply) else {
-            return Err(StepError::NoMemory);
-        };
-        if self.begin_attempt(id, attempt).is_err() {
-            return Err(StepError::NoMemory);
-        }
-        Ok(kept)
+        let (this, other) = (End::Attempt(attempt), None);
+        self.keep_effect(alloc, keeper, Effect { reply, this, other })
     }
 
     // The reply to it.

@@ -10,6 +10,7 @@
 #![tactic(auto)]
 
 mod accepted;
+mod answering;
 mod arrival;
 mod attempts;
 mod changing;
@@ -17,15 +18,12 @@ mod comparing;
 mod copying;
 mod dialled;
 mod effect;
-mod end_change;
 mod event;
 mod events;
 mod finding;
 mod frames;
 mod keeping;
-mod naming;
 mod node;
-mod preparing;
 mod progress;
 mod renewing;
 mod reply;
@@ -38,6 +36,5 @@ pub use dist_messages::{Form, Opening};
 pub use event::Event;
 pub use keeping::Keeper;
 pub use node::Node;
-pub use preparing::Prepared;
 pub use reply::{Note, Reply};
 pub use step_error::StepError;

@@ -1,7 +1,8 @@
 //! A node, and its steps.
-ghost use Rattle.std.specs.Prelude.{◌≡◌, ◌≢◌, ℕ, ◌≤◌, ◌<◌, ◌+◌, ◌^◌, ◌||◌, List, [], ◌∷◌, length, slice_get, count_by};
+ghost use Rattle.std.specs.Prelude.{◌≡◌, ◌≢◌, ℕ, ◌≤◌, ◌<◌, ◌+◌, ◌^◌, ◌||◌, List, [], ◌∷◌, length, option_copied, slice_get, count_by};
 ghost use Rattle.std.specs.Prelude.{IfOk, IfErr, IsTrue, IsOk, OnOk, OnErr, true, false, Ok, Err, Some, None};
 ghost use Rattle.std.specs.Option.{option_map};
+ghost use Rattle.dist_peers.specs.Table.{up_behind};
 ghost use Rattle.std.specs.FinMap as map;
 ghost use Rattle.dist_core_ends.specs.Ends.{AreLegal, Finds, FindsUp, entry_in, table_of, is_open, is_dialing, claim_of};
 ghost use Rattle.dist_core_ends.specs.Ends.{oldest_pending, oldest_unnamed, record_in, up_from, up_pair, up_ids, still_of, awaited_of};
@@ -20,6 +21,7 @@ ghost use Rattle.dist_core.specs.Answers.{IsStep, Gives, GivesReply, Refuses};
 use crate::effect::Effect;
 use crate::event::Event;
 use crate::finding::open_end;
+use crate::keeping::Returned;
 use crate::reply::{Note, Reply};
 use crate::step_error::StepError;
 use dist_core_ends::{Absent, Attempt, Awaited, End, Ends, Still, UpRecord, Why};
@@ -140,6 +142,15 @@ impl Node {
         self.ends.up_at(i)
     }
 
+    /// The first up end of the peers whose names come behind this one, in their order; of all peers where there is no name. Called
+    /// again with the name in the record that it found, it goes through all of them: each call searches the entries once.
+    pub fn up_behind(&self, name: Option<&NodeName>) -> Option<(EndId, &UpRecord)>
+        ensures { option_map (λ r. (r.0, r.1.now)) result
+            ≡ up_from self.now.ends (up_behind (option_copied name.entry) (map.entries (table_of self.now.ends))) }
+    {
+        self.ends.up_behind(name)
+    }
+
     /// The record of an end that is up.
     pub fn record_of(&self, id: EndId) -> Option<&UpRecord>
         ensures { option_map (λ r. (id, r.now)) result ≡ record_in id (slice_get self.now.ends id.0) }
@@ -234,7 +245,8 @@ impl Node {
         // The ends that hold a peer are those that make its entry.
         ensures legal { AreLegal self.old.ends }
     {
-        self.make_step(alloc, event, fresh)
+        self.show_legal();
+        self.step_kept(alloc, &Returned, event, fresh)
     }
 
     /// A connection came: gives out its end. The step of [`Event::Incoming`], whose reply says nothing else.
@@ -307,22 +319,15 @@ impl Node {
         self.answer_by_effect(alloc, event, fresh)
     }
 
-    // A step, with what is shown of it at once.
-    #[tactic(auto, unfolding(crate::specs::Step::effect_of))]
-    #[inline(always)]
-    fn make_step(&mut self, alloc: Global, event: &Event, fresh: u32) -> Result<Reply, StepError>
-        ensures step { IsStep result (step self.old event.now fresh) self.old self.new }
-        ensures loss { IsTrue (is_loss event.now) → result ≢ Err StepError.NoMemory }
-        ensures legal { AreLegal self.old.ends }
+    /// Why this event is refused where its caller has no memory for what the step would need there: out of memory is the last of
+    /// all reasons.
+    #[inline(never)]
+    pub fn refusal_without_memory(&self, alloc: Global, event: &Event, fresh: u32) -> StepError
+        ensures { Refuses result (step self.now event.now fresh) }
     {
-        self.show_legal();
-        match event {
-            Event::Tick { end_: id } => self.send_tick(alloc, *id),
-            Event::Lost { end_: id, why } => self.report_loss(alloc, *id, *why),
-            Event::Incoming { link } => self.report_incoming(alloc, *link),
-            Event::Opened { end_: id, link } => self.take_connection(alloc, *id, *link),
-            Event::Frame { end_: id, body } => self.take_frame(alloc, *id, body, fresh),
-            Event::Dial { peer, opening } => self.take_dial(alloc, peer, *opening),
+        match self.answer(alloc, event, fresh) {
+            Ok(_) => StepError::NoMemory,
+            Err(error) => error,
         }
     }
 
@@ -332,41 +337,6 @@ impl Node {
         ensures { AreLegal self.now.ends }
     {
         let _ = self.open_ends();
-    }
-
-    // A loss, which closes its end and sends nothing.
-    #[inline(always)]
-    fn report_loss(&mut self, alloc: Global, id: EndId, why: Why) -> Result<Reply, StepError>
-        ensures step { (fresh : ℕ) → IsStep result (step self.old (Event.Lost id why) fresh) self.old self.new }
-        ensures loss { result ≢ Err StepError.NoMemory }
-    {
-        self.lose(id, why)?;
-        let mut reply = reply_that_says(id, ByteString::new(alloc));
-        reply.closed = Some((id, why));
-        Ok(reply)
-    }
-
-    // A connection that came, which gives out the next end.
-    #[inline(always)]
-    fn report_incoming(&mut self, alloc: Global, _link: u64) -> Result<Reply, StepError>
-        ensures { (fresh : ℕ) → IsStep result (step self.old (Event.Incoming _link) fresh) self.old self.new }
-    {
-        let id = self.accept()?;
-        Ok(reply_that_says(id, ByteString::new(alloc)))
-    }
-
-    // A tick, with the packet that is sent.
-    #[tactic(auto, using(crate::proofs::Ticks::ticks))]
-    #[inline(always)]
-    fn send_tick(&mut self, alloc: Global, id: EndId) -> Result<Reply, StepError>
-        ensures { IsStep result (step_result self.old (Event.Tick id) (at_end (slice_get self.old.ends id.0) (tick_effect self.old id))) self.old self.new }
-    {
-        self.check_tick(id)?;
-        let Ok(say) = ByteString::from_slice(alloc, &tick()) else {
-            return Err(StepError::NoMemory);
-        };
-        self.steps += 1;
-        Ok(reply_that_says(id, say))
     }
 
     // Whether a tick is taken: it leaves all ends as they are.
@@ -385,71 +355,35 @@ impl Node {
         Ok(())
     }
 
-    // An answer, with what is shown of it at once.
-    fn answer_by_effect(&self, alloc: Global, event: &Event, fresh: u32) -> Result<Reply, StepError>
-        ensures answer { GivesReply result (step self.now event.now fresh) }
-        ensures loss { IsTrue (is_loss event.now) → result ≢ Err StepError.NoMemory }
-    {
-        let prepared = self.work_out(alloc, event, fresh)?;
-        Ok(prepared.into_reply())
-    }
-
-    // Makes a step that the definition gives.
-    pub(crate) fn apply_effect(&mut self, effect: Effect, cost: u64) -> Result<Reply, StepError>
-        requires fits { AreLegal self.old.ends → FitsNodeTable self.old (table_of self.old.ends) effect }
-        requires few { length (ends_after self.old.ends effect) ≤ self.old.steps + cost }
-        requires bounded { self.old.steps + cost ≤ (let l = limits_of self.old in l.steps) }
-        requires numbered { length (ends_after self.old.ends effect) ≤ (let l = limits_of self.old in l.ends) }
-        ensures ok { IfOk result (λ r. (r ≡ effect.reply)
-            × (self.new ≡ record { setup = self.old.setup; steps = self.old.steps + cost; ends = ends_after self.old.ends effect })) }
-        ensures err { IfErr result (λ e. (e ≡ StepError.NoMemory) × (self.new ≡ self.old)) }
-        ensures loss { claim_of effect.this ≡ None → effect.reply.end_.0 < length self.old.ends → IsOk result }
-    {
-        let Effect { reply, this, other } = effect;
-        self.change_ends(&reply, this, other, cost)?;
-        Ok(reply)
-    }
-
-    // The same of a step whose reply is kept elsewhere.
+    // Changes the ends as the definition says of a step that counts.
     pub(crate) fn change_ends(
         &mut self,
         reply: &Reply,
         this: End,
         other: Option<(EndId, End)>,
-        cost: u64,
     ) -> Result<(), StepError>
         requires fits { AreLegal self.old.ends → FitsNodeTable self.old (table_of self.old.ends) (record { reply = reply.now; this = this; other = other }) }
-        requires few { length (ends_after self.old.ends (record { reply = reply.now; this = this; other = other })) ≤ self.old.steps + cost }
-        requires bounded { self.old.steps + cost ≤ (let l = limits_of self.old in l.steps) }
+        requires few { length (ends_after self.old.ends (record { reply = reply.now; this = this; other = other })) ≤ self.old.steps + 1 }
+        requires bounded { self.old.steps + 1 ≤ (let l = limits_of self.old in l.steps) }
         requires numbered { length (ends_after self.old.ends (record { reply = reply.now; this = this; other = other }))
             ≤ (let l = limits_of self.old in l.ends) }
         ensures ok { OnOk result (self.new ≡ record {
           setup = self.old.setup;
-          steps = self.old.steps + cost;
+          steps = self.old.steps + 1;
           ends = ends_after self.old.ends (record { reply = reply.now; this = this; other = other });
         }) }
         ensures err { IfErr result (λ e. (e ≡ StepError.NoMemory) × (self.new ≡ self.old)) }
-        ensures loss { claim_of this ≡ None → (let r = reply.now in r.end_.0) < length self.old.ends → IsOk result }
     {
         // These show that each end has a number, and that the steps can be counted.
         let _ = self.most_ends();
         let _ = self.most_steps();
         match self.ends.change(&self.setup.name, reply.end_, this, other) {
             Ok(()) => {
-                self.steps += cost;
+                self.steps += 1;
                 Ok(())
             }
             Err(_) => Err(StepError::NoMemory),
         }
-    }
-
-    // Counts a step that changes no end.
-    pub(crate) fn count(&mut self, cost: u64)
-        requires { self.old.steps + cost ≤ (let l = limits_of self.old in l.steps) }
-        ensures { self.new ≡ record { setup = self.old.setup; steps = self.old.steps + cost; ends = self.old.ends } }
-    {
-        let _ = self.most_steps();
-        self.steps += cost;
     }
 
     // How many steps were counted, and what every node keeps.

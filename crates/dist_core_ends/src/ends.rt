@@ -1,9 +1,9 @@
 //! All ends of a node, and who holds whom.
-ghost use Rattle.std.specs.Prelude.{◌≡◌, ℕ, ◌<◌, ◌+◌, ◌^◌, [], length, IsOk, OnOk, OnErr, Ok, Err, Some, None, slice_get, count_by};
+ghost use Rattle.std.specs.Prelude.{◌≡◌, ℕ, ◌<◌, ◌+◌, ◌^◌, [], length, IsOk, OnOk, OnErr, Ok, Err, Some, None, option_copied, slice_get, count_by};
 ghost use Rattle.std.specs.Option.{option_map, option_and_then};
 ghost use Rattle.std.specs.FinMap as map;
 ghost use Rattle.dist_names.specs.Order.{Name};
-ghost use Rattle.dist_peers.specs.Table.{replaced_by};
+ghost use Rattle.dist_peers.specs.Table.{replaced_by, up_behind};
 ghost use Rattle.dist_peers.specs.Verdicts.{is_full};
 ghost use Rattle.dist_core_ends.specs.Ends.{AreLegal, FindsUp, Finds, entry_in, table_of, is_open, is_dialing, claim_of, end_id};
 ghost use Rattle.dist_core_ends.specs.Ends.{record_in, up_from, up_pair, up_id, up_ids, oldest_pending, oldest_unnamed, still_of, awaited_of, verdict_of};
@@ -181,7 +181,22 @@ impl Ends {
         self.with_record(self.up_id_at(i))
     }
 
+    /// The first up end of the peers whose names come behind this one, in their order; of all peers where there is no name. Called
+    /// again with the name in the record that it found, it goes through all of them: each call searches the entries once.
+    pub fn up_behind(&self, name: Option<&NodeName>) -> Option<(EndId, &UpRecord)>
+        ensures { option_map (λ r. (r.0, r.1.now)) result ≡ up_from self.now (up_behind (option_copied name.entry) (map.entries (table_of self.now))) }
+    {
+        self.with_record(self.up_id_behind(name))
+    }
+
     // The number of that end.
+    fn up_id_behind(&self, name: Option<&NodeName>) -> Option<EndId>
+        ensures { result ≡ up_behind (option_copied name.entry) (map.entries (table_of self.now)) }
+    {
+        self.peers.up_behind(name)
+    }
+
+    // The number of the up end at this place.
     fn up_id_at(&self, i: usize) -> Option<EndId>
         ensures { result ≡ slice_get (up_ids (map.entries (table_of self.now))) i }
     {

@@ -1,7 +1,6 @@
 ghost use Rattle.std.specs.Prelude.{◌≡◌, ◌≢◌, ◌<◌, ◌≤◌, ◌+◌, ◌++◌, ◌∷◌, [], vec_len, vec_capacity, false, IsTrue};
 ghost use Rattle.std.specs.Prelude.{Some, Ok, Err, IfOk, IfErr, OnOk, OnErr};
 ghost use Rattle.dist_core.specs.declared.reply.Reply.{Reply};
-ghost use Rattle.dist_core.specs.Answers.{Refuses};
 ghost use Rattle.dist_core.specs.Clauses.{end_of};
 ghost use Rattle.dist_core.specs.Losses.{IsGone, is_loss};
 ghost use Rattle.dist_core.specs.Step.{step};
@@ -76,16 +75,6 @@ fn make_room(steps: &mut Vec<(Event, u32, Reply)>, loss: bool) -> Result<(), All
     steps.reserve(2)
 }
 
-// Why a step is refused for which there is no room: out of memory is the last of its refusals.
-fn lacks(alloc: Global, node: &Node, event: &Event, fresh: u32) -> StepError
-    ensures { Refuses result (step node.now event.now fresh) }
-{
-    match node.answer(alloc, event, fresh) {
-        Ok(_) => StepError::NoMemory,
-        Err(error) => error,
-    }
-}
-
 impl Desk for MemoryDesk {
     ghost use Rattle.dist_drive.specs.Memory.{memory_facts};
 
@@ -112,7 +101,7 @@ impl Desk for MemoryDesk {
         }
         a_lost_end_is_closed();
         let Ok(()) = make_room(&mut self.steps, event.is_lost()) else {
-            return Err(lacks(self.alloc, &self.node, &event, fresh));
+            return Err(self.node.refusal_without_memory(self.alloc, &event, fresh));
         };
         let reply = self.node.step(self.alloc, &event, fresh)?;
         self.steps.push_reserved((event, fresh, reply));

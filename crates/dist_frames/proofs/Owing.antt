@@ -8,7 +8,7 @@ use Rattle.dist_frames.specs.Reader.{capped_count}
 use Rattle.dist_frames.specs.Kept.{kept_of}
 use Rattle.dist_frames.specs.Stream.{head, has_first, behind, packets, short_rest, partial}
 use Rattle.dist_frames.proofs.Streams.{Starts, starts_true, bodies_one, bodies_none, rest_one, rest_none}
-use Rattle.dist_frames.proofs.Packets.{shortened_few, shortened_many}
+use Rattle.dist_frames.proofs.Skipping.{shortened_few, shortened_many}
 
 wide : 0 < byte_len w32
 wide = lit< tt

@@ -25,8 +25,7 @@ mod shared;
 
 pub use dispatching::{CAPACITY, LAST_ORDER, MOST_ORDERS, dispatch};
 pub use dist_locked_book::{
-    Book, CloseError, Closed, Line, LineView, Receipt, Seat, SharedLine, close, step_and_copy,
-    step_on,
+    Book, CloseError, Closed, Line, LineView, Receipt, Seat, SharedLine, close, step_on,
 };
 pub use driven::{Driven, drive_end};
 pub use gate::{Gate, Moment, Open};

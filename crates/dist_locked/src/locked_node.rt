@@ -4,7 +4,7 @@ ghost use Rattle.dist_locked_book.specs.History.{AreFresh, IsAnswered, IsLegal, 
 ghost use Rattle.dist_locked.specs.Desks.{IsStill};
 
 use dist_core::{Event, Reply, Setup, StepError, Still};
-use dist_locked_book::{Book, Receipt, Seat, fresh_seats, step_and_copy, step_on};
+use dist_locked_book::{Book, Receipt, Seat, fresh_seats, step_on};
 use dist_peers::EndId;
 use std::alloc::{AllocError, Global};
 use std::sync::atomic::{AtomicU64, Ordering};
@@ -62,36 +62,12 @@ impl LockedNode {
     }
 
     /// Makes a step under the lock, with a ticket that is drawn there. What the node was at that moment no clause of a caller
-    /// can say: only that some node with a legal history gives this reply, or refuses so. `close` compares.
+    /// can say: only that some node with a legal history gives this reply, or refuses so. `close` compares. With the receipt comes
+    /// a copy of the reply, for whoever hands it on: the line itself is shared with the history and the seat.
     ///
-    /// It is refused as the node refuses the step, out of memory last, and changes nothing then. Source: our own choice.
+    /// It is refused as the node refuses the step, out of memory last, also where there is none for the copy, and changes nothing
+    /// then. A loss takes no memory. Source: our own choice.
     pub fn step<R: Wait>(
-        &self,
-        rt: &R,
-        seat: &mut Seat,
-        event: &Event,
-        fresh: u32,
-    ) -> Result<Receipt, StepError>
-        ensures line { IfOk result (λ r. (r.line.seat ≡ seat.old.number) × (r.line.event ≡ event.now) × (r.line.fresh ≡ fresh)) }
-        ensures receipt { IfOk result (λ r. seat.new.list ≡ seat.old.list ++ r ∷ []) }
-        ensures err { OnErr result (seat.new.list ≡ seat.old.list) }
-        ensures seat { seat.new.number ≡ seat.old.number }
-        ensures gone { IsTrue (is_loss event.now) → 0 < seat.old.spare → IfErr result IsGone }
-        ensures room { OnOk result (is_loss event.now ≡ false → 0 < seat.new.spare) }
-        ensures room_kept { OnErr result (seat.old.spare ≤ seat.new.spare) }
-
-        // Some node with a legal history gives this reply, or refuses so.
-        ensures answered { IfOk result IsAnswered }
-        ensures refused { IfErr result (IsRefused event.now fresh) }
-    {
-        let mut book = self.book.lock(rt);
-        let ticket = self.tickets.next.fetch_add(1, Ordering::SeqCst);
-        step_on(self.alloc, &mut book, seat, ticket, event, fresh)
-    }
-
-    /// The same, with a copy of the reply for whoever hands it on: the line itself is shared with the history and the seat. Out of
-    /// memory is told before the step is made, also where there is none for the copy; that of a loss takes none.
-    pub fn step_and_copy<R: Wait>(
         &self,
         rt: &R,
         seat: &mut Seat,
@@ -113,18 +89,20 @@ impl LockedNode {
     {
         let mut book = self.book.lock(rt);
         let ticket = self.tickets.next.fetch_add(1, Ordering::SeqCst);
-        step_and_copy(self.alloc, &mut book, seat, ticket, event, fresh)
+        step_on(self.alloc, &mut book, seat, ticket, event, fresh)
     }
 
-    // Why a step is refused for which there is no room: out of memory is the last of its refusals.
-    pub(crate) fn lacks<R: Wait>(&self, rt: &R, event: &Event, fresh: u32) -> StepError
+    // Why a step is refused for which there is no memory.
+    pub(crate) fn refusal_without_memory<R: Wait>(
+        &self,
+        rt: &R,
+        event: &Event,
+        fresh: u32,
+    ) -> StepError
         ensures { IsRefused event.now fresh result }
     {
         let book = self.book.lock(rt);
-        match book.node().answer(self.alloc, event, fresh) {
-            Ok(_) => StepError::NoMemory,
-            Err(error) => error,
-        }
+        book.node().refusal_without_memory(self.alloc, event, fresh)
     }
 
     /// How an end stands at this moment, as some node with a legal history reports it.

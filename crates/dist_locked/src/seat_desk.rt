@@ -109,11 +109,9 @@ impl<'a, R: Wait> SeatDesk<'a, R> {
             return Err(StepError::Gone(why));
         }
         let Ok(()) = make_room(&mut self.steps, event.is_lost()) else {
-            return Err(self.node.lacks(self.rt, &event, fresh));
+            return Err(self.node.refusal_without_memory(self.rt, &event, fresh));
         };
-        let (_, reply) = self
-            .node
-            .step_and_copy(self.rt, &mut self.seat, &event, fresh)?;
+        let (_, reply) = self.node.step(self.rt, &mut self.seat, &event, fresh)?;
         self.lost = event.lost_why();
         self.steps.push_reserved((event, fresh, reply));
         Ok(())

@@ -10,7 +10,6 @@ use Rattle.dist_locked_book.specs.declared.shared_line.Entry.{Entry}
 use Rattle.dist_locked_book.specs.declared.shared_line.Kept.{Kept}
 use Rattle.dist_locked_book.specs.declared.shared_line.Kept.TheVariants as kept
 use Rattle.dist_locked_book.specs.declared.shared_line.LineView.{LineView}
-use Rattle.dist_locked_book.specs.declared.sharing.Shared.{Shared}
 use Rattle.dist_locked_book.specs.declared.shared_line.LineView.TheVariants as view
 
 -- the line of this entry, with this event and this reply
@@ -31,8 +30,3 @@ line_in (view.Made line) = line
 -- a line of this entry, with this event
 abbrev pub IsEntry : Entry → Event → Line → Type 0
 IsEntry entry v l = (l.ticket ≡ entry.ticket) × (l.seat ≡ entry.seat) × (l.event ≡ v) × (l.fresh ≡ entry.fresh)
-
--- three share the line of this entry, with this event and this reply
-abbrev pub AreShared : Entry → Event → Reply → Shared → Type 0
-AreShared entry v reply s =
-    (arc_value s.line ≡ line_with entry v reply) × (arc_value s.second ≡ arc_value s.line) × (arc_value s.third ≡ arc_value s.line)

@@ -1,5 +1,5 @@
 ghost use Rattle.std.specs.Prelude.{◌≡◌, ◌≢◌, ◌<◌, ◌+◌, ◌≤◌, ◌∷◌, [], ◌++◌, length, vec_len, vec_capacity, true, false, MatchBool, IsTrue};
-ghost use Rattle.std.specs.Prelude.{if◌then◌else◌, Ok, Err, IfOk, IfErr, OnOk, OnErr, IsOk, Some, None, slice_get};
+ghost use Rattle.std.specs.Prelude.{Ok, Err, IfOk, IfErr, OnOk, OnErr, IsOk, Some, None, slice_get};
 ghost use Rattle.dist_core_ends.specs.declared.known.End.{End};
 ghost use Rattle.dist_core.specs.declared.event.Event.TheVariants as Event;
 ghost use Rattle.dist_core.specs.Losses.{is_loss, IsGone};
@@ -10,10 +10,11 @@ ghost use Rattle.dist_core.specs.Clauses.{loss_reply, silent_reply};
 ghost use Rattle.dist_core_ends.specs.Ends.{is_open};
 ghost use Rattle.dist_locked_book.specs.History.{IsAnswered, IsLegal, IsReplay, ends_in_loss};
 ghost use Rattle.dist_locked_book.specs.Lines.{IsEntry};
+ghost use Rattle.dist_locked_book.specs.Sharing.{AreLines};
 
 use super::seat::{Receipt, Seat};
 use super::shared_line::{Entry, SharedLine, quiet};
-use super::sharing::{Copying, Lines, Sharing};
+use super::sharing::{Lines, Sharing};
 use dist_core::{Event, Node, Reply, Setup, StepError, Why};
 use dist_core_laws::{a_step_keeps, open_ends_after_a_step};
 use dist_peers::EndId;
@@ -92,19 +93,13 @@ impl Book {
         (node, history)
     }
 
-    // Makes a step, and adds its line. Returns the place of the line, the line twice, and a copy of its reply where one is wanted.
+    // Makes a step, and adds its line.
     #[inline(always)]
-    fn enter(
-        &mut self,
-        alloc: Global,
-        entry: Entry,
-        event: &Event,
-        copies: bool,
-    ) -> Result<Entered, StepError>
+    fn enter(&mut self, alloc: Global, entry: Entry, event: &Event) -> Result<Entered, StepError>
         ensures step { IfOk result (λ r. step self.old.node event.now entry.fresh ≡ Ok (r.line.reply, self.new.node)) }
         ensures line { IfOk result (λ r. IsEntry entry event.now r.line) }
         ensures same { IfOk result (λ r. r.second ≡ r.line) }
-        ensures copy { IfOk result (λ r. r.copy ≡ (if copies then Some r.line.reply else None)) }
+        ensures reply { IfOk result (λ r. r.reply ≡ r.line.reply) }
         ensures history { IfOk result (λ r. (r.at_ ≡ length self.old.history) × (self.new.history ≡ self.old.history ++ r.line ∷ [])) }
         ensures seats { self.new.seats ≡ self.old.seats }
         ensures refused { IfErr result (λ e. Refuses e (step self.old.node event.now entry.fresh)) }
@@ -118,13 +113,14 @@ impl Book {
         open_ends_after_a_step();
         let open_ends = self.node.open_ends();
         let Ok(()) = make_room(&mut self.history, open_ends, event.is_lost()) else {
-            return Err(refusal(alloc, &self.node, event, entry.fresh));
+            return Err(self.node.refusal_without_memory(alloc, event, entry.fresh));
         };
-        let (lines, copy) = make_step(alloc, &mut self.node, entry, event, copies)?;
+        let lines = make_step(alloc, &mut self.node, entry, event)?;
         let Lines {
             line,
             second,
             third,
+            reply,
         } = lines;
         let at_ = self.history.len();
         self.history.push_reserved(third);
@@ -132,29 +128,18 @@ impl Book {
             at_,
             line,
             second,
-            copy,
+            reply,
         })
     }
 }
 
-// A line that was added: its place, the line twice, and a copy of its reply where one was wanted.
+// A line that was added: its place, the line twice, and a copy of its reply.
 #[derive(Drop)]
 struct Entered {
     at_: usize,
     line: SharedLine,
     second: SharedLine,
-    copy: Option<Reply>,
-}
-
-// Why a step is refused for which there is no room: out of memory is the last of its refusals.
-#[inline(never)]
-fn refusal(alloc: Global, node: &Node, event: &Event, fresh: u32) -> StepError
-    ensures { Refuses result (step node.now event.now fresh) }
-{
-    match node.answer(alloc, event, fresh) {
-        Ok(_) => StepError::NoMemory,
-        Err(error) => error,
-    }
+    reply: Reply,
 }
 
 // Makes room for the line of a step and one line for each end that is open then. Before a loss there is room already.
@@ -175,50 +160,13 @@ fn make_room(history: &mut Vec<SharedLine>, open_ends: usize, lost: bool) -> Res
     history.reserve(more).map_err(|_| StepError::NoMemory)
 }
 
-/// Makes a step of the book's node for a seat, and adds its line to the history and its receipt to the seat.
+/// Makes a step of the book's node for a seat, and adds its line to the history and its receipt to the seat. With the receipt
+/// comes a copy of the reply, for whoever hands it on.
 ///
 /// It is refused as the node refuses the step, out of memory last, and changes neither the book nor the seat's receipts
 /// then. A loss of an open end succeeds where the seat's last receipt is not of a loss: it takes no memory. Source: our own
 /// choice.
 pub fn step_on(
-    alloc: Global,
-    book: &mut Book,
-    seat: &mut Seat,
-    ticket: u64,
-    event: &Event,
-    fresh: u32,
-) -> Result<Receipt, StepError>
-    ensures step { IfOk result (λ r. step book.old.node event.now fresh ≡ Ok (r.line.reply, book.new.node)) }
-    ensures line { IfOk result (λ r. (r.line.ticket ≡ ticket) × (r.line.seat ≡ seat.old.number) × (r.line.event ≡ event.now) × (r.line.fresh ≡ fresh)) }
-    ensures history { IfOk result (λ r. (r.at_ ≡ length book.old.history) × (book.new.history ≡ book.old.history ++ r.line ∷ [])) }
-    ensures receipt { IfOk result (λ r. seat.new.list ≡ seat.old.list ++ r ∷ []) }
-    ensures seats { (book.new.seats ≡ book.old.seats) × (seat.new.number ≡ seat.old.number) }
-    ensures legal { IsLegal book.old }
-    ensures answered { IfOk result IsAnswered }
-
-    // A refusal is that of the node, and changes neither the book nor the seat's list.
-    ensures refused { IfErr result (λ e. Refuses e (step book.old.node event.now fresh)) }
-    ensures err { OnErr result ((book.new ≡ book.old) × (seat.new.list ≡ seat.old.list)) }
-
-    // A loss takes no memory where the seat has room, as it has after a receipt that is not of a loss.
-    ensures gone { IsTrue (is_loss event.now) → 0 < seat.old.spare → IfErr result IsGone }
-    ensures open_end { (x : EndId) (w : Why) (e : End) → event.now ≡ Event.Lost x w
-        → slice_get book.old.node.ends x.0 ≡ Some e → is_open e ≡ true → ends_in_loss seat.old.list ≡ false → IsOk result }
-    ensures room { OnOk result (is_loss event.now ≡ false → 0 < seat.new.spare) }
-    ensures room_kept { OnErr result (seat.old.spare ≤ seat.new.spare) }
-{
-    let entry = Entry {
-        ticket,
-        seat: seat.number(),
-        fresh,
-    };
-    let (receipt, _) = step_for(alloc, book, seat, entry, event, false)?;
-    Ok(receipt)
-}
-
-/// The same, with a copy of the reply for whoever hands it on. The step is refused as out of memory where there is none for
-/// the copy; that of a loss takes none. Source: our own choice.
-pub fn step_and_copy(
     alloc: Global,
     book: &mut Book,
     seat: &mut Seat,
@@ -246,67 +194,35 @@ pub fn step_and_copy(
     ensures room { OnOk result (is_loss event.now ≡ false → 0 < seat.new.spare) }
     ensures room_kept { OnErr result (seat.old.spare ≤ seat.new.spare) }
 {
+    let Ok(()) = seat.make_room(event.is_lost()) else {
+        return Err(book.node().refusal_without_memory(alloc, event, fresh));
+    };
     let entry = Entry {
         ticket,
         seat: seat.number(),
         fresh,
     };
-    let (receipt, copy) = step_for(alloc, book, seat, entry, event, true)?;
-    Ok((receipt, copy.unwrap()))
-}
-
-// The two calls in one, with a copy of the reply where one is wanted.
-#[inline(always)]
-fn step_for(
-    alloc: Global,
-    book: &mut Book,
-    seat: &mut Seat,
-    entry: Entry,
-    event: &Event,
-    copies: bool,
-) -> Result<(Receipt, Option<Reply>), StepError>
-    ensures step { IfOk result (λ r. step book.old.node event.now entry.fresh ≡ Ok (r.0.line.reply, book.new.node)) }
-    ensures copy { IfOk result (λ r. r.1 ≡ (if copies then Some r.0.line.reply else None)) }
-    ensures line { IfOk result (λ r. IsEntry entry event.now r.0.line) }
-    ensures history { IfOk result (λ r. (r.0.at_ ≡ length book.old.history) × (book.new.history ≡ book.old.history ++ r.0.line ∷ [])) }
-    ensures receipt { IfOk result (λ r. seat.new.list ≡ seat.old.list ++ r.0 ∷ []) }
-    ensures seats { (book.new.seats ≡ book.old.seats) × (seat.new.number ≡ seat.old.number) }
-    ensures legal { IsLegal book.old }
-    ensures answered { IfOk result (λ r. IsAnswered r.0) }
-    ensures refused { IfErr result (λ e. Refuses e (step book.old.node event.now entry.fresh)) }
-    ensures err { OnErr result ((book.new ≡ book.old) × (seat.new.list ≡ seat.old.list)) }
-    ensures gone { IsTrue (is_loss event.now) → 0 < seat.old.spare → IfErr result IsGone }
-    ensures open_end { (x : EndId) (w : Why) (e : End) → event.now ≡ Event.Lost x w
-        → slice_get book.old.node.ends x.0 ≡ Some e → is_open e ≡ true → ends_in_loss seat.old.list ≡ false → IsOk result }
-    ensures room { OnOk result (is_loss event.now ≡ false → 0 < seat.new.spare) }
-    ensures room_kept { OnErr result (seat.old.spare ≤ seat.new.spare) }
-{
-    let Ok(()) = seat.make_room(event.is_lost()) else {
-        return Err(refusal(alloc, book.node(), event, entry.fresh));
-    };
     let Entered {
         at_,
         line,
         second,
-        copy,
-    } = book.enter(alloc, entry, event, copies)?;
+        reply,
+    } = book.enter(alloc, entry, event)?;
     seat.keep(Receipt { at_, line: second });
-    Ok((Receipt { at_, line }, copy))
+    Ok((Receipt { at_, line }, reply))
 }
 
-// Makes a step of a node, and returns its line three times, and a copy of its reply where one is wanted.
+// Makes a step of a node. That of a connection that came, and that of a loss, have lines that take no memory; any other line is
+// made before the step is.
 #[inline(always)]
 fn make_step(
     alloc: Global,
     node: &mut Node,
     entry: Entry,
     event: &Event,
-    copies: bool,
-) -> Result<(Lines, Option<Reply>), StepError>
-    ensures step { IfOk result (λ r. step node.old event.now entry.fresh ≡ Ok (r.0.line.reply, node.new)) }
-    ensures line { IfOk result (λ r. IsEntry entry event.now r.0.line) }
-    ensures same { IfOk result (λ r. (r.0.second ≡ r.0.line) × (r.0.third ≡ r.0.line)) }
-    ensures copy { IfOk result (λ r. r.1 ≡ (if copies then Some r.0.line.reply else None)) }
+) -> Result<Lines, StepError>
+    ensures step { IfOk result (λ r. step node.old event.now entry.fresh ≡ Ok (r.reply, node.new)) }
+    ensures lines { IfOk result (λ r. AreLines entry event.now r.reply r) }
     ensures refused { IfErr result (λ e. Refuses e (step node.old event.now entry.fresh)) }
     ensures err { OnErr result (node.new ≡ node.old) }
     ensures gone { IsTrue (is_loss event.now) → IfErr result IsGone }
@@ -316,59 +232,41 @@ fn make_step(
     match event {
         Event::Incoming { link } => {
             let id = node.accept()?;
-            let copy = if copies {
-                Some(quiet(alloc, id, None))
-            } else {
-                None
-            };
-            Ok((lines_of_arrival(alloc, entry, *link, id), copy))
+            Ok(lines_of_arrival(alloc, entry, *link, id))
         }
         Event::Lost { end_: id, why } => {
             node.lose(*id, *why)?;
-            let closed = Some((*id, *why));
-            let copy = if copies {
-                Some(quiet(alloc, *id, closed))
-            } else {
-                None
-            };
-            Ok((lines_of_loss(alloc, entry, *id, *why), copy))
+            Ok(lines_of_loss(alloc, entry, *id, *why))
         }
-        _ if copies => {
-            let (lines, reply) = make_copied_step(alloc, node, entry, event)?;
-            Ok((lines, Some(reply)))
-        }
-        _ => {
-            let lines = make_kept_step(alloc, node, entry, event)?;
-            Ok((lines, None))
-        }
+        _ => make_kept_step(alloc, node, entry, event),
     }
 }
 
 #[inline(always)]
 fn lines_of_arrival(alloc: Global, entry: Entry, link: u64, id: EndId) -> Lines
-    ensures line { IsEntry entry (Event.Incoming link) result.line × (result.line.reply ≡ silent_reply id) }
-    ensures same { (result.second ≡ result.line) × (result.third ≡ result.line) }
+    ensures { AreLines entry (Event.Incoming link) (silent_reply id) result }
 {
     Lines {
         line: SharedLine::of_arrival(alloc, entry, link, id),
         second: SharedLine::of_arrival(alloc, entry, link, id),
         third: SharedLine::of_arrival(alloc, entry, link, id),
+        reply: quiet(alloc, id, None),
     }
 }
 
 #[inline(always)]
 fn lines_of_loss(alloc: Global, entry: Entry, id: EndId, why: Why) -> Lines
-    ensures line { IsEntry entry (Event.Lost id why) result.line × (result.line.reply ≡ loss_reply id why) }
-    ensures same { (result.second ≡ result.line) × (result.third ≡ result.line) }
+    ensures { AreLines entry (Event.Lost id why) (loss_reply id why) result }
 {
     Lines {
         line: SharedLine::of_loss(alloc, entry, id, why),
         second: SharedLine::of_loss(alloc, entry, id, why),
         third: SharedLine::of_loss(alloc, entry, id, why),
+        reply: quiet(alloc, id, Some((id, why))),
     }
 }
 
-// Makes a step whose line takes memory: the line is made before the step is.
+// Makes a step whose line takes memory.
 #[inline(always)]
 fn make_kept_step(
     alloc: Global,
@@ -376,34 +274,10 @@ fn make_kept_step(
     entry: Entry,
     event: &Event,
 ) -> Result<Lines, StepError>
-    ensures step { IfOk result (λ r. step node.old event.now entry.fresh ≡ Ok (r.line.reply, node.new)) }
-    ensures line { IfOk result (λ r. IsEntry entry event.now r.line) }
-    ensures same { IfOk result (λ r. (r.second ≡ r.line) × (r.third ≡ r.line)) }
+    ensures step { IfOk result (λ r. step node.old event.now entry.fresh ≡ Ok (r.reply, node.new)) }
+    ensures lines { IfOk result (λ r. AreLines entry event.now r.reply r) }
     ensures refused { IfErr result (λ e. Refuses e (step node.old event.now entry.fresh)) }
     ensures err { OnErr result (node.new ≡ node.old) }
 {
-    let sharing = Sharing { entry, event };
-    let shared = node.step_kept(alloc, &sharing, event, entry.fresh)?;
-    Ok(shared.into_lines(alloc))
-}
-
-// The same, with a copy of the reply.
-fn make_copied_step(
-    alloc: Global,
-    node: &mut Node,
-    entry: Entry,
-    event: &Event,
-) -> Result<(Lines, Reply), StepError>
-    ensures step { IfOk result (λ r. step node.old event.now entry.fresh ≡ Ok (r.1, node.new)) }
-    ensures reply { IfOk result (λ r. r.1 ≡ r.0.line.reply) }
-    ensures line { IfOk result (λ r. IsEntry entry event.now r.0.line) }
-    ensures same { IfOk result (λ r. (r.0.second ≡ r.0.line) × (r.0.third ≡ r.0.line)) }
-    ensures refused { IfErr result (λ e. Refuses e (step node.old event.now entry.fresh)) }
-    ensures err { OnErr result (node.new ≡ node.old) }
-{
-    let copying = Copying {
-        sharing: Sharing { entry, event },
-    };
-    let copied = node.step_kept(alloc, &copying, event, entry.fresh)?;
-    Ok((copied.shared.into_lines(alloc), copied.reply))
+    node.step_kept(alloc, &Sharing { entry, event }, event, entry.fresh)
 }

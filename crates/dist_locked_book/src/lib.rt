@@ -15,7 +15,7 @@ mod seat;
 mod shared_line;
 mod sharing;
 
-pub use book::{Book, step_and_copy, step_on};
+pub use book::{Book, step_on};
 pub use closing::{CloseError, Closed, close};
 pub use line::Line;
 pub use seat::{Receipt, Seat, fresh_seats};

@@ -89,18 +89,10 @@ impl SharedLine {
         ensures { IfOk result (λ shared. shared ≡ line) }
     {
         let line = Arc::new(alloc, line)?;
-        Ok(SharedLine::of_shared(alloc, line))
-    }
-
-    // One of those that share a line.
-    #[inline(always)]
-    pub(crate) fn of_shared(alloc: Global, line: Arc<Line>) -> SharedLine
-        ensures { result ≡ arc_value line }
-    {
-        SharedLine {
+        Ok(SharedLine {
             kept: Kept::Shared(line),
             alloc,
-        }
+        })
     }
 
     // The line of a connection that came, for which an end was given out. It takes no memory.

@@ -1,47 +1,18 @@
 //! How the line of a step is made before the step is.
 ghost use Rattle.std.specs.Prelude.{◌≡◌, IfOk};
-ghost use Rattle.std.specs.Arc.{arc_value};
-ghost use Rattle.dist_locked_book.specs.Lines.{AreShared};
+ghost use Rattle.dist_locked_book.specs.Sharing.{AreLines};
 
-use super::line::Line;
 use super::shared_line::{Entry, SharedLine};
 use dist_core::{Event, Keeper, Reply};
 use std::alloc::{AllocError, Global};
-use std::sync::Arc;
 
-/// A line three times.
+/// The line of a step three times, and a copy of its reply for whoever hands it on.
 #[derive(Drop)]
 pub struct Lines {
     pub line: SharedLine,
     pub second: SharedLine,
     pub third: SharedLine,
-}
-
-/// A line that three share.
-#[derive(Drop)]
-pub struct Shared {
-    line: Arc<Line>,
-    second: Arc<Line>,
-    third: Arc<Line>,
-}
-
-impl Shared {
-    /// The three.
-    #[inline(always)]
-    pub fn into_lines(self, alloc: Global) -> Lines
-        ensures { (result.line ≡ arc_value self.line) × (result.second ≡ arc_value self.second) × (result.third ≡ arc_value self.third) }
-    {
-        let Shared {
-            line,
-            second,
-            third,
-        } = self;
-        Lines {
-            line: SharedLine::of_shared(alloc, line),
-            second: SharedLine::of_shared(alloc, second),
-            third: SharedLine::of_shared(alloc, third),
-        }
-    }
+    pub reply: Reply,
 }
 
 /// Keeps the reply to an event in its line.
@@ -52,57 +23,27 @@ pub struct Sharing<'a> {
 }
 
 impl<'a> Keeper for Sharing<'a> {
-    type Kept = Shared;
+    type Kept = Lines;
 
-    ghost keeps = { λ s reply kept. AreShared s.entry s.event.now reply kept };
+    ghost keeps = { λ s reply kept. AreLines s.entry s.event.now reply kept };
 
-    #[inline(always)]
-    fn keep(&self, alloc: Global, reply: Reply) -> Result<Shared, AllocError> {
+    // No step of which nothing is known beforehand.
+    ghost is_ready_for = { λ s reply. ⊥ };
+
+    fn keep(&self, alloc: Global, reply: Reply) -> Result<Lines, AllocError> {
+        let copy = reply.try_clone(alloc)?;
         let event = self.event.try_clone(alloc)?;
-        let line = Arc::new(alloc, self.entry.line(event, reply))?;
-        let second = Arc::try_clone(&line)?;
-        let third = Arc::try_clone(&line)?;
-        Ok(Shared {
+        let line = SharedLine::new(alloc, self.entry.line(event, reply))?;
+        let (second, third) = (line.try_clone()?, line.try_clone()?);
+        Ok(Lines {
             line,
             second,
             third,
-        })
-    }
-
-    #[inline(always)]
-    fn reply<'k>(&self, kept: &'k Shared) -> &'k Reply {
-        &kept.line.reply
-    }
-}
-
-/// A line that three share, and a copy of its reply.
-#[derive(Drop)]
-pub struct Copied {
-    pub shared: Shared,
-    pub reply: Reply,
-}
-
-/// The same, with a copy of the reply.
-#[derive(Drop)]
-pub struct Copying<'a> {
-    pub sharing: Sharing<'a>,
-}
-
-impl<'a> Keeper for Copying<'a> {
-    type Kept = Copied;
-
-    ghost keeps = { λ s reply kept. AreShared s.sharing.entry s.sharing.event.now reply kept.shared × (kept.reply ≡ reply) };
-
-    fn keep(&self, alloc: Global, reply: Reply) -> Result<Copied, AllocError> {
-        let copy = reply.try_clone(alloc)?;
-        let shared = self.sharing.keep(alloc, reply)?;
-        Ok(Copied {
-            shared,
             reply: copy,
         })
     }
 
-    fn reply<'k>(&self, kept: &'k Copied) -> &'k Reply {
+    fn reply<'k>(&self, kept: &'k Lines) -> &'k Reply {
         &kept.reply
     }
 }

@@ -1,5 +1,5 @@
 -- Where the numbers of two texts' first bytes differ, they order the texts.
-use Rattle.std.proofs.Common.{◌≡◌, ◌≢◌, ℕ, zero, suc, ◌+◌, ◌*◌, ◌^◌, ◌<◌, ◌≤◌, Bool, true, false, List, [], ◌∷◌, length, take, refl, sym, ap, ◌∙◌, arith}
+use Rattle.std.proofs.Common.{◌≡◌, ◌≢◌, ℕ, zero, suc, ◌+◌, ◌*◌, ◌^◌, ◌<◌, ◌≤◌, Bool, true, false, List, [], ◌∷◌, length, take, drop, refl, sym, ap, subst, ◌∙◌, arith}
 use Rattle.std.specs.Prelude.{◌==◌}
 use Rattle.std.specs.Array.{IsFirstChunk}
 use Rattle.std.specs.Int.{w64, from_be_bytes}
@@ -89,6 +89,27 @@ smaller (suc k) (b ∷ ours) (c ∷ theirs) x y h =
 
 bytes_of : (name : Name) → IsNodeName name → IsBytes name
 bytes_of name good i = omega (arith, all_below name good.bytes i)
+
+-- k bytes with which both begin, as one number says, do not count
+alike : (k : ℕ) (ours theirs : Name) → k ≤ length ours → k ≤ length theirs → IsBytes ours → IsBytes theirs → front k ours ≡ front k theirs
+    → name_cmp (drop k ours) (drop k theirs) ≡ name_cmp ours theirs
+alike zero ours theirs m n x y e = refl
+alike (suc k) [] theirs m n x y e = absurd (omega (arith, m))
+alike (suc k) (b ∷ ours) [] m n x y e = absurd (omega (arith, n))
+alike (suc k) (b ∷ ours) (c ∷ theirs) m n x y e =
+    by_ranked (b < c) (b ≡ c) (c < b) (nat_cmp b c) (ranked b c (nat_cmp b c) refl)
+    (λ o less. absurd (omega (arith, e, mul-add-lt b (256 ^ k) (front k ours) c less (front_below k ours (IsBytes-rest b ours x)))))
+    (λ o same. alike k ours theirs (omega (arith, m)) (omega (arith, n)) (IsBytes-rest b ours x) (IsBytes-rest c theirs y) (omega (arith, e, ap (λ n. n * 256 ^ k) same))
+    ∙ sym (ap (λ o. ordering_then o (name_cmp ours theirs)) o))
+    (λ o more. absurd (omega (arith, e, mul-add-lt c (256 ^ k) (front k theirs) b more (front_below k theirs (IsBytes-rest c theirs y)))))
+
+pub eight_alike : (ours theirs : Name) → 8 ≤ length ours → 8 ≤ length theirs → IsBytes ours → IsBytes theirs → front_number ours ≡ front_number theirs
+    → name_cmp (drop 8 ours) (drop 8 theirs) ≡ name_cmp ours theirs
+eight_alike ours theirs m n x y e = alike 8 ours theirs m n x y (sym (is_front ours) ∙ e ∙ is_front theirs)
+
+-- the bytes of a name, as a call returns them
+pub returned_bytes : (name bytes : Name) → bytes ≡ name → IsNodeName name → IsBytes bytes
+returned_bytes name bytes same good = subst IsBytes (sym same) (bytes_of name good)
 
 -- numbers that differ compare as their names do
 pub front_decides : (ours theirs : Name) → IsNodeName ours → IsNodeName theirs → (o t : ℕ) → o ≡ front_number ours → t ≡ front_number theirs → o ≢ t → nat_cmp o t ≡ name_cmp ours theirs

@@ -4,7 +4,7 @@ ghost use Rattle.std.specs.Prelude.{◌≡◌, cond, IfOk, OnOk, OnErr, IsOk, Is
 ghost use Rattle.std.specs.Option.{option_map};
 ghost use Rattle.std.specs.BTreeMap.{get, is_at, Updates, IsUnchanged, IsOrdered, btree_map_len};
 ghost use Rattle.dist_names.specs.Order.{Name, name_cmp};
-ghost use Rattle.dist_peers.specs.Table.{left_by, up_ids};
+ghost use Rattle.dist_peers.specs.Table.{left_by, up_behind, up_ids};
 
 use crate::entry::{EndId, Entry};
 use crate::verdict::left_over;
@@ -12,6 +12,7 @@ use dist_names::NodeName;
 use std::alloc::{AllocError, Global};
 use std::collections::BTreeMap;
 use std::collections::btree_map::Entry as Place;
+use std::ops::Bound;
 
 /// The entry of a name.
 pub fn entry_in(entries: &BTreeMap<NodeName, Entry>, name: &NodeName) -> Option<Entry>
@@ -42,6 +43,14 @@ pub fn up_in(entries: &BTreeMap<NodeName, Entry>, i: usize) -> Option<EndId>
     ensures { result ≡ slice_get (up_ids entries.now.entries) i }
 {
     entries.iter().filter_map(|(_, entry)| entry.up()).nth(i)
+}
+
+/// The first end that is up behind this name, in the order of the names.
+pub fn up_behind(entries: &BTreeMap<NodeName, Entry>, name: &NodeName) -> Option<EndId>
+    ensures { result ≡ up_behind (Some name.now) entries.now.entries }
+{
+    let behind = entries.range((Bound::Excluded(name), Bound::Unbounded));
+    behind.filter_map(|(_, entry)| entry.up()).nth(0)
 }
 
 /// Gives a name an entry, and returns the one that it had.

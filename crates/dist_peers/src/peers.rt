@@ -1,12 +1,12 @@
-ghost use Rattle.std.specs.Prelude.{◌≡◌, IfOk, OnOk, OnErr, true, false, None, IsSome, length, slice_get};
+ghost use Rattle.std.specs.Prelude.{◌≡◌, IfOk, OnOk, OnErr, true, false, None, IsSome, length, option_copied, slice_get};
 ghost use Rattle.std.specs.Option.{option_map};
 ghost use Rattle.std.specs.FinMap as map;
 ghost use Rattle.dist_names.specs.Order.{same_name};
-ghost use Rattle.dist_peers.specs.Table.{entry_of, is_waiting, replaced_by, left_by, with_entry, up_ids, OthersStay};
+ghost use Rattle.dist_peers.specs.Table.{entry_of, is_waiting, replaced_by, left_by, with_entry, up_behind, up_ids, OthersStay};
 ghost use Rattle.dist_peers.specs.Verdicts.{is_full, is_greater, ruling, table_after_dial, table_after_name, verdict_on, Does};
 
 use crate::by_name::{
-    change_row, drop_row, entry_in, leave_row, put_row, row_at, set_row, up_count, up_in,
+    change_row, drop_row, entry_in, leave_row, put_row, row_at, set_row, up_behind, up_count, up_in,
 };
 use crate::entry::{EndId, Entry, PeersError, Verdict};
 use crate::verdict::{left_over, replaced_end, ruling_of, verdict_by, waits_for};
@@ -90,6 +90,17 @@ impl Peers {
         ensures { result ≡ slice_get (up_ids (map.entries self.now)) i }
     {
         up_in(&self.by_name, i)
+    }
+
+    /// The first end that is up of the peers whose names come behind this one, in their order; of all peers where there is no name.
+    /// Called again with the name of the peer that it found, it goes through all of them: each call searches the table once.
+    pub fn up_behind(&self, name: Option<&NodeName>) -> Option<EndId>
+        ensures { result ≡ up_behind (option_copied name.entry) (map.entries self.now) }
+    {
+        match name {
+            None => up_in(&self.by_name, 0),
+            Some(name) => up_behind(&self.by_name, name),
+        }
     }
 
     /// Whether `most` entries or more are there, and this peer has none of them. A table with room is not searched.

@@ -87,7 +87,7 @@ impl<'s, E, R: Threads + Wait + Clock + Sync, G> Crew<'s, E, R, G> {
     pub fn step(&mut self, event: &Event) -> Result<(EndId, ByteString), StepError> {
         let host = self.post.host;
         let own = &mut self.post.pool.own;
-        match host.node.step_and_copy(self.site.rt, own, event, 0) {
+        match host.node.step(self.site.rt, own, event, 0) {
             Ok((_, reply)) => Ok((reply.end_, reply.say)),
             Err(error) => Err(error),
         }

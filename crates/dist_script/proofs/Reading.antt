@@ -1,8 +1,10 @@
 -- What single words say.
-use Rattle.std.proofs.Common.{◌≡◌, ℕ, ◌<◌, true, false, ◌&&◌, nat_lt, List, [], ◌∷◌, Option, Some, None, refl, sym, ap, subst}
+use Rattle.std.proofs.Common.{◌≡◌, ℕ, ◌<◌, true, false, ◌&&◌, nat_lt, List, [], ◌∷◌, length, Option, Some, None, refl, sym, ap, subst, arith}
 use Rattle.std.specs.Prelude.{SomeIff, IfSome, if◌then◌else◌}
+use Rattle.std.specs.Result.{result_ok}
 use Rattle.std.specs.Str.Parse.{IsNumeral, digits_value}
 use Rattle.std.proofs.lemmas.Bool.{and_parts}
+use Rattle.hex.specs.Hex.{decode_of}
 use Rattle.dist_core_ends.specs.declared.why.Why.{Why}
 use Rattle.dist_core_ends.specs.Words.{why_word, why_of}
 use Rattle.dist_core_ends.proofs.Naming as naming
@@ -10,7 +12,7 @@ use Rattle.dist_names.specs.Digits.{is_numeral}
 use Rattle.dist_names.specs.Order.{same_name}
 use Rattle.dist_names.proofs.Digits.{below, is_below, both, numeral, a_numeral, by_test}
 use Rattle.dist_names.proofs.Orders.{one_lem, itself_lem}
-use Rattle.dist_script.specs.Fields.{if_done}
+use Rattle.dist_script.specs.Fields.{if_done, bytes_in}
 use Rattle.dist_script.specs.Nodes.{begins}
 
 pub number_read : (most : ℕ) (word : List ℕ) (r : Option ℕ) → SomeIff r (IsNumeral 10 word × (digits_value 10 word < most)) (digits_value 10 word) → r ≡ (if is_numeral 10 word && nat_lt (digits_value 10 word) most then Some (digits_value 10 word) else None)
@@ -43,3 +45,13 @@ different word wanted h = elim (same_name word wanted) as (λ b. same_name word 
 pub not_begun : (wanted : List ℕ) (words : List (List ℕ)) → ((rest : List (List ℕ)) → words ≡ wanted ∷ rest → ⊥) → begins wanted words ≡ false
 not_begun wanted [] h = refl
 not_begun wanted (word ∷ words) h = different word wanted (λ e. h words (ap (λ w. w ∷ words) e))
+
+-- no digit writes nothing
+pub no_digits : (word : List ℕ) → length word ≡ 0 → bytes_in word ≡ None
+no_digits [] e = refl
+no_digits (digit ∷ digits) e = absurd (omega arith)
+
+-- some write what they are decoded to
+pub some_digits : (word : List ℕ) → (length word ≡ 0 → ⊥) → bytes_in word ≡ result_ok (decode_of word)
+some_digits [] h = absurd (h refl)
+some_digits (digit ∷ digits) h = refl

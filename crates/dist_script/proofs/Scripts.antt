@@ -2,14 +2,14 @@
 use Rattle.std.proofs.Common.{◌≡◌, ℕ, suc, ◌+◌, ◌<◌, ◌≤◌, Bool, true, false, cond, List, [], ◌∷◌, ◌++◌, length, drop, Option, Some, None, Result, Ok, Err, refl, sym, ap, subst, ◌∙◌, arith, length-append, Bor, option_copied, ◌⊎◌, inl, inr}
 use Rattle.std.specs.Prelude.{codes, ◌==◌, slice_index, MatchOption, MatchResult, IsErrAnd}
 use Rattle.dist_core_setup.specs.declared.setup.Setup.{Setup}
-use Rattle.dist_script_words.specs.Words.{before_first, words_of, is_skipped}
-use Rattle.dist_script_words.specs.declared.fault.ScriptFault.{ScriptFault}
-use Rattle.dist_script_words.specs.declared.fault.ScriptFault.TheVariants.{BadLine, NoNode, NoMemory}
-use Rattle.dist_script_words.specs.declared.words.LineFault.{LineFault}
-use Rattle.dist_script_words.specs.declared.words.LineFault.TheVariants.{Bad}
+use Rattle.dist_script.specs.Words.{words_of, lines_of, parts_in, is_skipped}
+use Rattle.dist_script.specs.declared.fault.ScriptFault.{ScriptFault}
+use Rattle.dist_script.specs.declared.fault.ScriptFault.TheVariants.{BadLine, NoNode, NoMemory}
+use Rattle.dist_script.specs.declared.words.LineFault.{LineFault}
+use Rattle.dist_script.specs.declared.words.LineFault.TheVariants.{Bad}
 use Rattle.dist_world_model.specs.declared.happening.Happening.{Happening}
 use Rattle.dist_script.specs.declared.script.Line.{Line}
-use Rattle.dist_script.specs.Scripts.{SoFar, nothing, lines_of, with_node, with_event, with_happening, is_either, with_told, with_words, with_line, unless_bad, with_lines, Events, Happenings, whole, all_good, script_in}
+use Rattle.dist_script.specs.Scripts.{SoFar, nothing, with_node, with_event, with_happening, is_either, with_told, with_words, with_line, unless_bad, with_lines, Events, Happenings, whole, all_good, script_in}
 use Rattle.dist_script.proofs.Reading.{begun, not_begun}
 
 -- ---- one line
@@ -49,63 +49,17 @@ module _ (s : SoFar) (words : List (List ℕ)) (other : (rest : List (List ℕ))
   pub behind_more : 1 < length s.nodes → with_words s words ≡ with_happening (record s { has_lines = true }) words
   behind_more lt = no_node s words other ∙ more_there s.nodes (record s { has_lines = true }) words lt
 
--- ---- the lines of a text
-
--- the lines that are left where this is what is left of the text
-abbrev pub lines_in : Option (List ℕ) → List (List ℕ)
-lines_in None = []
-lines_in (Some text) = lines_of text
-
--- no line feed stands at this many places from the front
-abbrev NoFeed : ℕ → List ℕ → Type 0
-NoFeed n text = (i : ℕ) → i < n → (slice_index text i == 10) ≡ true → ⊥
-
-other_byte : (c : ℕ) → ((c == 10) ≡ true → ⊥) → (c == 10) ≡ false
-other_byte c h = elim (c == 10) as (λ b. (c == 10) ≡ b → b ≡ false) [ true ↦ λ e. absurd (h e) | false ↦ λ e. refl ] refl
-
-grows : (c : ℕ) (cs : List ℕ) → (c == 10) ≡ false → lines_of (c ∷ cs) ≡ before_first c (lines_of cs)
-grows c cs e = ap (λ b. cond b ([] ∷ lines_of cs) (before_first c (lines_of cs))) e
-
-last_line : (line : List ℕ) → NoFeed (length line) line → lines_of line ≡ line ∷ []
-last_line [] h = refl
-last_line (c ∷ cs) h =
-    grows c cs (other_byte c (h 0 (omega arith)))
-    ∙ ap (before_first c) (last_line cs (λ i lt. h (suc i) (omega arith)))
-
-line_and_rest : (line rest : List ℕ) → NoFeed (length line) (line ++ 10 ∷ rest) → lines_of (line ++ 10 ∷ rest) ≡ line ∷ lines_of rest
-line_and_rest [] rest h = refl
-line_and_rest (c ∷ cs) rest h =
-    grows c (cs ++ 10 ∷ rest) (other_byte c (h 0 (omega arith)))
-    ∙ ap (before_first c) (line_and_rest cs rest (λ i lt. h (suc i) (omega arith)))
-
--- a line, and what is left behind it
-abbrev Parts : List ℕ → List ℕ → Option (Bor (List ℕ)) → Type 0
-Parts text line behind = MatchOption behind (line ≡ text) (λ rest. line ++ 10 ∷ rest.now ≡ text)
-
-next_line : (text line : List ℕ) (behind : Option (Bor (List ℕ))) → Parts text line behind → NoFeed (length line) text → lines_of text ≡ line ∷ lines_in (option_copied behind)
-next_line text line None e h = ap lines_of (sym e) ∙ last_line line (subst (NoFeed (length line)) (sym e) h)
-next_line text line (Some rest) e h = ap lines_of (sym e) ∙ line_and_rest line rest.now (subst (NoFeed (length line)) (sym e) h)
-
--- this many bytes are left, and one more where a line is
-abbrev pub bytes_left : Option (List ℕ) → ℕ
-bytes_left None = 0
-bytes_left (Some text) = suc (length text)
-
-pub fewer_left : (text line : List ℕ) (behind : Option (Bor (List ℕ))) → Parts text line behind → bytes_left (option_copied behind) + 1 ≤ suc (length text)
-fewer_left text line None e = omega arith
-fewer_left text line (Some rest) e = let n : length (line ++ 10 ∷ rest.now) ≡ length text = ap (λ (x : List ℕ). length x) e in omega (arith, n, length-append line (10 ∷ rest.now))
-
 -- ---- all lines in turn
 
 -- what was read so far, and then the lines that are left, are all lines
-module _ (all : Result SoFar ScriptFault) (s : SoFar) (number : ℕ) (text line : List ℕ) (behind : Option (Bor (List ℕ))) (so : all ≡ with_lines s (number + 1) (lines_of text)) (parts : Parts text line behind) (first : NoFeed (length line) text) where
-  by_line : (o : Option SoFar) → with_line s line ≡ o → all ≡ unless_bad (number + 1) o (λ more. with_lines more (number + 1 + 1) (lines_in (option_copied behind)))
+module _ (all : Result SoFar ScriptFault) (s : SoFar) (number : ℕ) (text line : List ℕ) (behind : Option (List ℕ)) (so : all ≡ with_lines s (number + 1) (lines_of text)) (parts : lines_of text ≡ line ∷ parts_in 10 behind) where
+  by_line : (o : Option SoFar) → with_line s line ≡ o → all ≡ unless_bad (number + 1) o (λ more. with_lines more (number + 1 + 1) (parts_in 10 behind))
   by_line o e =
       so
-      ∙ ap (with_lines s (number + 1)) (next_line text line behind parts first)
-      ∙ ap (λ (p : Option SoFar). unless_bad (number + 1) p (λ more. with_lines more (number + 1 + 1) (lines_in (option_copied behind)))) e
+      ∙ ap (with_lines s (number + 1)) parts
+      ∙ ap (λ (p : Option SoFar). unless_bad (number + 1) p (λ more. with_lines more (number + 1 + 1) (parts_in 10 behind))) e
 
-  pub line_taken : (more : SoFar) → with_line s line ≡ Some more → all ≡ with_lines more (number + 1 + 1) (lines_in (option_copied behind))
+  pub line_taken : (more : SoFar) → with_line s line ≡ Some more → all ≡ with_lines more (number + 1 + 1) (parts_in 10 behind)
   line_taken more e = by_line (Some more) e
 
   pub line_bad : (fault : ScriptFault) → (fault ≡ NoMemory) ⊎ ((fault ≡ BadLine (number + 1)) × (with_line s line ≡ None)) → (fault ≡ NoMemory) ⊎ (all ≡ Err fault)
@@ -125,9 +79,6 @@ by_either (Err fault) is line more e h = λ bad. e ∙ ap (λ b. cond b (Some mo
 
 pub skipped : (s : SoFar) (line : List ℕ) → is_skipped line ≡ true → with_line s line ≡ Some s
 skipped s line e = ap (λ b. cond b (Some s) (with_words s (words_of line))) e
-
-pub not_skipped : (s : SoFar) (line : List ℕ) → is_skipped line ≡ false → with_line s line ≡ with_words s (words_of line)
-not_skipped s line e = ap (λ b. cond b (Some s) (with_words s (words_of line))) e
 
 -- ---- the whole script
 

@@ -3,8 +3,8 @@ use Rattle.std.specs.Prelude.{ℕ, List, [], ◌∷◌, drop, codes, Option, Som
 use Rattle.dist_core.specs.declared.event.Event.TheVariants as event
 use Rattle.dist_script.specs.declared.script.Line.{Line}
 use Rattle.dist_script.specs.declared.script.Line.TheVariants as line
-use Rattle.dist_script.specs.declared.lines.Kind.{Kind}
-use Rattle.dist_script.specs.declared.lines.Kind.TheVariants as kind
+use Rattle.dist_script.specs.declared.events.Kind.{Kind}
+use Rattle.dist_script.specs.declared.events.Kind.TheVariants as kind
 use Rattle.dist_script.specs.Fields.{◌>>=◌, behind, first_in, if_done, meaning_in, number_in, end_in, bytes_in, name_in, opening_in, why_in}
 
 -- the first word of each kind of line

@@ -13,8 +13,8 @@ use Rattle.dist_messages.specs.declared.opening.Opening.TheVariants as opening
 use Rattle.dist_peers.specs.declared.entry.EndId.{EndId}
 use Rattle.dist_core_ends.specs.declared.why.Why.{Why}
 use Rattle.dist_core_ends.specs.Words.{why_of}
-use Rattle.dist_script_words.specs.declared.words.LineFault.{LineFault}
-use Rattle.dist_script_words.specs.declared.words.LineFault.TheVariants.{Bad}
+use Rattle.dist_script.specs.declared.words.LineFault.{LineFault}
+use Rattle.dist_script.specs.declared.words.LineFault.TheVariants.{Bad}
 
 -- ---- what a call that reads something returns
 

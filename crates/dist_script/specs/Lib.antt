@@ -1,3 +1,6 @@
+pub mod Words
+pub mod Fault
+pub mod Texts
 pub mod Fields
 pub mod Events
 pub mod Happenings

@@ -3,9 +3,9 @@ use Rattle.std.specs.Prelude.{ℕ, ◌+◌, Bool, false, true, ◌||◌, ◌==�
 use Rattle.std.specs.Prelude.{drop, codes, is_some, Option, Some, None, Result, Ok, Err}
 use Rattle.dist_core_setup.specs.declared.setup.Setup.{Setup}
 use Rattle.dist_world_model.specs.declared.happening.Happening.{Happening}
-use Rattle.dist_script_words.specs.Words.{before_first, words_of, is_skipped}
-use Rattle.dist_script_words.specs.declared.fault.ScriptFault.{ScriptFault}
-use Rattle.dist_script_words.specs.declared.fault.ScriptFault.TheVariants.{BadLine, NoNode}
+use Rattle.dist_script.specs.Words.{words_of, lines_of, is_skipped}
+use Rattle.dist_script.specs.declared.fault.ScriptFault.{ScriptFault}
+use Rattle.dist_script.specs.declared.fault.ScriptFault.TheVariants.{BadLine, NoNode}
 use Rattle.dist_script.specs.declared.script.Line.{Line}
 use Rattle.dist_script.specs.declared.script.Script.{Script}
 use Rattle.dist_script.specs.declared.script.Script.TheVariants as script
@@ -13,11 +13,6 @@ use Rattle.dist_script.specs.Fields.{◌>>=◌}
 use Rattle.dist_script.specs.Nodes.{begins, node_in}
 use Rattle.dist_script.specs.Events as events
 use Rattle.dist_script.specs.Happenings as happenings
-
--- the lines of a text: what stands between its line feeds, which may be nothing
-abbrev pub lines_of : List ℕ → List (List ℕ)
-lines_of [] = [] ∷ []
-lines_of (c ∷ cs) = if c == 10 then [] ∷ lines_of cs else before_first c (lines_of cs)
 
 -- what the lines so far say
 pub record SoFar : Type 0 where

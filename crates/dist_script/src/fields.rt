@@ -4,13 +4,14 @@ ghost use Rattle.std.specs.Prelude.{◌≡◌, ◌↔◌, ℕ, List, [], drop, m
 ghost use Rattle.std.specs.Result.{result_ok};
 ghost use Rattle.dist_names.specs.NodeName.{name_of_bytes};
 ghost use Rattle.dist_names.specs.Order.{same_name};
-ghost use Rattle.dist_script_words.specs.declared.words.LineFault.TheVariants.{Bad};
+ghost use Rattle.dist_script.specs.declared.words.LineFault.TheVariants.{Bad};
 ghost use Rattle.dist_script.specs.Fields.{Reads, ReadsPlainly, first_in, meaning_in, number_in, count_in, end_in, bytes_in, name_in, opening_in, why_in};
 
+use crate::words::{LineFault, Words};
 use dist_core::{Opening, Why};
 use dist_names::{ByteString, NameError, NodeName, is_same_text, number_32, number_64};
 use dist_peers::EndId;
-use dist_script_words::{LineFault, Words, bytes_of};
+use hex::FromHexError;
 use std::alloc::Global;
 
 const OPENINGS: [(&str, Opening); 2] = [("new", Opening::New), ("old", Opening::Old)];
@@ -79,7 +80,7 @@ pub fn opening_word(words: &mut Words<'_>) -> Result<Opening, LineFault>
     ensures reads { ReadsPlainly result (first_in opening_in words.old) }
     ensures rest { words.new ≡ drop 1 words.old }
 {
-    meaning_of(&OPENINGS, words.word()?).ok_or(LineFault::Bad)
+    meaning_word(&OPENINGS, words)
 }
 
 // The cause that a word is.
@@ -100,15 +101,23 @@ pub fn why_word(words: &mut Words<'_>) -> Result<Why, LineFault>
     }
 }
 
-/// The bytes that a word's digits write.
-pub fn bytes_from(alloc: Global, word: &[u8]) -> Result<ByteString, LineFault>
+/// The bytes that a word's hexadecimal digits write, of either case, of which there are some.
+#[tactic(auto, using(crate::proofs::Reading::no_digits, crate::proofs::Reading::some_digits))]
+pub fn bytes_of(alloc: Global, word: &[u8]) -> Result<ByteString, LineFault>
     ensures { Reads result (bytes_in word.now) }
 {
-    bytes_of(alloc, word)
+    if word.is_empty() {
+        return Err(LineFault::Bad);
+    }
+    match hex::decode(alloc, word) {
+        Ok(bytes) => Ok(ByteString::from_vec(bytes)),
+        Err(FromHexError::OutOfMemory) => Err(LineFault::NoMemory),
+        Err(_) => Err(LineFault::Bad),
+    }
 }
 
-/// What a word stands for in a table of words.
-pub fn meaning_of<T: Copy>(table: &[(&'static str, T)], word: &[u8]) -> Option<T>
+// What a word stands for in a table of words.
+fn meaning_of<T: Copy>(table: &[(&'static str, T)], word: &[u8]) -> Option<T>
     ensures { result ≡ meaning_in (map (λ row. (row.0.now, row.1)) table.now) word.now }
 {
     for (known, meaning) in table {
@@ -117,6 +126,17 @@ pub fn meaning_of<T: Copy>(table: &[(&'static str, T)], word: &[u8]) -> Option<T
         }
     }
     None
+}
+
+/// What the next word stands for in a table of words.
+pub fn meaning_word<T: Copy>(
+    table: &[(&'static str, T)],
+    words: &mut Words<'_>,
+) -> Result<T, LineFault>
+    ensures reads { ReadsPlainly result (first_in (meaning_in (map (λ row. (row.0.now, row.1)) table.now)) words.old) }
+    ensures rest { words.new ≡ drop 1 words.old }
+{
+    meaning_of(table, words.word()?).ok_or(LineFault::Bad)
 }
 
 /// The end of a line, where no word is left.

@@ -5,11 +5,11 @@ ghost use Rattle.dist_script.specs.Fields.{Reads, ReadsPlainly, behind, first_in
 ghost use Rattle.dist_script.specs.Happenings.{happening_kinds, happening_words, begin_behind, dial_behind, at_end_behind, happening_in, happening_line};
 
 use crate::fields::{
-    count_word, end_word, line_end, meaning_of, name_of, number_word, opening_word, why_word,
+    count_word, end_word, line_end, meaning_word, name_of, number_word, opening_word, why_word,
 };
+use crate::words::{LineFault, Words};
 use dist_names::Creation;
 use dist_peers::EndId;
-use dist_script_words::{LineFault, Words};
 use dist_world_model::Happening;
 use std::alloc::Global;
 
@@ -117,20 +117,12 @@ fn happening_behind(
     }
 }
 
-// The kind of line that the next word begins.
-fn kind_word(words: &mut Words<'_>) -> Result<Kind, LineFault>
-    ensures reads { ReadsPlainly result (first_in (meaning_in happening_kinds) words.old) }
-    ensures rest { words.new ≡ drop 1 words.old }
-{
-    meaning_of(&KINDS, words.word()?).ok_or(LineFault::Bad)
-}
-
 /// The happening that a line names.
 #[tactic(auto, using(crate::proofs::Reading::not_done))]
 pub fn happening_of(alloc: Global, words: &mut Words<'_>) -> Result<Happening, LineFault>
     ensures { Reads result (happening_line words.old) }
 {
-    let kind = kind_word(words)?;
+    let kind = meaning_word(&KINDS, words)?;
     let told = happening_behind(alloc, kind, words)?;
     line_end(words)?;
     Ok(told)

@@ -2,15 +2,15 @@
 
 ghost use Rattle.std.specs.Prelude.{◌≡◌, drop, Some, None, OnOk, MatchResult};
 ghost use Rattle.dist_names.specs.Digits.{flags_in};
-ghost use Rattle.dist_script_words.specs.declared.words.LineFault.TheVariants.{Bad};
+ghost use Rattle.dist_script.specs.declared.words.LineFault.TheVariants.{Bad};
 ghost use Rattle.dist_script.specs.Fields.{Reads, ReadsPlainly, behind, first_in, creation_in};
 ghost use Rattle.dist_script.specs.Nodes.{version_in, behind_version, required_in, behind_required, cookie_in, cookie_added, further_in, cookies_in};
 ghost use Rattle.dist_script.specs.Nodes.{names_in, allowed_in, terms_in, behind_terms, behind_cookies, node_in};
 
 use crate::fields::{line_end, name_of, name_word, number_word};
+use crate::words::{LineFault, Words};
 use dist_core::{Limits, NameList, Setup, Version};
 use dist_names::{Creation, Flags, NodeName, are_visible};
-use dist_script_words::{LineFault, Words};
 use dist_secret::{Cookie, CookieError, Cookies, CookiesError};
 use std::alloc::Global;
 

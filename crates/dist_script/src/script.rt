@@ -1,20 +1,21 @@
 //! A script: the lines that set nodes up, and the lines of what happens to them.
 
 ghost use Rattle.std.specs.Prelude.{◌≡◌, ◌⊎◌, false, true, is_some, Ok, Err, Some, None, MatchResult};
-ghost use Rattle.dist_script_words.specs.Words.{words_of};
-ghost use Rattle.dist_script_words.specs.declared.fault.ScriptFault.TheVariants.{BadLine, NoMemory};
-ghost use Rattle.dist_script_words.specs.declared.words.LineFault.TheVariants.{Bad};
+ghost use Rattle.dist_script.specs.Words.{words_of, lines_of};
+ghost use Rattle.dist_script.specs.declared.fault.ScriptFault.TheVariants.{BadLine, NoMemory};
+ghost use Rattle.dist_script.specs.declared.words.LineFault.TheVariants.{Bad};
 ghost use Rattle.dist_script.specs.Happenings as happenings;
-ghost use Rattle.dist_script.specs.Scripts.{lines_of, nothing, with_node, with_event, with_happening, is_either, with_words, with_line, with_lines};
+ghost use Rattle.dist_script.specs.Scripts.{nothing, with_node, with_event, with_happening, is_either, with_words, with_line, with_lines};
 ghost use Rattle.dist_script.specs.Scripts.{script_in, says};
 
+use crate::events::line_of;
+use crate::fault::ScriptFault;
 use crate::happenings::happening_of;
-use crate::lines::line_of;
 use crate::node_line::setup_of;
+use crate::words::{LineFault, Words, first_part, is_skipped};
 use dist_core::{Event, Setup};
 use dist_names::ByteString;
 use dist_peers::EndId;
-use dist_script_words::{LineFault, ScriptFault, Words, first_line, is_skipped};
 use dist_world_model::Happening;
 use std::alloc::Global;
 use std::marker::Model;
@@ -162,7 +163,7 @@ fn draft_of(alloc: Global, text: &[u8]) -> Result<Draft, ScriptFault>
     let mut number = 0usize;
     let mut rest = Some(text);
     while let Some(text) = rest {
-        let (line, behind) = first_line(text);
+        let (line, behind) = first_part(text, b'\n');
         number += 1;
         draft.take_line(alloc, line, number)?;
         rest = behind;

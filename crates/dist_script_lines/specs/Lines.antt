@@ -19,7 +19,7 @@ use Rattle.dist_core.specs.declared.reply.Reply.{Reply}
 use Rattle.dist_core.specs.declared.step_error.StepError.{StepError}
 use Rattle.dist_core.specs.declared.step_error.StepError.TheVariants as refusal
 use Rattle.dist_core.specs.Words.{refusal_name}
-use Rattle.dist_script_words.specs.Texts.{flags_text}
+use Rattle.dist_script.specs.Texts.{flags_text}
 use Rattle.dist_world.specs.declared.agreement.Agreement.{Agreement}
 
 -- a creation, where it is known

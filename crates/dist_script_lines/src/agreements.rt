@@ -15,7 +15,7 @@ ghost use Rattle.dist_script_lines.specs.Later.{ArePlaces, later_at, is_this, Ar
 use crate::print;
 use dist_core::{Node, Setup};
 use dist_names::{NodeName, order_of_names};
-use dist_script_words::ScriptFault;
+use dist_script::ScriptFault;
 use dist_world::{Agreement, World};
 use std::alloc::{AllocError, Global};
 use std::collections::{BTreeMap, BTreeSet};

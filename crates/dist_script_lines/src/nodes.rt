@@ -5,7 +5,7 @@ ghost use Rattle.std.specs.Io.KnownBytes.{Appends};
 ghost use Rattle.dist_script_lines.specs.Worlds.{nodes_text};
 
 use crate::print;
-use dist_script_words::ScriptFault;
+use dist_script::ScriptFault;
 use dist_world::World;
 use std::io;
 use std::io::Write;

@@ -8,7 +8,7 @@ ghost use Rattle.dist_core_ends.specs.Ends.{table_of};
 ghost use Rattle.dist_core_ends.specs.Words.{why_word};
 ghost use Rattle.dist_core.specs.Words.{refusal_name};
 ghost use Rattle.dist_core.specs.declared.reply.Note.TheVariants as note;
-ghost use Rattle.dist_script_words.specs.Texts.{text_of};
+ghost use Rattle.dist_script.specs.Texts.{text_of};
 ghost use Rattle.dist_script_lines.specs.Lines.{creation_text, said_text, closed_text, up_text, reply_line, busy_text, detail_text};
 ghost use Rattle.dist_script_lines.specs.Lines.{refused_line, entry_text, record_at, record_text, row_text, found_text, table_text};
 ghost use Rattle.dist_script_lines.specs.Lines.{node_text, closed_line, applied_line, skipped_line, agree_line};
@@ -16,7 +16,7 @@ ghost use Rattle.dist_script_lines.specs.Lines.{node_text, closed_line, applied_
 use dist_core::{Node, Reply, StepError, UpRecord, Why};
 use dist_names::{Creation, NodeName};
 use dist_peers::{EndId, Entry};
-use dist_script_words::{Piece, put, put_bytes, put_digits, put_flags, put_number};
+use dist_script::{Piece, put, put_bytes, put_digits, put_flags, put_number};
 use dist_world::Agreement;
 use std::io;
 use std::io::Write;

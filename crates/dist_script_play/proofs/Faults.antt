@@ -5,11 +5,12 @@ use Rattle.std.proofs.KnownBytes.{Keeps-refl}
 use Rattle.std.proofs.lemmas.Bool.{lt-ltb}
 use Rattle.dist_core_setup.specs.declared.setup.Setup.{Setup}
 use Rattle.dist_world.specs.Setups.{names_repeat}
-use Rattle.dist_script_words.specs.Fault.{status_of, fault_line, StopsReading}
-use Rattle.dist_script_words.specs.Texts.{PutsFront}
-use Rattle.dist_script_words.specs.declared.fault.ScriptFault.{ScriptFault}
-use Rattle.dist_script_words.specs.declared.fault.ScriptFault.TheVariants.{TooLong, SameName, WriteFailed, NoMemory}
-use Rattle.dist_script.specs.Scripts.{SoFar, nothing, lines_of, with_line, unless_bad, with_lines, whole, all_good, script_in}
+use Rattle.dist_script.specs.Fault.{status_of, fault_line, StopsReading}
+use Rattle.dist_script.specs.Texts.{PutsFront}
+use Rattle.dist_script.specs.declared.fault.ScriptFault.{ScriptFault}
+use Rattle.dist_script.specs.declared.fault.ScriptFault.TheVariants.{TooLong, SameName, WriteFailed, NoMemory}
+use Rattle.dist_script.specs.Words.{lines_of}
+use Rattle.dist_script.specs.Scripts.{SoFar, nothing, with_line, unless_bad, with_lines, whole, all_good, script_in}
 use Rattle.dist_script.specs.Scripts.Says.{Events, Happenings}
 use Rattle.dist_world_model.specs.declared.happening.Happening.{Happening}
 use Rattle.dist_script.specs.declared.script.Line.{Line}

@@ -1,4 +1,4 @@
-pub mod Hearings
+pub mod Receiving
 pub mod Lines
 pub mod Stages
 pub mod Worlds

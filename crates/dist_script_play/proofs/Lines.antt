@@ -9,13 +9,13 @@ use Rattle.dist_core_setup.specs.declared.setup.Setup.{Setup}
 use Rattle.dist_world_model.specs.declared.happening.Happening.{Happening}
 use Rattle.dist_script_play.specs.Played.{Standing, line_text, after_line, lines_text, at_first, fault_said, fault_in}
 use Rattle.dist_world.specs.Setups.{names_repeat}
-use Rattle.dist_script_words.specs.Fault.{status_of}
-use Rattle.dist_script_words.specs.declared.fault.ScriptFault.{ScriptFault}
-use Rattle.dist_script_words.specs.declared.fault.ScriptFault.TheVariants.{TooLong, SameName, WriteFailed}
-use Rattle.dist_script_words.specs.declared.fault.ScriptFault.TheVariants as fault
+use Rattle.dist_script.specs.Fault.{status_of}
+use Rattle.dist_script.specs.declared.fault.ScriptFault.{ScriptFault}
+use Rattle.dist_script.specs.declared.fault.ScriptFault.TheVariants.{TooLong, SameName, WriteFailed}
+use Rattle.dist_script.specs.declared.fault.ScriptFault.TheVariants as fault
 use Rattle.dist_script.specs.Scripts.{script_in}
 use Rattle.dist_script_play.specs.Scenes.{PutsWorld, Plays}
-use Rattle.dist_script_words.specs.Texts.{PutsFront}
+use Rattle.dist_script.specs.Texts.{PutsFront}
 use Rattle.dist_script_play.specs.Pages.{Puts, PutsPart, BreaksOff}
 use Rattle.dist_script_play.proofs.Pages.{puts_none, puts_more, part_more, breaks_off}
 
@@ -24,13 +24,13 @@ pub not_long : (script : List ℕ) → length script ≤ 1048576 → fault_in sc
 not_long script few = ap (λ b. cond b (Some TooLong) (fault_said (script_in script))) (le-ltb 1048576 (length script) few)
 
 -- the lines so far, and those of what is left, are those of all
-pub record ToldSoFar (s0 : Standing) (all : List Line) (old now : Option (List ℕ)) (page left : List ℕ) (s : Standing) (place : ℕ) : Type 0 where
+pub record PlayedSoFar (s0 : Standing) (all : List Line) (old now : Option (List ℕ)) (page left : List ℕ) (s : Standing) (place : ℕ) : Type 0 where
   pub done : List ℕ
   pub put : Puts done old now page left
   pub text : done ++ lines_text s (drop place all) ≡ lines_text s0 all
 
-pub none_told : (s0 : Standing) (all : List Line) (old : Option (List ℕ)) (page : List ℕ) → ToldSoFar s0 all old old page page s0 0
-none_told s0 all old page = record { done = []; put = puts_none old page; text = refl }
+pub none_played : (s0 : Standing) (all : List Line) (old : Option (List ℕ)) (page : List ℕ) → PlayedSoFar s0 all old old page page s0 0
+none_played s0 all old page = record { done = []; put = puts_none old page; text = refl }
 
 one_line : (s : Standing) (all : List Line) (place : ℕ) (d : Line) → place < length all → lines_text s (drop place all) ≡ line_text s (get_or all place d) ++ lines_text (after_line s (get_or all place d)) (drop (suc place) all)
 one_line s [] place d lt = absurd (omega arith)
@@ -38,10 +38,10 @@ one_line s (l ∷ ls) zero d lt = refl
 one_line s (l ∷ ls) (suc place) d lt = one_line s ls place d (omega arith)
 
 -- one more
-pub one_told : (s0 : Standing) (all : List Line) (old mid new : Option (List ℕ)) (page p q : List ℕ) (s : Standing) (place : ℕ) (d : Line) (s2 : Standing)
-    → ToldSoFar s0 all old mid page p s place → place < length all → Puts (line_text s (get_or all place d)) mid new p q → s2 ≡ after_line s (get_or all place d)
-    → ToldSoFar s0 all old new page q s2 (place + 1)
-one_told s0 all old mid new page p q s place d s2 so lt put is_after =
+pub one_played : (s0 : Standing) (all : List Line) (old mid new : Option (List ℕ)) (page p q : List ℕ) (s : Standing) (place : ℕ) (d : Line) (s2 : Standing)
+    → PlayedSoFar s0 all old mid page p s place → place < length all → Puts (line_text s (get_or all place d)) mid new p q → s2 ≡ after_line s (get_or all place d)
+    → PlayedSoFar s0 all old new page q s2 (place + 1)
+one_played s0 all old mid new page p q s place d s2 so lt put is_after =
     let l = get_or all place d in
     let next : suc place ≡ place + 1 = omega arith in
     let others = drop (suc place) all in
@@ -55,9 +55,9 @@ one_told s0 all old mid new page p q s place d s2 so lt put is_after =
     }
 
 -- or a beginning of one more
-pub cut_told : (s0 : Standing) (all : List Line) (old mid new : Option (List ℕ)) (page p q : List ℕ) (s : Standing) (place : ℕ) (d : Line) (fault : ScriptFault)
-    → ToldSoFar s0 all old mid page p s place → place < length all → PutsPart (line_text s (get_or all place d)) mid new p q fault → PutsPart (lines_text s0 all) old new page q fault
-cut_told s0 all old mid new page p q s place d fault so lt part =
+pub cut_played : (s0 : Standing) (all : List Line) (old mid new : Option (List ℕ)) (page p q : List ℕ) (s : Standing) (place : ℕ) (d : Line) (fault : ScriptFault)
+    → PlayedSoFar s0 all old mid page p s place → place < length all → PutsPart (line_text s (get_or all place d)) mid new p q fault → PutsPart (lines_text s0 all) old new page q fault
+cut_played s0 all old mid new page p q s place d fault so lt part =
     let l = get_or all place d in
     part_more old mid new page p q so.done (line_text s l) (lines_text (after_line s l) (drop (suc place) all)) (lines_text s0 all) fault so.put part (ap (λ t. so.done ++ t) (sym (one_line s all place d lt)) ∙ so.text)
 
@@ -68,14 +68,14 @@ no_line s (l ∷ ls) zero le = absurd (omega arith)
 no_line s (l ∷ ls) (suc place) le = no_line s ls place (omega arith)
 
 -- the table behind all of them
-pub all_told : (s0 : Standing) (all : List Line) (old mid new : Option (List ℕ)) (page p q : List ℕ) (s : Standing) (place : ℕ)
-    → ToldSoFar s0 all old mid page p s place → length all ≤ place → Puts (table_text s.node) mid new p q → Puts (lines_text s0 all) old new page q
-all_told s0 all old mid new page p q s place so le put =
+pub all_played : (s0 : Standing) (all : List Line) (old mid new : Option (List ℕ)) (page p q : List ℕ) (s : Standing) (place : ℕ)
+    → PlayedSoFar s0 all old mid page p s place → length all ≤ place → Puts (table_text s.node) mid new p q → Puts (lines_text s0 all) old new page q
+all_played s0 all old mid new page p q s place so le put =
     subst (λ t. Puts t old new page q) (ap (λ t. so.done ++ t) (sym (no_line s all place le)) ∙ so.text) (puts_more old mid new page p q so.done (table_text s.node) so.put put)
 
 -- or a beginning of it
 pub cut_table : (s0 : Standing) (all : List Line) (old mid new : Option (List ℕ)) (page p q : List ℕ) (s : Standing) (place : ℕ) (fault : ScriptFault)
-    → ToldSoFar s0 all old mid page p s place → length all ≤ place → PutsPart (table_text s.node) mid new p q fault → PutsPart (lines_text s0 all) old new page q fault
+    → PlayedSoFar s0 all old mid page p s place → length all ≤ place → PutsPart (table_text s.node) mid new p q fault → PutsPart (lines_text s0 all) old new page q fault
 cut_table s0 all old mid new page p q s place fault so le part =
     part_more old mid new page p q so.done (table_text s.node) [] (lines_text s0 all) fault so.put part (ap (λ t. so.done ++ t) (append-nil (table_text s.node) ∙ sym (no_line s all place le)) ∙ so.text)
 
@@ -120,9 +120,9 @@ never_zero fault.NoMemory e = cc
 
 -- the same of a line that was read off
 pub cut_item : (s0 : Standing) (all : List Line) (old mid new : Option (List ℕ)) (page p q : List ℕ) (s : Standing) (place : ℕ) (x : Line) (fault : ScriptFault)
-    → ToldSoFar s0 all old mid page p s place → place < length all → x ≡ get_or all place x → PutsPart (line_text s x) mid new p q fault → PutsPart (lines_text s0 all) old new page q fault
+    → PlayedSoFar s0 all old mid page p s place → place < length all → x ≡ get_or all place x → PutsPart (line_text s x) mid new p q fault → PutsPart (lines_text s0 all) old new page q fault
 cut_item s0 all old mid new page p q s place x fault so lt is part =
-    cut_told s0 all old mid new page p q s place x fault so lt (subst (λ l. PutsPart (line_text s l) mid new p q fault) is part)
+    cut_played s0 all old mid new page p q s place x fault so lt (subst (λ l. PutsPart (line_text s l) mid new p q fault) is part)
 
 -- all of them were played from the beginning of a node and of a page, and that broke off
 pub node_breaks : {X : Type 0} (played : Result X ScriptFault) (setup : Setup) (lines : List Line) (s : Standing) (a b c : Option (List ℕ)) (p q : List ℕ) (fault : ScriptFault)
@@ -132,4 +132,4 @@ node_breaks played setup lines s a b c p q fault first none puts part front caus
     subst (λ z. BreaksOff (lines_text z lines) a c fault) first (breaks_off played a b c p q (lines_text s lines) fault none puts part front cause)
 
 -- what lines do in turn
-pub ruleset lines_in_turn = (none_told, one_told, cut_told, all_told, cut_table)
+pub ruleset lines_in_turn = (none_played, one_played, cut_played, all_played, cut_table)

@@ -4,10 +4,10 @@ use Rattle.std.specs.Result.{IsErrAnd}
 use Rattle.std.specs.Io.{StartsWith}
 use Rattle.std.specs.Io.KnownBytes.{Appends, Keeps}
 use Rattle.std.proofs.KnownBytes.{Keeps-refl, Appends-nil, Appends-trans, Appends-kept, starts_with_rest}
-use Rattle.dist_script_words.specs.Texts.{PutsFront}
-use Rattle.dist_script_words.specs.declared.fault.ScriptFault.{ScriptFault}
-use Rattle.dist_script_words.specs.declared.fault.ScriptFault.TheVariants.{WriteFailed, NoMemory}
-use Rattle.std.proofs.Math.Seq.{take-append_seam}
+use Rattle.dist_script.specs.Texts.{PutsFront}
+use Rattle.dist_script.specs.declared.fault.ScriptFault.{ScriptFault}
+use Rattle.dist_script.specs.declared.fault.ScriptFault.TheVariants.{WriteFailed, NoMemory}
+use Rattle.dist_script.proofs.Fronts.{starts, front_of_front}
 use Rattle.dist_script_play.specs.Pages.{Puts, IsOfSystem, PutsPart, BreaksOff}
 
 -- what holds of a call that succeeded
@@ -25,25 +25,6 @@ pub kept : (a : Option (List ℕ)) → Keeps a a
 kept a = Keeps-refl a
 
 -- ---- what was written
-
--- a text in two parts begins with the first of them
-starts : (text front rest : List ℕ) → front ++ rest ≡ text → StartsWith text front
-starts text front rest e = subst (λ t. StartsWith t front) e (take-append_seam front rest)
-
--- all of a text was written, or a beginning
-pub front_written : {X E : Type 0} (r : Result X E) (a b : Option (List ℕ)) (text : List ℕ) → OnOk r (Appends a b text) → OnErr r (PutsFront text a b) → PutsFront text a b
-front_written (Ok x) a b text put cut = record { front = text; begins = starts text text [] (append-nil text); put = put }
-front_written (Err e) a b text put cut = cut
-
--- what begins the beginning of a text begins the text
-front_longer : (a b : Option (List ℕ)) (part text : List ℕ) → StartsWith text part → PutsFront part a b → PutsFront text a b
-front_longer a b part text begins f =
-    let here = f.front in
-    let left = drop (length here) part in
-    let rest = drop (length part) text in
-    let is : here ++ left ≡ part = sym (starts_with_rest part here f.begins) in
-    let all : here ++ (left ++ rest) ≡ text = sym (append_assoc here left rest) ∙ ap (λ l. l ++ rest) is ∙ sym (starts_with_rest text part begins) in
-    record { front = here; begins = starts text here (left ++ rest) all; put = f.put }
 
 -- and a flush
 pub flushed : (a b c : Option (List ℕ)) (p : List ℕ) → Appends a b p → Keeps b c → Appends a c p
@@ -151,7 +132,7 @@ whole_front a b c p q t none x f =
 pub part_front : (a b c : Option (List ℕ)) (p q t : List ℕ) (fault : ScriptFault) → p ≡ [] → PutsPart t a b p q fault → PutsFront q b c → PutsFront t a c
 part_front a b c p q t fault none x f =
     let here = x.written ++ q in
-    front_longer a c here t (subst (λ l. StartsWith l here) (ap (λ l. l ++ t) none) x.begins) (whole_front a b c [] q here refl (record { written = x.written; put = x.put; whole = refl }) f)
+    front_of_front a c here t (subst (λ l. StartsWith l here) (ap (λ l. l ++ t) none) x.begins) (whole_front a b c [] q here refl (record { written = x.written; put = x.put; whole = refl }) f)
 
 -- what was played stands there in part where it was stopped, or could not be written
 pub breaks_off : {X : Type 0} (played : Result X ScriptFault) (a b c : Option (List ℕ)) (p q t : List ℕ) (fault : ScriptFault)

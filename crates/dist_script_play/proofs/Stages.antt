@@ -5,7 +5,7 @@ use Rattle.dist_world_model.specs.World.{World}
 use Rattle.dist_world_model.specs.Happenings.{applied_at, happens, ticked_on}
 use Rattle.dist_world_model.specs.Run.{run, one_where, count_applied}
 use Rattle.dist_script_play.specs.Played.{closed_now, closed_by, happenings_text}
-use Rattle.dist_script_words.specs.declared.fault.ScriptFault.{ScriptFault}
+use Rattle.dist_script.specs.declared.fault.ScriptFault.{ScriptFault}
 use Rattle.dist_script_play.specs.Pages.{Puts, PutsPart}
 use Rattle.dist_script_play.specs.Scenes.{closed_after}
 use Rattle.dist_script_play.proofs.Pages.{puts_none, puts_more, part_more}

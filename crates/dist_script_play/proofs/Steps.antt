@@ -1,15 +1,13 @@
 -- Steps that were refused.
-use Rattle.std.proofs.Common.{◌≡◌, ◌∙◌, ℕ, List, Option, Result, Ok, Err, refl, sym, ap, subst}
+use Rattle.std.proofs.Common.{◌≡◌, ◌∙◌, ℕ, List, Option, None, Result, Ok, Err, refl, sym, ap, subst}
 use Rattle.std.specs.Io.KnownBytes.{Appends}
-use Rattle.dist_peers.specs.declared.entry.EndId.{EndId}
 use Rattle.dist_core.specs.declared.reply.Reply.{Reply}
 use Rattle.dist_core.specs.declared.step_error.StepError.{StepError}
 use Rattle.dist_core.specs.declared.step_error.StepError.TheVariants as error
 use Rattle.dist_core.specs.Node.{NodeState}
 use Rattle.dist_core.specs.Answers.{Refuses}
 use Rattle.dist_script_lines.specs.Lines.{refused_line, reply_line}
-use Rattle.dist_script_play.specs.declared.scene.Then.TheVariants as then
-use Rattle.dist_script_play.specs.Played.{Standing, step_text, reply_in, after_step, open_readers, then_on}
+use Rattle.dist_script_play.specs.Played.{Standing, step_text, reply_in, after_step, open_readers}
 
 -- where memory suffices, a refusal is the definition's
 refused : (e : StepError) (s : Result (Reply × NodeState) StepError) → Refuses e s → (e ≡ error.NoMemory → ⊥) → s ≡ Err e
@@ -27,16 +25,16 @@ refused_text a b e s r n p = subst (λ x. Appends a b (step_text x)) (sym (refus
 pub refused_after : (x y : Standing) (e : StepError) (s : Result (Reply × NodeState) StepError) → Refuses e s → (e ≡ error.NoMemory → ⊥) → y ≡ x → y ≡ after_step x s
 refused_after x y e s r n p = p ∙ ap (after_step x) (sym (refused e s r n))
 
--- nothing follows a frame that was refused
-pub refused_then : (x : EndId) (e : StepError) (s : Result (Reply × NodeState) StepError) → Refuses e s → (e ≡ error.NoMemory → ⊥) → then.Stops ≡ then_on x (reply_in s)
-refused_then x e s r n = ap (λ m. then_on x (reply_in m)) (sym (refused e s r n))
+-- it returns no reply
+pub refused_reply : (e : StepError) (s : Result (Reply × NodeState) StepError) → Refuses e s → (e ≡ error.NoMemory → ⊥) → None ≡ reply_in s
+refused_reply e s r n = ap reply_in (sym (refused e s r n))
 
 -- what a step returned, by its reply and the node afterwards
-pub told_text : (a b : Option (List ℕ)) (r : Reply) (n : NodeState) (s : Result (Reply × NodeState) StepError) → s ≡ Ok (r, n) → Appends a b (reply_line r) → Appends a b (step_text s)
-told_text a b r n s is p = subst (λ x. Appends a b (step_text x)) (sym is) p
+pub returned_text : (a b : Option (List ℕ)) (r : Reply) (n : NodeState) (s : Result (Reply × NodeState) StepError) → s ≡ Ok (r, n) → Appends a b (reply_line r) → Appends a b (step_text s)
+returned_text a b r n s is p = subst (λ x. Appends a b (step_text x)) (sym is) p
 
-pub told_after : (x y : Standing) (r : Reply) (n : NodeState) (s : Result (Reply × NodeState) StepError) → s ≡ Ok (r, n) → y ≡ record { node = n; readers = open_readers x.readers r.closed } → y ≡ after_step x s
-told_after x y r n s is p = p ∙ ap (after_step x) (sym is)
+pub returned_after : (x y : Standing) (r : Reply) (n : NodeState) (s : Result (Reply × NodeState) StepError) → s ≡ Ok (r, n) → y ≡ record { node = n; readers = open_readers x.readers r.closed } → y ≡ after_step x s
+returned_after x y r n s is p = p ∙ ap (after_step x) (sym is)
 
 -- a refusal that does not come of memory
 pub denied_text : (a b : Option (List ℕ)) (e : StepError) (s : Result (Reply × NodeState) StepError) → s ≡ Err e → Appends a b (refused_line e) → Appends a b (step_text s)
@@ -46,6 +44,6 @@ pub denied_after : (x y : Standing) (e : StepError) (s : Result (Reply × NodeSt
 denied_after x y e s is p = p ∙ ap (after_step x) (sym is)
 
 -- what is printed of a step, and how things stand after it
-pub ruleset told_or_refused = (told_text, told_after, refused_text, refused_after)
+pub ruleset returned_or_refused = (returned_text, returned_after, refused_text, refused_after)
 
-pub ruleset told_or_denied = (told_text, told_after, denied_text, denied_after)
+pub ruleset returned_or_denied = (returned_text, returned_after, denied_text, denied_after)

@@ -8,9 +8,9 @@ use Rattle.dist_world_model.specs.World.{World, empty}
 use Rattle.dist_world_model.specs.Run.{run, count_applied}
 use Rattle.dist_script_lines.specs.Lines.{applied_line}
 use Rattle.dist_script_lines.specs.Worlds.{nodes_text, PutsAgreements}
-use Rattle.dist_script_words.specs.Texts.{PutsFront}
-use Rattle.dist_script_words.specs.declared.fault.ScriptFault.{ScriptFault}
-use Rattle.dist_script_words.specs.declared.fault.ScriptFault.TheVariants.{WriteFailed, NoMemory}
+use Rattle.dist_script.specs.Texts.{PutsFront}
+use Rattle.dist_script.specs.declared.fault.ScriptFault.{ScriptFault}
+use Rattle.dist_script.specs.declared.fault.ScriptFault.TheVariants.{WriteFailed, NoMemory}
 use Rattle.dist_script_play.specs.Played.{happenings_text}
 use Rattle.dist_script_play.specs.Pages.{Puts, PutsPart}
 use Rattle.dist_script_play.specs.Scenes.{PutsEnd, PutsEndOn, PutsEndPart, PutsFrom, PutsFromPart, PutsWorld, BreaksWorld}

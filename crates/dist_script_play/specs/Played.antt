@@ -27,8 +27,8 @@ use Rattle.dist_world_model.specs.World.{World, empty}
 use Rattle.dist_world_model.specs.Happenings.{applied_at, happens}
 use Rattle.dist_world_model.specs.Run.{run, count_applied}
 use Rattle.dist_world.specs.Setups.{names_repeat}
-use Rattle.dist_script_words.specs.declared.fault.ScriptFault.{ScriptFault}
-use Rattle.dist_script_words.specs.declared.fault.ScriptFault.TheVariants.{TooLong, SameName}
+use Rattle.dist_script.specs.declared.fault.ScriptFault.{ScriptFault}
+use Rattle.dist_script.specs.declared.fault.ScriptFault.TheVariants.{TooLong, SameName}
 use Rattle.dist_script.specs.declared.script.Line.{Line}
 use Rattle.dist_script.specs.declared.script.Line.TheVariants as line
 use Rattle.dist_script.specs.Scripts.{Says, script_in}
@@ -106,33 +106,33 @@ reader_on then.Links reader = as_linked reader
 reader_on then.Stops reader = Short []
 
 -- what frames print, how things stand after them, and the reader of their end
-pub record Hearing : Type 0 where
+pub record Received : Type 0 where
   pub text : List ℕ
   pub after : Standing
   pub reader : Reader
 
 -- nothing more is printed
-abbrev pub no_more : Standing → Reader → Hearing
+abbrev pub no_more : Standing → Reader → Received
 no_more s reader = record { text = []; after = s; reader = reader }
 
 -- the same behind this text
-abbrev pub behind_text : List ℕ → Hearing → Hearing
+abbrev pub behind_text : List ℕ → Received → Received
 behind_text text h = record { text = text ++ h.text; after = h.after; reader = h.reader }
 
 -- the frames behind one that was given to the node
-abbrev pub heard_on : Then → Standing → Reader → Hearing → Hearing
-heard_on then.GoesOn s reader others = others
-heard_on then.Links s reader others = no_more s (as_linked reader)
-heard_on then.Stops s reader others = no_more s (Short [])
+abbrev pub received_on : Then → Standing → Reader → Received → Received
+received_on then.GoesOn s reader others = others
+received_on then.Links s reader others = no_more s (as_linked reader)
+received_on then.Stops s reader others = no_more s (Short [])
 
 -- FRAMES OF AN END, IN TURN: a line for each, until one of them ends that
-abbrev pub hearing_of_frames : EndId → ℕ → List (List ℕ) → Standing → Reader → Hearing
-hearing_of_frames x fresh [] s reader = no_more s reader
-hearing_of_frames x fresh (body ∷ bodies) s reader =
+abbrev pub received_frames : EndId → ℕ → List (List ℕ) → Standing → Reader → Received
+received_frames x fresh [] s reader = no_more s reader
+received_frames x fresh (body ∷ bodies) s reader =
     let made = step s.node (event.Frame x body) fresh in
     let after = after_step s made in
-    behind_text (step_text made) (heard_on (then_on x (reply_in made)) after (without_next reader)
-    (hearing_of_frames x fresh bodies after (without_next reader)))
+    behind_text (step_text made) (received_on (then_on x (reply_in made)) after (without_next reader)
+    (received_frames x fresh bodies after (without_next reader)))
 
 -- something was printed
 abbrev pub is_said : List ℕ → Bool
@@ -146,31 +146,31 @@ packets_text true zero = []
 packets_text false zero = codes "waiting\n"
 
 -- the frames that are whole once these bytes came for an open end
-abbrev pub hearing : Standing → EndId → List ℕ → ℕ → Hearing
-hearing s x bytes fresh =
+abbrev pub received : Standing → EndId → List ℕ → ℕ → Received
+received s x bytes fresh =
     let reader = with_bytes (reader_of s.readers x) bytes in
-    hearing_of_frames x fresh (to_come reader) (record { node = s.node; readers = without_reader s.readers x }) reader
+    received_frames x fresh (to_come reader) (record { node = s.node; readers = without_reader s.readers x }) reader
 
 -- what is printed of that
-abbrev pub hearing_text : Hearing → List ℕ
-hearing_text h = h.text ++ packets_text (is_said h.text) (untold h.reader)
+abbrev pub received_text : Received → List ℕ
+received_text h = h.text ++ packets_text (is_said h.text) (untold h.reader)
 
 -- how things stand after that: the packets are counted once
-abbrev pub after_hearing : EndId → Hearing → Standing
-after_hearing x h = let s = h.after in record { node = s.node; readers = with_reader s.readers x (without_count h.reader) }
+abbrev pub after_received : EndId → Received → Standing
+after_received x h = let s = h.after in record { node = s.node; readers = with_reader s.readers x (without_count h.reader) }
 
 -- bytes for an end that stands so
 abbrev pub bytes_text : Still → Standing → EndId → List ℕ → ℕ → List ℕ
 bytes_text still.NoSuchEnd s x bytes fresh = refused_line refusal.NoSuchEnd
 bytes_text (still.Gone why) s x bytes fresh = refused_line (refusal.Gone why)
-bytes_text still.Pending s x bytes fresh = hearing_text (hearing s x bytes fresh)
-bytes_text still.Up s x bytes fresh = hearing_text (hearing s x bytes fresh)
+bytes_text still.Pending s x bytes fresh = received_text (received s x bytes fresh)
+bytes_text still.Up s x bytes fresh = received_text (received s x bytes fresh)
 
 abbrev pub after_bytes : Still → Standing → EndId → List ℕ → ℕ → Standing
 after_bytes still.NoSuchEnd s x bytes fresh = s
 after_bytes (still.Gone why) s x bytes fresh = s
-after_bytes still.Pending s x bytes fresh = after_hearing x (hearing s x bytes fresh)
-after_bytes still.Up s x bytes fresh = after_hearing x (hearing s x bytes fresh)
+after_bytes still.Pending s x bytes fresh = after_received x (received s x bytes fresh)
+after_bytes still.Up s x bytes fresh = after_received x (received s x bytes fresh)
 
 -- how an end of a node stands
 abbrev pub still_at : Standing → EndId → Still

@@ -9,25 +9,19 @@ use Rattle.dist_world_model.specs.declared.happening.Happening.{Happening}
 use Rattle.dist_world_model.specs.World.{World, empty}
 use Rattle.dist_world_model.specs.Run.{run, count_applied}
 use Rattle.dist_world.specs.Setups.{names_repeat}
-use Rattle.dist_script_words.specs.Fault.{status_of}
-use Rattle.dist_script_words.specs.declared.fault.ScriptFault.{ScriptFault}
-use Rattle.dist_script_words.specs.declared.fault.ScriptFault.TheVariants.{TooLong, SameName, ReadFailed, NoMemory}
-use Rattle.dist_script_play.specs.Played.{Standing, Hearing, hearing_text, is_said, IsEnd, IsOfWorld, IsPlayed, IsPlayedPart}
+use Rattle.dist_script.specs.Fault.{status_of}
+use Rattle.dist_script.specs.declared.fault.ScriptFault.{ScriptFault}
+use Rattle.dist_script.specs.declared.fault.ScriptFault.TheVariants.{TooLong, SameName, ReadFailed, NoMemory}
+use Rattle.dist_script_play.specs.Played.{Standing, Received, received_text, is_said, IsEnd, IsOfWorld, IsPlayed, IsPlayedPart}
 use Rattle.dist_script_play.specs.Played.{fault_in, happenings_text, closed_now}
 use Rattle.dist_script_play.specs.Pages.{IsOfSystem, Puts, PutsPart, BreaksOff}
 
 -- the lines of frames stand behind what stood, whether there is one was returned, and things stand as they do after them
-pub record Hears (h : Hearing) (some : Bool) (old new : Option (List ℕ)) (s : Standing) (r : Reader) : Type 0 where
+pub record Receives (h : Received) (some : Bool) (old new : Option (List ℕ)) (s : Standing) (r : Reader) : Type 0 where
   pub text : Appends old new h.text
   pub any : some ≡ is_said h.text
   pub after : s ≡ h.after
   pub reader : r ≡ h.reader
-
--- the text of a hearing stands behind what stood, things stand as they do after it, and no packet that ended is untold
-pub record HearsBytes (h : Hearing) (old new : Option (List ℕ)) (s : Standing) (r : Reader) : Type 0 where
-  pub text : Appends old new (hearing_text h)
-  pub after : s ≡ h.after
-  pub reader : r ≡ without_count h.reader
 
 -- what stands at the end of a world was put there
 abbrev pub PutsEnd : World → ℕ → ℕ → Option (List ℕ) → Option (List ℕ) → Type 0

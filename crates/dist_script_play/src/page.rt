@@ -2,11 +2,11 @@
 
 ghost use Rattle.std.specs.Prelude.{◌≡◌, ◌⊎◌, [], IsOk, OnOk, IfErr, Err};
 ghost use Rattle.std.specs.Io.KnownBytes.{Appends};
-ghost use Rattle.dist_script_words.specs.Texts.{PutsFront};
-ghost use Rattle.dist_script_words.specs.declared.fault.ScriptFault.TheVariants.{NoMemory, WriteFailed};
+ghost use Rattle.dist_script.specs.Texts.{PutsFront};
+ghost use Rattle.dist_script.specs.declared.fault.ScriptFault.TheVariants.{NoMemory, WriteFailed};
 ghost use Rattle.dist_script_play.specs.Pages.{Puts, PutsPart};
 
-use dist_script_words::{ScriptFault, or_write_failed, put_bytes};
+use dist_script::{ScriptFault, or_write_failed, put_bytes};
 use std::alloc::Global;
 use std::io::Write;
 
@@ -46,7 +46,7 @@ impl Page {
     }
 
     // Writes the page out, which is empty then, also where that failed: what was written of it is not written again.
-    #[tactic(auto, using(crate::proofs::Pages::there, crate::proofs::Pages::front_written))]
+    #[tactic(auto, using(crate::proofs::Pages::there, dist_script::proofs::Fronts::front_either))]
     fn write_out<W: Write>(&mut self, out: &mut W) -> Result<(), ScriptFault>
         ensures text { OnOk result (Appends (W.contents out.old) (W.contents out.new) self.old.text.items) }
         ensures front { PutsFront self.old.text.items (W.contents out.old) (W.contents out.new) }

@@ -2,9 +2,9 @@
 
 ghost use Rattle.std.specs.Prelude.{◌≡◌, ◌≤◌, false, OnOk, IfErr};
 ghost use Rattle.std.specs.Io.KnownBytes.{Appends, Keeps};
-ghost use Rattle.dist_script_words.specs.Fault.{status_of, fault_line};
-ghost use Rattle.dist_script_words.specs.Texts.{PutsFront};
-ghost use Rattle.dist_script_words.specs.declared.fault.ScriptFault.{ScriptFault as Fault};
+ghost use Rattle.dist_script.specs.Fault.{status_of, fault_line};
+ghost use Rattle.dist_script.specs.Texts.{PutsFront};
+ghost use Rattle.dist_script.specs.declared.fault.ScriptFault.{ScriptFault as Fault};
 ghost use Rattle.dist_world.specs.Setups.{names_repeat};
 ghost use Rattle.dist_script_lines.specs.Lines.{table_text};
 ghost use Rattle.dist_script_play.specs.Played.{at_first, line_text, after_line, lines_text};
@@ -15,15 +15,14 @@ use crate::page::{Page, on_page};
 use crate::scene::Scene;
 use crate::stage;
 use dist_core::Setup;
-use dist_script::{Line, Script, script_of};
-use dist_script_words::{ScriptFault, read_text};
+use dist_script::{Line, Script, ScriptFault, read_text, script_of};
 use dist_world::Happening;
 use std::alloc::Global;
 use std::io::{Read, Write};
 
-// What the node is given by a line.
+// What comes of a line.
 #[tactic(auto, using(crate::proofs::Pages::text_put))]
-fn tell<W: Write>(
+fn play_line<W: Write>(
     alloc: Global,
     scene: &mut Scene,
     line: &Line,
@@ -37,14 +36,14 @@ fn tell<W: Write>(
         (W.contents out.old) (W.contents out.new) page.old.text.items page.new.text.items fault) }
 {
     page.line.clear();
-    on_page(scene.tell(alloc, line, &mut page.line))?;
+    on_page(scene.play(alloc, line, &mut page.line))?;
     page.put_line(out)?;
     Ok(())
 }
 
 // The table of the node.
 #[tactic(auto, using(crate::proofs::Pages::text_put))]
-fn tell_table<W: Write>(scene: &Scene, page: &mut Page, out: &mut W) -> Result<(), ScriptFault>
+fn print_table<W: Write>(scene: &Scene, page: &mut Page, out: &mut W) -> Result<(), ScriptFault>
     ensures text { OnOk result (Puts (table_text scene.now.node) (W.contents out.old) (W.contents out.new) page.old.text.items page.new.text.items) }
     ensures cut { IfErr result (λ fault. PutsPart (table_text scene.now.node)
         (W.contents out.old) (W.contents out.new) page.old.text.items page.new.text.items fault) }
@@ -57,7 +56,7 @@ fn tell_table<W: Write>(scene: &Scene, page: &mut Page, out: &mut W) -> Result<(
 
 // What one node is given, and its table at the end.
 #[tactic(auto, using(crate::proofs::Lines::lines_in_turn))]
-fn tell_all<W: Write>(
+fn play_lines<W: Write>(
     alloc: Global,
     scene: &mut Scene,
     lines: &[Line],
@@ -70,9 +69,9 @@ fn tell_all<W: Write>(
         (W.contents out.old) (W.contents out.new) page.old.text.items page.new.text.items fault) }
 {
     for line in lines {
-        tell(alloc, scene, line, page, out)?;
+        play_line(alloc, scene, line, page, out)?;
     }
-    tell_table(scene, page, out)?;
+    print_table(scene, page, out)?;
     Ok(())
 }
 
@@ -88,8 +87,8 @@ fn play_node<W: Write>(
     ensures cut { IfErr result (BreaksOff (lines_text (at_first node) lines.now) (W.contents out.old) (W.contents out.new)) }
 {
     let mut page = Page::new(alloc);
-    let told = tell_all(alloc, &mut Scene::new(alloc, node), lines, &mut page, out);
-    page.finish(told, out)?;
+    let played = play_lines(alloc, &mut Scene::new(alloc, node), lines, &mut page, out);
+    page.finish(played, out)?;
     Ok(())
 }
 
@@ -107,8 +106,8 @@ fn play_nodes<W: Write>(
 {
     let mut world = stage::world_of(alloc, nodes)?;
     let mut page = Page::new(alloc);
-    let told = stage::play(alloc, &mut world, happenings, &mut page, out);
-    page.finish(told, out)?;
+    let played = stage::play(alloc, &mut world, happenings, &mut page, out);
+    page.finish(played, out)?;
     Ok(())
 }
 

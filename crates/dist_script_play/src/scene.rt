@@ -1,35 +1,31 @@
 //! A node to which a script gives events and bytes, with a reader of frames for each of its ends.
 
-ghost use Rattle.std.specs.Prelude.{◌≡◌, ◌≤◌, ℕ, List, [], ◌∷◌, length, None, IfOk, OnOk, MatchOption};
+ghost use Rattle.std.specs.Prelude.{◌≡◌, ◌≤◌, length, None, IfOk, OnOk};
 ghost use Rattle.std.specs.Io.KnownBytes.{Appends};
-ghost use Rattle.dist_frames.specs.Reader.{to_come, without_next, with_bytes, without_count};
+ghost use Rattle.dist_frames.specs.Reader.{to_come};
 ghost use Rattle.dist_core.specs.Step.{step};
 ghost use Rattle.dist_core.specs.declared.reply.Note.TheVariants as note;
 ghost use Rattle.dist_script_lines.specs.Lines.{refused_line, reply_line, table_text};
-ghost use Rattle.dist_script_play.specs.Played.{at_first, step_text, reply_in, after_step, open_readers, is_end, then_after, then_on, reader_on};
-ghost use Rattle.dist_script_play.specs.Played.{hearing_of_frames, hearing, hearing_text, after_hearing, packets_text, line_text, after_line};
-ghost use Rattle.dist_script_play.specs.Scenes.{Hears, HearsBytes};
+ghost use Rattle.dist_script_play.specs.Played.{at_first, step_text, reply_in, after_step, open_readers, is_end, then_on, reader_on};
+ghost use Rattle.dist_script_play.specs.Played.{received_frames, received, received_text, after_received, packets_text, line_text, after_line};
+ghost use Rattle.dist_script_play.specs.Scenes.{Receives};
 
 use crate::readers::Readers;
 use dist_core::{Event, Node, Reply, Setup, StepError, Still, Why};
 use dist_frames::{Frames, tick};
 use dist_names::ByteString;
 use dist_peers::EndId;
-use dist_script::Line;
+use dist_script::{Line, ScriptFault, or_write_failed};
 use dist_script_lines::print;
-use dist_script_words::{ScriptFault, or_write_failed};
 use std::alloc::Global;
 use std::io::Write;
 use std::marker::Model;
-use std::mem::replace;
 
 /// The node, and a reader for each end to which bytes came.
 #[derive(Drop)]
 pub struct Scene {
     node: Node,
     readers: Readers,
-    // Where the next body is put, so that not each of them takes memory of its own.
-    room: Vec<u8>,
 }
 
 impl Model for Scene {
@@ -61,9 +57,13 @@ fn is_end(end_: EndId, closed: Option<(EndId, Why)>) -> bool
     }
 }
 
-fn then_after(end_: EndId, reply: &Reply) -> Then
-    ensures { result ≡ then_after end_ reply.now }
+// What follows a frame of this end, by the reply to it, if it was not refused.
+fn then_after(end_: EndId, reply: &Option<Reply>) -> Then
+    ensures { result ≡ then_on end_ reply.now }
 {
+    let Some(reply) = reply else {
+        return Then::Stops;
+    };
     if reply.up.is_some() {
         Then::Links
     } else if is_end(end_, reply.closed) {
@@ -131,12 +131,11 @@ impl Scene {
         Scene {
             node: Node::new(alloc, setup),
             readers: Readers::new(alloc),
-            room: Vec::new(alloc),
         }
     }
 
     /// Gives the node what a line says, and prints what comes of it.
-    pub fn tell<W: Write>(
+    pub fn play<W: Write>(
         &mut self,
         alloc: Global,
         line: &Line,
@@ -146,11 +145,17 @@ impl Scene {
         ensures after { OnOk result (self.new ≡ after_line self.old line.now) }
     {
         match line {
-            Line::Event(event) => self.step(alloc, event, out),
+            Line::Event(Event::Incoming { link }) => self.accept(*link, out),
+            Line::Event(Event::Lost { end_, why }) => self.lose(*end_, *why, out),
+            Line::Event(Event::Tick { end_ }) => self.tick(*end_, out),
+            Line::Event(event) => {
+                self.step(alloc, event, 0, out)?;
+                Ok(())
+            }
             Line::Bytes { end_, bytes, fresh } => match self.node.still(*end_) {
                 Still::NoSuchEnd => print_refusal(StepError::NoSuchEnd, out),
                 Still::Gone(why) => print_refusal(StepError::Gone(why), out),
-                Still::Pending | Still::Up => self.hear(alloc, *end_, bytes, *fresh, out),
+                Still::Pending | Still::Up => self.receive(alloc, *end_, bytes, *fresh, out),
             },
         }
     }
@@ -162,26 +167,8 @@ impl Scene {
         or_write_failed(print::table(out, &self.node))
     }
 
-    // Gives the node an event and prints what comes of it.
-    fn step<W: Write>(
-        &mut self,
-        alloc: Global,
-        event: &Event,
-        out: &mut W,
-    ) -> Result<(), ScriptFault>
-        ensures text { OnOk result (Appends (W.contents out.old) (W.contents out.new) (step_text (step self.old.node event.now 0))) }
-        ensures after { OnOk result (self.new ≡ after_step self.old (step self.old.node event.now 0)) }
-    {
-        match event {
-            Event::Incoming { link } => self.accept(*link, out),
-            Event::Lost { end_, why } => self.lose(*end_, *why, out),
-            Event::Tick { end_ } => self.tick(*end_, out),
-            _ => self.print_step(alloc, event, out),
-        }
-    }
-
     // A connection that came.
-    #[tactic(auto, using(crate::proofs::Steps::told_or_refused))]
+    #[tactic(auto, using(crate::proofs::Steps::returned_or_refused))]
     fn accept<W: Write>(&mut self, _link: u64, out: &mut W) -> Result<(), ScriptFault>
         ensures text { OnOk result (Appends (W.contents out.old) (W.contents out.new) (step_text (step self.old.node (Event.Incoming _link) 0))) }
         ensures after { OnOk result (self.new ≡ after_step self.old (step self.old.node (Event.Incoming _link) 0)) }
@@ -193,7 +180,7 @@ impl Scene {
     }
 
     // The loss of an end, whose reader is dropped.
-    #[tactic(auto, using(crate::proofs::Steps::told_or_denied))]
+    #[tactic(auto, using(crate::proofs::Steps::returned_or_denied))]
     fn lose<W: Write>(&mut self, end_: EndId, why: Why, out: &mut W) -> Result<(), ScriptFault>
         ensures text { OnOk result (Appends (W.contents out.old) (W.contents out.new) (step_text (step self.old.node (Event.Lost end_ why) 0))) }
         ensures after { OnOk result (self.new ≡ after_step self.old (step self.old.node (Event.Lost end_ why) 0)) }
@@ -209,7 +196,7 @@ impl Scene {
     }
 
     // A tick of an end.
-    #[tactic(auto, using(crate::proofs::Steps::told_or_denied))]
+    #[tactic(auto, using(crate::proofs::Steps::returned_or_denied))]
     fn tick<W: Write>(&mut self, end_: EndId, out: &mut W) -> Result<(), ScriptFault>
         ensures text { OnOk result (Appends (W.contents out.old) (W.contents out.new) (step_text (step self.old.node (Event.Tick end_) 0))) }
         ensures after { OnOk result (self.new ≡ after_step self.old (step self.old.node (Event.Tick end_) 0)) }
@@ -220,47 +207,27 @@ impl Scene {
         }
     }
 
-    // Makes a step and prints what comes of it.
-    #[tactic(auto, using(crate::proofs::Steps::refused_text, crate::proofs::Steps::refused_after))]
-    fn print_step<W: Write>(
+    // Makes a step and prints what comes of it. Returns the reply, if the step was not refused.
+    #[tactic(auto, using(crate::proofs::Steps::refused_text, crate::proofs::Steps::refused_after, crate::proofs::Steps::refused_reply))]
+    fn step<W: Write>(
         &mut self,
         alloc: Global,
-        event: &Event,
-        out: &mut W,
-    ) -> Result<(), ScriptFault>
-        ensures text { OnOk result (Appends (W.contents out.old) (W.contents out.new) (step_text (step self.old.node event.now 0))) }
-        ensures after { OnOk result (self.new ≡ after_step self.old (step self.old.node event.now 0)) }
-    {
-        let made = self.node.step(alloc, event, 0);
-        match &made {
-            Ok(reply) => self.print_reply(reply, out),
-            Err(error) => print_refusal(*error, out),
-        }
-    }
-
-    // Makes a step by a frame of this end and prints what comes of it. Returns what follows the frame.
-    #[tactic(auto, using(crate::proofs::Steps::refused_text, crate::proofs::Steps::refused_after, crate::proofs::Steps::refused_then))]
-    fn take<W: Write>(
-        &mut self,
-        alloc: Global,
-        end_: EndId,
         event: &Event,
         fresh: u32,
         out: &mut W,
-    ) -> Result<Then, ScriptFault>
+    ) -> Result<Option<Reply>, ScriptFault>
         ensures text { OnOk result (Appends (W.contents out.old) (W.contents out.new) (step_text (step self.old.node event.now fresh))) }
         ensures after { OnOk result (self.new ≡ after_step self.old (step self.old.node event.now fresh)) }
-        ensures follows { IfOk result (λ then. then ≡ then_on end_ (reply_in (step self.old.node event.now fresh))) }
+        ensures reply { IfOk result (λ reply. reply ≡ reply_in (step self.old.node event.now fresh)) }
     {
-        let made = self.node.step(alloc, event, fresh);
-        match &made {
+        match self.node.step(alloc, event, fresh) {
             Ok(reply) => {
-                self.print_reply(reply, out)?;
-                Ok(then_after(end_, reply))
+                self.print_reply(&reply, out)?;
+                Ok(Some(reply))
             }
             Err(error) => {
-                print_refusal(*error, out)?;
-                Ok(Then::Stops)
+                print_refusal(error, out)?;
+                Ok(None)
             }
         }
     }
@@ -279,7 +246,8 @@ impl Scene {
     }
 
     // Bytes for an open end.
-    fn hear<W: Write>(
+    #[tactic(auto, using(crate::proofs::Receiving::put_behind, crate::proofs::Receiving::stand_after))]
+    fn receive<W: Write>(
         &mut self,
         alloc: Global,
         end_: EndId,
@@ -287,67 +255,38 @@ impl Scene {
         fresh: u32,
         out: &mut W,
     ) -> Result<(), ScriptFault>
-        ensures text { OnOk result (Appends (W.contents out.old) (W.contents out.new) (hearing_text (hearing self.old end_ bytes.now fresh))) }
-        ensures after { OnOk result (self.new ≡ after_hearing end_ (hearing self.old end_ bytes.now fresh)) }
+        ensures text { OnOk result (Appends (W.contents out.old) (W.contents out.new) (received_text (received self.old end_ bytes.now fresh))) }
+        ensures after { OnOk result (self.new ≡ after_received end_ (received self.old end_ bytes.now fresh)) }
     {
         let mut reader = self.readers.take(alloc, end_);
-        self.hear_bytes(alloc, end_, &mut reader, bytes, fresh, out)?;
+        reader.feed(bytes.as_slice())?;
+        let any = self.receive_frames(alloc, end_, &mut reader, fresh, out)?;
+        print_packets(any, reader.skip_long(), out)?;
         self.readers.put(end_, reader)?;
         Ok(())
     }
 
-    // Bytes for the reader of an end.
-    #[tactic(auto, using(crate::proofs::Hearings::hears_bytes))]
-    fn hear_bytes<W: Write>(
+    // Gives the node a frame, and prints what comes of it. Returns what the reader does next.
+    fn play_frame<W: Write>(
         &mut self,
         alloc: Global,
         end_: EndId,
-        reader: &mut Frames,
-        bytes: &ByteString,
+        body: Vec<u8>,
         fresh: u32,
         out: &mut W,
-    ) -> Result<(), ScriptFault>
-        ensures { OnOk result (HearsBytes (hearing_of_frames end_ fresh (to_come (with_bytes reader.old bytes.now)) self.old (with_bytes reader.old bytes.now))
-            (W.contents out.old) (W.contents out.new) self.new reader.new) }
+    ) -> Result<Then, ScriptFault>
+        ensures text { OnOk result (Appends (W.contents out.old) (W.contents out.new) (step_text (step self.old.node (Event.Frame end_ body.items) fresh))) }
+        ensures after { OnOk result (self.new ≡ after_step self.old (step self.old.node (Event.Frame end_ body.items) fresh)) }
+        ensures follows { IfOk result (λ then_. then_ ≡ then_on end_ (reply_in (step self.old.node (Event.Frame end_ body.items) fresh))) }
     {
-        reader.feed(bytes.as_slice())?;
-        let any = self.hear_frames(alloc, end_, reader, fresh, out)?;
-        print_packets(any, reader.skip_long(), out)?;
-        Ok(())
-    }
-
-    // The next whole body, moved out of the reader.
-    fn next_body(
-        &mut self,
-        alloc: Global,
-        reader: &mut Frames,
-    ) -> Result<Option<ByteString>, ScriptFault>
-        ensures body { IfOk result (λ body. MatchOption body ((to_come reader.old ≡ []) × (reader.new ≡ reader.old))
-            (λ b. (to_come reader.old ≡ b ∷ to_come reader.new) × (reader.new ≡ without_next reader.old))) }
-        ensures same { self.new ≡ self.old }
-    {
-        let Some(body) = reader.front() else {
-            return Ok(None);
-        };
-        let mut room = replace(&mut self.room, Vec::new(alloc));
-        room.clear();
-        room.extend_from_slice(body)?;
-        reader.drop_front();
-        Ok(Some(ByteString::from_vec(room)))
-    }
-
-    // Takes back the memory of a body that was given to the node.
-    fn take_back(&mut self, event: Event)
-        ensures { self.new ≡ self.old }
-    {
-        if let Event::Frame { body, .. } = event {
-            self.room = body.into_vec();
-        }
+        let body = ByteString::from_vec(body);
+        let reply = self.step(alloc, &Event::Frame { end_, body }, fresh, out)?;
+        Ok(then_after(end_, &reply))
     }
 
     // Gives the node each whole frame, and returns whether there was one.
-    #[tactic(auto, using(crate::proofs::Hearings::none_yet, crate::proofs::Hearings::one_more, crate::proofs::Hearings::no_frame_left))]
-    fn hear_frames<W: Write>(
+    #[tactic(auto, using(crate::proofs::Receiving::none_yet, crate::proofs::Receiving::no_frame_left))]
+    fn receive_frames<W: Write>(
         &mut self,
         alloc: Global,
         end_: EndId,
@@ -355,15 +294,13 @@ impl Scene {
         fresh: u32,
         out: &mut W,
     ) -> Result<bool, ScriptFault>
-        ensures { IfOk result (λ any. Hears (hearing_of_frames end_ fresh (to_come reader.old) self.old reader.old) any
+        ensures { IfOk result (λ any. Receives (received_frames end_ fresh (to_come reader.old) self.old reader.old) any
             (W.contents out.old) (W.contents out.new) self.new reader.new) }
     {
         let mut any = false;
-        while let Some(body) = self.next_body(alloc, reader)? {
+        while let Some(body) = reader.next_short()? {
             any = true;
-            let event = Event::Frame { end_, body };
-            let then = self.take(alloc, end_, &event, fresh, out)?;
-            self.take_back(event);
+            let then = self.play_frame(alloc, end_, body, fresh, out)?;
             go_on(alloc, reader, then);
         }
         Ok(any)

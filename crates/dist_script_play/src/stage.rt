@@ -11,8 +11,8 @@ ghost use Rattle.dist_script_play.specs.Scenes.{closed_after, PutsEnd, PutsEndOn
 
 use crate::page::{Page, on_page};
 use dist_core::Setup;
+use dist_script::{ScriptFault, or_write_failed};
 use dist_script_lines::{print, print_agreements, print_nodes};
-use dist_script_words::{ScriptFault, or_write_failed};
 use dist_world::{Happening, World, WorldError};
 use std::alloc::Global;
 use std::io::Write;

@@ -1,12 +1,11 @@
 -- A text under delivery: what is undelivered, and the reader that it goes to.
-use Rattle.std.proofs.Common.{◌≡◌, ℕ, ◌-◌, min, List, ◌++◌, length, take, drop, refl, ap, sym, ◌∙◌, arith, length-append}
-use Rattle.std.proofs.lemmas.List.{take_min, take_at}
+use Rattle.std.proofs.Common.{◌≡◌, ℕ, min, List, ◌++◌, length, take, drop, refl, ap, sym, ◌∙◌}
+use Rattle.std.proofs.lemmas.List.{take_min}
 use Rattle.std.specs.Int.{w16}
 use Rattle.dist_frames.specs.Stream.{first_body, after_first}
 use Rattle.dist_frames.specs.Reader.{Reader, Short, Linked, with_bytes, next_body, without_next}
 use Rattle.dist_world_model.specs.World.{Text}
-use Rattle.dist_world_model.specs.Delivery.{more_said, after_delivery, body_taken}
-use Rattle.dist_world_lives.specs.Wires.{without_last}
+use Rattle.dist_world_model.specs.Delivery.{after_delivery, body_taken}
 use Rattle.dist_world_lives.specs.Reading.{come_of, IsShort}
 
 -- ---- the reader
@@ -44,10 +43,3 @@ as_delivered said r count n is k =
 
 pub as_taken : (said : List ℕ) (r : Reader) → IsShort r → (let t : Text = record { said = said; come = come_of (without_next r) } in t) ≡ body_taken (record { said = said; come = come_of r })
 as_taken said r k = λ i. record { said = said; come = come_taken r k i }
-
--- what was sent last is taken back
-pub said_back : (s : List ℕ) (x : Text) → without_last (length s) (more_said s x) ≡ x
-said_back s x =
-    let len : length (x.said ++ s) - length s ≡ length x.said = omega (arith, length-append x.said s) in
-    let left : take (length (x.said ++ s) - length s) (x.said ++ s) ≡ x.said = take_at x.said s (length (x.said ++ s) - length s) (sym len) in
-    λ i. record x { said = left i }

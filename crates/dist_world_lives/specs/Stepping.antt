@@ -16,7 +16,7 @@ use Rattle.dist_world_model.specs.Rows.{EndRow, peer_by, once, takes_name, says_
 use Rattle.dist_world_model.specs.World.{Life, Conn}
 use Rattle.dist_world_model.specs.Delivery.{says}
 use Rattle.dist_world_model.specs.Happenings.{life_after, shut_row}
-use Rattle.dist_world_lives.specs.Wires.{is_conn_quiet}
+use Rattle.dist_world_lives.specs.Wires.{undelivered_by, with_undelivered}
 use Rattle.dist_world_lives.specs.declared.stepping.LifeStep.{LifeStep}
 
 -- ---- the rows that a reply changes, one by one
@@ -53,11 +53,6 @@ doomed_end note.ReplySaid = None
 abbrev pub life_step_of : Reply → LifeStep
 life_step_of r = record { end_ = r.end_; closed = r.closed }
 
--- the step is made, and its reply says this
-abbrev pub Says : List ℕ → Result (Reply × NodeState) StepError → Type 0
-Says say (Ok x) = let r = x.0 in say ≡ r.say
-Says say (Err e) = ⊥
-
 -- which side of which connection the end of this row is
 abbrev pub wire_of : Option EndRow → Option (Side × ℕ)
 wire_of None = None
@@ -68,18 +63,19 @@ abbrev pub conns_after : List Conn → Option (Side × ℕ) → List ℕ → Lis
 conns_after cs None s = cs
 conns_after cs (Some x) s = at_place x.1 (says x.0 s) cs
 
--- all that was sent there is delivered
-abbrev pub is_wire_quiet : List Conn → Option (Side × ℕ) → Bool
-is_wire_quiet cs None = true
-is_wire_quiet cs (Some x) = is_conn_quiet (slice_get cs x.1) x.0
+-- what was sent there and is undelivered
+abbrev pub undelivered_on : List Conn → Option (Side × ℕ) → List ℕ
+undelivered_on cs None = []
+undelivered_on cs (Some x) = undelivered_by x.0 (slice_get cs x.1)
 
--- the reply without what it says
-abbrev pub without_say : Reply → Reply
-without_say r = record r { say = [] }
+-- the connections where these bytes are all that was sent there and is undelivered
+abbrev pub conns_with : List Conn → Option (Side × ℕ) → List ℕ → List Conn
+conns_with cs None bytes = cs
+conns_with cs (Some x) bytes = at_place x.1 (with_undelivered x.0 bytes) cs
 
--- the step was made, what it says is on its way, and this is the reply without that
+-- the step was made, and what it says is on its way
 abbrev pub HasSent : Reply → Result (Reply × NodeState) StepError → NodeState → Option (Side × ℕ) → List Conn → List Conn → Type 0
-HasSent q s n wire x y = (r : Reply) × (s ≡ Ok (r, n)) × (q ≡ without_say r) × (y ≡ conns_after x wire r.say)
+HasSent r s n wire x y = (s ≡ Ok (r, n)) × (y ≡ conns_after x wire r.say)
 
 -- the step was made, its reply written down, and what it says is on its way
 abbrev pub HasMadeStep : LifeStep → Result (Reply × NodeState) StepError → ℕ → Event → NodeState → List EndRow → List EndRow

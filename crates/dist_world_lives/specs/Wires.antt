@@ -1,5 +1,5 @@
--- What is read off a connection, and how what a side sent last is taken back.
-use Rattle.std.specs.Prelude.{ℕ, ◌-◌, Bool, true, false, nat_eq, ◌&&◌, nat_lt, if◌then◌else◌, List, length, take, Option, Some, None, is_some}
+-- What is read off a connection, and how what is undelivered of it changes.
+use Rattle.std.specs.Prelude.{ℕ, Bool, false, ◌&&◌, nat_lt, if◌then◌else◌, List, [], Option, Some, None, is_some}
 use Rattle.std.specs.Option.{option_map}
 use Rattle.std.specs.Int.{w16}
 use Rattle.dist_messages.specs.declared.message.Side.{Side}
@@ -28,21 +28,17 @@ abbrev pub front_at : Option Conn → Side → Option (List ℕ)
 front_at None side = None
 front_at (Some x) side = first_body w16 (let t = text_to side x in t.come)
 
--- the last k bytes were not sent
-abbrev pub without_last : ℕ → Text → Text
-without_last k x = record x { said = take (length x.said - k) x.said }
+-- what this side of a connection sends
+abbrev pub text_from : Side → Conn → Text
+text_from Dialler c = c.there
+text_from Acceptor c = c.back
 
--- this side did not send the last k bytes
-abbrev pub unsays : Side → ℕ → Conn → Conn
-unsays Dialler k c = record c { there = without_last k c.there }
-unsays Acceptor k c = record c { back = without_last k c.back }
+-- what this side of a connection sent and is undelivered; nothing where there is no connection
+abbrev pub undelivered_by : Side → Option Conn → List ℕ
+undelivered_by side None = []
+undelivered_by side (Some c) = let t = text_from side c in t.said
 
--- all that this side sent is delivered
-abbrev pub is_quiet : Side → Conn → Bool
-is_quiet Dialler c = nat_eq (length c.there.said) 0
-is_quiet Acceptor c = nat_eq (length c.back.said) 0
-
--- the same of a connection, if there is one
-abbrev pub is_conn_quiet : Option Conn → Side → Bool
-is_conn_quiet None side = true
-is_conn_quiet (Some c) side = is_quiet side c
+-- these bytes are all that this side sent and is undelivered
+abbrev pub with_undelivered : Side → List ℕ → Conn → Conn
+with_undelivered Dialler bytes c = record c { there = record (c.there) { said = bytes } }
+with_undelivered Acceptor bytes c = record c { back = record (c.back) { said = bytes } }

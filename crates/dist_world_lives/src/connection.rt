@@ -2,7 +2,7 @@
 ghost use Rattle.std.specs.Prelude.{◌≡◌, is_some, OnOk, OnErr, true};
 ghost use Rattle.dist_world_model.specs.Delivery.{says, text_to, change_to, after_delivery, body_taken};
 ghost use Rattle.dist_world_model.specs.Happenings.{new_conn, accepted_by};
-ghost use Rattle.dist_world_lives.specs.Wires.{unsays, is_quiet};
+ghost use Rattle.dist_world_lives.specs.Wires.{undelivered_by, with_undelivered};
 
 use crate::direction::Direction;
 use dist_messages::Side;
@@ -90,45 +90,23 @@ impl Connection {
         }
     }
 
-    /// This side sends these bytes. An `Err` changes nothing.
-    pub fn say(&mut self, side: Side, bytes: &[u8]) -> Result<(), AllocError>
-        ensures ok { OnOk result (self.new ≡ says side bytes.now self.old) }
-        ensures err { OnErr result (self.new ≡ self.old) }
+    /// What this side sent and is undelivered.
+    pub fn undelivered_by(&self, side: Side) -> &[u8]
+        ensures { result.now ≡ undelivered_by side (Some self.now) }
     {
         match side {
-            Side::Dialler => self.there.say(bytes),
-            Side::Acceptor => self.back.say(bytes),
+            Side::Dialler => self.there.undelivered_bytes(),
+            Side::Acceptor => self.back.undelivered_bytes(),
         }
     }
 
-    /// All that this side sent is delivered.
-    pub fn is_quiet(&self, side: Side) -> bool
-        ensures { result ≡ is_quiet side self.now }
+    /// These bytes are all that this side sent and is undelivered. It takes no memory.
+    pub fn put_undelivered(&mut self, side: Side, bytes: ByteString)
+        ensures { self.new ≡ with_undelivered side bytes self.old }
     {
         match side {
-            Side::Dialler => self.there.undelivered_bytes().is_empty(),
-            Side::Acceptor => self.back.undelivered_bytes().is_empty(),
-        }
-    }
-
-    /// This side sends these bytes, where all that it sent is delivered. It takes no memory.
-    pub fn say_first(&mut self, side: Side, bytes: ByteString)
-        requires { is_quiet side self.old ≡ true }
-        ensures { self.new ≡ says side bytes self.old }
-    {
-        match side {
-            Side::Dialler => self.there.say_first(bytes),
-            Side::Acceptor => self.back.say_first(bytes),
-        }
-    }
-
-    /// Takes back the last `count` bytes that this side sent.
-    pub fn unsay(&mut self, side: Side, count: usize)
-        ensures { self.new ≡ unsays side count self.old }
-    {
-        match side {
-            Side::Dialler => self.there.unsay(count),
-            Side::Acceptor => self.back.unsay(count),
+            Side::Dialler => self.there.put_undelivered(bytes),
+            Side::Acceptor => self.back.put_undelivered(bytes),
         }
     }
 

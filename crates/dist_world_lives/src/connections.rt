@@ -3,8 +3,8 @@ ghost use Rattle.std.specs.Prelude.{◌≡◌, ◌==◌, ◌++◌, ◌∷◌, �
 ghost use Rattle.dist_world_model.specs.Lists.{at_place};
 ghost use Rattle.dist_world_model.specs.World.{Conn};
 ghost use Rattle.dist_world_model.specs.Happenings.{new_conn, accepted_by};
-ghost use Rattle.dist_world_model.specs.Delivery.{says, change_to, after_delivery, body_taken};
-ghost use Rattle.dist_world_lives.specs.Wires.{unaccepted_target, undelivered_to, can_come, front_at, unsays, is_conn_quiet};
+ghost use Rattle.dist_world_model.specs.Delivery.{change_to, after_delivery, body_taken};
+ghost use Rattle.dist_world_lives.specs.Wires.{unaccepted_target, undelivered_to, can_come, front_at, undelivered_by, with_undelivered};
 
 use crate::connection::Connection;
 use dist_messages::Side;
@@ -102,37 +102,21 @@ impl Connections {
         mark_accepted(&mut self.all, place, id);
     }
 
-    /// This side of a connection sends these bytes. An `Err` changes nothing.
-    pub fn say(&mut self, place: usize, side: Side, bytes: &[u8]) -> Result<(), AllocError>
-        ensures ok { OnOk result (self.new ≡ at_place place (says side bytes.now) self.old) }
-        ensures err { OnErr result (self.new ≡ self.old) }
-    {
-        append_bytes(&mut self.all, place, side, bytes)
-    }
-
-    /// All that this side of a connection sent is delivered; so too where there is no such connection.
-    pub fn is_quiet(&self, place: usize, side: Side) -> bool
-        ensures { result ≡ is_conn_quiet (slice_get self.now place) side }
+    /// What this side of a connection sent and is undelivered; nothing where there is no such connection.
+    pub fn undelivered_by(&self, place: usize, side: Side) -> &[u8]
+        ensures { result.now ≡ undelivered_by side (slice_get self.now place) }
     {
         match self.all.get(place) {
-            Some(conn) => conn.is_quiet(side),
-            None => true,
+            Some(conn) => conn.undelivered_by(side),
+            None => &[],
         }
     }
 
-    /// This side of a connection sends these bytes, where all that it sent is delivered. It takes no memory.
-    pub fn say_first(&mut self, place: usize, side: Side, bytes: ByteString)
-        requires { is_conn_quiet (slice_get self.old place) side ≡ true }
-        ensures { self.new ≡ at_place place (says side bytes) self.old }
+    /// These bytes are all that this side of a connection sent and is undelivered. It takes no memory.
+    pub fn put_undelivered(&mut self, place: usize, side: Side, bytes: ByteString)
+        ensures { self.new ≡ at_place place (with_undelivered side bytes) self.old }
     {
         put_bytes(&mut self.all, place, side, bytes);
-    }
-
-    /// Takes back the last `count` bytes that this side of a connection sent: all is as it was before it sent them.
-    pub fn unsay(&mut self, place: usize, side: Side, count: usize)
-        ensures { (before : List Conn) (bytes : List ℕ) → self.old ≡ at_place place (says side bytes) before → length bytes ≡ count → self.new ≡ before }
-    {
-        remove_bytes(&mut self.all, place, side, count);
     }
 
     /// `count` bytes come to this side of a connection, or what is left: whether there were any. An `Err` changes nothing.
@@ -163,39 +147,12 @@ fn mark_accepted(conns: &mut Vec<Connection>, place: usize, id: EndId)
     }
 }
 
-fn append_bytes(
-    conns: &mut Vec<Connection>,
-    place: usize,
-    side: Side,
-    bytes: &[u8],
-) -> Result<(), AllocError>
-    ensures ok { OnOk result (conns.new.items ≡ at_place place (says side bytes.now) conns.old.items) }
-    ensures err { OnErr result (conns.new.items ≡ conns.old.items) }
-{
-    if place >= conns.len() {
-        return Ok(());
-    }
-    let conn = &mut conns[place];
-    conn.say(side, bytes)?;
-    Ok(())
-}
-
 fn put_bytes(conns: &mut Vec<Connection>, place: usize, side: Side, bytes: ByteString)
-    requires { is_conn_quiet (slice_get conns.old.items place) side ≡ true }
-    ensures { conns.new.items ≡ at_place place (says side bytes) conns.old.items }
+    ensures { conns.new.items ≡ at_place place (with_undelivered side bytes) conns.old.items }
 {
     if place < conns.len() {
         let conn = &mut conns[place];
-        conn.say_first(side, bytes);
-    }
-}
-
-fn remove_bytes(conns: &mut Vec<Connection>, place: usize, side: Side, count: usize)
-    ensures { conns.new.items ≡ at_place place (unsays side count) conns.old.items }
-{
-    if place < conns.len() {
-        let conn = &mut conns[place];
-        conn.unsay(side, count);
+        conn.put_undelivered(side, bytes);
     }
 }
 

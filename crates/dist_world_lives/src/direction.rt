@@ -1,9 +1,8 @@
 //! One direction of a connection.
-ghost use Rattle.std.specs.Prelude.{◌≡◌, [], option_copied, OnOk, OnErr};
+ghost use Rattle.std.specs.Prelude.{◌≡◌, option_copied, OnOk, OnErr};
 ghost use Rattle.std.specs.Int.{w16};
 ghost use Rattle.dist_frames.specs.Stream.{first_body};
-ghost use Rattle.dist_world_model.specs.Delivery.{empty_text, more_said, after_delivery, body_taken};
-ghost use Rattle.dist_world_lives.specs.Wires.{without_last};
+ghost use Rattle.dist_world_model.specs.Delivery.{empty_text, after_delivery, body_taken};
 
 use dist_frames::{ByteQueue, Frames};
 use dist_names::ByteString;
@@ -48,27 +47,11 @@ impl Direction {
         self.said.as_slice()
     }
 
-    /// These bytes are sent. An `Err` changes nothing.
-    pub fn say(&mut self, bytes: &[u8]) -> Result<(), AllocError>
-        ensures ok { OnOk result (self.new ≡ more_said bytes.now self.old) }
-        ensures err { OnErr result (self.new ≡ self.old) }
-    {
-        self.said.extend(bytes)
-    }
-
-    /// These bytes are sent, where all that was sent is delivered. It takes no memory.
-    pub fn say_first(&mut self, bytes: ByteString)
-        requires { self.old.said ≡ [] }
-        ensures { self.new ≡ more_said bytes self.old }
+    /// These bytes are all that was sent and is undelivered. It takes no memory.
+    pub fn put_undelivered(&mut self, bytes: ByteString)
+        ensures { self.new ≡ record self.old { said = bytes } }
     {
         self.said = ByteQueue::from_vec(bytes.into_vec());
-    }
-
-    /// Takes back the last `count` bytes that were sent.
-    pub fn unsay(&mut self, count: usize)
-        ensures { self.new ≡ without_last count self.old }
-    {
-        self.said.drop_back(count);
     }
 
     /// `count` bytes are delivered, or what is left. An `Err` changes nothing.

@@ -1,16 +1,15 @@
 //! An event that an incarnation gets.
-ghost use Rattle.std.specs.Prelude.{◌≡◌, ℕ, List, length, IfOk, IfErr, OnOk, OnErr, Ok, true};
+ghost use Rattle.std.specs.Prelude.{◌≡◌, ◌++◌, IfOk, IfErr, OnOk, OnErr, Ok};
 ghost use Rattle.dist_core.specs.Answers.{Refuses};
 ghost use Rattle.dist_core.specs.Step.{step};
 ghost use Rattle.dist_world_model.specs.Lists.{add_some, at_each, at_place};
 ghost use Rattle.dist_world_model.specs.Rows.{mark, given_by};
-ghost use Rattle.dist_world_model.specs.World.{Conn};
-ghost use Rattle.dist_world_lives.specs.Stepping.{life_step_of, conns_after, Says, HasMadeStep, HasSent, is_wire_quiet};
+ghost use Rattle.dist_world_lives.specs.Stepping.{life_step_of, conns_with, undelivered_on, HasMadeStep, HasSent};
 ghost use Rattle.dist_world_lives.specs.Stepping.{own_row, rows_shut, rows_doomed, doomed_end};
 
 use crate::Connections;
 use crate::row::EndRow;
-use dist_core::{Event, Node, Note, Reply, StepError, Why};
+use dist_core::{Event, Keeper, Node, Note, Reply, StepError, Why};
 use dist_messages::Side;
 use dist_names::ByteString;
 use dist_peers::EndId;
@@ -73,160 +72,55 @@ fn push_row(
     Ok(())
 }
 
-// What an event's reply says, where the node takes the event.
-fn reply_bytes(
-    node: &Node,
-    alloc: Global,
-    event: &Event,
-    fresh: u32,
-) -> Result<ByteString, StepError>
-    ensures ok { IfOk result (λ say. Says say (step node.now event.now fresh)) }
-    ensures err { IfErr result (λ e. Refuses e (step node.now event.now fresh)) }
-{
-    let Reply {
-        end_: _,
-        say,
-        closed: _,
-        up: _,
-        note: _,
-    } = node.answer(alloc, event, fresh)?;
-    Ok(say)
+/// Keeps the reply to an event, and what is undelivered once it is sent behind these bytes.
+#[derive(Drop)]
+struct Joining<'a> {
+    undelivered: &'a [u8],
 }
 
-// Why an event is refused for which memory ran out: for that alone, where the node would take it.
-fn refusal(node: &Node, alloc: Global, event: &Event, fresh: u32) -> StepError
-    ensures { Refuses result (step node.now event.now fresh) }
-{
-    match reply_bytes(node, alloc, event, fresh) {
-        Ok(_) => StepError::NoMemory,
-        Err(refusal) => refusal,
+/// A reply, and what is undelivered once it is sent.
+#[derive(Drop)]
+struct Joined {
+    reply: Reply,
+    undelivered: ByteString,
+}
+
+impl<'a> Keeper for Joining<'a> {
+    type Kept = Joined;
+
+    ghost keeps = { λ s reply kept. (kept.reply ≡ reply) × (kept.undelivered ≡ s.undelivered.now ++ reply.say) };
+
+    // Each takes memory.
+    ghost is_ready_for = { λ s reply. ⊥ };
+
+    fn keep(&self, alloc: Global, reply: Reply) -> Result<Joined, AllocError> {
+        let mut undelivered = ByteString::from_slice(alloc, self.undelivered)?;
+        undelivered.append(reply.say.as_slice())?;
+        Ok(Joined { reply, undelivered })
+    }
+
+    fn reply<'k>(&self, kept: &'k Joined) -> &'k Reply {
+        &kept.reply
     }
 }
 
-// This side of a connection sends these bytes, where there is one. An `Err` changes nothing.
-fn send(
-    conns: &mut Connections,
-    wire: Option<(Side, usize)>,
-    bytes: &[u8],
-) -> Result<(), AllocError>
-    ensures ok { OnOk result (conns.new ≡ conns_after conns.old wire bytes.now) }
-    ensures err { OnErr result (conns.new ≡ conns.old) }
+// What was sent on this side of a connection and is undelivered, where there is one.
+fn undelivered_on(conns: &Connections, wire: Option<(Side, usize)>) -> &[u8]
+    ensures { result.now ≡ undelivered_on conns.now wire }
 {
     match wire {
-        Some((side, place)) => conns.say(place, side, bytes),
-        None => Ok(()),
+        Some((side, place)) => conns.undelivered_by(place, side),
+        None => &[],
     }
 }
 
-// Takes back the last `count` bytes that were sent: all is as it was before.
-fn take_back(conns: &mut Connections, wire: Option<(Side, usize)>, count: usize)
-    ensures { (before : List Conn) (bytes : List ℕ) → conns.old ≡ conns_after before wire bytes → length bytes ≡ count → conns.new ≡ before }
+// These bytes are all that was sent on this side of a connection and is undelivered, where there is one.
+fn put_undelivered(conns: &mut Connections, wire: Option<(Side, usize)>, bytes: ByteString)
+    ensures { conns.new ≡ conns_with conns.old wire bytes }
 {
     if let Some((side, place)) = wire {
-        conns.unsay(place, side, count);
+        conns.put_undelivered(place, side, bytes);
     }
-}
-
-// A node makes the step that was foreseen, and what it sends is on its way.
-fn speak(
-    node: &mut Node,
-    conns: &mut Connections,
-    wire: Option<(Side, usize)>,
-    occasion: &Occasion<'_>,
-    say: &[u8],
-) -> Result<Reply, AllocError>
-    requires { Says say.now (step node.old occasion.now.event.now occasion.now.fresh) }
-    ensures ok { IfOk result (λ r. (step node.old occasion.now.event.now occasion.now.fresh ≡ Ok (r, node.new))
-        × (conns.new ≡ conns_after conns.old wire r.say)) }
-    ensures err { OnErr result ((node.new ≡ node.old) × (conns.new ≡ conns.old)) }
-{
-    send(conns, wire, say)?;
-    match node.step(occasion.alloc, occasion.event, occasion.fresh) {
-        Ok(reply) => Ok(reply),
-        Err(_) => {
-            take_back(conns, wire, say.len());
-            Err(AllocError)
-        }
-    }
-}
-
-// All that was sent on this side of a connection is delivered; so too where there is none.
-fn is_wire_quiet(conns: &Connections, wire: Option<(Side, usize)>) -> bool
-    ensures { result ≡ is_wire_quiet conns.now wire }
-{
-    match wire {
-        Some((side, place)) => conns.is_quiet(place, side),
-        None => true,
-    }
-}
-
-// This side of a connection sends these bytes, where there is one. It takes no memory.
-fn send_owned(conns: &mut Connections, wire: Option<(Side, usize)>, bytes: ByteString)
-    requires { is_wire_quiet conns.old wire ≡ true }
-    ensures { conns.new ≡ conns_after conns.old wire bytes }
-{
-    if let Some((side, place)) = wire {
-        conns.say_first(place, side, bytes);
-    }
-}
-
-// A node makes a step, and its words themselves are put on their way, which takes no memory. A refusal changes nothing.
-fn speak_first(
-    node: &mut Node,
-    conns: &mut Connections,
-    wire: Option<(Side, usize)>,
-    occasion: &Occasion<'_>,
-) -> Result<Reply, StepError>
-    requires { is_wire_quiet conns.old wire ≡ true }
-    ensures ok { IfOk result (λ q. HasSent q (step node.old occasion.now.event.now occasion.now.fresh) node.new wire conns.old conns.new) }
-    ensures err { IfErr result (λ e. Refuses e (step node.old occasion.now.event.now occasion.now.fresh) × (node.new ≡ node.old) × (conns.new ≡ conns.old)) }
-{
-    let Reply {
-        end_,
-        say,
-        closed,
-        up,
-        note,
-    } = node.step(occasion.alloc, occasion.event, occasion.fresh)?;
-    send_owned(conns, wire, say);
-    Ok(Reply {
-        end_,
-        say: ByteString::new(occasion.alloc),
-        closed,
-        up,
-        note,
-    })
-}
-
-// A node makes a step, and what it sends comes behind what is undelivered. That takes memory, so that the words are found
-// before the step is made. A refusal changes nothing.
-fn speak_behind(
-    node: &mut Node,
-    conns: &mut Connections,
-    wire: Option<(Side, usize)>,
-    occasion: &Occasion<'_>,
-) -> Result<Reply, StepError>
-    ensures ok { IfOk result (λ q. HasSent q (step node.old occasion.now.event.now occasion.now.fresh) node.new wire conns.old conns.new) }
-    ensures err { IfErr result (λ e. Refuses e (step node.old occasion.now.event.now occasion.now.fresh) × (node.new ≡ node.old) × (conns.new ≡ conns.old)) }
-{
-    let say = reply_bytes(node, occasion.alloc, occasion.event, occasion.fresh)?;
-    let Ok(reply) = speak(node, conns, wire, occasion, say.as_slice()) else {
-        return Err(StepError::NoMemory);
-    };
-    let Reply {
-        end_,
-        say: _,
-        closed,
-        up,
-        note,
-    } = reply;
-    Ok(Reply {
-        end_,
-        say: ByteString::new(occasion.alloc),
-        closed,
-        up,
-        note,
-    })
 }
 
 // A node makes a step, and what it sends is on its way. A refusal changes nothing.
@@ -236,14 +130,20 @@ fn make_step(
     wire: Option<(Side, usize)>,
     occasion: &Occasion<'_>,
 ) -> Result<Reply, StepError>
-    ensures ok { IfOk result (λ q. HasSent q (step node.old occasion.now.event.now occasion.now.fresh) node.new wire conns.old conns.new) }
+    ensures ok { IfOk result (λ r. HasSent r (step node.old occasion.now.event.now occasion.now.fresh) node.new wire conns.old conns.new) }
     ensures err { IfErr result (λ e. Refuses e (step node.old occasion.now.event.now occasion.now.fresh) × (node.new ≡ node.old) × (conns.new ≡ conns.old)) }
 {
-    if is_wire_quiet(conns, wire) {
-        speak_first(node, conns, wire, occasion)
-    } else {
-        speak_behind(node, conns, wire, occasion)
-    }
+    let joining = Joining {
+        undelivered: undelivered_on(conns, wire),
+    };
+    let Joined { reply, undelivered } = node.step_kept(
+        occasion.alloc,
+        &joining,
+        occasion.event,
+        occasion.fresh,
+    )?;
+    put_undelivered(conns, wire, undelivered);
+    Ok(reply)
 }
 
 // ---- rows
@@ -326,7 +226,7 @@ pub fn step_life(
 {
     let before = rows.len();
     if push_row(rows, occasion.alloc, occasion.clock, occasion.event).is_err() {
-        return Err(refusal(node, occasion.alloc, occasion.event, occasion.fresh));
+        return Err(node.refusal_without_memory(occasion.alloc, occasion.event, occasion.fresh));
     }
     match make_step(node, conns, wire, occasion) {
         Ok(reply) => Ok(write_reply(rows, occasion.clock, reply)),

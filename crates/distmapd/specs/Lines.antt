@@ -8,97 +8,53 @@ use Rattle.distmapd.specs.Json.{json_string}
 use Rattle.distmapd.specs.declared.form.Form.{Form}
 use Rattle.distmapd.specs.declared.form.Form.TheVariants as form
 
+-- which of two texts a line of a form has
+abbrev pub spelling : Form → List ℕ → List ℕ → List ℕ
+spelling form.Text text json = text
+spelling form.Json text json = json
+
+-- a line: a word, a number by its key, and more
+unfoldable pub line : Form → List ℕ → List ℕ → ℕ → List ℕ → List ℕ
+line form.Text word key number more =
+    codes "distmapd: " ++ (word ++ (codes " " ++ (key ++ (codes "=" ++ (decimal number ++ (more ++ codes "\n"))))))
+line form.Json word key number more =
+    codes "{\"event\":\"" ++ (word ++ (codes "\",\"" ++ (key ++ (codes "\":" ++ (decimal number ++ (more ++ codes "}\n"))))))
+
 -- the front of a name that is shown: 255 bytes, and no name that is registered is longer
 abbrev pub name_front : List ℕ → List ℕ
 name_front name = if nat_lt (length name) 255 then name else take 255 name
 
--- ---- lines for people
+-- what a line has of a name
+unfoldable pub name_part : Form → List ℕ → List ℕ
+name_part form.Text name = codes " name=" ++ in_double_quotes (name_front name)
+name_part form.Json name = codes ",\"name\":" ++ json_string (name_front name)
 
--- a word with a number, and more
-unfoldable pub text_line : List ℕ → ℕ → List ℕ → List ℕ
-text_line word number more = codes "distmapd: " ++ (word ++ (codes "=" ++ (decimal number ++ (more ++ codes "\n"))))
-
--- a word with a connection and a name, and more
-unfoldable pub text_named : List ℕ → ℕ → List ℕ → List ℕ → List ℕ
-text_named word conn name more =
-    codes "distmapd: " ++ (word ++ (codes " connection=" ++ (decimal conn ++ (codes " name=" ++ (in_double_quotes (name_front name) ++ (more ++ codes "\n"))))))
-
--- a port
-unfoldable pub text_port : ℕ → List ℕ
-text_port port = codes " port=" ++ decimal port
+-- what a line has of a port
+unfoldable pub port_part : Form → ℕ → List ℕ
+port_part f port = spelling f (codes " port=") (codes ",\"port\":") ++ decimal port
 
 -- why a registration was refused
-abbrev pub text_refusal : Bool → List ℕ
-text_refusal true = codes " why=\"a node of this name is registered\""
-text_refusal false = codes " why=\"no name that may be registered, or no room\""
+abbrev pub refusal : Form → Bool → List ℕ
+refusal f true = spelling f (codes " why=\"a node of this name is registered\"") (codes ",\"taken\":true")
+refusal f false = spelling f (codes " why=\"no name that may be registered, or no room\"") (codes ",\"taken\":false")
 
 -- why a client was not answered
-abbrev pub text_silence : Bool → List ℕ
-text_silence true = codes " why=\"it asked for nothing that is served\""
-text_silence false = codes " why=\"from another host it asked for nothing that is served there\""
+abbrev pub silence : Form → Bool → List ℕ
+silence f true = spelling f (codes " why=\"it asked for nothing that is served\"") (codes ",\"local\":true")
+silence f false = spelling f (codes " why=\"from another host it asked for nothing that is served there\"") (codes ",\"local\":false")
 
--- the line of an event; questions that are answered have none
-abbrev pub text_event : ClientEvent → List ℕ
-text_event (event.Registered conn name port) = text_named (codes "registered") conn name (text_port port)
-text_event (event.Ended conn name) = text_named (codes "ended") conn name []
-text_event (event.Refused conn name taken) = text_named (codes "refused") conn name (text_refusal taken)
-text_event (event.Unanswered conn local) = text_line (codes "unanswered connection") conn (text_silence local)
-text_event (event.MadeRoom conn) = text_line (codes "made room connection") conn []
-text_event (event.Late count) = text_line (codes "late connections") count []
-text_event (event.NoMemory conn) = text_line (codes "no memory connection") conn []
-text_event event.LookedUp = []
-text_event event.Listed = []
-
--- ---- objects of JSON
-
--- an event with a number, and more
-unfoldable pub json_line : List ℕ → List ℕ → ℕ → List ℕ → List ℕ
-json_line word key number more =
-    codes "{\"event\":\"" ++ (word ++ (codes "\",\"" ++ (key ++ (codes "\":" ++ (decimal number ++ (more ++ codes "}\n"))))))
-
--- an event with a connection and the string of a name, and more
-unfoldable pub json_with : List ℕ → ℕ → List ℕ → List ℕ → List ℕ
-json_with word conn text more =
-    codes "{\"event\":\"" ++ (word ++ (codes "\",\"connection\":" ++ (decimal conn ++ (codes ",\"name\":" ++ (text ++ (more ++ codes "}\n"))))))
-
--- an event with a connection and a name, and more
-abbrev pub json_named : List ℕ → ℕ → List ℕ → List ℕ → List ℕ
-json_named word conn name more = json_with word conn (json_string (name_front name)) more
-
--- a port
-unfoldable pub json_port : ℕ → List ℕ
-json_port port = codes ",\"port\":" ++ decimal port
-
--- whether a node of the name is registered
-abbrev pub json_refusal : Bool → List ℕ
-json_refusal true = codes ",\"taken\":true"
-json_refusal false = codes ",\"taken\":false"
-
--- whether a client is of this host
-abbrev pub json_silence : Bool → List ℕ
-json_silence true = codes ",\"local\":true"
-json_silence false = codes ",\"local\":false"
-
--- the line of an event
-abbrev pub json_event : ClientEvent → List ℕ
-json_event (event.Registered conn name port) = json_named (codes "registered") conn name (json_port port)
-json_event (event.Ended conn name) = json_named (codes "ended") conn name []
-json_event (event.Refused conn name taken) = json_named (codes "refused") conn name (json_refusal taken)
-json_event (event.Unanswered conn local) = json_line (codes "unanswered") (codes "connection") conn (json_silence local)
-json_event (event.MadeRoom conn) = json_line (codes "made_room") (codes "connection") conn []
-json_event (event.Late count) = json_line (codes "late") (codes "connections") count []
-json_event (event.NoMemory conn) = json_line (codes "no_memory") (codes "connection") conn []
-json_event event.LookedUp = []
-json_event event.Listed = []
-
--- ---- both
-
--- WHAT A LOG HAS OF AN EVENT
+-- WHAT A LOG HAS OF AN EVENT; questions that are answered have no line
 abbrev pub event_line : Form → ClientEvent → List ℕ
-event_line form.Text e = text_event e
-event_line form.Json e = json_event e
+event_line f (event.Registered conn name port) = line f (codes "registered") (codes "connection") conn (name_part f name ++ port_part f port)
+event_line f (event.Ended conn name) = line f (codes "ended") (codes "connection") conn (name_part f name)
+event_line f (event.Refused conn name taken) = line f (codes "refused") (codes "connection") conn (name_part f name ++ refusal f taken)
+event_line f (event.Unanswered conn local) = line f (codes "unanswered") (codes "connection") conn (silence f local)
+event_line f (event.MadeRoom conn) = line f (spelling f (codes "made room") (codes "made_room")) (codes "connection") conn []
+event_line f (event.Late count) = line f (codes "late") (codes "connections") count []
+event_line f (event.NoMemory conn) = line f (spelling f (codes "no memory") (codes "no_memory")) (codes "connection") conn []
+event_line f event.LookedUp = []
+event_line f event.Listed = []
 
 -- how many lines were left out
 abbrev pub left_out_line : Form → ℕ → List ℕ
-left_out_line form.Text count = text_line (codes "left out lines") count []
-left_out_line form.Json count = json_line (codes "left_out") (codes "lines") count []
+left_out_line f count = line f (spelling f (codes "left out") (codes "left_out")) (codes "lines") count []

@@ -95,27 +95,23 @@ request_of head =
 
 -- ---- answers
 
--- the line of an answer with a body of plain text that has so many bytes, and the lines behind it
-unfoldable pub head_text : List ℕ → List ℕ → ℕ → List ℕ
-head_text status more count =
-    codes "HTTP/1.1 " ++ (status ++ (codes "\r\n" ++ (more ++ (codes "Content-Type: text/plain; version=0.0.4; charset=utf-8\r\nContent-Length: "
-    ++ (decimal count ++ codes "\r\nConnection: close\r\n\r\n")))))
+-- the head of an answer with a body of plain text that has so many bytes: its status, and a line behind it where that has one
+unfoldable pub head_text : List ℕ → ℕ → List ℕ
+head_text status count =
+    codes "HTTP/1.1 " ++ (status ++ (codes "\r\nContent-Type: text/plain; version=0.0.4; charset=utf-8\r\nContent-Length: "
+    ++ (decimal count ++ codes "\r\nConnection: close\r\n\r\n")))
 
 -- the whole answer, with its body where that is wanted: its connection ends behind it
-abbrev pub answer_text : List ℕ → List ℕ → List ℕ → Bool → List ℕ
-answer_text status more body true = head_text status more (length body) ++ body
-answer_text status more body false = head_text status more (length body)
-
--- the answer to a question whether connections are accepted
-abbrev pub ready_text : Bool → Bool → List ℕ
-ready_text true wanted = answer_text (codes "200 OK") [] (codes "ready\n") wanted
-ready_text false wanted = answer_text (codes "503 Service Unavailable") [] (codes "no descriptor or no memory is left\n") wanted
+abbrev pub answer_text : List ℕ → List ℕ → Bool → List ℕ
+answer_text status body true = head_text status (length body) ++ body
+answer_text status body false = head_text status (length body)
 
 -- THE ANSWER TO A REQUEST, by whether connections are accepted, the text of the figures, and whether the body is wanted
 abbrev pub page_text : Page → Bool → List ℕ → Bool → List ℕ
-page_text page.Metrics ready figures wanted = answer_text (codes "200 OK") [] figures wanted
-page_text page.Health ready figures wanted = answer_text (codes "200 OK") [] (codes "alive\n") wanted
-page_text page.Ready ready figures wanted = ready_text ready wanted
-page_text page.Unknown ready figures wanted = answer_text (codes "404 Not Found") [] (codes "/metrics, /ready and /health are here\n") wanted
+page_text page.Metrics ready figures wanted = answer_text (codes "200 OK") figures wanted
+page_text page.Health ready figures wanted = answer_text (codes "200 OK") (codes "alive\n") wanted
+page_text page.Ready true figures wanted = answer_text (codes "200 OK") (codes "ready\n") wanted
+page_text page.Ready false figures wanted = answer_text (codes "503 Service Unavailable") (codes "no descriptor or no memory is left\n") wanted
+page_text page.Unknown ready figures wanted = answer_text (codes "404 Not Found") (codes "/metrics, /ready and /health are here\n") wanted
 page_text page.Refused ready figures wanted =
-    answer_text (codes "405 Method Not Allowed") (codes "Allow: GET, HEAD\r\n") (codes "GET and HEAD alone are served\n") wanted
+    answer_text (codes "405 Method Not Allowed\r\nAllow: GET, HEAD") (codes "GET and HEAD alone are served\n") wanted

@@ -2,6 +2,7 @@
 use Rattle.std.specs.Prelude.{ℕ, ◌+◌, Bool, ◌||◌, not, ◌==◌, nat_lt, if◌then◌else◌}
 use Rattle.dist_epmd_clients.specs.declared.event.EventKind.{EventKind}
 use Rattle.dist_epmd_clients.specs.declared.event.EventKind.TheVariants as kind
+use Rattle.dist_epmd_clients.specs.Journal.{at_most}
 use Rattle.distmapd.specs.declared.rate.Rate.{Rate}
 use Rattle.distmapd.specs.declared.rates.Rates.{Rates}
 
@@ -66,13 +67,9 @@ after_admitting k now r = with_rate k (after_admit now (rate_of k r)) r
 
 -- ---- what is left out
 
--- so many more are left out: the sum, and no more than 18,446,744,073,709,551,615
-abbrev pub left_out_with : ℕ → ℕ → ℕ
-left_out_with count left_out = if nat_lt (left_out + count) 18446744073709551616 then left_out + count else 18446744073709551615
-
 -- so many more are left out in this second
 abbrev pub leaving_out : ℕ → ℕ → Rates → Rates
-leaving_out count now r = record r { left_out = left_out_with count r.left_out; second = now }
+leaving_out count now r = record r { left_out = at_most r.left_out count; second = now }
 
 -- none are left out that nobody was told of, where the second of the last is over
 abbrev pub with_none_left_out : ℕ → Rates → Rates

@@ -28,7 +28,7 @@ pub enum Key {
     Quiet,
     /// The form of the log comes next.
     Log,
-    /// The port comes next at which the figures are told.
+    /// The port comes next at which the figures are served.
     Metrics,
     /// The help is asked for.
     Help,

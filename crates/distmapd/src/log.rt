@@ -2,39 +2,17 @@
 
 ghost use Rattle.std.specs.Prelude.{◌≡◌, ◌-◌, ℕ, List, IfOk};
 ghost use Rattle.std.specs.String.{string_bytes};
-ghost use Rattle.distmapd.specs.Lines.{event_line, left_out_line};
 ghost use Rattle.dist_epmd_clients.specs.Reporting.{counts_of, events_of};
 ghost use Rattle.distmapd.specs.Logging.{after_missing, LogsEvent, LogsEvents, LogsRound, Puts, PutsFor, TellsLeftOut};
 ghost use Rattle.distmapd.specs.Logs.{form_in, missed_in, rates_in};
 ghost use Rattle.distmapd.specs.Rates.{new_rates};
 
 use crate::form::Form;
-use crate::json_line::{json_event, json_line};
+use crate::lines::{event_line, left_out_line};
 use crate::rates::Rates;
-use crate::text_line::{text_event, text_line};
 use dist_epmd_clients::{ClientEvent, Clients};
 use std::alloc::{AllocError, Global};
 use std::io::Write;
-
-/// The line of an event.
-fn event_line(alloc: Global, form: Form, event: &ClientEvent) -> Result<String, AllocError>
-    ensures { IfOk result (λ line. string_bytes line ≡ event_line form event.now) }
-{
-    match form {
-        Form::Text => text_event(alloc, event),
-        Form::Json => json_event(alloc, event),
-    }
-}
-
-/// The line that says how many were left out.
-fn left_out_line(alloc: Global, form: Form, count: u64) -> Result<String, AllocError>
-    ensures { IfOk result (λ line. string_bytes line ≡ left_out_line form count) }
-{
-    match form {
-        Form::Text => text_line(alloc, "left out lines", count, ""),
-        Form::Json => json_line(alloc, "left_out", "lines", count, ""),
-    }
-}
 
 // Writes a line by one write. Returns whether it was taken whole.
 fn put<W: Write>(out: &mut W, line: Result<String, AllocError>) -> bool

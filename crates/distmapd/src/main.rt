@@ -5,8 +5,8 @@ mod answer;
 mod fault;
 mod form;
 mod json;
-mod json_line;
 mod key;
+mod lines;
 mod listing;
 mod log;
 mod metrics;
@@ -24,7 +24,6 @@ mod settings;
 mod sockets;
 mod spares;
 mod standard_error;
-mod text_line;
 
 use crate::fault::Fault;
 use crate::log::Log;
@@ -131,13 +130,10 @@ fn first_creation<R: Clock>(rt: &R) -> u32 {
     let Ok(now) = SystemTime::now(rt) else {
         return LEAST_CREATION;
     };
-    match now.duration_since(UNIX_EPOCH) {
-        Ok(since) => match u32::try_from(since.as_secs()) {
-            Ok(seconds) => seconds.max(LEAST_CREATION),
-            Err(_) => LEAST_CREATION,
-        },
-        Err(_) => LEAST_CREATION,
-    }
+    let Ok(since) = now.duration_since(UNIX_EPOCH) else {
+        return LEAST_CREATION;
+    };
+    u32::try_from(since.as_secs()).map_or(LEAST_CREATION, |seconds| seconds.max(LEAST_CREATION))
 }
 
 // How many sockets were handed over: none where they are not asked for.
@@ -155,10 +151,7 @@ fn sockets_handed_over(rt: &HostRuntime, settings: &Settings<'_>) -> Result<u16,
 // What runs beside the port mapper.
 fn beside<R: Net>(net: &R, alloc: Global, settings: &Settings<'_>) -> Result<Beside, Fault> {
     let monitor = match settings.metrics {
-        Some(port) => match Monitor::new(net, alloc, port) {
-            Ok(monitor) => Some(monitor),
-            Err(_) => return Err(Fault::MetricsFailed),
-        },
+        Some(port) => Some(Monitor::new(net, alloc, port).map_err(|_| Fault::MetricsFailed)?),
         None => None,
     };
     Ok(Beside {
@@ -168,7 +161,7 @@ fn beside<R: Net>(net: &R, alloc: Global, settings: &Settings<'_>) -> Result<Bes
     })
 }
 
-// Tells whoever started the program that it listens, where it wants to be told.
+// Notifies whoever started the program that it listens, where it asks for that.
 fn tell_ready(rt: &HostRuntime) -> Result<(), Fault> {
     if let Some(name) = variable(rt, "NOTIFY_SOCKET")? {
         let _ = say_ready(name.as_bytes());
@@ -196,10 +189,7 @@ fn run<R: Net + Wait + Clock>(
         return Err(Fault::ServeFailed);
     };
     tell_ready(rt)?;
-    match serve(host, alloc, &mut server, &mut beside) {
-        Ok(()) => Ok(()),
-        Err(_) => Err(Fault::ServeFailed),
-    }
+    serve(host, alloc, &mut server, &mut beside).map_err(|_| Fault::ServeFailed)
 }
 
 fn server_at<R: Net + Clock>(

@@ -8,7 +8,7 @@ ghost use Rattle.distmapd.specs.Metrics.{figure_kind, figure_line, figure_name, 
 use dist_epmd_clients::Counts;
 use std::alloc::{AllocError, Global};
 
-/// What is told.
+/// A figure.
 #[derive(Clone, Copy, PartialEq, Eq)]
 pub enum Figure {
     /// Nodes that are registered.

@@ -102,7 +102,7 @@ impl Seat {
     }
 }
 
-/// A port at which the figures are told, and those who ask there.
+/// A port at which the figures are served, and those who ask there.
 #[derive(Drop)]
 pub struct Monitor {
     alloc: Global,
@@ -140,22 +140,12 @@ impl Monitor {
         self.seats.iter().all(|seat| seat.place != place)
     }
 
-    // A place that nobody has, from 1.
-    fn free_place(&self) -> Option<usize> {
-        for place in 1..=SEATS {
-            if self.is_free(place) {
-                return Some(place);
-            }
-        }
-        None
-    }
-
-    // Makes room for one more, and returns its place.
+    // Makes room for one more, and returns a place that nobody has, from 1.
     fn find_place(&mut self) -> Option<usize> {
         if self.seats.len() >= SEATS {
             let _ = self.seats.remove(0);
         }
-        self.free_place()
+        (1..=SEATS).find(|place| self.is_free(*place))
     }
 
     // Takes a connection in. Where that fails it is closed.

@@ -34,7 +34,7 @@ fn talk_with<'a, R: Net<Listener = TcpListener, Stream = TcpStream> + Clock>(
 /// Asks the port mapper at this port of the loopback, of IPv4 or else of IPv6, and prints its own port and the names.
 ///
 /// ConnectFailed where nobody takes the connection within 8 seconds. What has not come 5 seconds later is not waited for: see
-/// [`print_answer`] for what is said then.
+/// [`print_answer`] for what is reported then.
 pub fn print_names<R: Net<Listener = TcpListener, Stream = TcpStream> + Clock, W: Write>(
     rt: &R,
     alloc: Global,

@@ -1,10 +1,10 @@
-//! Tells whoever started the program that it listens (systemd, sd_notify(3)).
+//! Notifies whoever started the program that it listens (systemd, sd_notify(3)).
 
 ghost use Rattle.std.specs.Prelude.{◌≤◌, IfSome};
 
 use libc::net::{AF_UNIX, MSG_DONTWAIT, MSG_NOSIGNAL, SOCK_CLOEXEC, SOCK_DGRAM, sendto, socket};
 
-// What is said.
+// What is sent.
 const READY: &[u8] = b"READY=1\n";
 
 // The bytes of an address, and where its name begins behind its kind. Source: unix(7).
@@ -32,7 +32,7 @@ fn write_address(address: &mut [u8; ADDRESS], name: &[u8]) -> Option<u32>
     Some((NAME + name.len()) as u32)
 }
 
-/// Tells it at the socket of this name. Returns whether that was taken.
+/// Sends that to the socket of this name. Returns whether it was taken.
 pub fn say_ready(name: &[u8]) -> bool {
     let mut address = [0u8; ADDRESS];
     let Some(length) = write_address(&mut address, name) else {

@@ -2,7 +2,7 @@
 
 ghost use Rattle.std.specs.Prelude.{◌≡◌, IfOk};
 ghost use Rattle.std.specs.String.{string_bytes};
-ghost use Rattle.distmapd.specs.Metrics.{asks_path, answer_text, head_text, page_at, page_text, ready_text, request_of};
+ghost use Rattle.distmapd.specs.Metrics.{asks_path, answer_text, head_text, page_at, page_text, request_of};
 
 use std::alloc::{AllocError, Global};
 
@@ -77,13 +77,13 @@ pub fn request_of(head: &[u8]) -> Request
     }
 }
 
-// The line of an answer with a body of so many bytes, and the lines behind it.
+// The head of an answer with a body of so many bytes: its status, and a line behind it where that has one.
 #[tactic(auto, unfolding(crate::specs::Metrics::head_text))]
-fn head_text(alloc: Global, status: &str, more: &str, length: usize) -> Result<String, AllocError>
-    ensures { IfOk result (λ text. string_bytes text ≡ head_text status.now more.now length) }
+fn head_text(alloc: Global, status: &str, length: usize) -> Result<String, AllocError>
+    ensures { IfOk result (λ text. string_bytes text ≡ head_text status.now length) }
 {
     format!(in alloc;
-        "HTTP/1.1 {status}\r\n{more}Content-Type: text/plain; version=0.0.4; charset=utf-8\r\nContent-Length: {length}\r\nConnection: close\r\n\r\n"
+        "HTTP/1.1 {status}\r\nContent-Type: text/plain; version=0.0.4; charset=utf-8\r\nContent-Length: {length}\r\nConnection: close\r\n\r\n"
     )
 }
 
@@ -91,34 +91,16 @@ fn head_text(alloc: Global, status: &str, more: &str, length: usize) -> Result<S
 fn answer_text(
     alloc: Global,
     status: &str,
-    more: &str,
     body: &str,
     wants_body: bool,
 ) -> Result<String, AllocError>
-    ensures { IfOk result (λ text. string_bytes text ≡ answer_text status.now more.now body.now wants_body) }
+    ensures { IfOk result (λ text. string_bytes text ≡ answer_text status.now body.now wants_body) }
 {
-    let mut text = head_text(alloc, status, more, body.len())?;
+    let mut text = head_text(alloc, status, body.len())?;
     if wants_body {
         text.push_str(body)?;
     }
     Ok(text)
-}
-
-// The answer to a question whether connections are accepted.
-fn ready_text(alloc: Global, is_ready: bool, wants_body: bool) -> Result<String, AllocError>
-    ensures { IfOk result (λ text. string_bytes text ≡ ready_text is_ready wants_body) }
-{
-    if is_ready {
-        answer_text(alloc, "200 OK", "", "ready\n", wants_body)
-    } else {
-        answer_text(
-            alloc,
-            "503 Service Unavailable",
-            "",
-            "no descriptor or no memory is left\n",
-            wants_body,
-        )
-    }
 }
 
 /// The answer to a request, by whether connections are accepted, and the text of the figures.
@@ -132,22 +114,20 @@ pub fn page_text(
 {
     let wants_body = request.wants_body;
     match request.page {
-        Page::Metrics => answer_text(alloc, "200 OK", "", figures, wants_body),
-        Page::Health => answer_text(alloc, "200 OK", "", "alive\n", wants_body),
-        Page::Ready => ready_text(alloc, is_ready, wants_body),
-        Page::Unknown => answer_text(
-            alloc,
-            "404 Not Found",
-            "",
-            "/metrics, /ready and /health are here\n",
-            wants_body,
-        ),
-        Page::Refused => answer_text(
-            alloc,
-            "405 Method Not Allowed",
-            "Allow: GET, HEAD\r\n",
-            "GET and HEAD alone are served\n",
-            wants_body,
-        ),
+        Page::Metrics => answer_text(alloc, "200 OK", figures, wants_body),
+        Page::Health => answer_text(alloc, "200 OK", "alive\n", wants_body),
+        Page::Ready if is_ready => answer_text(alloc, "200 OK", "ready\n", wants_body),
+        Page::Ready => {
+            let body = "no descriptor or no memory is left\n";
+            answer_text(alloc, "503 Service Unavailable", body, wants_body)
+        }
+        Page::Unknown => {
+            let body = "/metrics, /ready and /health are here\n";
+            answer_text(alloc, "404 Not Found", body, wants_body)
+        }
+        Page::Refused => {
+            let status = "405 Method Not Allowed\r\nAllow: GET, HEAD";
+            answer_text(alloc, status, "GET and HEAD alone are served\n", wants_body)
+        }
     }
 }

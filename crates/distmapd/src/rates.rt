@@ -1,4 +1,4 @@
-//! How many lines a log may have of each kind, so that none hides what is said of others.
+//! How many lines a log may have of each kind, so that none hides the lines of others.
 
 ghost use Rattle.std.specs.Prelude.{◌≡◌, ◌==◌, if◌then◌else◌};
 ghost use Rattle.distmapd.specs.Rates.{after_admitting, is_admitted, leaving_out, new_rates, rate_of, with_none_left_out, with_rate};
@@ -6,7 +6,7 @@ ghost use Rattle.distmapd.specs.Rates.{after_admitting, is_admitted, leaving_out
 use crate::rate::Rate;
 use dist_epmd_clients::EventKind;
 
-/// The rates of all kinds of events, and how many lines were left out that nobody was told of.
+/// The rates of all kinds of events, and how many lines were left out that the log has not reported.
 #[derive(Clone, Copy)]
 pub struct Rates {
     registered: Rate,

@@ -32,6 +32,6 @@ pub struct Settings<'a> {
     pub systemd: bool,
     /// In which form it is logged what happens. `None`: not at all.
     pub log: Option<Form>,
-    /// At which port of the loopback the figures are told. `None`: at none.
+    /// At which port of the loopback the figures are served. `None`: at none.
     pub metrics: Option<u16>,
 }

@@ -17,29 +17,24 @@ const MOST_HANDED_OVER: u16 = 16;
 // The first descriptor that is handed over. Source: systemd, sd_listen_fds(3).
 const HANDED_OVER: i32 = 3;
 
+const ALL_4: IpAddr = IpAddr::V4(Ipv4Addr::UNSPECIFIED);
+
+const ALL_6: IpAddr = IpAddr::V6(Ipv6Addr::UNSPECIFIED);
+
+const HERE_4: IpAddr = IpAddr::V4(Ipv4Addr::LOCALHOST);
+
+const HERE_6: IpAddr = IpAddr::V6(Ipv6Addr::LOCALHOST);
+
 // Listens at an address.
 fn listen_at(net: &impl Net, address: IpAddr, port: u16) -> io::Result<TcpListener> {
     TcpListener::bind(net, SocketAddr::new(address, port))
 }
 
-// Listens at an address that the host may lack.
-fn listen_where_there(
-    net: &impl Net,
-    found: &mut Vec<TcpListener>,
-    address: IpAddr,
-    port: u16,
-) -> io::Result<()> {
-    if let Ok(listener) = listen_at(net, address, port) {
-        found.push(listener)?;
-    }
-    Ok(())
-}
-
 // All addresses of both kinds where the system has both, else those of IPv4.
 fn listen_at_all(net: &impl Net, port: u16) -> io::Result<TcpListener> {
-    match listen_at(net, IpAddr::V6(Ipv6Addr::UNSPECIFIED), port) {
+    match listen_at(net, ALL_6, port) {
         Ok(listener) => Ok(listener),
-        Err(_) => listen_at(net, IpAddr::V4(Ipv4Addr::UNSPECIFIED), port),
+        Err(_) => listen_at(net, ALL_4, port),
     }
 }
 
@@ -79,33 +74,16 @@ fn inherited_sockets(alloc: Global, count: u16) -> io::Result<Vec<TcpListener>> 
 // The addresses between commas and spaces, as `epmd` reads them.
 fn addresses_in(alloc: Global, text: &str) -> Result<Vec<IpAddr>, Fault> {
     let mut addresses = Vec::new(alloc);
-    for list in text.split(',') {
-        for part in list.split(' ') {
-            if !part.is_empty() {
-                match part.parse::<IpAddr>() {
-                    Ok(address) => add(&mut addresses, address)?,
-                    Err(_) => return Err(Fault::BadAddress),
-                }
-            }
+    for part in text.split([',', ' ']) {
+        if !part.is_empty() {
+            let Ok(address) = part.parse::<IpAddr>() else {
+                return Err(Fault::BadAddress);
+            };
+            addresses.push(address).map_err(|_| Fault::NoMemory)?;
         }
     }
     Ok(addresses)
 }
-
-fn add(addresses: &mut Vec<IpAddr>, address: IpAddr) -> Result<(), Fault> {
-    match addresses.push(address) {
-        Ok(()) => Ok(()),
-        Err(_) => Err(Fault::NoMemory),
-    }
-}
-
-const ALL_4: IpAddr = IpAddr::V4(Ipv4Addr::UNSPECIFIED);
-
-const ALL_6: IpAddr = IpAddr::V6(Ipv6Addr::UNSPECIFIED);
-
-const HERE_4: IpAddr = IpAddr::V4(Ipv4Addr::LOCALHOST);
-
-const HERE_6: IpAddr = IpAddr::V6(Ipv6Addr::LOCALHOST);
 
 // Whether one is listened at that has these already: those of one kind are among all of it, and those of both among all of IPv6.
 fn is_within(address: IpAddr, all: &[IpAddr]) -> bool {
@@ -122,7 +100,8 @@ fn is_taken(address: IpAddr, addresses: &[IpAddr], place: usize) -> bool {
     }
 }
 
-// Listens at these addresses, each once, and at the loopback of both kinds where none of them has it. All of a kind comes first.
+// Listens at these addresses, each once, and at the loopback of both kinds where none of them has it; without any, at all. All of a
+// kind comes first.
 fn listen_at_each(
     net: &impl Net,
     alloc: Global,
@@ -130,7 +109,7 @@ fn listen_at_each(
     port: u16,
 ) -> io::Result<Vec<TcpListener>> {
     let mut found = Vec::new(alloc);
-    if is_within(ALL_6, addresses) {
+    if addresses.is_empty() || is_within(ALL_6, addresses) {
         found.push(listen_at_all(net, port)?)?;
         return Ok(found);
     }
@@ -142,15 +121,12 @@ fn listen_at_each(
             found.push(listen_at(net, *address, port)?)?;
         }
     }
-    if !is_within(HERE_6, addresses) {
-        listen_where_there(net, &mut found, HERE_6, port)?;
+    // The host may lack this one.
+    if !is_within(HERE_6, addresses)
+        && let Ok(listener) = listen_at(net, HERE_6, port)
+    {
+        found.push(listener)?;
     }
-    Ok(found)
-}
-
-fn list_of(alloc: Global, listener: TcpListener) -> io::Result<Vec<TcpListener>> {
-    let mut found = Vec::new(alloc);
-    found.push(listener)?;
     Ok(found)
 }
 
@@ -188,15 +164,10 @@ pub fn listeners(
     let addresses = addresses_in(alloc, settings.addresses.unwrap_or(""))?;
     let found = if settings.systemd {
         inherited_sockets(alloc, handed_over)
-    } else if addresses.is_empty() {
-        listen_at_all(net, settings.port).and_then(|listener| list_of(alloc, listener))
     } else {
         listen_at_each(net, alloc, &addresses, settings.port)
     };
-    match found {
-        Ok(listeners) => Ok(listeners),
-        Err(_) => Err(Fault::ListenFailed),
-    }
+    found.map_err(|_| Fault::ListenFailed)
 }
 
 /// The port of the first listener.

@@ -16,7 +16,7 @@ pub struct StandardError {
     is_cut: bool,
 }
 
-// A descriptor of the terminal that standard error is, whose writes do not wait. A terminal says that it has room where it has less
+// A descriptor of the terminal that standard error is, whose writes do not wait. A terminal reports that it has room where it has less
 // than a line. It is opened anew, so that the shell, which shares what it is open on, does not get the setting. Where it can't be opened,
 // as behind `su`, the shell gets it: a node that waits for its registration is worse.
 fn terminal() -> i32 {

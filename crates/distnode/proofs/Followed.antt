@@ -1,15 +1,15 @@
 -- An order that was done, or ended.
 use Rattle.std.proofs.Common.{◌≡◌, ◌⊎◌, inl, inr, ℕ, Bool, true, false, List, Option, codes, refl, sym, subst}
 use Rattle.dist_stream.specs.Stream.{StreamState}
-use Rattle.dist_script_words.specs.Texts.{PutsFront}
-use Rattle.dist_script_words.specs.declared.fault.ScriptFault.{ScriptFault}
-use Rattle.dist_script_words.specs.Fault as script
+use Rattle.dist_script.specs.Texts.{PutsFront}
+use Rattle.dist_script.specs.declared.fault.ScriptFault.{ScriptFault}
+use Rattle.dist_script.specs.Fault as script
 use Rattle.dist_script_play.specs.Scenes.{IsBad, IsCut}
-use Rattle.dist_short_commands.specs.declared.fault.Fault.{Fault}
-use Rattle.dist_short_commands.specs.declared.fault.Fault.TheVariants as fault
-use Rattle.dist_short_commands.specs.Fault.{status_of, fault_line}
-use Rattle.dist_short_commands.specs.Printed.{PrintsCookie, PrintsNames, PrintsEscapedNames}
-use Rattle.dist_short_commands.specs.Stopped.{EndsByFault, StopsCookie, StopsNames, StopsEscapedNames}
+use Rattle.dist_commands.specs.declared.fault.Fault.{Fault}
+use Rattle.dist_commands.specs.declared.fault.Fault.TheVariants as fault
+use Rattle.dist_commands.specs.Fault.{status_of, fault_line}
+use Rattle.dist_commands.specs.Printed.{PrintsCookie, PrintsNames, PrintsEscapedNames}
+use Rattle.dist_commands.specs.Stopped.{EndsByFault, StopsCookie, StopsNames, StopsEscapedNames}
 use Rattle.distnode.specs.Printed.{PrintsRunOf}
 use Rattle.distnode.specs.Stopped.{IsNoNodesFile, StopsRunOf}
 use Rattle.distnode.specs.Followed.{PrintsAnswer, StopsCookieAt, StopsTalk, StopsAnswer, StopsRunAt, EndsPlay}
@@ -72,36 +72,25 @@ escaped_of_talk : (terminal : Bool) (talk here left : StreamState) (a b : Option
 escaped_of_talk terminal talk here left a b is same f stops =
     subst (λ t. StopsTalk t talk a b f) (sym is) (left, subst (λ x. StopsEscapedNames x left 1280 a b f) same stops)
 
-names_at : (terminal : Bool) (talk here left : StreamState) (a b : Option (List ℕ)) → terminal ≡ false → here ≡ talk → (f : Fault) → StopsNames here left 1280 a b f → StopsAnswer terminal talk a b f
-names_at terminal talk here left a b is same fault.BadCommandLine stops = names_of_talk terminal talk here left a b is same fault.BadCommandLine stops
-names_at terminal talk here left a b is same fault.BadNodesFile stops = names_of_talk terminal talk here left a b is same fault.BadNodesFile stops
-names_at terminal talk here left a b is same (fault.RunEnded why) stops = names_of_talk terminal talk here left a b is same (fault.RunEnded why) stops
-names_at terminal talk here left a b is same fault.ReadFailed stops = names_of_talk terminal talk here left a b is same fault.ReadFailed stops
-names_at terminal talk here left a b is same fault.WriteFailed stops = names_of_talk terminal talk here left a b is same fault.WriteFailed stops
-names_at terminal talk here left a b is same fault.OpenFailed stops = names_of_talk terminal talk here left a b is same fault.OpenFailed stops
-names_at terminal talk here left a b is same (fault.NoCookie why) stops = names_of_talk terminal talk here left a b is same (fault.NoCookie why) stops
-names_at terminal talk here left a b is same fault.ConnectFailed stops = absurd stops
-names_at terminal talk here left a b is same (fault.NoAnswer why) stops = names_of_talk terminal talk here left a b is same (fault.NoAnswer why) stops
-names_at terminal talk here left a b is same fault.NoMemory stops = names_of_talk terminal talk here left a b is same fault.NoMemory stops
-
-escaped_at : (terminal : Bool) (talk here left : StreamState) (a b : Option (List ℕ)) → terminal ≡ true → here ≡ talk → (f : Fault) → StopsEscapedNames here left 1280 a b f → StopsAnswer terminal talk a b f
-escaped_at terminal talk here left a b is same fault.BadCommandLine stops = escaped_of_talk terminal talk here left a b is same fault.BadCommandLine stops
-escaped_at terminal talk here left a b is same fault.BadNodesFile stops = escaped_of_talk terminal talk here left a b is same fault.BadNodesFile stops
-escaped_at terminal talk here left a b is same (fault.RunEnded why) stops = escaped_of_talk terminal talk here left a b is same (fault.RunEnded why) stops
-escaped_at terminal talk here left a b is same fault.ReadFailed stops = escaped_of_talk terminal talk here left a b is same fault.ReadFailed stops
-escaped_at terminal talk here left a b is same fault.WriteFailed stops = escaped_of_talk terminal talk here left a b is same fault.WriteFailed stops
-escaped_at terminal talk here left a b is same fault.OpenFailed stops = escaped_of_talk terminal talk here left a b is same fault.OpenFailed stops
-escaped_at terminal talk here left a b is same (fault.NoCookie why) stops = escaped_of_talk terminal talk here left a b is same (fault.NoCookie why) stops
-escaped_at terminal talk here left a b is same fault.ConnectFailed stops = absurd stops
-escaped_at terminal talk here left a b is same (fault.NoAnswer why) stops = escaped_of_talk terminal talk here left a b is same (fault.NoAnswer why) stops
-escaped_at terminal talk here left a b is same fault.NoMemory stops = escaped_of_talk terminal talk here left a b is same fault.NoMemory stops
+at_talk : (terminal : Bool) (talk : StreamState) (a b : Option (List ℕ)) (f : Fault) → StopsTalk terminal talk a b f → StopsAnswer terminal talk a b f
+at_talk terminal talk a b fault.BadCommandLine stops = stops
+at_talk terminal talk a b fault.BadNodesFile stops = stops
+at_talk terminal talk a b (fault.RunEnded why) stops = stops
+at_talk terminal talk a b fault.ReadFailed stops = stops
+at_talk terminal talk a b fault.WriteFailed stops = stops
+at_talk terminal talk a b fault.OpenFailed stops = stops
+at_talk terminal talk a b (fault.NoCookie why) stops = stops
+at_talk true talk a b fault.ConnectFailed stops = absurd stops.1
+at_talk false talk a b fault.ConnectFailed stops = absurd stops.1
+at_talk terminal talk a b (fault.NoAnswer why) stops = stops
+at_talk terminal talk a b fault.NoMemory stops = stops
 
 -- over the connection that was made
 pub names_ended : (terminal : Bool) (talk here left : StreamState) (a b c d : Option (List ℕ)) → terminal ≡ false → here ≡ talk → EndsByFault (StopsNames here left 1280 a b) 1 c d → EndsByFault (StopsAnswer terminal talk a b) 1 c d
-names_ended terminal talk here left a b c d is same by = weaken (StopsNames here left 1280 a b) (StopsAnswer terminal talk a b) 1 c d (names_at terminal talk here left a b is same) by
+names_ended terminal talk here left a b c d is same by = weaken (StopsNames here left 1280 a b) (StopsAnswer terminal talk a b) 1 c d (λ f stops. at_talk terminal talk a b f (names_of_talk terminal talk here left a b is same f stops)) by
 
 pub escaped_ended : (terminal : Bool) (talk here left : StreamState) (a b c d : Option (List ℕ)) → terminal ≡ true → here ≡ talk → EndsByFault (StopsEscapedNames here left 1280 a b) 1 c d → EndsByFault (StopsAnswer terminal talk a b) 1 c d
-escaped_ended terminal talk here left a b c d is same by = weaken (StopsEscapedNames here left 1280 a b) (StopsAnswer terminal talk a b) 1 c d (escaped_at terminal talk here left a b is same) by
+escaped_ended terminal talk here left a b c d is same by = weaken (StopsEscapedNames here left 1280 a b) (StopsAnswer terminal talk a b) 1 c d (λ f stops. at_talk terminal talk a b f (escaped_of_talk terminal talk here left a b is same f stops)) by
 
 -- which could not be made
 pub names_unconnected : (terminal : Bool) (talk : StreamState) (a c d : Option (List ℕ)) → PutsFront (fault_line fault.ConnectFailed) c d → EndsByFault (StopsAnswer terminal talk a a) 1 c d

@@ -6,9 +6,9 @@ use Rattle.dist_world_model.specs.World.{World}
 use Rattle.dist_locked_book.specs.declared.closing.Closed.{Closed}
 use Rattle.dist_audit.specs.declared.audit_error.AuditError.{AuditError}
 use Rattle.dist_audit.specs.Audit.{IsWorldOf, Tells, TellsFirst}
-use Rattle.dist_short_commands.specs.declared.fault.Fault.{Fault}
-use Rattle.dist_short_commands.specs.declared.fault.Fault.TheVariants as fault
-use Rattle.dist_short_commands.specs.Fault.{status_of}
+use Rattle.dist_commands.specs.declared.fault.Fault.{Fault}
+use Rattle.dist_commands.specs.declared.fault.Fault.TheVariants as fault
+use Rattle.dist_commands.specs.Fault.{status_of}
 use Rattle.dist_run_plan.specs.declared.plan.Plan.{Plan}
 use Rattle.dist_run_plan.specs.Plans.{plan_of}
 use Rattle.dist_run_hosts.specs.Setups.{AreOfPlans}

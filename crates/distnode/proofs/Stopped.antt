@@ -10,14 +10,14 @@ use Rattle.dist_run_hosts.specs.Setups.{AreOfPlans}
 use Rattle.dist_run_hosts.specs.Orders.{AreObeyed}
 use Rattle.dist_run_hosts.specs.declared.order_fault.OrderFault.{OrderFault}
 use Rattle.dist_run.specs.Runs.{AreInOrder}
-use Rattle.dist_script_words.specs.Texts.{PutsFront}
-use Rattle.dist_script_words.specs.Fault.{StopsReading}
-use Rattle.dist_script_words.specs.declared.fault.ScriptFault.{ScriptFault}
-use Rattle.dist_short_commands.specs.declared.fault.Fault.{Fault}
-use Rattle.dist_short_commands.specs.declared.fault.Fault.TheVariants as fault
-use Rattle.dist_short_commands.specs.Fault.{status_of, fault_of}
+use Rattle.dist_script.specs.Texts.{PutsFront}
+use Rattle.dist_script.specs.Fault.{StopsReading}
+use Rattle.dist_script.specs.declared.fault.ScriptFault.{ScriptFault}
+use Rattle.dist_commands.specs.declared.fault.Fault.{Fault}
+use Rattle.dist_commands.specs.declared.fault.Fault.TheVariants as fault
+use Rattle.dist_commands.specs.Fault.{status_of, fault_of}
 use Rattle.distnode.specs.Printed.{Puts, IsOfRun, PrintsRun}
-use Rattle.dist_short_commands.specs.Stopped.{EndsByFault}
+use Rattle.dist_commands.specs.Stopped.{EndsByFault}
 use Rattle.distnode.specs.Stopped.{StopsPrinting, StopsRun, StopsRunOf, IsNoNodesFile}
 use Rattle.distnode.proofs.Printing.{of_text}
 

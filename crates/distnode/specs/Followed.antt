@@ -5,15 +5,15 @@ use Rattle.dist_commands.specs.declared.order_of_words.Order.{Order}
 use Rattle.dist_commands.specs.declared.order_of_words.Order.TheVariants as order
 use Rattle.dist_program.specs.declared.port_error.PortError.{PortError}
 use Rattle.dist_program.specs.PortTexts.{port_error_status}
-use Rattle.dist_script_words.specs.Texts.{PutsFront}
-use Rattle.dist_script_words.specs.declared.fault.ScriptFault.{ScriptFault}
-use Rattle.dist_script_words.specs.Fault as script
+use Rattle.dist_script.specs.Texts.{PutsFront}
+use Rattle.dist_script.specs.declared.fault.ScriptFault.{ScriptFault}
+use Rattle.dist_script.specs.Fault as script
 use Rattle.dist_script_play.specs.Scenes.{Plays, IsBad, IsCut}
-use Rattle.dist_short_commands.specs.declared.fault.Fault.{Fault}
-use Rattle.dist_short_commands.specs.declared.fault.Fault.TheVariants.{OpenFailed, ConnectFailed}
-use Rattle.dist_short_commands.specs.Fault.{port_line}
-use Rattle.dist_short_commands.specs.Printed.{PrintsCookie, PrintsNames, PrintsEscapedNames}
-use Rattle.dist_short_commands.specs.Stopped.{EndsByFault, StopsCookie, StopsNames, StopsEscapedNames}
+use Rattle.dist_commands.specs.declared.fault.Fault.{Fault}
+use Rattle.dist_commands.specs.declared.fault.Fault.TheVariants.{OpenFailed, ConnectFailed}
+use Rattle.dist_commands.specs.Fault.{port_line}
+use Rattle.dist_commands.specs.Printed.{PrintsCookie, PrintsNames, PrintsEscapedNames}
+use Rattle.dist_commands.specs.Stopped.{EndsByFault, StopsCookie, StopsNames, StopsEscapedNames}
 use Rattle.distnode.specs.Printed.{PrintsRunOf}
 use Rattle.distnode.specs.Stopped.{StopsRunOf}
 

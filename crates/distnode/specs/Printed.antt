@@ -16,9 +16,9 @@ use Rattle.dist_run_hosts.specs.declared.order_fault.OrderFault.{OrderFault}
 use Rattle.dist_run.specs.Runs.{AreInOrder}
 use Rattle.dist_script_lines.specs.Lines.{node_text}
 use Rattle.dist_script_lines.specs.Worlds.{nodes_text, AreAgreements}
-use Rattle.dist_short_commands.specs.declared.fault.Fault.{Fault}
-use Rattle.dist_short_commands.specs.declared.fault.Fault.TheVariants.{WriteFailed}
-use Rattle.dist_short_commands.specs.Fault.{status_of}
+use Rattle.dist_commands.specs.declared.fault.Fault.{Fault}
+use Rattle.dist_commands.specs.declared.fault.Fault.TheVariants.{WriteFailed}
+use Rattle.dist_commands.specs.Fault.{status_of}
 
 -- a text of which this is so is written behind what stood
 abbrev pub Puts : (List ℕ → Type 0) → Option (List ℕ) → Option (List ℕ) → Type 0

@@ -6,9 +6,9 @@ use Rattle.dist_locked_book.specs.declared.closing.Closed.{Closed}
 use Rattle.dist_run_plan.specs.declared.plan.Plan.{Plan}
 use Rattle.dist_run_plan.specs.Plans.{plan_of}
 use Rattle.dist_run_hosts.specs.declared.order_fault.OrderFault.{OrderFault}
-use Rattle.dist_script_words.specs.Texts.{PutsFront}
-use Rattle.dist_short_commands.specs.declared.fault.Fault.{Fault}
-use Rattle.dist_short_commands.specs.declared.fault.Fault.TheVariants.{BadNodesFile, RunEnded, ReadFailed, WriteFailed, NoMemory}
+use Rattle.dist_script.specs.Texts.{PutsFront}
+use Rattle.dist_commands.specs.declared.fault.Fault.{Fault}
+use Rattle.dist_commands.specs.declared.fault.Fault.TheVariants.{BadNodesFile, RunEnded, ReadFailed, WriteFailed, NoMemory}
 use Rattle.distnode.specs.Printed.{Puts, IsOfRun, PrintsRun}
 
 -- what stops the printing of a run that left this: a write, and a beginning of what is printed of it stands there; or memory ran out

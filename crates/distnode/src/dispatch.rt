@@ -2,24 +2,19 @@
 
 ghost use Rattle.std.specs.Prelude.{◌≡◌, ◌≤◌, ◌⊎◌, Option, List, ℕ};
 ghost use Rattle.std.specs.Io.KnownBytes.{Keeps};
-ghost use Rattle.dist_short_commands.specs.Printed.{PrintsCookie};
-ghost use Rattle.dist_short_commands.specs.Stopped.{EndsByFault};
+ghost use Rattle.dist_commands.specs.Printed.{PrintsCookie};
+ghost use Rattle.dist_commands.specs.Stopped.{EndsByFault};
 ghost use Rattle.distnode.specs.Printed.{PrintsRunOf};
 ghost use Rattle.distnode.specs.Followed.{PrintsAnswer, Follows, StopsCookieAt, StopsAnswer, StopsRunAt, EndsByPort, Ends};
 
 use crate::run::run_file;
 use crate::system::System;
-use dist_commands::Order;
+use dist_commands::{Fault, Order, cookie, names, names_on_terminal, tell_port};
 use dist_program::PortError;
+use dist_run::Machine;
 use dist_script_play::enact;
-use dist_short_commands::{Fault, cookie, names, names_on_terminal, tell_port};
 use std::alloc::Global;
 use std::io::{Read, Write};
-use std::net::{Net, TcpListener, TcpStream};
-use std::random::RandomSource;
-use std::sync::Wait;
-use std::thread::Threads;
-use std::time::Clock;
 
 // The command `cookie`, of the file at a path.
 #[tactic(auto, using(crate::proofs::Followed::cookie_ended, crate::proofs::Followed::cookie_unopened))]
@@ -93,7 +88,7 @@ fn follow_names<S: System, W: Write, E: Write>(
 }
 
 // The command `run`, of the nodes file at a path.
-fn follow_run<S: System, R, W: Write, E: Write>(
+fn follow_run<S: System, R: Machine, W: Write, E: Write>(
     system: &S,
     host: &R,
     alloc: Global,
@@ -101,13 +96,6 @@ fn follow_run<S: System, R, W: Write, E: Write>(
     out: &mut W,
     err: &mut E,
 ) -> u8
-where
-    R: Net<Listener = TcpListener, Stream = TcpStream>
-        + Threads
-        + Wait
-        + Clock
-        + RandomSource
-        + Sync,
     ensures status { result ≤ 2 }
     ensures done { result ≡ 0 → (left : Option (List ℕ)) × PrintsRunOf (S.bytes_at system.now path.now) left 0 (W.contents out.old) (W.contents out.new) }
     ensures silent { result ≡ 0 → E.contents err.new ≡ E.contents err.old }
@@ -126,7 +114,7 @@ where
 /// Does what an order says, and returns the exit status. `named` is the port of the environment: a bad one is reported where a port
 /// mapper would be asked. What starts threads is handed in as `host`.
 #[tactic(auto, using(crate::proofs::Followed::play_ended, crate::proofs::Followed::play_refused))]
-pub fn follow<S: System, R, I: Read, W: Write, E: Write>(
+pub fn follow<S: System, R: Machine, I: Read, W: Write, E: Write>(
     system: &S,
     host: &R,
     alloc: Global,
@@ -136,13 +124,6 @@ pub fn follow<S: System, R, I: Read, W: Write, E: Write>(
     out: &mut W,
     err: &mut E,
 ) -> u8
-where
-    R: Net<Listener = TcpListener, Stream = TcpStream>
-        + Threads
-        + Wait
-        + Clock
-        + RandomSource
-        + Sync,
     ensures status { result ≤ 2 }
 
     // With status 0 the order's command was done, of what the order names: just what it prints was printed.

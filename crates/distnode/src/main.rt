@@ -11,9 +11,9 @@ mod system;
 
 use crate::dispatch::follow;
 use crate::host_system::HostSystem;
-use dist_commands::order_with;
+use dist_commands::{Fault, order_with};
 use dist_program::{MAPPER_PORT, PortError, mapper_port, texts, words_of};
-use dist_short_commands::Fault;
+use dist_run::Machine;
 use std::alloc::Global;
 use std::net::{Net, TcpListener, TcpStream};
 use std::process::ExitCode;
@@ -27,7 +27,8 @@ fn main(rt: HostRuntime) -> ExitCode {
 }
 
 // Does what the command line asks for, and returns the exit status. What starts threads is handed in once more as `host`:
-// outside of `main` the runtime itself starts none.
+// outside of `main` the runtime itself starts none. It has to be a `Machine`, whose parts stand here, since `main` knows the runtime
+// by these alone.
 fn answer<R>(rt: &HostRuntime, host: &R, alloc: Global) -> u8
 where
     R: Net<Listener = TcpListener, Stream = TcpStream>
@@ -43,15 +44,7 @@ where
     }
 }
 
-fn order_and_run<R>(rt: &HostRuntime, host: &R, alloc: Global) -> Result<u8, Fault>
-where
-    R: Net<Listener = TcpListener, Stream = TcpStream>
-        + Threads
-        + Wait
-        + Clock
-        + RandomSource
-        + Sync,
-{
+fn order_and_run<R: Machine>(rt: &HostRuntime, host: &R, alloc: Global) -> Result<u8, Fault> {
     let words = words_of(rt)?;
     let words = texts(alloc, &words).map_err(|_| Fault::NoMemory)?;
     let named = mapper_port(rt);

@@ -2,28 +2,23 @@
 
 ghost use Rattle.std.specs.Prelude.{◌≡◌, ◌≤◌, ◌⊎◌, ℕ, List, Option, Some, None, IfOk, IfErr, OnOk, codes};
 ghost use Rattle.std.specs.Io.KnownBytes.{Appends};
-ghost use Rattle.dist_script_words.specs.Texts.{PutsFront};
+ghost use Rattle.dist_script.specs.Texts.{PutsFront};
 ghost use Rattle.distnode.specs.Printed.{order_line, orders_text, closed_text, refused_line, refusal_text};
 ghost use Rattle.distnode.specs.Printed.{Puts, IsHeld, IsAudited, IsOfRun, IsUnprinted, PrintsRun, PrintsRunOf, PrintsNothing};
-ghost use Rattle.dist_short_commands.specs.Stopped.{EndsByFault};
+ghost use Rattle.dist_commands.specs.Stopped.{EndsByFault};
 ghost use Rattle.distnode.specs.Stopped.{IsNoNodesFile, StopsPrinting, StopsRun, StopsRunOf};
 ghost use Rattle.dist_run_plan.specs.Plans as plans;
 
 use dist_audit::{AuditError, audit};
+use dist_commands::{Fault, write_text};
 use dist_locked::{Closed, Gate, Open};
-use dist_run::{OrderFault, Ran, run_plan};
+use dist_run::{Machine, OrderFault, Ran, run_plan};
 use dist_run_plan::{Plan, PlanError, plan_of};
+use dist_script::{Piece, ScriptFault, put, read_text};
 use dist_script_lines::{print, print_agreements, print_nodes};
-use dist_script_words::{Piece, ScriptFault, put, read_text};
-use dist_short_commands::{Fault, write_text};
 use dist_world::World;
 use std::alloc::Global;
 use std::io::{Read, Write};
-use std::net::{Net, TcpListener, TcpStream};
-use std::random::RandomSource;
-use std::sync::Wait;
-use std::thread::Threads;
-use std::time::Clock;
 use std::{io, str};
 
 // The plan of a text, or why there is none: it is no nodes file, or memory ran out.
@@ -162,21 +157,13 @@ fn put_ran<W: Write>(alloc: Global, ran: &Ran, out: &mut W) -> Result<u8, Fault>
 
 // Runs the nodes of a text, audits what they leave, and prints it. Answers the exit status.
 #[tactic(auto, using(crate::proofs::Printing::of_text, crate::proofs::Printing::unprinted))]
-fn perform<R, G, W: Write>(
+fn perform<R: Machine, G: Gate + Sync, W: Write>(
     rt: &R,
     alloc: Global,
     text: &str,
     gate: &G,
     out: &mut W,
 ) -> Result<u8, Fault>
-where
-    R: Net<Listener = TcpListener, Stream = TcpStream>
-        + Threads
-        + Wait
-        + Clock
-        + RandomSource
-        + Sync,
-    G: Gate + Sync,
     ensures status { IfOk result (λ status. status ≤ 1) }
     ensures printed { IfOk result (λ status. PrintsRun text.now status (W.contents out.old) (W.contents out.new)) }
     ensures err { IfErr result (λ fault. IsUnprinted fault (W.contents out.old) (W.contents out.new)) }
@@ -196,7 +183,7 @@ where
 /// nodes and `audit refused`. Returns the exit status: 0 where the audit holds, 2 for a text that is no nodes file, 1 for a
 /// refused audit or another fault. A fault is reported on `err`; nothing was printed then, unless a write failed.
 #[tactic(auto, using(crate::proofs::Printing::never_zero))]
-pub fn run_nodes<R, G, W: Write, E: Write>(
+pub fn run_nodes<R: Machine, G: Gate + Sync, W: Write, E: Write>(
     rt: &R,
     alloc: Global,
     text: &str,
@@ -204,14 +191,6 @@ pub fn run_nodes<R, G, W: Write, E: Write>(
     out: &mut W,
     err: &mut E,
 ) -> u8
-where
-    R: Net<Listener = TcpListener, Stream = TcpStream>
-        + Threads
-        + Wait
-        + Clock
-        + RandomSource
-        + Sync,
-    G: Gate + Sync,
     ensures status { result ≤ 2 }
 
     // Status 0 comes only where the audit holds of the nodes of the text, each closed as it was set up there, and each order
@@ -241,20 +220,13 @@ where
 
 /// Runs the nodes of a nodes file that is read here. One above 1,048,576 bytes, or that isn't UTF-8, is a bad one.
 #[tactic(auto, using(crate::proofs::Printing::never_zero, crate::proofs::Printing::of_file))]
-pub fn run_file<R, F: Read, W: Write, E: Write>(
+pub fn run_file<R: Machine, F: Read, W: Write, E: Write>(
     rt: &R,
     alloc: Global,
     file: &mut F,
     out: &mut W,
     err: &mut E,
 ) -> u8
-where
-    R: Net<Listener = TcpListener, Stream = TcpStream>
-        + Threads
-        + Wait
-        + Clock
-        + RandomSource
-        + Sync,
     ensures status { result ≤ 2 }
     ensures printed { result ≡ 0 → PrintsRunOf (F.remaining file.old) (F.remaining file.new) 0 (W.contents out.old) (W.contents out.new) }
     ensures refused { result ≡ 1 → PrintsRunOf (F.remaining file.old) (F.remaining file.new) 1 (W.contents out.old) (W.contents out.new)

@@ -1,9 +1,13 @@
 -- The contracts of the exports that make a node, let it go or ask it.
-use Rattle.std.specs.Prelude.{◌≡◌, ℕ, true, false, ◌⊎◌, ◌||◌, ◌==◌, if◌then◌else◌, List, [], length, nat_le, Option, Some, None, Result, Ok, Err}
+use Rattle.std.specs.Prelude.{◌≡◌, ℕ, true, false, MatchBool, ◌⊎◌, ◌||◌, ◌==◌, if◌then◌else◌, List, [], length, nat_le, Option, Some, None, Result, Ok, Err}
+use Rattle.std.specs.FinMap as map
+use Rattle.dist_names.specs.NodeName.{name_of_bytes}
 use Rattle.dist_names.specs.Order.{Name}
 use Rattle.dist_names.specs.declared.name_error.NameError.{NameError}
 use Rattle.dist_secret.specs.declared.cookie_error.CookieError.{CookieError}
 use Rattle.dist_peers.specs.declared.entry.EndId.{EndId}
+use Rattle.dist_peers.specs.Table.{up_behind}
+use Rattle.dist_core_ends.specs.Ends.{table_of, up_from}
 use Rattle.dist_core_ends.specs.declared.known.UpRecord.{UpRecord}
 use Rattle.dist_core_setup.specs.declared.setup.Setup.{Setup}
 use Rattle.dist_core_setup.specs.declared.limits.Limits.{Limits}
@@ -105,3 +109,18 @@ Tells (Some x) code was is old new = (is ≡ peer_of x.0 x.1) × CopiesIf (nat_l
 abbrev pub TellsAt : (Guest → Option (EndId × UpRecord)) → Option Guest → ℕ → DnPeer → DnPeer → List ℕ → List ℕ → Type 0
 TellsAt find None code was is old new = (code ≡ 1) × (is ≡ was) × (new ≡ old)
 TellsAt find (Some s) code was is old new = Tells (find s) code was is old new
+
+-- the peer that is up and comes first behind this name, or first of all, in the order of names
+abbrev pub next_of : Option (List ℕ) → Guest → Option (EndId × UpRecord)
+next_of name s = up_from s.node.ends (up_behind name (map.entries (table_of s.node.ends)))
+
+-- the peer behind a name is reported, or the reason why the name is none; memory may run out for the name (3)
+abbrev pub TellsBehind : Result (List ℕ) NameError → ℕ → Guest → DnPeer → DnPeer → List ℕ → List ℕ → Type 0
+TellsBehind (Ok p) code s was is old new = Tells (next_of (Some p) s) code was is old new ⊎ ((code ≡ 3) × (is ≡ was) × (new ≡ old))
+TellsBehind (Err e) code s was is old new = (code ≡ name_code e) × (is ≡ was) × (new ≡ old)
+
+-- THE NEXT PEER behind the name of these bytes, or the first where there are none, at a node that may hold no guest (1)
+abbrev pub TellsNext : List ℕ → ℕ → Option Guest → DnPeer → DnPeer → List ℕ → List ℕ → Type 0
+TellsNext name code None was is old new = (code ≡ 1) × (is ≡ was) × (new ≡ old)
+TellsNext name code (Some s) was is old new = MatchBool (length name == 0)
+    (Tells (next_of None s) code was is old new) (TellsBehind (name_of_bytes name) code s was is old new)

@@ -7,7 +7,7 @@ ghost use Rattle.dist_names.specs.NodeName.{name_of_bytes};
 ghost use Rattle.dist_secret.specs.Cookie.{cookie_of};
 ghost use Rattle.dist_core_ends.specs.Ends.{up_from, up_ids, table_of, record_in};
 ghost use Rattle.distnode_c.specs.Steps.{Copies, sent_bytes};
-ghost use Rattle.distnode_c.specs.Nodes.{MakesGuest, News, ReadsBoth, version_of, limit_of, limits_in, number_or, Frees, Says, Tells, TellsAt};
+ghost use Rattle.distnode_c.specs.Nodes.{MakesGuest, News, ReadsBoth, version_of, limit_of, limits_in, number_or, Frees, Says, Tells, TellsAt, TellsNext};
 
 use crate::codes::{
     HALF_FLAGS, IN_USE, NO_MEMORY, NO_SUCH, NOT_A_NODE, OK, cookie_code, name_code,
@@ -267,6 +267,39 @@ pub extern "C" fn dn_node_peer_at(
         return NOT_A_NODE;
     };
     let code = report_peer(guest.node.up_at(place), room, peer);
+    node.shut(guest);
+    code
+}
+
+// Reports the peer that comes next behind the name of these bytes, or the first where there are none.
+fn report_next(guest: &Guest, alloc: Global, name: &[u8], peer: &mut DnPeer, room: &mut [u8]) -> u32
+    ensures { TellsNext name.now result (Some guest.now) peer.old peer.new room.old room.new }
+{
+    if name.is_empty() {
+        return report_peer(guest.node.up_behind(None), room, peer);
+    }
+    match NodeName::new(alloc, name) {
+        Ok(name) => report_peer(guest.node.up_behind(Some(&name)), room, peer),
+        Err(error) => name_code(error),
+    }
+}
+
+/// The up peer that comes next behind this name, in the order of names, with its name; the first of all where there are no bytes.
+#[unsafe(no_mangle)]
+pub extern "C" fn dn_node_next_peer(
+    node: &mut DnNode,
+    alloc: Global,
+    name: &[u8],
+    peer: &mut DnPeer,
+    room: &mut [u8],
+) -> u32
+    ensures tells { TellsNext name.now result node.old.slot.guest peer.old peer.new room.old room.new }
+    ensures same { node.new.slot.guest ≡ node.old.slot.guest }
+{
+    let Some(guest) = node.open(alloc) else {
+        return NOT_A_NODE;
+    };
+    let code = report_next(&guest, alloc, name, peer, room);
     node.shut(guest);
     code
 }

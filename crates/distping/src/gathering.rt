@@ -4,26 +4,17 @@
 ghost use Rattle.std.specs.Prelude.{◌≡◌, IfOk};
 ghost use Rattle.dist_probe.specs.Words.{status_of};
 
+use crate::common::Context;
 use crate::grouping::is_among;
 use crate::nodes::Nodes;
-use crate::rounds::{Round, addresses_of};
 use dist_cluster::{Group, Target, first_of, name_in_line};
 use dist_names::{NameError, NodeName};
 use dist_program::Resolving;
-use distping_dial::{Census, Names, ask_census, empty_host};
 use distping_json::{group_object, left_out_object, more_left_out_object};
-use distping_report::{Dial, LeftOut, Lines, MOST_SHOWN, Outcome};
+use distping_links::{Census, Names, ask_census, empty_host};
+use distping_report::{LeftOut, Lines, MOST_SHOWN, Outcome};
 use distping_words::{Fault, Wanted};
 use std::net::SocketAddr;
-
-// One more node that is named, of as many as are dialled.
-fn push_named(nodes: &mut Nodes, node: NodeName) -> Result<(), Fault> {
-    if nodes.is_full() {
-        return Err(Fault::TooManyNodes);
-    }
-    nodes.push(node)?;
-    Ok(())
-}
 
 // Whether the command line, or the file, names this node itself.
 fn is_named(targets: &[Target], node: &NodeName) -> bool {
@@ -63,23 +54,17 @@ impl Tally {
     }
 }
 
-// Prints that what the port mapper has in a line is no node's name.
-fn put_left_out(lines: Lines<'_>, group: &Group, text: &[u8]) -> Result<(), Fault> {
-    if lines.quiet {
-        lines.write_made(left_out_object(lines.alloc, group, text))
-    } else {
-        lines.put_left_out(text)
-    }
-}
-
 // Leaves out a line that names no node: as many are printed as are shown, and the others counted.
 fn leave_out(site: Site<'_>, text: &[u8], tally: &mut Tally) -> Result<(), Fault> {
     let is_shown = tally.unnamed < MOST_SHOWN;
     tally.unnamed = tally.unnamed.saturating_add(1);
-    if is_shown {
-        put_left_out(site.lines, site.group, text)
-    } else {
+    let lines = site.lines;
+    if !is_shown {
         Ok(())
+    } else if lines.quiet {
+        lines.write_made(left_out_object(lines.alloc, site.group, text))
+    } else {
+        lines.put_left_out(text)
     }
 }
 
@@ -102,22 +87,8 @@ fn push_new(
     Ok(())
 }
 
-// The node of this name at the host of a group.
-fn push_member(
-    site: Site<'_>,
-    short: &[u8],
-    nodes: &mut Nodes,
-    tally: &mut Tally,
-) -> Result<(), Fault> {
-    match site.group.member(site.lines.alloc, short) {
-        Ok(node) => push_new(site, nodes, node, tally),
-        Err(NameError::NoMemory) => Err(Fault::NoMemory),
-        Err(_) => leave_out(site, short, tally),
-    }
-}
-
-// The node that a line of a port mapper names, where it names one.
-fn push_line(
+// Takes the node that a line of a port mapper names, where it names one.
+fn take_line(
     site: Site<'_>,
     line: &[u8],
     nodes: &mut Nodes,
@@ -126,134 +97,117 @@ fn push_line(
     if line.is_empty() {
         return Ok(());
     }
-    match name_in_line(line) {
-        Some(short) => push_member(site, short, nodes, tally),
-        None => leave_out(site, line, tally),
+    let Some(short) = name_in_line(line) else {
+        return leave_out(site, line, tally);
+    };
+    match site.group.member(site.lines.alloc, short) {
+        Ok(node) => push_new(site, nodes, node, tally),
+        Err(NameError::NoMemory) => Err(Fault::NoMemory),
+        Err(_) => leave_out(site, short, tally),
     }
 }
 
-// The nodes that these lines of a port mapper name, and what the lines came to.
-fn push_lines(site: Site<'_>, text: &[u8], nodes: &mut Nodes) -> Result<Tally, Fault> {
+// Takes the nodes that these lines of a port mapper name, and returns what the lines came to.
+fn take_lines(site: Site<'_>, text: &[u8], nodes: &mut Nodes) -> Result<Tally, Fault> {
     let mut tally = Tally {
         named: 0,
         unnamed: 0,
         surplus: 0,
     };
     for line in text.split(|byte| *byte == b'\n') {
-        push_line(site, line, nodes, &mut tally)?;
+        take_line(site, line, nodes, &mut tally)?;
     }
     Ok(tally)
 }
 
 // Prints how much of what a port mapper said is left out, where anything is.
 fn put_more_left_out(site: Site<'_>, left_out: LeftOut) -> Result<(), Fault> {
+    let lines = site.lines;
     if left_out.is_nothing() {
-        return Ok(());
-    }
-    if site.lines.quiet {
-        let alloc = site.lines.alloc;
-        site.lines
-            .write_made(more_left_out_object(alloc, site.group, left_out))
+        Ok(())
+    } else if lines.quiet {
+        lines.write_made(more_left_out_object(lines.alloc, site.group, left_out))
     } else {
-        site.lines.put_more_left_out(left_out)
+        lines.put_more_left_out(left_out)
     }
 }
 
 // Prints what a host that gave no node comes to, and returns the status of it.
-fn tell_nobody(lines: Lines<'_>, group: &Group, outcome: &Outcome) -> Result<u8, Fault>
+fn put_nobody(site: Site<'_>, outcome: &Outcome) -> Result<u8, Fault>
     ensures { IfOk result (λ status. status ≡ status_of outcome.now.verdict) }
 {
+    let lines = site.lines;
     if lines.quiet {
-        lines.write_made(group_object(lines.alloc, group, outcome))?;
+        lines.write_made(group_object(lines.alloc, site.group, outcome))?;
     } else {
         lines.put_verdict(outcome.verdict)?;
     }
     Ok(outcome.verdict.status())
 }
 
-// Prints that the port mapper knows no node.
-fn tell_empty(site: Site<'_>, address: SocketAddr) -> Result<u8, Fault> {
-    site.lines.put_names(b"")?;
-    tell_nobody(
-        site.lines,
-        site.group,
-        &empty_host(site.lines.alloc, address),
-    )
-}
-
-// The nodes that a port mapper named, and the status of it: that of a host without nodes where it named none.
-fn push_names(
+// Takes the nodes that a port mapper named, and returns the status of it: that of a host without nodes where it named none.
+fn take_names(
     site: Site<'_>,
     address: SocketAddr,
     names: &Names,
     nodes: &mut Nodes,
 ) -> Result<u8, Fault> {
-    let tally = push_lines(site, names.text.as_slice(), nodes)?;
+    let lines = site.lines;
+    let tally = take_lines(site, names.text.as_slice(), nodes)?;
     let left_out = tally.left_out(names.is_cut);
     put_more_left_out(site, left_out)?;
     if tally.named == 0 {
-        return tell_empty(site, address);
+        lines.put_names(b"")?;
+        return put_nobody(site, &empty_host(lines.alloc, address));
     }
-    site.lines
-        .put_known(site.wanted.choices.mapper_port, tally.named)?;
+    lines.put_known(site.wanted.choices.mapper_port, tally.named)?;
     Ok(left_out.status())
 }
 
-// The nodes that a port mapper gave, and the status of it.
-fn push_census(site: Site<'_>, census: Census, nodes: &mut Nodes) -> Result<u8, Fault> {
-    match census {
-        Census::Names(address, names) => push_names(site, address, &names, nodes),
-        Census::Nobody(outcome) => tell_nobody(site.lines, site.group, &outcome),
-    }
-}
-
 // Asks the port mapper of a host for its nodes, and returns the status of it.
-fn push_group<'x, R: Resolving>(
-    round: &Round<'x, R>,
+fn ask_group<'x, R: Resolving>(
+    context: &Context<'x, R>,
     group: &'x Group,
     nodes: &mut Nodes,
 ) -> Result<u8, Fault> {
-    let lines = round.screen();
-    lines.put_heading(group.word())?;
-    let addresses = addresses_of(round, &group.own);
-    let dial = Dial {
-        rt: round.rt,
-        lines,
-        listed: round.listed,
-        own: &group.own,
-        node: &group.own,
-        cookie: None,
-        choices: round.wanted.choices,
-    };
     let site = Site {
-        lines,
-        wanted: round.wanted,
+        lines: context.screen(),
+        wanted: context.wanted,
         group,
     };
-    push_census(site, ask_census(&dial, addresses)?, nodes)
+    site.lines.put_heading(group.word())?;
+    let dial = context.make_dial(site.lines, &group.own, &group.own);
+    match ask_census(&dial, context.addresses(&group.own))? {
+        Census::Names(address, names) => take_names(site, address, &names, nodes),
+        Census::Nobody(outcome) => put_nobody(site, &outcome),
+    }
 }
 
 // Puts the nodes of a target behind these, and returns the status of it.
-fn push_target<'x, R: Resolving>(
-    round: &Round<'x, R>,
+fn take_target<'x, R: Resolving>(
+    context: &Context<'x, R>,
     target: &'x Target,
     nodes: &mut Nodes,
 ) -> Result<u8, Fault> {
     match target {
         Target::Node(name) => {
-            push_named(nodes, name.try_clone(round.rt.alloc())?)?;
+            let node = name.try_clone(context.rt.alloc())?;
+            if nodes.is_full() {
+                return Err(Fault::TooManyNodes);
+            }
+            nodes.push(node)?;
             Ok(0)
         }
-        Target::Group(group) => push_group(round, group, nodes),
+        Target::Group(group) => ask_group(context, group, nodes),
     }
 }
 
 /// The nodes that are to be dialled, and the first status that is not 0 of the hosts that are asked for theirs.
-pub fn gather<R: Resolving>(round: &Round<'_, R>) -> Result<(Nodes, u8), Fault> {
-    let mut nodes = Nodes::new(round.rt.alloc());
+pub fn gather<R: Resolving>(context: &Context<'_, R>) -> Result<(Nodes, u8), Fault> {
+    let mut nodes = Nodes::new(context.rt.alloc());
     let mut status = 0;
-    for target in &round.wanted.targets {
-        status = first_of(status, push_target(round, target, &mut nodes)?);
+    for target in &context.wanted.targets {
+        status = first_of(status, take_target(context, target, &mut nodes)?);
     }
     Ok((nodes, status))
 }

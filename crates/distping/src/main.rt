@@ -5,26 +5,30 @@
 //! once or again and again, and what is said of them.
 #![tactic(auto)]
 
+mod common;
 mod comparing;
 mod gathering;
 mod grouping;
 mod nodes;
+mod probing;
 mod reply;
-mod rounds;
 mod together;
 mod watching;
 
+use common::Context;
+use comparing::compare;
+use dist_cluster::first_of;
 use dist_names::NodeName;
 use dist_program::{HostError, Resolving, lookup_host, mapper_port, words_of};
-use dist_secret::Cookie;
-use distping_dial::{draw_challenge, setup_of};
 use distping_json::caller_object;
-use distping_listen::take_connection;
+use distping_links::{draw_challenge, setup_of, take_connection};
 use distping_report::{Caller, Lines, Listed, Listen, Taken};
 use distping_words::{Fault, Instead, Refusal, Wanted, cookie_of, read_roster, wanted_of};
-use rounds::{Round, dial_all};
+use gathering::gather;
 use std::net::SocketAddr;
 use std::process::ExitCode;
+use together::collect_halves;
+use watching::watch_all;
 
 /// How the program is called.
 const HELP: &str =
@@ -77,17 +81,7 @@ fn main(rt: HostRuntime) -> ExitCode {
 fn perform<R: Resolving + Sync>(rt: &HostRuntime, resolver: &R) -> Result<u8, Refusal> {
     let words = words_of(rt)?;
     let mapper_port = mapper_port(rt)?;
-    obey(rt, resolver, &words, mapper_port)
-}
-
-// Does what these words ask for. `mapper_port` is the port mapper's port where they name none.
-fn obey<R: Resolving + Sync>(
-    rt: &HostRuntime,
-    resolver: &R,
-    words: &[String],
-    mapper_port: u16,
-) -> Result<u8, Refusal> {
-    match wanted_of(rt.alloc(), words, mapper_port) {
+    match wanted_of(rt.alloc(), &words, mapper_port) {
         Ok(mut wanted) => follow(rt, resolver, &mut wanted),
         Err(Instead::Help) => Ok(print(rt, HELP)?),
         Err(Instead::Version) => Ok(print(rt, VERSION)?),
@@ -101,15 +95,27 @@ fn print(rt: &HostRuntime, text: &str) -> Result<u8, Fault> {
     Ok(0)
 }
 
-// Does what is asked for, with the cookie that is, once the file of names is read.
-fn follow<R: Resolving + Sync>(
-    rt: &HostRuntime,
-    resolver: &R,
+// Listens, or checks nodes, once the file of names and that of the cookie are read.
+fn follow<'x, R: Resolving + Sync>(
+    rt: &'x HostRuntime,
+    resolver: &'x R,
     wanted: &mut Wanted<'_>,
 ) -> Result<u8, Refusal> {
     read_names(rt, wanted)?;
-    let cookie = cookie_of(rt, &wanted.choices)?;
-    Ok(follow_with(rt, resolver, wanted, cookie.as_ref())?)
+    let read = cookie_of(rt, &wanted.choices)?;
+    let cookie = read.as_ref();
+    let context = Context {
+        rt,
+        resolver,
+        listed: &Listed::nothing(rt.alloc()),
+        wanted,
+        cookie,
+    };
+    let status = match (wanted.choices.listen, &wanted.name) {
+        (Some(port), Some(name)) => listen(&context, port, name)?,
+        _ => check_nodes(&context)?,
+    };
+    Ok(status)
 }
 
 // Puts what the file of names has behind what the command line names, where there is such a file.
@@ -124,96 +130,45 @@ fn read_names(rt: &HostRuntime, wanted: &mut Wanted<'_>) -> Result<(), Refusal> 
     Ok(())
 }
 
-// Does what is asked for, with this cookie.
-fn follow_with<R: Resolving + Sync>(
-    rt: &HostRuntime,
-    resolver: &R,
-    wanted: &Wanted<'_>,
-    cookie: Option<&Cookie>,
-) -> Result<u8, Fault> {
-    match (wanted.choices.listen, &wanted.name) {
-        (Some(port), Some(name)) => {
-            let place = place_of(rt, resolver, wanted)?;
-            take_one(
-                rt,
-                wanted,
-                name,
-                Place {
-                    port,
-                    address: place,
-                },
-                cookie,
-            )
-        }
-        _ => dial_all(&Round {
-            rt,
-            resolver,
-            listed: &Listed::nothing(rt.alloc()),
-            wanted,
-            cookie,
-        }),
-    }
-}
-
-/// Where one connection is taken.
-#[derive(Clone, Copy)]
-struct Place {
-    port: u16,
-    address: Option<SocketAddr>,
-}
-
 // The address to listen at, where one is named: the first of its host.
-fn place_of<R: Resolving>(
-    rt: &HostRuntime,
-    resolver: &R,
-    wanted: &Wanted<'_>,
-) -> Result<Option<SocketAddr>, Fault> {
-    let Some(host) = wanted.choices.address else {
+fn place_of<R: Resolving>(context: &Context<'_, R>) -> Result<Option<SocketAddr>, Fault> {
+    let choices = &context.wanted.choices;
+    let Some(host) = choices.address else {
         return Ok(None);
     };
-    match lookup_host(resolver, *rt, host, wanted.choices.limit()) {
+    match lookup_host(context.resolver, *context.rt, host, choices.limit()) {
         Ok(addresses) => Ok(addresses.first().copied()),
         Err(HostError::NoMemory) => Err(Fault::NoMemory),
         Err(_) => Err(Fault::NoListenAddress),
     }
 }
 
-// Takes one connection, and returns the status of what came of it.
-fn take_one(
-    rt: &HostRuntime,
-    wanted: &Wanted<'_>,
-    name: &NodeName,
-    place: Place,
-    cookie: Option<&Cookie>,
-) -> Result<u8, Fault> {
-    let choices = &wanted.choices;
-    let fresh = draw_challenge(rt)?;
-    let setup = setup_of(rt, name, choices.flags, cookie)?;
+// Takes one connection at this port as the node of this name, prints what came of it, and returns its status.
+fn listen<R: Resolving>(context: &Context<'_, R>, port: u16, name: &NodeName) -> Result<u8, Fault> {
+    let choices = &context.wanted.choices;
+    let place = place_of(context)?;
+    let fresh = draw_challenge(context.rt)?;
+    let setup = setup_of(context.rt, name, choices.flags, context.cookie)?;
     let one = Listen {
         setup: &setup,
-        port: place.port,
-        place: place.address,
+        port,
+        place,
         patience: choices.patience(),
         fresh,
-        compares: cookie.is_some(),
+        compares: context.cookie.is_some(),
         seconds: choices.seconds,
         turns: choices.turns(),
     };
-    listen(rt, &one, Lines::on_screen(rt, choices.json))
-}
-
-// Takes one connection, prints what came of it, and returns its status.
-fn listen(rt: &HostRuntime, one: &Listen<'_>, lines: Lines<'_>) -> Result<u8, Fault> {
     let mut caller = Caller::nobody();
-    let taken = take_connection(rt, one, lines, &mut caller)?;
-    tell_outcome(one, lines, &caller, taken)?;
+    let taken = take_connection(context.rt, &one, context.screen(), &mut caller)?;
+    put_taken(context.screen(), &one, &caller, taken)?;
     Ok(taken.status())
 }
 
 // Prints what came of a connection.
-fn tell_outcome(
-    one: &Listen<'_>,
+fn put_taken(
     lines: Lines<'_>,
+    one: &Listen<'_>,
     caller: &Caller,
     taken: Taken,
 ) -> Result<(), Fault> {
@@ -222,4 +177,21 @@ fn tell_outcome(
     } else {
         lines.put_outcome(taken)
     }
+}
+
+// Watches all nodes, or probes each once and prints what can be said of each two of them.
+fn check_nodes<R: Resolving + Sync>(context: &Context<'_, R>) -> Result<u8, Fault> {
+    let (nodes, status) = gather(context)?;
+    let names = &nodes.names;
+    let listed = &Listed::new(context.rt.alloc(), names)?;
+    let context = &Context { listed, ..*context };
+    let choices = &context.wanted.choices;
+    if let Some(rhythm) = choices.watch
+        && !names.is_empty()
+    {
+        return watch_all(context, names, rhythm);
+    }
+    let mut halves = Vec::new(context.rt.alloc());
+    let status = first_of(status, collect_halves(context, names, &mut halves)?);
+    compare(context.screen(), choices.all_pairs, &halves, status)
 }

@@ -1,4 +1,4 @@
-//! Several nodes are dialled at once, each in a thread, and what comes of them is printed in their order.
+//! Several nodes are probed at once, each in a thread, and what comes of them is printed in their order.
 //!
 //! The lines of the first node of a group go to the screen step by step; those of each other node stand on a page until the group is
 //! done, since two that are printed at once would mix. A fault ends all where it would have ended them one after another: what
@@ -10,9 +10,10 @@ ghost use Rattle.dist_cluster.specs.Statuses.{first_of};
 ghost use Rattle.dist_probe.specs.Words.{status_of};
 ghost use Rattle.distping.specs.Order.{first_status, names_in, names_of};
 
+use crate::common::Context;
 use crate::grouping::split_group;
+use crate::probing::print_probe;
 use crate::reply::Reply;
-use crate::rounds::{Round, dial_headed};
 use dist_cluster::{Half, first_of};
 use dist_names::NodeName;
 use dist_program::Resolving;
@@ -20,24 +21,22 @@ use distping_report::{Lines, Page};
 use distping_words::Fault;
 use std::thread::map_indices;
 
-// Dials a node, with its lines on the screen.
-fn dial_on_screen<'n, R: Resolving>(round: &Round<'_, R>, node: &'n NodeName) -> Reply<'n>
+// Probes the node at this place of its group. The lines of the first go to the screen, those of each other to a page.
+fn make_reply<'n, R: Resolving>(
+    context: &Context<'_, R>,
+    place: usize,
+    node: &'n NodeName,
+) -> Reply<'n>
     ensures { result.node.now ≡ node.now }
 {
-    let half = dial_headed(round, round.screen(), node);
-    Reply {
-        node,
-        text: String::new(round.rt.alloc()),
-        half,
-    }
-}
-
-// Dials a node, with its lines on a page.
-fn dial_on_page<'n, R: Resolving>(round: &Round<'_, R>, node: &'n NodeName) -> Reply<'n>
-    ensures { result.node.now ≡ node.now }
-{
-    let page = Page::new(round.rt.alloc());
-    let half = dial_headed(round, round.screen().on_page(&page), node);
+    let page = Page::new(context.rt.alloc());
+    let screen = context.screen();
+    let lines = if place == 0 {
+        screen
+    } else {
+        screen.on_page(&page)
+    };
+    let half = print_probe(context, lines, node);
     Reply {
         node,
         text: page.into_text(),
@@ -45,32 +44,21 @@ fn dial_on_page<'n, R: Resolving>(round: &Round<'_, R>, node: &'n NodeName) -> R
     }
 }
 
-// Dials a node at this place of its group.
-fn dial_at<'n, R: Resolving>(round: &Round<'_, R>, place: usize, node: &'n NodeName) -> Reply<'n>
-    ensures { result.node.now ≡ node.now }
-{
-    if place == 0 {
-        dial_on_screen(round, node)
-    } else {
-        dial_on_page(round, node)
-    }
-}
-
-// Dials the nodes of a group at once, each in a thread, and returns what came of each, in their order.
-fn dial_group<'n, R: Resolving + Sync>(
-    round: &Round<'_, R>,
+// Probes the nodes of a group at once, each in a thread, and returns what came of each, in their order.
+fn probe_group<'n, R: Resolving + Sync>(
+    context: &Context<'_, R>,
     group: &'n [NodeName],
 ) -> Result<Vec<Reply<'n>>, Fault>
     ensures { IfOk result (λ replies. names_in replies.items ≡ group.now) }
 {
     let replies = map_indices(
-        round.resolver,
-        round.rt.alloc(),
+        context.resolver,
+        context.rt.alloc(),
         group.len(),
         &|place: usize| -> Reply<'_>
             requires { place < length group.now }
             ensures { result.node.now ≡ slice_index_or group.entry.now place [] }
-        { dial_at(round, place, &group[place]) },
+        { make_reply(context, place, &group[place]) },
     )?;
     Ok(replies)
 }
@@ -119,11 +107,11 @@ fn take_replies<'n>(
     Ok(status)
 }
 
-/// Dials all nodes, group by group, prints what comes of them, puts what is left of each behind these, in the order of the nodes,
+/// Probes all nodes, group by group, prints what comes of them, puts what is left of each behind these, in the order of the nodes,
 /// and returns the first status that is not 0.
 #[tactic(auto, using(crate::proofs::Firsts::first_of_assoc, crate::proofs::Firsts::first_of_none))]
-pub fn dial_each<'n, R: Resolving + Sync>(
-    round: &Round<'_, R>,
+pub fn collect_halves<'n, R: Resolving + Sync>(
+    context: &Context<'_, R>,
     nodes: &'n [NodeName],
     halves: &mut Vec<Half<'n>>,
 ) -> Result<u8, Fault>
@@ -135,7 +123,7 @@ pub fn dial_each<'n, R: Resolving + Sync>(
         return Ok(0);
     }
     let (group, others) = split_group(nodes);
-    let replies = dial_group(round, group)?;
-    let status = take_replies(round.screen(), replies, halves)?;
-    Ok(first_of(status, dial_each(round, others, halves)?))
+    let replies = probe_group(context, group)?;
+    let status = take_replies(context.screen(), replies, halves)?;
+    Ok(first_of(status, collect_halves(context, others, halves)?))
 }

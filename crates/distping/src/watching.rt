@@ -1,7 +1,8 @@
 //! All nodes are probed again and again, several at once, and what changes is printed in their order.
 
+use crate::common::Context;
 use crate::grouping::split_group;
-use crate::rounds::{Round, verdict_upon};
+use crate::probing::verdict_upon;
 use dist_cluster::{Change, Latencies, Observation, Watch};
 use dist_names::{ByteString, NodeName};
 use dist_probe::Verdict;
@@ -11,13 +12,14 @@ use distping_json::{change_object, latency_object};
 use distping_report::{Answers, Lines, Seen, now_seconds, utc_text, verdict_word_in};
 use distping_words::{Fault, Rhythm};
 use std::alloc::{AllocError, Global};
+use std::io;
 use std::thread::{self, map_indices};
 use std::time::Instant;
 
-/// The status where something changed after the first round.
+/// The status where something changed after the first context.
 const CHANGED: u8 = 11;
 
-// What is kept of all nodes from round to round.
+// What is kept of all nodes from round to context.
 #[derive(Drop)]
 struct Course {
     watch: Watch,
@@ -46,31 +48,27 @@ fn new_course(alloc: Global, nodes: usize) -> Result<Course, AllocError> {
     })
 }
 
-// How many milliseconds have passed since this time. An error is the clock's.
-fn milliseconds_since(rt: &HostRuntime, start: Instant) -> Result<u64, Fault> {
-    match start.elapsed(rt) {
-        Ok(spent) => Ok(u64::try_from(spent.as_millis()).unwrap_or(u64::MAX)),
-        Err(_) => Err(Fault::NoTime),
-    }
-}
-
-// The time of now, by which what passes is measured.
-fn start_now(rt: &HostRuntime) -> Result<Instant, Fault> {
-    match Instant::now(rt) {
-        Ok(start) => Ok(start),
+// What the clock gave, or that it failed.
+fn or_no_time<T: Drop>(given: io::Result<T>) -> Result<T, Fault> {
+    match given {
+        Ok(it) => Ok(it),
         Err(_) => Err(Fault::NoTime),
     }
 }
 
 // Probes a node, with no step printed.
-fn look_at<'n, R: Resolving>(round: &Round<'_, R>, node: &'n NodeName) -> Result<Seen<'n>, Fault> {
-    let start = start_now(round.rt)?;
-    let verdict = verdict_upon(round, node)?;
+fn look_at<'n, R: Resolving>(
+    context: &Context<'_, R>,
+    node: &'n NodeName,
+) -> Result<Seen<'n>, Fault> {
+    let start = or_no_time(Instant::now(context.rt))?;
+    let verdict = verdict_upon(context, node)?;
+    let spent = or_no_time(start.elapsed(context.rt))?;
     Ok(Seen {
         node,
         verdict,
-        latency: milliseconds_since(round.rt, start)?,
-        at: now_seconds(round.rt)?,
+        latency: u64::try_from(spent.as_millis()).unwrap_or(u64::MAX),
+        at: now_seconds(context.rt)?,
     })
 }
 
@@ -118,7 +116,7 @@ impl Course {
         put_change(lines, seen, &change)
     }
 
-    // The status: whether something changed after the first round.
+    // The status: whether something changed after the first context.
     fn status(&self) -> u8 {
         if self.has_changed { CHANGED } else { 0 }
     }
@@ -126,14 +124,14 @@ impl Course {
 
 // Probes the nodes of a group at once, each in a thread, and returns what each came to, in their order.
 fn look_at_group<'n, R: Resolving + Sync>(
-    round: &Round<'_, R>,
+    context: &Context<'_, R>,
     group: &'n [NodeName],
 ) -> Result<Vec<Result<Seen<'n>, Fault>>, Fault> {
     let all = map_indices(
-        round.resolver,
-        round.rt.alloc(),
+        context.resolver,
+        context.rt.alloc(),
         group.len(),
-        &|place| look_at(round, &group[place]),
+        &|place| look_at(context, &group[place]),
     )?;
     Ok(all)
 }
@@ -154,8 +152,8 @@ fn take_group(
 }
 
 // Probes these nodes once, group by group. The first has this place among all nodes.
-fn play_behind<R: Resolving + Sync>(
-    round: &Round<'_, R>,
+fn play_round<R: Resolving + Sync>(
+    context: &Context<'_, R>,
     front: usize,
     nodes: &[NodeName],
     course: &mut Course,
@@ -164,18 +162,9 @@ fn play_behind<R: Resolving + Sync>(
         return Ok(());
     }
     let (group, others) = split_group(nodes);
-    let all = look_at_group(round, group)?;
-    take_group(round.screen(), front, all, course)?;
-    play_behind(round, front.saturating_add(group.len()), others, course)
-}
-
-// Probes all nodes once.
-fn play_round<R: Resolving + Sync>(
-    round: &Round<'_, R>,
-    nodes: &[NodeName],
-    course: &mut Course,
-) -> Result<(), Fault> {
-    play_behind(round, 0, nodes, course)
+    let all = look_at_group(context, group)?;
+    take_group(context.screen(), front, all, course)?;
+    play_round(context, front.saturating_add(group.len()), others, course)
 }
 
 // Waits until this time.
@@ -186,27 +175,19 @@ fn wait_until(rt: &HostRuntime, until: Instant) {
     }
 }
 
-// When the next round begins, after so many seconds from now.
-fn next_round(rt: &HostRuntime, seconds: u16) -> Result<Instant, Fault> {
-    match deadline_in(rt, seconds) {
-        Ok(until) => Ok(until),
-        Err(_) => Err(Fault::NoTime),
-    }
-}
-
 // Probes all nodes again and again: a round begins so many seconds behind the one before, or as soon as that is over.
 fn play_rounds<R: Resolving + Sync>(
-    round: &Round<'_, R>,
+    context: &Context<'_, R>,
     nodes: &[NodeName],
     rhythm: Rhythm,
     course: &mut Course,
 ) -> Result<(), Fault> {
-    let mut until = next_round(round.rt, rhythm.seconds)?;
-    play_round(round, nodes, course)?;
+    let mut until = or_no_time(deadline_in(context.rt, rhythm.seconds))?;
+    play_round(context, 0, nodes, course)?;
     for _ in 1..rhythm.rounds() {
-        wait_until(round.rt, until);
-        until = next_round(round.rt, rhythm.seconds)?;
-        play_round(round, nodes, course)?;
+        wait_until(context.rt, until);
+        until = or_no_time(deadline_in(context.rt, rhythm.seconds))?;
+        play_round(context, 0, nodes, course)?;
     }
     Ok(())
 }
@@ -242,14 +223,14 @@ fn put_all_answers(
 }
 
 /// Probes all nodes again and again, prints what changes, and at the end how long their answers took. The status is 11 where
-/// something changed after the first round.
+/// something changed after the first context.
 pub fn watch_all<R: Resolving + Sync>(
-    round: &Round<'_, R>,
+    context: &Context<'_, R>,
     nodes: &[NodeName],
     rhythm: Rhythm,
 ) -> Result<u8, Fault> {
-    let mut course = new_course(round.rt.alloc(), nodes.len())?;
-    play_rounds(round, nodes, rhythm, &mut course)?;
-    put_all_answers(round.screen(), nodes, rhythm.rounds(), &course)?;
+    let mut course = new_course(context.rt.alloc(), nodes.len())?;
+    play_rounds(context, nodes, rhythm, &mut course)?;
+    put_all_answers(context.screen(), nodes, rhythm.rounds(), &course)?;
     Ok(course.status())
 }

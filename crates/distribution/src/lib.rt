@@ -92,14 +92,13 @@
 
 pub use dist_core::{
     Absent, Attempt, Awaited, Change, ChangeError, End, Event, Keeper, Limits, NameList, Node,
-    Note, Opening, Phase, Prepared, Reply, Setup, StepError, Still, UpRecord, Version, Why,
+    Note, Opening, Phase, Reply, Setup, StepError, Still, UpRecord, Version, Why,
 };
 pub use dist_drive::{Desk, Draws, MemoryDesk, Outcome, Reached, drive, handshake, opening_for};
 pub use dist_epmd::{AliveReq, NodeInfo, PortInfo};
 pub use dist_epmd_calls::{LookupError, ask_names, lookup, register};
 pub use dist_flags::{Dflag, Release, Told, missing, told_by, with_mandatory};
-pub use dist_frames::Frames;
-pub use dist_link::{Due, PacketError, Packets, Ticker, header, tick, write_packet};
+pub use dist_frames::{Due, Frames, PacketError, Packets, Ticker, header, tick, write_packet};
 pub use dist_names::{ByteString, Creation, Flags, NameError, NodeName};
 pub use dist_peers::{EndId, Entry};
 pub use dist_secret::{Cookie, CookieError, Cookies, CookiesError, read_cookie};

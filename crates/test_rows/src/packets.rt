@@ -1,7 +1,7 @@
 //! Streams of packets behind a handshake: `MOST STREAM`, the longest packet that is taken and the bytes.
 
 use crate::digits::{bytes_in, put_bytes, put_number, put_word, word};
-use dist_link::{PacketError, Packets};
+use dist_frames::{PacketError, Packets};
 use std::alloc::Global;
 
 // More packets than any stream has.

@@ -69,7 +69,7 @@ fn event_or_frame(alloc: Global, told: &str) -> Option<Event> {
 fn step(rt: &impl Wait, alloc: Global, side: &mut Side, told: &str) -> Option<()> {
     let event = event_or_frame(alloc, told)?;
     let seat = side.seats.first_mut()?;
-    side.node.step(rt, seat, &event, CHALLENGE).ok()?;
+    let _ = side.node.step(rt, seat, &event, CHALLENGE).ok()?;
     Some(())
 }
 

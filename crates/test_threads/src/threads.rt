@@ -74,7 +74,7 @@ fn drive_patiently<R: Wait + Clock>(
 // The end of a connection that comes.
 fn end_of<R: Wait>(rt: &R, node: &LockedNode, seat: &mut Seat, link: u64) -> Option<EndId> {
     match node.step(rt, seat, &Event::Incoming { link }, 0) {
-        Ok(receipt) => Some(receipt.line.end_()),
+        Ok((_, reply)) => Some(reply.end_),
         Err(_) => None,
     }
 }

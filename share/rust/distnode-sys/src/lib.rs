@@ -316,6 +316,14 @@ extern "C" {
         room: *mut u8,
         room_len: usize,
     ) -> dn_code;
+    pub fn dn_node_next_peer(
+        node: *mut dn_node,
+        name: *const u8,
+        name_len: usize,
+        peer: *mut dn_peer,
+        room: *mut u8,
+        room_len: usize,
+    ) -> dn_code;
     pub fn dn_cookie_digest(
         cookie: *const u8,
         cookie_len: usize,

@@ -376,10 +376,18 @@ impl Node {
 
     /// The peers that are up, in the order of their names.
     pub fn peers(&mut self) -> Result<Vec<Peer>, Error> {
-        let mut peers = Vec::new();
-        // SAFETY: as in `peer_of`.
+        let mut peers: Vec<Peer> = Vec::new();
+        // SAFETY: as in `peer_of`; the name is another buffer than the room.
         while let Some(peer) = self.peer(|node, peer, room| unsafe {
-            sys::dn_node_peer_at(node, peers.len(), peer, room.as_mut_ptr(), room.len())
+            let last = peers.last().map_or(&[][..], |last| &last.name);
+            sys::dn_node_next_peer(
+                node,
+                last.as_ptr(),
+                last.len(),
+                peer,
+                room.as_mut_ptr(),
+                room.len(),
+            )
         })? {
             peers.push(peer);
         }

@@ -1,7 +1,7 @@
 use Rattle.std.proofs.Common.{◌∙◌, List, ℕ, [], ◌∷◌, codes, decimal, OnOk, ap, subst}
 use Rattle.std.specs.List.{concat}
 use Rattle.std.specs.Io.KnownBytes.{Appends}
-use Rattle.dist_script_words.specs.Texts.{text_of, flags_text}
+use Rattle.dist_script.specs.Texts.{text_of, flags_text}
 use Rattle.dist_script_lines.specs.Lines.{creation_text}
 use Rattle.dist_script_lines.proofs.print.agreement.Goals as goal
 

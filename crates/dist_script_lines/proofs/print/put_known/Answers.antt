@@ -1,5 +1,5 @@
 use Rattle.std.proofs.Common.{codes}
-use Rattle.dist_script_words.specs.Texts.{flags_text}
+use Rattle.dist_script.specs.Texts.{flags_text}
 use Rattle.dist_script_lines.specs.Lines.{creation_text}
 use Rattle.dist_script_lines.proofs.Printing.{last_of_five}
 use Rattle.dist_script_lines.proofs.print.put_known.Goals as goal

@@ -1,10 +1,10 @@
 use Rattle.std.proofs.Common.{arith}
-use Rattle.dist_world_model.specs.Delivery.{says}
+use Rattle.dist_world_lives.specs.Wires.{with_undelivered}
 use Rattle.dist_world_lives.proofs.Places.{at_set, at_past}
 use Rattle.dist_world_lives.proofs.connections.put_bytes.Goals as goal
 
 pub returns-then-place-len : goal.returns-then-place-len
-returns-then-place-len c = rw c.say_first.ensures (at_set (says c.args.side c.args.bytes) c.args.conns.now.items c.args.place c.index_mut-conn.result.now (omega arith) c.index_mut-conn.ensures.value)
+returns-then-place-len c = rw c.put_undelivered.ensures (at_set (with_undelivered c.args.side c.args.bytes) c.args.conns.now.items c.args.place c.index_mut-conn.result.now (omega arith) c.index_mut-conn.ensures.value)
 
 pub returns-else-place-len : goal.returns-else-place-len
-returns-else-place-len c = at_past (says c.args.side c.args.bytes) c.args.conns.now.items c.args.place (omega arith)
+returns-else-place-len c = at_past (with_undelivered c.args.side c.args.bytes) c.args.conns.now.items c.args.place (omega arith)

@@ -1,6 +1,6 @@
 use Rattle.std.proofs.Common.{◌∙◌, inl, inr, refl, sym, subst}
-use Rattle.dist_script_words.specs.Texts.{PutsFront}
-use Rattle.dist_short_commands.specs.Fault.{fault_line}
+use Rattle.dist_script.specs.Texts.{PutsFront}
+use Rattle.dist_commands.specs.Fault.{fault_line}
 use Rattle.distnode.specs.Printed.{PrintsRun}
 use Rattle.distnode.proofs.Printing.{nothing_of}
 use Rattle.distnode.proofs.Stopped.{is_bad}

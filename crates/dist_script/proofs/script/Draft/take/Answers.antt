@@ -1,5 +1,5 @@
 use Rattle.std.proofs.Common.{◌≡◌, ◌<◌, length, sym, ap, ◌∙◌, true, arith}
-use Rattle.dist_script_words.specs.Words.{words_of}
+use Rattle.dist_script.specs.Words.{words_of}
 use Rattle.dist_script.specs.Scripts.{SoFar, is_either, with_event, with_happening}
 use Rattle.dist_script.specs.contracts.script.Draft.{the_view}
 use Rattle.dist_script.proofs.Scripts.{a_node, behind_none, behind_one, behind_more, by_step, by_either}

@@ -1,0 +1,40 @@
+-- What a fault leaves.
+use Rattle.std.proofs.Common.{◌≡◌, ℕ, List, Option, Ok, subst}
+use Rattle.std.specs.Io.KnownBytes.{Appends, Keeps}
+use Rattle.std.proofs.KnownBytes.{Appends-kept}
+use Rattle.dist_names.specs.Escaped.{escaped_lines}
+use Rattle.dist_secret.specs.Hearing.{Hears}
+use Rattle.dist_stream.specs.Stream.{StreamState}
+use Rattle.dist_epmd.specs.declared.message.Request.TheVariants.{Names}
+use Rattle.dist_epmd_calls.specs.Asking.{AsksFor, names_meant}
+use Rattle.dist_script.specs.Texts.{PutsFront}
+use Rattle.dist_script.proofs.Fronts.{front_all}
+use Rattle.dist_commands.specs.declared.fault.Fault.TheVariants as fault
+use Rattle.dist_commands.specs.Printed.{cookie_line}
+use Rattle.dist_commands.specs.Stopped.{StopsCookie, StopsNames, StopsEscapedNames}
+
+-- ---- what was written, and then flushed
+
+-- a flush leaves what was written
+pub flushed : (a b c : Option (List ℕ)) (text : List ℕ) → Appends a b text → Keeps b c → Appends a c text
+flushed a b c text put keeps = Appends-kept a b c text put keeps
+
+-- also one that failed
+pub unflushed : (a b c : Option (List ℕ)) (text : List ℕ) → Appends a b text → Keeps b c → PutsFront text a c
+unflushed a b c text put keeps = front_all a c text (flushed a b c text put keeps)
+
+-- ---- `cookie`
+
+-- its line could not be written
+pub cut_line : (before after : Option (List ℕ)) (challenge : ℕ) (a b : Option (List ℕ)) (cookie line : List ℕ) → Hears before after (Ok cookie) → line ≡ cookie_line cookie challenge → PutsFront line a b → StopsCookie before after challenge a b fault.WriteFailed
+cut_line before after challenge a b cookie line hears same put = (cookie, hears, subst (λ l. PutsFront l a b) same put)
+
+-- ---- `names`
+
+-- the answer could not be written
+pub cut_names : (before after : StreamState) (turns : ℕ) (a b : Option (List ℕ)) (port : ℕ) (text said : List ℕ) → AsksFor Names before after turns names_meant (Ok (port, text)) → said ≡ text → PutsFront said a b → StopsNames before after turns a b fault.WriteFailed
+cut_names before after turns a b port text said asks same put = (port, text, asks, subst (λ t. PutsFront t a b) same put)
+
+-- its escape could not be written
+pub cut_escaped : (before after : StreamState) (turns : ℕ) (a b : Option (List ℕ)) (port : ℕ) (text escaped : List ℕ) → AsksFor Names before after turns names_meant (Ok (port, text)) → escaped ≡ escaped_lines text → PutsFront escaped a b → StopsEscapedNames before after turns a b fault.WriteFailed
+cut_escaped before after turns a b port text escaped asks same put = (port, text, asks, subst (λ t. PutsFront t a b) same put)

@@ -1,0 +1,75 @@
+-- How a fault ends the program, and what is said of it on standard error.
+use Rattle.std.specs.Prelude.{ℕ, List, [], ◌∷◌, codes}
+use Rattle.std.specs.List.{concat}
+use Rattle.dist_secret.specs.Answer as cookies
+use Rattle.dist_epmd_calls.specs.Refusals as lookups
+use Rattle.dist_commands.specs.declared.order_of_words.OrderError.{OrderError}
+use Rattle.dist_commands.specs.declared.order_of_words.OrderError.TheVariants as order
+use Rattle.dist_program.specs.declared.port_error.PortError.{PortError}
+use Rattle.dist_program.specs.declared.text_error.TextError.{TextError}
+use Rattle.dist_program.specs.declared.text_error.TextError.TheVariants as words
+use Rattle.dist_program.specs.PortTexts.{port_error_text}
+use Rattle.dist_run_hosts.specs.Words.{run_error_name}
+use Rattle.dist_script.specs.declared.fault.ScriptFault.{ScriptFault}
+use Rattle.dist_script.specs.declared.fault.ScriptFault.TheVariants as script
+use Rattle.dist_commands.specs.declared.fault.Fault.{Fault}
+use Rattle.dist_commands.specs.declared.fault.Fault.TheVariants.{BadCommandLine, BadNodesFile, RunEnded, ReadFailed, WriteFailed}
+use Rattle.dist_commands.specs.declared.fault.Fault.TheVariants.{OpenFailed, NoCookie, ConnectFailed, NoAnswer, NoMemory}
+
+-- the exit status: 2 where what the user wrote is at fault, else 1
+abbrev pub status_of : Fault → ℕ
+status_of BadCommandLine = 2
+status_of BadNodesFile = 2
+status_of (RunEnded error) = 1
+status_of ReadFailed = 1
+status_of WriteFailed = 1
+status_of OpenFailed = 1
+status_of (NoCookie error) = 1
+status_of ConnectFailed = 1
+status_of (NoAnswer error) = 1
+status_of NoMemory = 1
+
+-- the words for it: its name, or that of the error which it carries
+abbrev pub fault_text : Fault → List ℕ
+fault_text BadCommandLine = codes "bad command line"
+fault_text BadNodesFile = codes "bad nodes file"
+fault_text (RunEnded error) = run_error_name error
+fault_text ReadFailed = codes "ReadFailed"
+fault_text WriteFailed = codes "WriteFailed"
+fault_text OpenFailed = codes "OpenFailed"
+fault_text (NoCookie error) = cookies.error_name error
+fault_text ConnectFailed = codes "ConnectFailed"
+fault_text (NoAnswer error) = lookups.lookup_error_name error
+fault_text NoMemory = codes "NoMemory"
+
+-- THE LINE ON STANDARD ERROR: these words behind the program's name
+abbrev pub line_of : List ℕ → List ℕ
+line_of text = concat (codes "distnode: " ∷ text ∷ codes "\n" ∷ [])
+
+-- distnode: FAULT
+abbrev pub fault_line : Fault → List ℕ
+fault_line fault = line_of (fault_text fault)
+
+-- the same of a bad ERL_EPMD_PORT
+abbrev pub port_line : PortError → List ℕ
+port_line error = line_of (port_error_text error)
+
+-- how reading fails that scripts share with nodes files: a text that is at fault is a nodes file
+abbrev pub fault_of : ScriptFault → Fault
+fault_of script.TooLong = BadNodesFile
+fault_of (script.BadLine number) = BadNodesFile
+fault_of script.NoNode = BadNodesFile
+fault_of script.SameName = BadNodesFile
+fault_of script.ReadFailed = ReadFailed
+fault_of script.WriteFailed = WriteFailed
+fault_of script.NoMemory = NoMemory
+
+-- what the words of the command line are where they give no text: no command, unless memory ran out
+abbrev pub fault_of_text : TextError → Fault
+fault_of_text words.NoText = BadCommandLine
+fault_of_text words.NoMemory = NoMemory
+
+-- the same where they give no order
+abbrev pub fault_of_order : OrderError → Fault
+fault_of_order order.Bad = BadCommandLine
+fault_of_order order.NoMemory = NoMemory

@@ -1,0 +1,143 @@
+//! What stops a command before its work is done, and how that is reported.
+
+ghost use Rattle.std.specs.Prelude.{◌≡◌};
+ghost use Rattle.dist_program.specs.PortTexts.{port_error_status};
+ghost use Rattle.dist_script.specs.Texts.{PutsFront};
+ghost use Rattle.dist_commands.specs.Fault.{status_of, fault_text, line_of, fault_line, port_line};
+ghost use Rattle.dist_commands.specs.Fault.{fault_of, fault_of_text, fault_of_order};
+
+use crate::order_of_words::OrderError;
+use dist_epmd_calls::LookupError;
+use dist_program::{PortError, TextError};
+use dist_run_hosts::RunError;
+use dist_script::{Piece, ScriptFault, put};
+use dist_secret::CookieError;
+use std::io::Write;
+
+/// What ends a command.
+#[derive(Clone, Copy, Debug, PartialEq, Eq)]
+pub enum Fault {
+    /// The words of the command line are no command of this program, help and version among them.
+    BadCommandLine,
+    /// The file is no nodes file: it is above 1,048,576 bytes, no UTF-8, or breaks a rule.
+    BadNodesFile,
+    /// The run of the nodes ended before its work was done.
+    RunEnded(RunError),
+    /// The input could not be read.
+    ReadFailed,
+    /// The output could not be written.
+    WriteFailed,
+    /// The file could not be opened.
+    OpenFailed,
+    /// The file has no cookie.
+    NoCookie(CookieError),
+    /// Nobody listens where the port mapper should.
+    ConnectFailed,
+    /// The port mapper did not answer the question.
+    NoAnswer(LookupError),
+    /// No memory was left.
+    NoMemory,
+}
+
+impl From<TextError> for Fault {
+    ghost from_gives = { λ error made. made ≡ fault_of_text error };
+
+    fn from(error: TextError) -> Fault {
+        match error {
+            TextError::NoText => Fault::BadCommandLine,
+            TextError::NoMemory => Fault::NoMemory,
+        }
+    }
+}
+
+impl From<OrderError> for Fault {
+    ghost from_gives = { λ error made. made ≡ fault_of_order error };
+
+    fn from(error: OrderError) -> Fault {
+        match error {
+            OrderError::Bad => Fault::BadCommandLine,
+            OrderError::NoMemory => Fault::NoMemory,
+        }
+    }
+}
+
+// How reading and printing fail that scripts share with nodes files: a text that is at fault is a nodes file.
+impl From<ScriptFault> for Fault {
+    ghost from_gives = { λ fault made. made ≡ fault_of fault };
+
+    fn from(fault: ScriptFault) -> Fault {
+        match fault {
+            ScriptFault::ReadFailed => Fault::ReadFailed,
+            ScriptFault::WriteFailed => Fault::WriteFailed,
+            ScriptFault::NoMemory => Fault::NoMemory,
+            ScriptFault::TooLong
+            | ScriptFault::BadLine(_)
+            | ScriptFault::NoNode
+            | ScriptFault::SameName => Fault::BadNodesFile,
+        }
+    }
+}
+
+impl Fault {
+    /// The exit status: 2 where what the user wrote is at fault, else 1.
+    pub fn status(self) -> u8
+        ensures { result ≡ status_of self }
+    {
+        match self {
+            Fault::BadCommandLine | Fault::BadNodesFile => 2,
+            _ => 1,
+        }
+    }
+
+    /// The words for it on standard error: its name, or that of the error which it carries.
+    pub fn text(self) -> &'static str
+        ensures { result.now ≡ fault_text self }
+    {
+        match self {
+            Fault::BadCommandLine => "bad command line",
+            Fault::BadNodesFile => "bad nodes file",
+            Fault::RunEnded(error) => error.name(),
+            Fault::ReadFailed => "ReadFailed",
+            Fault::WriteFailed => "WriteFailed",
+            Fault::OpenFailed => "OpenFailed",
+            Fault::NoCookie(error) => error.name(),
+            Fault::ConnectFailed => "ConnectFailed",
+            Fault::NoAnswer(error) => error.name(),
+            Fault::NoMemory => "NoMemory",
+        }
+    }
+
+    /// Reports the fault on standard error and returns the exit status. Where its line cannot be written, a beginning of it may
+    /// stand there, and nothing else is lost.
+    pub fn tell<E: Write>(self, err: &mut E) -> u8
+        ensures status { result ≡ status_of self }
+        ensures line { PutsFront (fault_line self) (E.contents err.old) (E.contents err.new) }
+    {
+        put_line(self.text(), err);
+        self.status()
+    }
+}
+
+// Writes a line of these words behind the program's name, as far as it can be written.
+#[tactic(auto, using(dist_script::proofs::Fronts::front_either))]
+fn put_line<E: Write>(text: &str, err: &mut E)
+    ensures { PutsFront (line_of text.now) (E.contents err.old) (E.contents err.new) }
+{
+    let _ = put(
+        err,
+        &[
+            Piece::Text(b"distnode: "),
+            Piece::Text(text.as_bytes()),
+            Piece::Text(b"\n"),
+        ],
+    );
+}
+
+/// Reports on standard error why ERL_EPMD_PORT names no port, and returns the exit status. The line is written as that of a fault.
+pub fn tell_port<E: Write>(error: &PortError, err: &mut E) -> u8
+    ensures status { result ≡ port_error_status error.now }
+    ensures line { PutsFront (port_line error.now) (E.contents err.old) (E.contents err.new) }
+{
+    put_line(error.text(), err);
+    error.status()
+}

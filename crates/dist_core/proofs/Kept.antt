@@ -1,0 +1,64 @@
+-- A step that is kept, or answered, by what its event does.
+use Rattle.std.specs.Prelude.{IsOk}
+use Rattle.std.proofs.Common.{◌≡◌, ℕ, ◌+◌, Result, Ok, Err, refl, sym, ap, ◌∙◌, subst}
+use Rattle.dist_peers.specs.declared.entry.EndId.{EndId}
+use Rattle.dist_core_ends.specs.declared.why.Why.{Why}
+use Rattle.dist_core.specs.Answers.{IsStep, Refuses, reply_of}
+use Rattle.dist_core.specs.Clauses.{loss_reply}
+use Rattle.dist_core.specs.Effects.{closes}
+use Rattle.dist_core.specs.Keeping.{KeepsDone, KeepsStep}
+use Rattle.dist_core.specs.Node.{NodeState, ends_after}
+use Rattle.dist_core.specs.Step.{effect_of, at_end, came_in, cost_of, step, step_result, tick_effect}
+use Rattle.std.proofs.Common.{slice_get}
+use Rattle.dist_core.specs.declared.effect.Effect.{Effect}
+use Rattle.dist_core.specs.declared.event.Event.{Event}
+use Rattle.dist_core.specs.declared.event.Event.TheVariants as event
+use Rattle.dist_core.specs.declared.reply.Reply.{Reply}
+use Rattle.dist_core.specs.declared.step_error.StepError.{StepError}
+
+-- what was kept is the reply
+pub returned : (q : Result Reply StepError) (s : Result (Reply × NodeState) StepError) (old new : NodeState) → KeepsStep (λ r k. k ≡ r) q s old new → IsStep q s old new
+returned (Ok k) s old new h = subst (λ (r : Reply). s ≡ Ok (r, new)) (sym h.1) h.2
+returned (Err e) s old new h = h
+
+-- what an event does
+pub incoming-effect : (n : NodeState) (link fresh : ℕ) → effect_of n (event.Incoming link) fresh ≡ came_in n
+unfolding effect_of
+incoming-effect n link fresh = refl
+
+pub loss-effect : (n : NodeState) (id : EndId) (w : Why) (fresh : ℕ) → effect_of n (event.Lost id w) fresh ≡ at_end (slice_get n.ends id.0) (λ e. Ok (closes id w))
+unfolding effect_of
+loss-effect n id w fresh = refl
+
+pub tick-effect : (n : NodeState) (id : EndId) (fresh : ℕ) → effect_of n (event.Tick id) fresh ≡ at_end (slice_get n.ends id.0) (tick_effect n id)
+unfolding effect_of
+tick-effect n id fresh = refl
+
+-- by it the step is known
+pub whole : (n : NodeState) (w v : Event) (fresh : ℕ) (s : Result Effect StepError) → w ≡ v → effect_of n v fresh ≡ s → step_result n v s ≡ step n w fresh
+whole n w v fresh s same is = ap (step_result n v) (sym is) ∙ ap (λ (e : Event). step n e fresh) (sym same)
+
+-- the reply of a step is that of its effect
+pub told-so : (n : NodeState) (v : Event) (s : Result Effect StepError) (f : Effect) (r : Reply) → s ≡ Ok f → r ≡ f.reply → reply_of (step_result n v s) ≡ Ok r
+told-so n v s f r is same = ap (λ (s : Result Effect StepError). reply_of (step_result n v s)) is ∙ ap (λ (r : Reply). Ok r) (sym same)
+
+-- a step that has a reply is made
+pub given : (s : Result (Reply × NodeState) StepError) (r : Reply) → reply_of s ≡ Ok r → IsOk s
+given (Ok x) r h = refl
+given (Err e) r h = absurd cc
+
+-- an effect that was done and kept is the step
+pub kept-done : {K : Type 0} (keeps : Reply → K → Type 0) (n : NodeState) (v : Event) (s : Result Effect StepError) (f : Effect) → s ≡ Ok f → cost_of v ≡ 1 → (r : Result K StepError) (new : NodeState) → KeepsDone keeps f r n new → KeepsStep keeps r (step_result n v s) n new
+kept-done keeps n v s f is one (Ok k) new h =
+    (f.reply, h.0, ap (step_result n v) is ∙ (λ j. Ok (f.reply, (ap (λ (k : ℕ). record { setup = n.setup; steps = n.steps + k; ends = ends_after n.ends f }) one ∙ sym h.1) j)))
+kept-done keeps n v s f is one (Err e) new h =
+    let made : IsOk (step_result n v s) = subst (λ (q : Result Effect StepError). IsOk (step_result n v q)) (sym is) refl in
+    (subst (λ (x : StepError). Refuses x (step_result n v s)) (sym h.0) made, h.1)
+
+-- what is so of the reply to a loss is so however the loss is written
+pub same-loss : (P : Reply → Type 0) (v : Event) (id x : EndId) (why w : Why) → v ≡ event.Lost id why → v ≡ event.Lost x w → P (loss_reply x w) → P (loss_reply id why)
+same-loss P v id x why w a b =
+    let same : ◌≡◌ {A = Event} (event.Lost x w) (event.Lost id why) = sym b ∙ a in
+    let ends : x ≡ id = cc in
+    let whys : w ≡ why = cc in
+    subst P (λ i. loss_reply (ends i) (whys i))

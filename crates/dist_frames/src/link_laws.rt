@@ -1,0 +1,57 @@
+//! What holds of a reader of packets after any calls, and of the times of a link, whatever was read and written: each law is a
+//! function that does nothing, and whose contract is the law.
+
+ghost use Rattle.std.specs.Prelude.{◌≡◌, ◌≢◌, ◌+◌, ◌<◌, ◌≤◌, ◌*◌, ◌++◌, ◌∷◌, ℕ, List};
+ghost use Rattle.std.specs.List.{flat_map, AllByRecursion};
+ghost use Rattle.std.specs.Int.{w32};
+ghost use Rattle.dist_frames.specs.Stream.{body_frame};
+ghost use Rattle.dist_names.specs.Bytes.{IsBytes};
+ghost use Rattle.dist_frames.specs.LinkReading.{packets_within, to_come};
+ghost use Rattle.dist_frames.specs.LinkHistory.{Call, FeedBytes, opening, after_all};
+ghost use Rattle.dist_frames.specs.Ticking.{Act, Ticking, after_acts, due_at, WasHeardBefore, WasSaidBefore};
+ghost use Rattle.dist_frames.specs.Ticking.Act.{Heard, Said};
+ghost use Rattle.dist_frames.specs.declared.ticker.Due.TheVariants as due;
+
+/// What holds after any calls of a reader, in whatever pieces the stream came, and with whatever bytes it began.
+pub fn packets_in_any_pieces()
+    // The packets moved out and those still to come are those of the stream: they do not depend on the pieces.
+    ensures right { (most : ℕ) (rest : List ℕ) (calls : List Call) → IsBytes rest → FeedBytes calls →
+        (after_all (opening most rest) calls).moved ++ to_come (after_all (opening most rest) calls).reader
+        ≡ packets_within most (after_all (opening most rest) calls).stream }
+
+    // No byte is lost: those that came are the packets moved out, and then those that the reader holds.
+    ensures whole { (most : ℕ) (rest : List ℕ) (calls : List Call) → IsBytes rest → FeedBytes calls →
+        (after_all (opening most rest) calls).stream
+        ≡ flat_map (body_frame w32) (after_all (opening most rest) calls).moved ++ (after_all (opening most rest) calls).reader.pending }
+{}
+
+/// A peer is given up where nothing was read from it for four quarters, and nowhere else.
+pub fn a_silent_peer_is_given_up()
+    // One from which something was read in time is not.
+    ensures heard { (t : Ticking) (early late : List Act) (m now : ℕ)
+        → 0 < t.quarter → now < m + 4 * t.quarter → due_at now (after_acts (early ++ Heard m ∷ late) t) ≢ due.GiveUp }
+
+    // One from which nothing was read in time is.
+    ensures silent { (t : Ticking) (acts : List Act) (now : ℕ)
+        → t.heard + 4 * t.quarter ≤ now → AllByRecursion (WasHeardBefore (4 * t.quarter) now) acts
+        → due_at now (after_acts acts t) ≡ due.GiveUp }
+{}
+
+/// A tick is due where nothing was written for a quarter, unless the peer is given up, and nowhere else.
+pub fn a_tick_is_due_in_time()
+    ensures said { (t : Ticking) (early late : List Act) (m now : ℕ)
+        → 0 < t.quarter → now < m + t.quarter → due_at now (after_acts (early ++ Said m ∷ late) t) ≢ due.Tick }
+    ensures quiet { (t : Ticking) (acts : List Act) (now wait : ℕ)
+        → t.said + t.quarter ≤ now → AllByRecursion (WasSaidBefore t.quarter now) acts
+        → due_at now (after_acts acts t) ≢ due.Nothing wait }
+{}
+
+/// Where nothing is due for some time, nothing is due before it is over, and something is then: a caller that waits for it misses
+/// nothing.
+pub fn nothing_is_due_before()
+    ensures before { (t : Ticking) (now wait more : ℕ)
+        → t.heard ≤ now → t.said ≤ now → due_at now t ≡ due.Nothing wait → more < wait
+        → (left : ℕ) × (due_at (now + more) t ≡ due.Nothing left) }
+    ensures then_ { (t : Ticking) (now wait left : ℕ)
+        → t.heard ≤ now → t.said ≤ now → due_at now t ≡ due.Nothing wait → due_at (now + wait) t ≢ due.Nothing left }
+{}

@@ -1,3 +1,0 @@
-pub mod Fronts
-pub mod Runs
-pub mod Times

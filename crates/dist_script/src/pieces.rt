@@ -1,0 +1,166 @@
+//! Pieces of printed lines: words, numbers and digits.
+
+ghost use Rattle.std.specs.Prelude.{◌≤◌, ◌≡◌, ◌*◌, length, take, drop, decimal, OnOk, OnErr, IfOk};
+ghost use Rattle.std.specs.Io.KnownBytes.{Appends, Keeps};
+ghost use Rattle.hex.specs.Hex.{encode_lower};
+ghost use Rattle.dist_script.specs.Texts.{flags_text, text_of, texts_of, PutsFront};
+
+use dist_names::Flags;
+use std::io::{self, ErrorKind, Write};
+
+/// The most bytes whose digits are written at once.
+const MOST_BYTES: usize = 32;
+
+/// The most decimal digits of a number below 2^64.
+const MOST_DECIMALS: usize = 20;
+
+/// A piece of a printed line.
+#[derive(Clone, Copy)]
+pub enum Piece<'a> {
+    /// These bytes as they stand.
+    Text(&'a [u8]),
+    /// A number in decimal digits.
+    Number(u64),
+    /// Flags in 16 hexadecimal digits of lower case.
+    Flags(Flags),
+    /// Bytes as hexadecimal digits of lower case.
+    Digits(&'a [u8]),
+}
+
+/// Writes these pieces, one behind the other. Where a write fails, what was written is a beginning of them.
+#[tactic(auto, using(crate::proofs::Printing::nothing, crate::proofs::Printing::put_more, crate::proofs::Printing::put_part))]
+pub fn put<W: Write>(out: &mut W, pieces: &[Piece<'_>]) -> io::Result<()>
+    ensures text { OnOk result (Appends (W.contents out.old) (W.contents out.new) (texts_of pieces.now)) }
+    ensures cut { OnErr result (PutsFront (texts_of pieces.now) (W.contents out.old) (W.contents out.new)) }
+{
+    for piece in pieces {
+        put_piece(out, *piece)?;
+    }
+    Ok(())
+}
+
+fn put_piece<W: Write>(out: &mut W, piece: Piece<'_>) -> io::Result<()>
+    ensures text { OnOk result (Appends (W.contents out.old) (W.contents out.new) (text_of piece.entry)) }
+    ensures cut { OnErr result (PutsFront (text_of piece.entry) (W.contents out.old) (W.contents out.new)) }
+{
+    match piece {
+        Piece::Text(text) => put_bytes(out, text),
+        Piece::Number(value) => put_number(out, value),
+        Piece::Flags(flags) => put_flags(out, flags),
+        Piece::Digits(bytes) => put_digits(out, bytes),
+    }
+}
+
+/// Writes a number in decimal digits. Where a write fails, what was written is a beginning of them.
+#[inline(always)]
+pub fn put_number<W: Write>(out: &mut W, number: u64) -> io::Result<()>
+    ensures text { OnOk result (Appends (W.contents out.old) (W.contents out.new) (decimal number)) }
+    ensures cut { OnErr result (PutsFront (decimal number) (W.contents out.old) (W.contents out.new)) }
+{
+    let mut room = [0u8; MOST_DECIMALS];
+    let start = write_decimals(number, &mut room);
+    put_bytes(out, &room[start..])
+}
+
+// Writes a number in decimal digits at the end of a room, and returns where they begin.
+#[inline(never)]
+fn write_decimals(number: u64, room: &mut [u8]) -> usize
+    requires { length room.old ≡ 20 }
+    ensures start { result ≤ 20 }
+    ensures digits { drop result room.new ≡ decimal number }
+{
+    itoa::write_digits(number, room, MOST_DECIMALS)
+}
+
+/// Writes flags in 16 hexadecimal digits of lower case. Where a write fails, what was written is a beginning of them.
+#[inline(never)]
+pub fn put_flags<W: Write>(out: &mut W, flags: Flags) -> io::Result<()>
+    ensures text { OnOk result (Appends (W.contents out.old) (W.contents out.new) (flags_text flags)) }
+    ensures cut { OnErr result (PutsFront (flags_text flags) (W.contents out.old) (W.contents out.new)) }
+{
+    short_hex(out, &flags.0.to_be_bytes())
+}
+
+/// Writes bytes as hexadecimal digits of lower case. Where a write fails, what was written is a beginning of them.
+#[inline(never)]
+pub fn put_digits<W: Write>(out: &mut W, bytes: &[u8]) -> io::Result<()>
+    ensures text { OnOk result (Appends (W.contents out.old) (W.contents out.new) (encode_lower bytes.now)) }
+    ensures cut { OnErr result (PutsFront (encode_lower bytes.now) (W.contents out.old) (W.contents out.new)) }
+{
+    let mut rest = bytes;
+    while !rest.is_empty() {
+        let (piece, behind) = rest.split_at(rest.len().min(MOST_BYTES));
+        short_hex(out, piece)?;
+        rest = behind;
+    }
+    Ok(())
+}
+
+// Writes the two digits, in lower case, of each byte.
+fn write_digits(bytes: &[u8], room: &mut [u8])
+    requires { length room.old ≡ 2 * length bytes.now }
+    ensures { room.new ≡ encode_lower bytes.now }
+{
+    let _ = hex::encode_to_slice(bytes, room);
+}
+
+fn short_hex<W: Write>(out: &mut W, bytes: &[u8]) -> io::Result<()>
+    requires { length bytes.now ≤ 32 }
+    ensures text { OnOk result (Appends (W.contents out.old) (W.contents out.new) (encode_lower bytes.now)) }
+    ensures cut { OnErr result (PutsFront (encode_lower bytes.now) (W.contents out.old) (W.contents out.new)) }
+{
+    let mut room = [0u8; 2 * MOST_BYTES];
+    let digits = &mut room[..2 * bytes.len()];
+    write_digits(bytes, digits);
+    put_bytes(out, digits)
+}
+
+/// Writes these bytes. Where a write fails, what was written is a beginning of them, which `write_all` doesn't say.
+#[inline(always)]
+pub fn put_bytes<W: Write>(out: &mut W, bytes: &[u8]) -> io::Result<()>
+    ensures text { OnOk result (Appends (W.contents out.old) (W.contents out.new) bytes.now) }
+    ensures cut { OnErr result (PutsFront bytes.now (W.contents out.old) (W.contents out.new)) }
+{
+    if bytes.is_empty() {
+        return Ok(());
+    }
+    let (_, rest) = bytes.split_at(put_some(out, bytes)?);
+    if rest.is_empty() {
+        return Ok(());
+    }
+    put_rest(out, rest)
+}
+
+// Writes what one write left of some bytes, by as many further writes as it takes.
+#[inline(never)]
+#[tactic(auto, using(crate::proofs::Fronts::none_put))]
+fn put_rest<W: Write>(out: &mut W, bytes: &[u8]) -> io::Result<()>
+    ensures text { OnOk result (Appends (W.contents out.old) (W.contents out.new) bytes.now) }
+    ensures cut { OnErr result (PutsFront bytes.now (W.contents out.old) (W.contents out.new)) }
+{
+    let mut rest = bytes;
+    'writes: for _ in 0..u64::MAX {
+        if rest.is_empty() {
+            return Ok(());
+        }
+        let (_, behind) = rest.split_at(put_some(out, rest)?);
+        rest = behind;
+    }
+    Err(io::Error::from(ErrorKind::Interrupted))
+}
+
+// One write of these bytes, of which there are some. Returns how many of them were written: none where it was interrupted.
+#[inline(always)]
+#[tactic(auto, using(crate::proofs::Fronts::interrupted))]
+fn put_some<W: Write>(out: &mut W, bytes: &[u8]) -> io::Result<usize>
+    ensures few { IfOk result (λ count. count ≤ length bytes.now) }
+    ensures text { IfOk result (λ count. Appends (W.contents out.old) (W.contents out.new) (take count bytes.now)) }
+    ensures kept { OnErr result (Keeps (W.contents out.old) (W.contents out.new)) }
+{
+    match out.write(bytes) {
+        Ok(0) => Err(io::Error::from(ErrorKind::WriteZero)),
+        Ok(count) => Ok(count),
+        Err(error) if error.kind() == ErrorKind::Interrupted => Ok(0),
+        Err(error) => Err(error),
+    }
+}

@@ -1,4 +1,0 @@
-pub mod Split
-pub mod Printing
-pub mod Fronts
-pub mod Inputs

@@ -1,0 +1,169 @@
+//! The lines of the log, in both forms. What a stranger sent is escaped in both.
+
+ghost use Rattle.std.specs.Prelude.{◌≡◌, ◌++◌, IfOk, codes};
+ghost use Rattle.std.specs.String.{string_bytes};
+ghost use Rattle.distmapd.specs.Lines.{event_line, left_out_line, line, name_front, name_part, port_part, refusal, silence, spelling};
+
+use crate::form::Form;
+use crate::json::json_string;
+use dist_epmd_clients::ClientEvent;
+use dist_names::quote;
+use std::alloc::{AllocError, Global};
+
+// The front of a name that is shown. No name that is registered is longer.
+const SHOWN: usize = 255;
+
+impl Form {
+    // Which of two texts a line of this form has.
+    fn spelling(self, text: &'static str, json: &'static str) -> &'static str
+        ensures { result.now ≡ spelling self text.now json.now }
+    {
+        match self {
+            Form::Text => text,
+            Form::Json => json,
+        }
+    }
+}
+
+// A line: a word, a number by its key, and more.
+#[tactic(auto, unfolding(crate::specs::Lines::line))]
+fn line(
+    alloc: Global,
+    form: Form,
+    word: &str,
+    key: &str,
+    number: u64,
+    more: &str,
+) -> Result<String, AllocError>
+    ensures { IfOk result (λ text. string_bytes text ≡ line form word.now key.now number more.now) }
+{
+    match form {
+        Form::Text => format!(in alloc; "distmapd: {word} {key}={number}{more}\n"),
+        Form::Json => { format!(in alloc; "{{\"event\":\"{word}\",\"{key}\":{number}{more}}}\n") }
+    }
+}
+
+// The front of a name that is shown.
+fn name_front(name: &[u8]) -> &[u8]
+    ensures { result.now ≡ name_front name.now }
+{
+    if name.len() < SHOWN {
+        name
+    } else {
+        &name[..SHOWN]
+    }
+}
+
+// What a line has of a name.
+#[tactic(auto, unfolding(crate::specs::Lines::name_part))]
+fn name_part(alloc: Global, form: Form, name: &[u8]) -> Result<String, AllocError>
+    ensures { IfOk result (λ text. string_bytes text ≡ name_part form name.now) }
+{
+    let front = name_front(name);
+    match form {
+        Form::Text => {
+            let quoted = quote(alloc, front)?;
+            format!(in alloc; " name={quoted}")
+        }
+        Form::Json => {
+            let string = json_string(alloc, front)?;
+            format!(in alloc; ",\"name\":{string}")
+        }
+    }
+}
+
+// What a line has of a port.
+#[tactic(auto, unfolding(crate::specs::Lines::port_part))]
+fn port_part(alloc: Global, form: Form, port: u16) -> Result<String, AllocError>
+    ensures { IfOk result (λ text. string_bytes text ≡ port_part form port) }
+{
+    let key = form.spelling(" port=", ",\"port\":");
+    format!(in alloc; "{key}{port}")
+}
+
+// Why a registration was refused.
+fn refusal(form: Form, is_taken: bool) -> &'static str
+    ensures { result.now ≡ refusal form is_taken }
+{
+    match (form, is_taken) {
+        (Form::Text, true) => " why=\"a node of this name is registered\"",
+        (Form::Text, false) => " why=\"no name that may be registered, or no room\"",
+        (Form::Json, true) => ",\"taken\":true",
+        (Form::Json, false) => ",\"taken\":false",
+    }
+}
+
+// Why a client was not answered.
+fn silence(form: Form, is_local: bool) -> &'static str
+    ensures { result.now ≡ silence form is_local }
+{
+    match (form, is_local) {
+        (Form::Text, true) => " why=\"it asked for nothing that is served\"",
+        (Form::Text, false) => {
+            " why=\"from another host it asked for nothing that is served there\""
+        }
+        (Form::Json, true) => ",\"local\":true",
+        (Form::Json, false) => ",\"local\":false",
+    }
+}
+
+// The line of a connection and a name, and more.
+fn named_line(
+    alloc: Global,
+    form: Form,
+    word: &str,
+    conn: u64,
+    name: &[u8],
+    more: &str,
+) -> Result<String, AllocError>
+    ensures { IfOk result (λ text. string_bytes text ≡ line form word.now (codes "connection") conn (name_part form name.now ++ more.now)) }
+{
+    let mut parts = name_part(alloc, form, name)?;
+    parts.push_str(more)?;
+    line(alloc, form, word, "connection", conn, &parts)
+}
+
+/// The line of an event, and nothing of one that has none.
+pub fn event_line(alloc: Global, form: Form, event: &ClientEvent) -> Result<String, AllocError>
+    ensures { IfOk result (λ text. string_bytes text ≡ event_line form event.now) }
+{
+    match event {
+        ClientEvent::Registered { conn, name, port } => {
+            let port = port_part(alloc, form, *port)?;
+            named_line(alloc, form, "registered", *conn, name.as_slice(), &port)
+        }
+        ClientEvent::Ended { conn, name } => {
+            named_line(alloc, form, "ended", *conn, name.as_slice(), "")
+        }
+        ClientEvent::Refused {
+            conn,
+            name,
+            is_taken,
+        } => {
+            let why = refusal(form, *is_taken);
+            named_line(alloc, form, "refused", *conn, name.as_slice(), why)
+        }
+        ClientEvent::Unanswered { conn, is_local } => {
+            let why = silence(form, *is_local);
+            line(alloc, form, "unanswered", "connection", *conn, why)
+        }
+        ClientEvent::MadeRoom { conn } => {
+            let word = form.spelling("made room", "made_room");
+            line(alloc, form, word, "connection", *conn, "")
+        }
+        ClientEvent::Late { count } => line(alloc, form, "late", "connections", *count, ""),
+        ClientEvent::NoMemory { conn } => {
+            let word = form.spelling("no memory", "no_memory");
+            line(alloc, form, word, "connection", *conn, "")
+        }
+        ClientEvent::LookedUp | ClientEvent::Listed => Ok(String::new(alloc)),
+    }
+}
+
+/// The line that says how many were left out.
+pub fn left_out_line(alloc: Global, form: Form, count: u64) -> Result<String, AllocError>
+    ensures { IfOk result (λ text. string_bytes text ≡ left_out_line form count) }
+{
+    let word = form.spelling("left out", "left_out");
+    line(alloc, form, word, "lines", count, "")
+}

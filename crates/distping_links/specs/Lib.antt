@@ -1,0 +1,5 @@
+pub mod Accepting
+pub mod Fronts
+pub mod Listening
+pub mod Places
+pub mod Trying

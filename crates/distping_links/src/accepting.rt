@@ -1,0 +1,306 @@
+//! The accepting side of one handshake: a node that has no other end takes what comes, and what it says is written.
+//!
+//! No sockets, no clock, and nothing is printed here. Which message is awaited, what comes up and why an end is closed is the
+//! node's. The listener itself judges two bodies: the older form of a name, and a reply where no cookie is compared.
+
+ghost use Rattle.std.specs.Prelude.{◌≡◌, IfOk, IfErr};
+ghost use Rattle.dist_messages.specs.Reading.{read};
+ghost use Rattle.dist_messages.specs.declared.message.Side.TheVariants.{Dialler};
+ghost use Rattle.distping_links.specs.Accepting.{AwaitsName, HandsOn, HearsBody, Shows, Takes, Talks, TalksOn, Writes, only, content_as, content_in};
+ghost use Rattle.distping_links.specs.Listening.{close_verdict, cut_verdict, end_verdict, fault_verdict, own_verdict, step_verdict, still_verdict};
+
+use dist_core::{Awaited, Event, Node, StepError, Still, Why};
+use dist_core_setup::Setup;
+use dist_messages::{Message, MessageError, Side, decode};
+use dist_names::ByteString;
+use dist_peers::EndId;
+use dist_probe::{Came, Peer, read_frame_of, service_of};
+use dist_stream::{Limited, Stream, TurnError};
+use distping_report::{Listen, Taken};
+use std::alloc::Global;
+
+// The tags of the dialling side: an older name, a newer one, a status, a complement, a reply. Source: ERTS User's Guide,
+// Distribution Handshake. A length counts only before one of them, as at the dialling probe.
+const TAGS: [u8; 5] = [0x6e, 0x4e, 0x73, 0x63, 0x72];
+
+/// The node's one end.
+pub const END: EndId = EndId(0);
+
+/// What a body of the dialling side says, as far as the listener looks at it.
+#[derive(Drop)]
+pub enum Content {
+    /// The newer form of a name, in which a node tells of itself.
+    Name(Peer),
+    /// The older form of a name.
+    OldName,
+    /// A reply to a challenge.
+    Reply,
+    /// Anything else, also what is no message.
+    Other,
+}
+
+/// A body that came, and what it says.
+#[derive(Drop)]
+pub struct Inbound {
+    /// The body.
+    pub body: ByteString,
+    /// What it says.
+    pub content: Content,
+}
+
+// What a message says.
+fn content_in(message: Message) -> Content
+    ensures { result ≡ content_in message }
+{
+    match message {
+        Message::NewName {
+            flags,
+            creation,
+            name,
+        } => Content::Name(Peer {
+            flags,
+            creation,
+            name,
+        }),
+        Message::OldName { .. } => Content::OldName,
+        Message::Reply { .. } => Content::Reply,
+        _ => Content::Other,
+    }
+}
+
+// ---- verdicts
+
+// The connection ended, or broke, where this was awaited.
+fn end_verdict(awaited: Option<Awaited>) -> Taken
+    ensures { result ≡ end_verdict awaited }
+{
+    match awaited {
+        Some(Awaited::Name) => Taken::NoName,
+        Some(Awaited::Reply | Awaited::Nothing) => Taken::Left,
+        _ => Taken::Unexpected,
+    }
+}
+
+// The stream gave or took no more where this was awaited.
+fn fault_verdict(awaited: Option<Awaited>, fault: TurnError) -> Taken
+    ensures { result ≡ fault_verdict awaited fault }
+{
+    match fault {
+        TurnError::Limit => Taken::Silent,
+        TurnError::Ended | TurnError::ReadFailed | TurnError::WriteFailed => end_verdict(awaited),
+    }
+}
+
+// The node closed the end for this cause.
+fn close_verdict(why: Why) -> Taken
+    ensures { result ≡ close_verdict why }
+{
+    match why {
+        Why::WrongDigest => Taken::WrongCookie,
+        _ => Taken::Unexpected,
+    }
+}
+
+// The node refused the body.
+fn step_verdict(error: StepError) -> Taken
+    ensures { result ≡ step_verdict error }
+{
+    match error {
+        StepError::NoMemory => Taken::NoMemory,
+        _ => Taken::Unexpected,
+    }
+}
+
+// How the end stands, once all that the node said was written. None where its handshake goes on.
+fn still_verdict(still: Still) -> Option<Taken>
+    ensures { result ≡ still_verdict still }
+{
+    match still {
+        Still::Up => Some(Taken::Up),
+        Still::Gone(why) => Some(close_verdict(why)),
+        Still::Pending | Still::NoSuchEnd => None,
+    }
+}
+
+// How the end stands and what it awaits, where this fault cut off what the node said.
+fn cut_verdict(still: Still, awaited: Option<Awaited>, fault: TurnError) -> Taken
+    ensures { result ≡ cut_verdict still awaited fault }
+{
+    match still {
+        Still::Up => Taken::Left,
+        Still::Gone(why) => close_verdict(why),
+        Still::Pending | Still::NoSuchEnd => fault_verdict(awaited, fault),
+    }
+}
+
+// What the listener judges itself, where this is awaited.
+fn own_verdict(compares: bool, awaited: Option<Awaited>, content: &Content) -> Option<Taken>
+    ensures { result ≡ own_verdict compares awaited content.now }
+{
+    match (content, awaited) {
+        (Content::OldName, _) => Some(Taken::Unexpected),
+        (Content::Reply, Some(Awaited::Reply)) => {
+            if compares {
+                None
+            } else {
+                Some(Taken::Answered)
+            }
+        }
+        _ => None,
+    }
+}
+
+// ---- bodies
+
+// What a body that came says.
+fn read_body(alloc: Global, body: ByteString) -> Result<Inbound, Taken>
+    ensures ok { IfOk result (λ inbound. (inbound.body ≡ body) × (inbound.content ≡ content_as (read Dialler body))) }
+    ensures err { IfErr result (λ t. t ≡ Taken.NoMemory) }
+{
+    match decode(alloc, Side::Dialler, body.as_slice()) {
+        Ok(message) => Ok(Inbound {
+            body,
+            content: content_in(message),
+        }),
+        Err(MessageError::NoMemory) => Err(Taken::NoMemory),
+        Err(_) => Ok(Inbound {
+            body,
+            content: Content::Other,
+        }),
+    }
+}
+
+/// The next body of the dialling side, or the verdict upon what stands in its place, where this is awaited. It writes nothing.
+///
+/// A body has up to 65,535 bytes. Where the byte behind a length is no tag, those three bytes alone are read.
+pub fn hear<S: Stream>(
+    alloc: Global,
+    limited: &mut Limited<'_, S>,
+    awaited: Option<Awaited>,
+) -> Result<Inbound, Taken>
+    ensures reads { IfOk result (λ inbound. inbound.content ≡ content_as (read Dialler inbound.body)) }
+    ensures hears { HearsBody awaited (S.meaning limited.old.stream.now) (S.meaning limited.new.stream.now) limited.old.left limited.new.left result }
+    ensures loan { limited.new.stream.ghost_name ≡ limited.old.stream.ghost_name }
+{
+    match read_frame_of(alloc, limited, &TAGS) {
+        Came::Body(body) => read_body(alloc, body),
+        Came::Front(front) => Err(Taken::Foreign(service_of(front))),
+        Came::Stopped(fault, _) => Err(fault_verdict(awaited, fault)),
+        Came::NoMemory => Err(Taken::NoMemory),
+    }
+}
+
+// Writes what the node says, and answers how its end then stands. None where its handshake goes on.
+fn write_text<S: Stream>(limited: &mut Limited<'_, S>, node: &Node, text: &[u8]) -> Option<Taken>
+    ensures writes { Writes text.now (only node.now)
+        (S.meaning limited.old.stream.now) (S.meaning limited.new.stream.now) limited.old.left limited.new.left result }
+    ensures loan { limited.new.stream.ghost_name ≡ limited.old.stream.ghost_name }
+{
+    match limited.write_all(text) {
+        Ok(()) => still_verdict(node.still(END)),
+        Err(fault) => Some(cut_verdict(node.still(END), node.awaits(END), fault)),
+    }
+}
+
+// Hands a body on to the node, and writes what that says. None where the node awaits more.
+fn hand_on<S: Stream>(
+    alloc: Global,
+    limited: &mut Limited<'_, S>,
+    node: &mut Node,
+    fresh: u32,
+    body: ByteString,
+) -> Option<Taken>
+    ensures hands { HandsOn fresh body node.old node.new
+        (S.meaning limited.old.stream.now) (S.meaning limited.new.stream.now) limited.old.left limited.new.left result }
+    ensures loan { limited.new.stream.ghost_name ≡ limited.old.stream.ghost_name }
+{
+    match node.step(alloc, &Event::Frame { end_: END, body }, fresh) {
+        Ok(reply) => write_text(limited, node, reply.say.as_slice()),
+        Err(error) => Some(step_verdict(error)),
+    }
+}
+
+// Judges a body, or hands it on to the node. None where the node awaits more.
+fn take<S: Stream>(
+    alloc: Global,
+    limited: &mut Limited<'_, S>,
+    node: &mut Node,
+    listen: &Listen<'_>,
+    body: ByteString,
+    content: &Content,
+) -> Option<Taken>
+    ensures takes { Takes listen.now.fresh listen.now.compares body content.now node.old node.new
+        (S.meaning limited.old.stream.now) (S.meaning limited.new.stream.now) limited.old.left limited.new.left result }
+    ensures loan { limited.new.stream.ghost_name ≡ limited.old.stream.ghost_name }
+{
+    match own_verdict(listen.compares, node.awaits(END), content) {
+        Some(taken) => Some(taken),
+        None => hand_on(alloc, limited, node, listen.fresh, body),
+    }
+}
+
+// ---- the talk
+
+/// A node of this setup, to which one connection came: it awaits the name.
+pub fn open_node(alloc: Global, setup: &Setup) -> Result<Node, StepError>
+    ensures { IfOk result (AwaitsName setup.now) }
+{
+    let Ok(setup) = setup.try_clone(alloc) else {
+        return Err(StepError::NoMemory);
+    };
+    let mut node = Node::new(alloc, setup);
+    node.step(alloc, &Event::Incoming { link: 0 }, 0)?;
+    Ok(node)
+}
+
+/// The verdict of a node that refused the connection.
+pub fn refusal_verdict(error: StepError) -> Taken
+    ensures { result ≡ step_verdict error }
+{
+    step_verdict(error)
+}
+
+// What comes of what is heard upon the challenge.
+fn continue_talk<S: Stream>(
+    alloc: Global,
+    limited: &mut Limited<'_, S>,
+    node: &mut Node,
+    listen: &Listen<'_>,
+) -> Taken
+    ensures talks { TalksOn listen.now.fresh listen.now.compares node.old node.new
+        (S.meaning limited.old.stream.now) (S.meaning limited.new.stream.now) limited.old.left limited.new.left result }
+    ensures loan { limited.new.stream.ghost_name ≡ limited.old.stream.ghost_name }
+{
+    match hear(alloc, limited, node.awaits(END)) {
+        Ok(inbound) => {
+            let Inbound { body, content } = inbound;
+            take(alloc, limited, node, listen, body, &content).unwrap_or(Taken::Unexpected)
+        }
+        Err(taken) => taken,
+    }
+}
+
+/// What comes of the first body, which says this.
+pub fn talk<S: Stream>(
+    alloc: Global,
+    limited: &mut Limited<'_, S>,
+    node: &mut Node,
+    listen: &Listen<'_>,
+    body: ByteString,
+    content: &Content,
+) -> Taken
+    // The node is one that `open_node` gave.
+    requires opened { AwaitsName listen.now.setup.now node.old }
+
+    // `hear` gave both.
+    requires content { content.now ≡ content_as (read Dialler body) }
+    ensures talks { Talks listen.now.fresh listen.now.compares body content.now node.old node.new
+        (S.meaning limited.old.stream.now) (S.meaning limited.new.stream.now) limited.old.left limited.new.left result }
+    ensures shows { Shows listen.now.setup.now listen.now.fresh listen.now.compares content.now result node.new }
+    ensures loan { limited.new.stream.ghost_name ≡ limited.old.stream.ghost_name }
+{
+    match take(alloc, limited, node, listen, body, content) {
+        Some(taken) => taken,
+        None => continue_talk(alloc, limited, node, listen),
+    }
+}

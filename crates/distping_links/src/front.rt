@@ -1,0 +1,108 @@
+//! What is taken of a port mapper's answer: its front, however much it says.
+
+ghost use Rattle.std.specs.Prelude.{◌≡◌, ◌+◌, ◌<◌, ◌≤◌, [], length, false};
+ghost use Rattle.dist_stream.specs.Stream.{Reads, heard_count};
+ghost use Rattle.distping_links.specs.Fronts.{front_meaning};
+
+use crate::dialling::Connection;
+use dist_stream::{DeadlineStream, Heard, Stream, Took};
+use std::time::{Duration, Instant};
+
+/// The most bytes that are taken of a port mapper's answer, some 2,500 names of usual length. Our own choice.
+const MOST_OF_ANSWER: usize = 65_535;
+
+/// A connection to a port mapper that ends, for who reads it, behind so many bytes. No contract says which bytes come and go.
+#[derive(Drop)]
+pub struct FrontStream {
+    stream: Connection,
+    // How many bytes are still taken.
+    left: usize,
+    // More came.
+    is_cut: bool,
+}
+
+impl FrontStream {
+    /// The front of what comes on this connection.
+    pub fn new(stream: Connection) -> FrontStream
+        ensures most { result.left ≡ 65535 }
+        ensures whole { result.is_cut ≡ false }
+    {
+        FrontStream {
+            stream,
+            left: MOST_OF_ANSWER,
+            is_cut: false,
+        }
+    }
+
+    /// When it falls quiet.
+    pub fn deadline(&self) -> Instant {
+        self.stream.deadline()
+    }
+
+    /// How long it is until then.
+    pub fn time_left(&self) -> Duration {
+        self.stream.time_left()
+    }
+
+    /// Whether more came than is taken.
+    pub fn is_cut(&self) -> bool
+        ensures { result ≡ self.now.is_cut }
+    {
+        self.is_cut
+    }
+
+    // Reads what is still taken, into as much room as that needs at most.
+    #[tactic(auto, using(crate::proofs::Fronts::reads_front))]
+    fn read_front(&mut self, room: &mut [u8]) -> Heard
+        requires some { 0 < length room.old }
+        requires room { length room.old ≤ self.old.left }
+        ensures reads { Reads (front_meaning self.old.is_cut (⟦<DeadlineStream<HostRuntime> as Stream>⟧.meaning self.old.stream))
+            (front_meaning self.new.is_cut (⟦<DeadlineStream<HostRuntime> as Stream>⟧.meaning self.new.stream)) room.new result }
+        ensures counts { heard_count result + self.new.left ≡ self.old.left }
+    {
+        let heard = self.stream.read(room);
+        if let Heard::Bytes(count) = heard {
+            self.left -= count;
+        }
+        heard
+    }
+
+    // Reads a byte behind what is taken: one that comes is left out, and is the end.
+    #[tactic(auto, using(crate::proofs::Fronts::reads_front, crate::proofs::Fronts::reads_behind))]
+    fn read_behind(&mut self) -> Heard
+        ensures reads { Reads (front_meaning self.old.is_cut (⟦<DeadlineStream<HostRuntime> as Stream>⟧.meaning self.old.stream))
+            (front_meaning self.new.is_cut (⟦<DeadlineStream<HostRuntime> as Stream>⟧.meaning self.new.stream)) [] result }
+        ensures nothing { heard_count result ≡ 0 }
+        ensures left { self.new.left ≡ self.old.left }
+    {
+        let mut room = [0u8; 1];
+        match self.stream.read(&mut room) {
+            Heard::Bytes(0) => Heard::Bytes(0),
+            Heard::Bytes(_) => {
+                self.is_cut = true;
+                Heard::Bytes(0)
+            }
+            Heard::Quiet => Heard::Quiet,
+            Heard::Failed => Heard::Failed,
+        }
+    }
+}
+
+impl Stream for FrontStream {
+    ghost meaning = { λ s. front_meaning s.is_cut (⟦<DeadlineStream<HostRuntime> as Stream>⟧.meaning s.stream) };
+
+    #[tactic(auto, using(crate::proofs::Fronts::reads_wider))]
+    fn read(&mut self, room: &mut [u8]) -> Heard {
+        let most = room.len().min(self.left);
+        if most == 0 {
+            self.read_behind()
+        } else {
+            self.read_front(&mut room[..most])
+        }
+    }
+
+    #[tactic(auto, using(crate::proofs::Fronts::writes_front))]
+    fn write(&mut self, bytes: &[u8]) -> Took {
+        self.stream.write(bytes)
+    }
+}

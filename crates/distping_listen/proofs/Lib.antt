@@ -1,2 +1,0 @@
-pub mod OneEnd
-pub mod Showing
