@@ -21,13 +21,13 @@ use Rattle.dist_world_model.specs.Lists.{at_place, first_where}
 use Rattle.dist_world_model.specs.Rows.{EndRow}
 use Rattle.dist_world_model.specs.World.{World, Life, Conn, Text, empty, runs, runs_for, running, row_at, end_at}
 use Rattle.dist_world_model.specs.Delivery.{says, conns_after_saying, spoken_on, text_to, change_to, after_delivery, body_taken}
-use Rattle.dist_world_model.specs.Happenings.{life_after, begin, tell, tell_node, new_conn, reach as happening_reach, reached_life, conn_of as wire_number, tell_opened, accept, accepted_by, next_end, is_open_end, is_nonempty, deliver, take_frame, world_after, without_closing, ticked_on, applied_at, happens}
+use Rattle.dist_world_model.specs.Happenings.{life_after, begin, notify, notify_node, new_conn, reach as happening_reach, reached_life, conn_of as wire_number, notify_opened, accept, accepted_by, next_end, is_open_end, is_nonempty, deliver, take_frame, world_after, without_closing, ticked_on, applied_at, happens}
 use Rattle.dist_world_model.proofs.Conditions.{if_there, if_ok, if_holds}
 use Rattle.dist_world_model.specs.Run.{run, one_where}
 use Rattle.dist_audit.proofs.Numbers.{eqb-self}
 use Rattle.dist_audit.specs.Audit as audit
 use Rattle.dist_audit.specs.Audit.{AllApply, AreFollowed, AreOfOneWorld, after, ComesHere, ComeHome, EachLinkComesHome}
-use Rattle.dist_audit.specs.Lines.{Told}
+use Rattle.dist_audit.specs.Lines.{NodeLine}
 use Rattle.dist_audit.specs.Links.{link_in, opens, opens_in, comes, comes_in, dialled_end, dialled_in, or_else, is_among, dialler_of, acceptor_of, target_of, conn_of, mention}
 use Rattle.dist_audit.specs.Happenings.{setups_of, begins, with_mentions, reach, reach_first, before, own}
 use Rattle.dist_audit.specs.Faults.{repeats, links_repeat, is_unopened, comes_unopened, links_unpaired}
@@ -89,8 +89,8 @@ same-refl : (w : World) → SameFrame w w
 same-refl w = record { run_same = λ j. refl; lead_same = refl }
 
 module _ (w : World) where
-  frame-told : (i : ℕ) (v : Event) (fresh : ℕ) → IfSome (tell w i v fresh) (SameFrame w)
-  frame-told i v fresh =
+  frame-noted : (i : ℕ) (v : Event) (fresh : ℕ) → IfSome (notify w i v fresh) (SameFrame w)
+  frame-noted i v fresh =
       if_there (SameFrame w) (slice_get w.lives i) _ (λ l at.
       if_holds (SameFrame w) (runs l) _ (λ live.
       if_ok (SameFrame w) (step l.node v fresh) _ (λ x is.
@@ -99,14 +99,14 @@ module _ (w : World) where
         lead_same = targets-spoken w.conns _ (let r = x.0 in r.say);
       })))
 
-  frame-node : (node : ℕ) (v : Event) → IfSome (tell_node w node v) (SameFrame w)
-  frame-node node v = if_there (SameFrame w) (running w node) _ (λ i at. frame-told i v 0)
+  frame-node : (node : ℕ) (v : Event) → IfSome (notify_node w node v) (SameFrame w)
+  frame-node node v = if_there (SameFrame w) (running w node) _ (λ i at. frame-noted i v 0)
 
-  frame-opened : (node : ℕ) (id : EndId) → IfSome (tell_opened w node id) (SameFrame w)
+  frame-opened : (node : ℕ) (id : EndId) → IfSome (notify_opened w node id) (SameFrame w)
   frame-opened node id =
       if_there (SameFrame w) (running w node) _ (λ i at.
       if_there (SameFrame w) (wire_number (row_at w i id.0)) _ (λ c on.
-      frame-told i (event.Opened id c) 0))
+      frame-noted i (event.Opened id c) 0))
 
 -- an event given in a world whose connections lead to the same
 frame-by : (w v : World) → ((j : ℕ) → running v j ≡ running w j) → targets v.conns ≡ targets w.conns → (o : Option World) → IfSome o (SameFrame v) → IfSome o (SameFrame w)
@@ -120,7 +120,7 @@ module _ (w : World) where
       if_holds (SameFrame w) (is_none x.accepted) _ (λ free.
       let first = next_end (slice_get w.lives x.target) in
       let v : World = record w { conns = at_place c (accepted_by first) w.conns } in
-      frame-by w v (λ j. refl) (targets-at c (accepted_by first) (λ k. refl) w.conns) (tell v x.target (event.Incoming c) 0) (frame-told v x.target (event.Incoming c) 0)))
+      frame-by w v (λ j. refl) (targets-at c (accepted_by first) (λ k. refl) w.conns) (notify v x.target (event.Incoming c) 0) (frame-noted v x.target (event.Incoming c) 0)))
 
   frame-deliver : (node : ℕ) (id : EndId) (n : ℕ) → IfSome (deliver w node id n) (SameFrame w)
   frame-deliver node id n =
@@ -140,7 +140,7 @@ module _ (w : World) where
       if_there (SameFrame w) (slice_get w.conns c) _ (λ x there.
       if_there (SameFrame w) (let t = text_to row.side x in first_body w16 t.come) _ (λ body first.
       let v : World = record w { conns = at_place c (change_to row.side body_taken) w.conns } in
-      frame-by w v (λ j. refl) (targets-at c (change_to row.side body_taken) (change-target row.side body_taken) w.conns) (tell v i (event.Frame id body) fresh) (frame-told v i (event.Frame id body) fresh))))))
+      frame-by w v (λ j. refl) (targets-at c (change_to row.side body_taken) (change-target row.side body_taken) w.conns) (notify v i (event.Frame id body) fresh) (frame-noted v i (event.Frame id body) fresh))))))
 
 -- ---- happenings
 
@@ -236,17 +236,17 @@ among-mention k ks = by (is_among k ks) refl
 
 -- ---- pairs of lines
 
-any-at : (test : Told → Bool) (pre ts : List Told) (t : Told) → test t ≡ true → list_any test (pre ++ t ∷ ts) ≡ true
+any-at : (test : NodeLine → Bool) (pre ts : List NodeLine) (t : NodeLine) → test t ≡ true → list_any test (pre ++ t ∷ ts) ≡ true
 any-at test [] ts t e = ap (λ b. b || list_any test ts) e
 any-at test (x ∷ pre) ts t e = elim (test x) as (λ b. (b || list_any test (pre ++ t ∷ ts)) ≡ true) [ true ↦ refl | false ↦ any-at test pre ts t e ]
 
-none-at : (test : Told → Bool) (pre ts : List Told) (t : Told) → list_any test (pre ++ t ∷ ts) ≡ false → test t ≡ false
+none-at : (test : NodeLine → Bool) (pre ts : List NodeLine) (t : NodeLine) → list_any test (pre ++ t ∷ ts) ≡ false → test t ≡ false
 none-at test pre ts t e = elim (test t) as (λ b. test t ≡ b → b ≡ false) [
   | true ↦ λ h. let f : true ≡ false = sym (any-at test pre ts t h) ∙ e in cc
   | false ↦ λ h. refl
 ] refl
 
-abbrev HasDialler : List Told → ℕ → Type 0
+abbrev HasDialler : List NodeLine → ℕ → Type 0
 HasDialler all k = (x : ℕ × EndId) × (dialler_of k all ≡ Some x)
 
 opens-dialled : (k : ℕ) (e : Event) → opens k e ≡ true → dialled_end k e ≡ None → ⊥
@@ -261,7 +261,7 @@ opens-dialled k (event.Frame id body) o n = absurd cc
 opens-dialled k (event.Lost id w) o n = absurd cc
 opens-dialled k (event.Tick id) o n = absurd cc
 
-has-dialler : (k : ℕ) (ts : List Told) → list_any (opens_in k) ts ≡ true → HasDialler ts k
+has-dialler : (k : ℕ) (ts : List NodeLine) → list_any (opens_in k) ts ≡ true → HasDialler ts k
 has-dialler k [] e = absurd cc
 has-dialler k (t ∷ ts) e = by (λ h. has-dialler k ts h) (dialled_in k t) refl
   where
@@ -291,7 +291,7 @@ comes-incoming k (event.Frame id body) o = absurd cc
 comes-incoming k (event.Lost id w) o = absurd cc
 comes-incoming k (event.Tick id) o = absurd cc
 
-acceptor-mine : (k : ℕ) (pre ts : List Told) (t : Told) → links_repeat (pre ++ t ∷ ts) ≡ false → comes_in k t ≡ true → acceptor_of k (pre ++ t ∷ ts) ≡ Some t.node
+acceptor-mine : (k : ℕ) (pre ts : List NodeLine) (t : NodeLine) → links_repeat (pre ++ t ∷ ts) ≡ false → comes_in k t ≡ true → acceptor_of k (pre ++ t ∷ ts) ≡ Some t.node
 acceptor-mine k [] ts t once c = ap (λ b. cond b (Some t.node) (acceptor_of k ts)) c
 acceptor-mine k (x ∷ pre) ts t once c = elim (comes_in k x) as (λ b. comes_in k x ≡ b → cond b (Some x.node) (acceptor_of k (pre ++ t ∷ ts)) ≡ Some t.node) [
   | true ↦ λ h.
@@ -303,30 +303,30 @@ acceptor-mine k (x ∷ pre) ts t once c = elim (comes_in k x) as (λ b. comes_in
 
 -- ---- a line
 
-abbrev home_of : List Told → ℕ → ℕ → Option (ℕ × EndId) → ℕ
+abbrev home_of : List NodeLine → ℕ → ℕ → Option (ℕ × EndId) → ℕ
 home_of all count k None = 0
 home_of all count k (Some x) = target_of count x.0 (acceptor_of k all)
 
 -- the node to which a link leads
-abbrev home : List Told → ℕ → ℕ → ℕ
+abbrev home : List NodeLine → ℕ → ℕ → ℕ
 home all count k = home_of all count k (dialler_of k all)
 
-abbrev Goes : List Told → ℕ → World → List ℕ → Type 0
+abbrev Goes : List NodeLine → ℕ → World → List ℕ → Type 0
 Goes all count w ks = Matches (running w) (home all count) ks (targets w.conns)
 
-abbrev Fine : List Told → ℕ → Event → Type 0
+abbrev Fine : List NodeLine → ℕ → Event → Type 0
 Fine all i (event.Opened id k) = HasDialler all k
 Fine all i (event.Incoming k) = HasDialler all k × (acceptor_of k all ≡ Some i)
 Fine all i _ = Unit {0}
 
-fine : (all pre ts : List Told) (t : Told) → all ≡ pre ++ t ∷ ts → links_unpaired all ≡ false → (e : Event) → (let l = t.line in l.event) ≡ e → Fine all t.node e
+fine : (all pre ts : List NodeLine) (t : NodeLine) → all ≡ pre ++ t ∷ ts → links_unpaired all ≡ false → (e : Event) → (let l = t.line in l.event) ≡ e → Fine all t.node e
 fine all pre ts t is paired (event.Opened id k) e =
     let mine : opens_in k t ≡ true = ap (opens k) e ∙ eqb-self k in
     has-dialler k all (ap (list_any (opens_in k)) is ∙ any-at (opens_in k) pre ts t mine)
 fine all pre ts t is paired (event.Incoming k) e =
     let once : links_repeat (pre ++ t ∷ ts) ≡ false = ap links_repeat (sym is) ∙ or-left (links_repeat all) (comes_unopened all) paired in
     let opened-all : comes_unopened all ≡ false = or-right (links_repeat all) (comes_unopened all) paired in
-    let test : Told → Bool = λ x. is_unopened all (let l = x.line in l.event) in
+    let test : NodeLine → Bool = λ x. is_unopened all (let l = x.line in l.event) in
     let mine : is_unopened all (event.Incoming k) ≡ false = ap (is_unopened all) (sym e) ∙ none-at test pre ts t (ap (list_any test) (sym is) ∙ opened-all) in
     let some : list_any (opens_in k) all ≡ true = elim (list_any (opens_in k) all) as (λ b. not b ≡ false → b ≡ true) [ true ↦ λ q. refl | false ↦ λ q. absurd cc ] mine in
     let here : comes_in k t ≡ true = ap (comes k) e ∙ eqb-self k in
@@ -336,10 +336,10 @@ fine all pre ts t is paired (event.Frame id body) e = tt
 fine all pre ts t is paired (event.Lost id w) e = tt
 fine all pre ts t is paired (event.Tick id) e = tt
 
-goes-frame : (all : List Told) (count : ℕ) (w x : World) (ks : List ℕ) → SameFrame w x → Goes all count w ks → Goes all count x ks
+goes-frame : (all : List NodeLine) (count : ℕ) (w x : World) (ks : List ℕ) → SameFrame w x → Goes all count w ks → Goes all count x ks
 goes-frame all count w x ks f g = subst (λ ps. Matches (running x) (home all count) ks ps) (sym f.lead_same) (matches-same (running w) (running x) (home all count) f.run_same ks (targets w.conns) g)
 
-goes-ready : (all : List Told) (count : ℕ) (w : World) (ks : List ℕ) (k : ℕ) (x : ℕ × EndId) → dialler_of k all ≡ Some x → (b : Bool) → Goes all count w ks
+goes-ready : (all : List NodeLine) (count : ℕ) (w : World) (ks : List ℕ) (k : ℕ) (x : ℕ × EndId) → dialler_of k all ≡ Some x → (b : Bool) → Goes all count w ks
     → AllApply (option_to_list (cond b None (reach all count k (Some x)))) w → Goes all count (run (option_to_list (cond b None (reach all count k (Some x)))) w) (cond b ks (ks ++ k ∷ []))
 goes-ready all count w ks k x e true g a = g
 goes-ready all count w ks k x e false g a =
@@ -349,10 +349,10 @@ goes-ready all count w ks k x e false g a =
     let here : running v (home all count k) ≡ Some l.place = l.run_same (home all count k) ∙ (ap (λ o. running w (home_of all count k o)) e ∙ l.runs_there) in
     subst (λ ps. Matches (running v) (home all count) (ks ++ k ∷ []) ps) (sym l.lead_more) (matches-more (running v) (home all count) k l.place here ks (targets w.conns) (matches-same (running w) (running v) (home all count) l.run_same ks (targets w.conns) g))
 
-goes-first : (all : List Told) (count : ℕ) (w : World) (ks : List ℕ) (k : ℕ) → HasDialler all k → Goes all count w ks → AllApply (option_to_list (reach_first all count ks k)) w → Goes all count (run (option_to_list (reach_first all count ks k)) w) (mention ks (Some k))
+goes-first : (all : List NodeLine) (count : ℕ) (w : World) (ks : List ℕ) (k : ℕ) → HasDialler all k → Goes all count w ks → AllApply (option_to_list (reach_first all count ks k)) w → Goes all count (run (option_to_list (reach_first all count ks k)) w) (mention ks (Some k))
 goes-first all count w ks k d g = subst (λ o. AllApply (option_to_list (cond (is_among k ks) None (reach all count k o))) w → Goes all count (run (option_to_list (cond (is_among k ks) None (reach all count k o))) w) (mention ks (Some k))) (sym d.1) (goes-ready all count w ks k d.0 d.1 (is_among k ks) g)
 
-line-goes : (all : List Told) (count : ℕ) (w : World) (ks : List ℕ) (i : ℕ) (e : Event) (fresh : ℕ) → Fine all i e → Goes all count w ks → AllApply (option_to_list (before all count ks i e)) w
+line-goes : (all : List NodeLine) (count : ℕ) (w : World) (ks : List ℕ) (i : ℕ) (e : Event) (fresh : ℕ) → Fine all i e → Goes all count w ks → AllApply (option_to_list (before all count ks i e)) w
     → ComesHere (run (option_to_list (before all count ks i e)) w) (mention ks (link_in e)) i e × Goes all count (run (own (mention ks (link_in e)) i e fresh ∷ []) (run (option_to_list (before all count ks i e)) w)) (mention ks (link_in e))
 line-goes all count w ks i (event.Dial p o) fresh f g a = (tt, goes-frame all count w _ ks (frame-happens w (happening.Dial i p o) (frame-node (without_closing w) i (event.Dial p o))) g)
 line-goes all count w ks i (event.Opened id k) fresh f g a =
@@ -377,7 +377,7 @@ line-goes all count w ks i (event.Tick id) fresh f g a = (tt, goes-frame all cou
 
 -- ---- ALL LINES
 
-come-home : (all : List Told) (count : ℕ) (ks : List ℕ) (w : World) (pre ts : List Told) → all ≡ pre ++ ts → links_unpaired all ≡ false → Goes all count w ks → AreFollowed all count ks w ts → ComeHome all count ks w ts
+come-home : (all : List NodeLine) (count : ℕ) (ks : List ℕ) (w : World) (pre ts : List NodeLine) → all ≡ pre ++ ts → links_unpaired all ≡ false → Goes all count w ks → AreFollowed all count ks w ts → ComeHome all count ks w ts
 come-home all count ks w pre [] is paired g f = tt
 come-home all count ks w pre (t ∷ ts) is paired g f =
     let h = f.0 in
@@ -408,7 +408,7 @@ conns-begins w i (s ∷ ss) =
     by false = tt
 
 -- in histories of one world each link comes to the node of its line
-pub all-come-home : (cs : List Closed) (all : List Told) → links_unpaired all ≡ false → AreOfOneWorld cs all → EachLinkComesHome cs all
+pub all-come-home : (cs : List Closed) (all : List NodeLine) → links_unpaired all ≡ false → AreOfOneWorld cs all → EachLinkComesHome cs all
 all-come-home cs all paired f =
     let none : targets (let x = audit.world_before_lines cs in x.conns) ≡ [] = ap targets (conns-begins (empty (setups_of cs)) 0 (setups_of cs)) in
     come-home all (length cs) [] (audit.world_before_lines cs) [] all refl paired (subst (λ ps. Matches (running (audit.world_before_lines cs)) (home all (length cs)) [] ps) (sym none) tt) f.followed

@@ -6,7 +6,7 @@ use Rattle.std.specs.BTreeMap.{BTreeMap, get}
 use Rattle.dist_peers.specs.declared.entry.EndId.{EndId}
 use Rattle.dist_core.specs.declared.event.Event.{Event}
 use Rattle.dist_core.specs.declared.event.Event.TheVariants as event
-use Rattle.dist_audit.specs.Lines.{Told}
+use Rattle.dist_audit.specs.Lines.{NodeLine}
 use Rattle.dist_audit.specs.Links.{opens, opens_in, comes_in, dialled_end, dialled_in, or_else, dialler_of, acceptor_of}
 use Rattle.dist_audit.specs.Faults.{repeats, links_repeat, is_unopened, comes_unopened}
 use Rattle.dist_audit.specs.Kept.{Knows, is_again, is_unknown}
@@ -29,15 +29,15 @@ some-cond : (b : Bool) (n : ℕ) (o : Option ℕ) → is_some (cond b (Some n) o
 some-cond true n o = refl
 some-cond false n o = refl
 
-has-dialler : (k : ℕ) (ts : List Told) → is_some (dialler_of k ts) ≡ list_any (opens_in k) ts
+has-dialler : (k : ℕ) (ts : List NodeLine) → is_some (dialler_of k ts) ≡ list_any (opens_in k) ts
 has-dialler k [] = refl
 has-dialler k (t ∷ ts) = some-or t.node (dialled_in k t) (dialler_of k ts) ∙ (λ i. opened-is k (let l = t.line in l.event) i || has-dialler k ts i)
 
-has-acceptor : (k : ℕ) (ts : List Told) → is_some (acceptor_of k ts) ≡ list_any (comes_in k) ts
+has-acceptor : (k : ℕ) (ts : List NodeLine) → is_some (acceptor_of k ts) ≡ list_any (comes_in k) ts
 has-acceptor k [] = refl
 has-acceptor k (t ∷ ts) = some-cond (comes_in k t) t.node (acceptor_of k ts) ∙ ap (λ b. comes_in k t || b) (has-acceptor k ts)
 
-module _ (d : BTreeMap ℕ (ℕ × EndId)) (a : BTreeMap ℕ ℕ) (ts : List Told) (h : Knows d a ts) where
+module _ (d : BTreeMap ℕ (ℕ × EndId)) (a : BTreeMap ℕ ℕ) (ts : List NodeLine) (h : Knows d a ts) where
   pub again-is : (e : Event) → is_again d a e ≡ repeats e ts
   again-is (event.Dial p o) = refl
   again-is (event.Opened id j) = ap (λ (o : Option (ℕ × EndId)). is_some o) (h.dialled j) ∙ has-dialler j ts
@@ -55,17 +55,17 @@ module _ (d : BTreeMap ℕ (ℕ × EndId)) (a : BTreeMap ℕ ℕ) (ts : List Tol
   unknown-is (event.Tick id) = refl
 
 -- what no dialler is known of is what was not opened
-pub all_unknown : (d : BTreeMap ℕ (ℕ × EndId)) (a : BTreeMap ℕ ℕ) (ts : List Told) → Knows d a ts → list_any (λ (t : Told). is_unknown d (let l = t.line in l.event)) ts ≡ comes_unopened ts
-all_unknown d a ts h = any-same (λ (t : Told). is_unknown d (let l = t.line in l.event)) (λ (t : Told). is_unopened ts (let l = t.line in l.event)) (λ t. unknown-is d a ts h (let l = t.line in l.event)) ts
+pub all_unknown : (d : BTreeMap ℕ (ℕ × EndId)) (a : BTreeMap ℕ ℕ) (ts : List NodeLine) → Knows d a ts → list_any (λ (t : NodeLine). is_unknown d (let l = t.line in l.event)) ts ≡ comes_unopened ts
+all_unknown d a ts h = any-same (λ (t : NodeLine). is_unknown d (let l = t.line in l.event)) (λ (t : NodeLine). is_unopened ts (let l = t.line in l.event)) (λ t. unknown-is d a ts h (let l = t.line in l.event)) ts
 
 -- what is true of a part of the lines is true of all
-repeat-drop : (i : ℕ) (ts : List Told) → links_repeat (drop i ts) ≡ true → links_repeat ts ≡ true
+repeat-drop : (i : ℕ) (ts : List NodeLine) → links_repeat (drop i ts) ≡ true → links_repeat ts ≡ true
 repeat-drop zero ts e = e
 repeat-drop (suc i) [] e = e
 repeat-drop (suc i) (t ∷ ts) e = ap (λ b. repeats (let l = t.line in l.event) ts || b) (repeat-drop i ts e) ∙ or-true (repeats (let l = t.line in l.event) ts)
 
 -- what the lines from number j on say is known, and no link of them stands twice
-module _ (all : List Told) (j : ℕ) (t : Told) (d : BTreeMap ℕ (ℕ × EndId)) (a : BTreeMap ℕ ℕ) (pos : 0 < j) (few : j ≤ length all) (is : t ≡ get_or all (j - 1) t) (h : Knows d a (drop j all)) where
+module _ (all : List NodeLine) (j : ℕ) (t : NodeLine) (d : BTreeMap ℕ (ℕ × EndId)) (a : BTreeMap ℕ ℕ) (pos : 0 < j) (few : j ≤ length all) (is : t ≡ get_or all (j - 1) t) (h : Knows d a (drop j all)) where
   split : drop (j - 1) all ≡ t ∷ drop j all
   split =
       let few_too : j - 1 < length all = omega arith in
@@ -78,13 +78,13 @@ module _ (all : List Told) (j : ℕ) (t : Told) (d : BTreeMap ℕ (ℕ × EndId)
         dialled = λ k. dialled_end k ∙ ap (λ (o : Option (ℕ × EndId)). or_else t.node (dialled_in k t) o) (h.dialled k);
         came = λ k. came k ∙ ap (λ (o : Option ℕ). cond (comes_in k t) (Some t.node) o) (h.came k);
       } in
-      subst (λ (ts : List Told). Knows e b ts) (sym split) at
+      subst (λ (ts : List NodeLine). Knows e b ts) (sym split) at
 
   module _ (once : links_repeat (drop j all) ≡ false) (b : Bool) (again : b ≡ is_again d a (let l = t.line in l.event)) where
     pub repeat_part : links_repeat (drop (j - 1) all) ≡ b
     repeat_part =
         let theirs : repeats (let l = t.line in l.event) (drop j all) ≡ b = sym (again-is d a (drop j all) h (let l = t.line in l.event)) ∙ sym again in
-        ap (λ (ts : List Told). links_repeat ts) split ∙ ((λ i. theirs i || once i) ∙ or-false b)
+        ap (λ (ts : List NodeLine). links_repeat ts) split ∙ ((λ i. theirs i || once i) ∙ or-false b)
 
     pub repeat_found : b ≡ true → links_repeat all ≡ true
     repeat_found e = repeat-drop (j - 1) all (repeat_part ∙ e)

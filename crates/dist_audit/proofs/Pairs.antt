@@ -6,16 +6,16 @@ use Rattle.std.proofs.lemmas.List.Sorted.{list_any-IsPermutation, IsPermutation-
 use Rattle.std.proofs.lemmas.Map.Keys.{IsDistinct-head, IsDistinct-tail, IsDistinct-cons, IsDistinct-IsPermutation}
 use Rattle.dist_core.specs.declared.event.Event.{Event}
 use Rattle.dist_core.specs.declared.event.Event.TheVariants as event
-use Rattle.dist_audit.specs.Lines.{Told}
+use Rattle.dist_audit.specs.Lines.{NodeLine}
 use Rattle.dist_audit.specs.Links.{opens, comes, opens_in}
 use Rattle.dist_audit.specs.Faults.{repeats, links_repeat, is_unopened, comes_unopened, links_unpaired}
 use Rattle.dist_audit.proofs.Either.{any-same, left-false, right-false, distinct-none}
 use Rattle.dist_audit.proofs.Sorting.{flips}
 
-abbrev event_of : Told → Event
+abbrev event_of : NodeLine → Event
 event_of t = let l = t.line in l.event
 
--- the second tells of the link of the first, as the first does
+-- the second speaks of the link of the first, as the first does
 abbrev same-link : Event → Event → Bool
 same-link (event.Opened id k) e = opens k e
 same-link (event.Incoming k) e = comes k e
@@ -59,24 +59,24 @@ same-link-flips (event.Tick id) (event.Frame ie c) = refl
 same-link-flips (event.Tick id) (event.Lost ie z) = refl
 same-link-flips (event.Tick id) (event.Tick ie) = refl
 
-abbrev again : Told → Told → Bool
+abbrev again : NodeLine → NodeLine → Bool
 again t u = same-link (event_of t) (event_of u)
 
 -- ---- one test of all
 
-none-is : (p : Told → Bool) → ((u : Told) → p u ≡ false) → (ts : List Told) → list_any p ts ≡ false
+none-is : (p : NodeLine → Bool) → ((u : NodeLine) → p u ≡ false) → (ts : List NodeLine) → list_any p ts ≡ false
 none-is p h [] = refl
 none-is p h (t ∷ ts) = (λ i. h t i || none-is p h ts i)
 
-all-false : (p : Told → Bool) (ts : List Told) → list_any p ts ≡ false → AllByRecursion (λ u. p u ≡ false) ts
+all-false : (p : NodeLine → Bool) (ts : List NodeLine) → list_any p ts ≡ false → AllByRecursion (λ u. p u ≡ false) ts
 all-false p [] e = tt
 all-false p (t ∷ ts) e = (left-false (p t) (list_any p ts) e, all-false p ts (right-false (p t) (list_any p ts) e))
 
-any-false : (p : Told → Bool) (ts : List Told) → AllByRecursion (λ u. p u ≡ false) ts → list_any p ts ≡ false
+any-false : (p : NodeLine → Bool) (ts : List NodeLine) → AllByRecursion (λ u. p u ≡ false) ts → list_any p ts ≡ false
 any-false p [] h = refl
 any-false p (t ∷ ts) h = (λ i. h.0 i || any-false p ts h.1 i)
 
-repeats-any : (e : Event) (ts : List Told) → repeats e ts ≡ list_any (λ u. same-link e (event_of u)) ts
+repeats-any : (e : Event) (ts : List NodeLine) → repeats e ts ≡ list_any (λ u. same-link e (event_of u)) ts
 repeats-any (event.Dial p o) ts = sym (none-is (λ u. false) (λ u. refl) ts)
 repeats-any (event.Opened id k) ts = refl
 repeats-any (event.Incoming k) ts = refl
@@ -86,20 +86,20 @@ repeats-any (event.Tick id) ts = sym (none-is (λ u. false) (λ u. refl) ts)
 
 -- ---- no link stands twice
 
-links-differ : (ts : List Told) → links_repeat ts ≡ false → IsDistinct again ts
+links-differ : (ts : List NodeLine) → links_repeat ts ≡ false → IsDistinct again ts
 links-differ [] e = distinct-none again
 links-differ (t ∷ ts) e =
     IsDistinct-cons again t ts
     (all-false (again t) ts (sym (repeats-any (event_of t) ts) ∙ left-false (repeats (event_of t) ts) (links_repeat ts) e))
     (links-differ ts (right-false (repeats (event_of t) ts) (links_repeat ts) e))
 
-none-repeats : (ts : List Told) → IsDistinct again ts → links_repeat ts ≡ false
+none-repeats : (ts : List NodeLine) → IsDistinct again ts → links_repeat ts ≡ false
 none-repeats [] d = refl
 none-repeats (t ∷ ts) d =
     let here : repeats (event_of t) ts ≡ false = repeats-any (event_of t) ts ∙ any-false (again t) ts (IsDistinct-head again t ts d) in
     (λ i. here i || none-repeats ts (IsDistinct-tail again t ts d) i)
 
-not-repeat : (xs ys : List Told) → IsPermutation xs ys → links_repeat xs ≡ false → links_repeat ys ≡ false
+not-repeat : (xs ys : List NodeLine) → IsPermutation xs ys → links_repeat xs ≡ false → links_repeat ys ≡ false
 not-repeat xs ys p e = none-repeats ys (IsDistinct-IsPermutation again (λ t u. same-link-flips (event_of t) (event_of u)) xs ys p (links-differ xs e))
 
 both-or-none : (a b : Bool) → (a ≡ false → b ≡ false) → (b ≡ false → a ≡ false) → a ≡ b
@@ -110,7 +110,7 @@ both-or-none false false f g = refl
 
 -- ---- in whatever order
 
-unopened-alike : (xs ys : List Told) → IsPermutation xs ys → (e : Event) → is_unopened xs e ≡ is_unopened ys e
+unopened-alike : (xs ys : List NodeLine) → IsPermutation xs ys → (e : Event) → is_unopened xs e ≡ is_unopened ys e
 unopened-alike xs ys p (event.Dial q o) = refl
 unopened-alike xs ys p (event.Opened id k) = refl
 unopened-alike xs ys p (event.Incoming k) = ap not (list_any-IsPermutation (opens_in k) xs ys p)
@@ -118,13 +118,13 @@ unopened-alike xs ys p (event.Frame id b) = refl
 unopened-alike xs ys p (event.Lost id y) = refl
 unopened-alike xs ys p (event.Tick id) = refl
 
-comes-alike : (xs ys : List Told) → IsPermutation xs ys → comes_unopened xs ≡ comes_unopened ys
+comes-alike : (xs ys : List NodeLine) → IsPermutation xs ys → comes_unopened xs ≡ comes_unopened ys
 comes-alike xs ys p =
     list_any-IsPermutation (λ t. is_unopened xs (event_of t)) xs ys p
     ∙ any-same (λ t. is_unopened xs (event_of t)) (λ t. is_unopened ys (event_of t)) (λ t. unopened-alike xs ys p (event_of t)) ys
 
 -- lines in another order have links in pairs or not all the same
-pub unpaired-alike : (xs ys : List Told) → IsPermutation xs ys → links_unpaired xs ≡ links_unpaired ys
+pub unpaired-alike : (xs ys : List NodeLine) → IsPermutation xs ys → links_unpaired xs ≡ links_unpaired ys
 unpaired-alike xs ys p =
     let repeat : links_repeat xs ≡ links_repeat ys = both-or-none (links_repeat xs) (links_repeat ys) (not-repeat xs ys p) (not-repeat ys xs (IsPermutation-sym xs ys p)) in
     (λ i. repeat i || comes-alike xs ys p i)

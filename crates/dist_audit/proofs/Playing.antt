@@ -3,11 +3,11 @@ use Rattle.std.proofs.Common.{None, ◌≡◌, false, IsTrue, List, [], length, 
 use Rattle.dist_locked_book.specs.declared.closing.Closed.{Closed}
 use Rattle.dist_world_model.specs.World.{World, empty}
 use Rattle.dist_world_model.specs.Run.{run}
-use Rattle.dist_audit.specs.Lines.{Told, lines_by_node, AreLinesOf}
+use Rattle.dist_audit.specs.Lines.{NodeLine, lines_by_node, AreLinesOf}
 use Rattle.dist_audit.specs.Happenings.{setups_of, begins, of_lines}
 use Rattle.dist_audit.specs.declared.audit_error.AuditError.{AuditError}
 use Rattle.dist_audit.specs.declared.audit_error.AuditError.TheVariants as error
-use Rattle.dist_audit.specs.Audit.{AllApply, AreFollowed, HasTables, AreOfOneWorld, AreRefused, Refutes, StopsAt, Tells, TellsFirst, UnlessShort, world_before_lines, world_of, IsWorldOf}
+use Rattle.dist_audit.specs.Audit.{AllApply, AreFollowed, HasTables, AreOfOneWorld, AreRefused, Refutes, StopsAt, Reports, ReportsFirst, UnlessShort, world_before_lines, world_of, IsWorldOf}
 use Rattle.dist_audit.specs.Faults.{fault_of, links_unpaired, IsFault}
 use Rattle.dist_audit.proofs.Walking.{run-append, unless-more, all-apply}
 use Rattle.dist_audit.proofs.Beginning.{all-begin}
@@ -21,7 +21,7 @@ use Rattle.dist_audit.proofs.Unchanged.{KeepsSetups, own-digests, own-setups}
 pub has-begun : (cs : List Closed) (first : World) → first ≡ empty (setups_of cs) → fault_of cs ≡ None → AllApply (begins 0 first.setups) first
 has-begun cs first opening none = subst (λ (w : World). AllApply (begins 0 w.setups) w) (sym opening) (all-begin (setups_of cs) (few-nodes cs none))
 
-module _ (cs : List Closed) (first second last : World) (lines : List Told) (opening : first ≡ empty (setups_of cs)) (began : second ≡ run (begins 0 first.setups) first) where
+module _ (cs : List Closed) (first second last : World) (lines : List NodeLine) (opening : first ≡ empty (setups_of cs)) (began : second ≡ run (begins 0 first.setups) first) where
   -- the world once all nodes began
   has_begun : second ≡ world_before_lines cs
   has_begun = began ∙ ap (λ (w : World). run (begins 0 w.setups) w) opening
@@ -54,7 +54,7 @@ module _ (cs : List Closed) (first second last : World) (lines : List Told) (ope
   other-tables played f unlike = inr (followed-all f, λ tables. let e : IsTrue false = unlike (subst (λ (w : World). HasTables w cs) (sym (is_played played)) tables) in cc)
 
 -- the first fault of the histories by themselves
-pub fault-first : (e : AuditError) (cs : List Closed) → IsFault e cs → TellsFirst e cs
+pub fault-first : (e : AuditError) (cs : List Closed) → IsFault e cs → ReportsFirst e cs
 fault-first error.NoMemory cs h = tt
 fault-first error.NotSent cs h = absurd h
 fault-first error.OtherReply cs h = absurd h
@@ -63,7 +63,7 @@ fault-first error.TicketTwice cs h = tt
 fault-first error.Unpaired cs h = tt
 
 -- what was refused of the lines in the order of their tickets
-pub play-first : (e : AuditError) (cs : List Closed) (ts : List Told) → AreLinesOf cs ts → UnlessShort e (AreRefused e cs ts) → TellsFirst e cs
+pub play-first : (e : AuditError) (cs : List Closed) (ts : List NodeLine) → AreLinesOf cs ts → UnlessShort e (AreRefused e cs ts) → ReportsFirst e cs
 play-first error.NoMemory cs ts all h = tt
 play-first error.NotSent cs ts all h = (ts, all, h)
 play-first error.OtherReply cs ts all h = (ts, all, h)
@@ -71,16 +71,16 @@ play-first error.TicketFalls cs ts all h = tt
 play-first error.TicketTwice cs ts all h = tt
 play-first error.Unpaired cs ts all h = tt
 
-pub play-tells : (e : AuditError) (cs : List Closed) (ts : List Told) → AreLinesOf cs ts → fault_of cs ≡ None → Refutes e (AreOfOneWorld cs ts) → Tells e cs
-play-tells error.NoMemory cs ts all none h = tt
-play-tells error.NotSent cs ts all none h = (none, (ts, all, h))
-play-tells error.OtherReply cs ts all none h = (none, (ts, all, h))
-play-tells error.TicketFalls cs ts all none h = absurd h
-play-tells error.TicketTwice cs ts all none h = absurd h
-play-tells error.Unpaired cs ts all none h = absurd h
+pub play-reports : (e : AuditError) (cs : List Closed) (ts : List NodeLine) → AreLinesOf cs ts → fault_of cs ≡ None → Refutes e (AreOfOneWorld cs ts) → Reports e cs
+play-reports error.NoMemory cs ts all none h = tt
+play-reports error.NotSent cs ts all none h = (none, (ts, all, h))
+play-reports error.OtherReply cs ts all none h = (none, (ts, all, h))
+play-reports error.TicketFalls cs ts all none h = absurd h
+play-reports error.TicketTwice cs ts all none h = absurd h
+play-reports error.Unpaired cs ts all none h = absurd h
 
 -- the lines were played in the order of their tickets, and the histories have no fault
-pub plays-up : FramesAlone → KeepsSetups → (cs : List Closed) (w : World) → fault_of cs ≡ None → (ts : List Told) × AreLinesOf cs ts × (w ≡ world_of cs ts) × AreOfOneWorld cs ts → IsWorldOf cs w
+pub plays-up : FramesAlone → KeepsSetups → (cs : List Closed) (w : World) → fault_of cs ≡ None → (ts : List NodeLine) × AreLinesOf cs ts × (w ≡ world_of cs ts) × AreOfOneWorld cs ts → IsWorldOf cs w
 plays-up alone keeps cs w none p =
     let ts = p.0 in
     let all = p.1 in

@@ -22,12 +22,12 @@ use Rattle.dist_world_model.specs.World.{World, Conn, Text, empty, runs, running
 use Rattle.dist_world_model.specs.Delivery.{says, conns_after_saying, spoken_on, text_to, change_to, after_delivery, body_taken}
 use Rattle.dist_world_lives.specs.Stepping.{wire_of}
 use Rattle.dist_world.specs.Asking.{said_to, undelivered_text}
-use Rattle.dist_world_model.specs.Happenings.{◌>>◌, tell, tell_node, new_conn, reach as happening_reach, conn_of, tell_opened, accept, accepted_by, next_end, begin, is_open_end, is_nonempty, world_after, without_closing, ticked_on, applied_at, happens}
+use Rattle.dist_world_model.specs.Happenings.{◌>>◌, notify, notify_node, new_conn, reach as happening_reach, conn_of, notify_opened, accept, accepted_by, next_end, begin, is_open_end, is_nonempty, world_after, without_closing, ticked_on, applied_at, happens}
 use Rattle.dist_world_model.proofs.Conditions.{if_there, if_ok, if_holds, there}
 use Rattle.dist_world_model.specs.Run.{run, one_where}
 use Rattle.dist_audit.specs.Audit as audit
 use Rattle.dist_audit.specs.Audit.{AllApply, BeginsWith, Says, IsNext, come_of, IsFront, TakeTheirs, AreFollowed, AreOfOneWorld, after}
-use Rattle.dist_audit.specs.Lines.{Told}
+use Rattle.dist_audit.specs.Lines.{NodeLine}
 use Rattle.dist_audit.specs.Happenings.{setups_of, begins, with_mentions, reach, reach_first, before, own}
 use Rattle.dist_audit.specs.Links.{is_among, dialler_of, acceptor_of, target_of, conn_of as number_of}
 
@@ -83,15 +83,15 @@ quiet-spoken ks None s h = h
 quiet-spoken ks (Some row) s h = quiet-on ks row.conn row.side s h
 
 module _ (w : World) (h : QuietIn w) where
-  quiet-told : (i : ℕ) (v : Event) (fresh : ℕ) → IfSome (tell w i v fresh) QuietIn
-  quiet-told i v fresh =
+  quiet-noted : (i : ℕ) (v : Event) (fresh : ℕ) → IfSome (notify w i v fresh) QuietIn
+  quiet-noted i v fresh =
       if_there QuietIn (slice_get w.lives i) _ (λ l at.
       if_holds QuietIn (runs l) _ (λ live.
       if_ok QuietIn (step l.node v fresh) _ (λ x is.
       quiet-spoken w.conns _ (let r = x.0 in r.say) h)))
 
-  quiet-node : (node : ℕ) (v : Event) → IfSome (tell_node w node v) QuietIn
-  quiet-node node v = if_there QuietIn (running w node) _ (λ i at. quiet-told i v 0)
+  quiet-node : (node : ℕ) (v : Event) → IfSome (notify_node w node v) QuietIn
+  quiet-node node v = if_there QuietIn (running w node) _ (λ i at. quiet-noted i v 0)
 
   quiet-reached : (node : ℕ) (id : EndId) (target : ℕ) → IfSome (happening_reach w node id target) QuietIn
   quiet-reached node id target =
@@ -100,18 +100,18 @@ module _ (w : World) (h : QuietIn w) where
       if_holds QuietIn (is_dialing (end_at w i id.0) && is_none (conn_of (row_at w i id.0)) && ltb (length w.conns) 1048576) _ (λ free.
       quiet-more w.conns (new_conn i id.0 j) h (refl, refl))))
 
-  quiet-opened : (node : ℕ) (id : EndId) → IfSome (tell_opened w node id) QuietIn
+  quiet-opened : (node : ℕ) (id : EndId) → IfSome (notify_opened w node id) QuietIn
   quiet-opened node id =
       if_there QuietIn (running w node) _ (λ i at.
       if_there QuietIn (conn_of (row_at w i id.0)) _ (λ c on.
-      quiet-told i (event.Opened id c) 0))
+      quiet-noted i (event.Opened id c) 0))
 
 quiet-accepted : (w : World) → QuietIn w → (c : ℕ) → IfSome (accept w c) QuietIn
 quiet-accepted w h c =
     if_there QuietIn (slice_get w.conns c) _ (λ x at.
     if_holds QuietIn (is_none x.accepted) _ (λ free.
     let first = next_end (slice_get w.lives x.target) in
-    quiet-told (record w { conns = at_place c (accepted_by first) w.conns }) (quiet-at c (accepted_by first) (λ k q. q) w.conns h) x.target (event.Incoming c) 0))
+    quiet-noted (record w { conns = at_place c (accepted_by first) w.conns }) (quiet-at c (accepted_by first) (λ k q. q) w.conns h) x.target (event.Incoming c) 0))
 
 -- ---- happenings that apply
 
@@ -242,7 +242,7 @@ module _ (alone : FramesAlone) (w : World) (i : ℕ) (id : EndId) (body : List �
   abbrev v : World
   v = record (without_closing z) { conns = at_place s.conn (change_to (let r = s.row in r.side) body_taken) z.conns }
 
-  takes : (fresh : ℕ) → world_after (without_closing z) (happening.Take i id fresh) ≡ tell v s.place (event.Frame id body) fresh
+  takes : (fresh : ℕ) → world_after (without_closing z) (happening.Take i id fresh) ≡ notify v s.place (event.Frame id body) fresh
   takes fresh =
       there (running w i) s.place _ s.runs_at
       ∙ (there (row_at w s.place id.0) s.row _ s.beside
@@ -256,24 +256,24 @@ module _ (alone : FramesAlone) (w : World) (i : ℕ) (id : EndId) (body : List �
       (ap (after_first w16) (comes-whole (text_to (let r = s.row in r.side) s.there) body s.rest (quiet-text (let r = s.row in r.side) s.there (quiet-get w.conns s.conn s.there s.at h)) s.said) ∙ alone.behind body few)) h
 
   quiet-takes : (fresh : ℕ) → AllApply (happening.Take i id fresh ∷ []) z → QuietIn (happens z (happening.Take i id fresh))
-  quiet-takes fresh a = quiet-happens z (happening.Take i id fresh) (subst (λ (o : Option World). IfSome o QuietIn) (sym (takes fresh)) (quiet-told v quiet-v s.place (event.Frame id body) fresh)) a
+  quiet-takes fresh a = quiet-happens z (happening.Take i id fresh) (subst (λ (o : Option World). IfSome o QuietIn) (sym (takes fresh)) (quiet-noted v quiet-v s.place (event.Frame id body) fresh)) a
 
 -- ---- ONE LINE: its very body is at the front, and afterwards nothing is left
 
 abbrev pub Leaves : World → ℕ → Event → World → Type 0
 Leaves w i e x = IsFront w i e × QuietIn x
 
-quiet-reach : (w : World) → QuietIn w → (all : List Told) (count k : ℕ) (o : Option (ℕ × EndId)) → AllApply (option_to_list (reach all count k o)) w → QuietIn (run (option_to_list (reach all count k o)) w)
+quiet-reach : (w : World) → QuietIn w → (all : List NodeLine) (count k : ℕ) (o : Option (ℕ × EndId)) → AllApply (option_to_list (reach all count k o)) w → QuietIn (run (option_to_list (reach all count k o)) w)
 quiet-reach w h all count k None a = h
 quiet-reach w h all count k (Some x) a =
     let t = target_of count x.0 (acceptor_of k all) in
     quiet-happens w (happening.Reach x.0 x.1 t) (quiet-reached (without_closing w) h x.0 x.1 t) a
 
-quiet-first : (w : World) → QuietIn w → (all : List Told) (count k : ℕ) (b : Bool) → AllApply (option_to_list (cond b None (reach all count k (dialler_of k all)))) w → QuietIn (run (option_to_list (cond b None (reach all count k (dialler_of k all)))) w)
+quiet-first : (w : World) → QuietIn w → (all : List NodeLine) (count k : ℕ) (b : Bool) → AllApply (option_to_list (cond b None (reach all count k (dialler_of k all)))) w → QuietIn (run (option_to_list (cond b None (reach all count k (dialler_of k all)))) w)
 quiet-first w h all count k true a = h
 quiet-first w h all count k false a = quiet-reach w h all count k (dialler_of k all) a
 
-pub line-leaves : FramesAlone → (w : World) → QuietIn w → (all : List Told) (count : ℕ) (ks js : List ℕ) (i : ℕ) (e : Event) (fresh : ℕ)
+pub line-leaves : FramesAlone → (w : World) → QuietIn w → (all : List NodeLine) (count : ℕ) (ks js : List ℕ) (i : ℕ) (e : Event) (fresh : ℕ)
     → IsNext w i e → AllApply (option_to_list (before all count ks i e)) w → AllApply (own js i e fresh ∷ []) (run (option_to_list (before all count ks i e)) w)
     → Leaves (run (option_to_list (before all count ks i e)) w) i e (run (own js i e fresh ∷ []) (run (option_to_list (before all count ks i e)) w))
 line-leaves alone w h all count ks js i (event.Dial p o) fresh n a b = (tt, quiet-happens w (happening.Dial i p o) (quiet-node (without_closing w) h i (event.Dial p o)) b)
@@ -312,7 +312,7 @@ quiet-begins w i (s ∷ ss) h =
     let q = at-clock w e QuietIn (quiet-begun (without_closing w) i s.creation h) in
     quiet-begins (happens w e) (suc i) ss (stays-quiet w h (applied_at w e) q)
 
-take-theirs : FramesAlone → (all : List Told) (count : ℕ) (ks : List ℕ) (w : World) (ts : List Told) → QuietIn w → AreFollowed all count ks w ts → TakeTheirs all count ks w ts
+take-theirs : FramesAlone → (all : List NodeLine) (count : ℕ) (ks : List ℕ) (w : World) (ts : List NodeLine) → QuietIn w → AreFollowed all count ks w ts → TakeTheirs all count ks w ts
 take-theirs alone all count ks w [] h f = tt
 take-theirs alone all count ks w (t ∷ ts) h f =
     let g = f.0 in
@@ -321,5 +321,5 @@ take-theirs alone all count ks w (t ∷ ts) h f =
     (x.0, take-theirs alone all count (with_mentions ks t) (after all count ks w t) ts x.1 f.1)
 
 -- in histories of one world each line takes its very body
-pub all-take-theirs : FramesAlone → (cs : List Closed) (ts : List Told) → AreOfOneWorld cs ts → TakeTheirs ts (length cs) [] (audit.world_before_lines cs) ts
+pub all-take-theirs : FramesAlone → (cs : List Closed) (ts : List NodeLine) → AreOfOneWorld cs ts → TakeTheirs ts (length cs) [] (audit.world_before_lines cs) ts
 all-take-theirs alone cs ts f = take-theirs alone ts (length cs) [] (audit.world_before_lines cs) ts (quiet-begins (empty (setups_of cs)) 0 (setups_of cs) tt) f.followed

@@ -8,7 +8,7 @@ use Rattle.std.proofs.lemmas.List.Sorted.{All-permutation, IsPermutation-sym, Is
 use Rattle.std.proofs.lemmas.Map.Keys.{IsDistinct-head, IsDistinct-tail, IsDistinct-cons, IsDistinct-IsPermutation}
 use Rattle.dist_locked_book.specs.declared.line.Line.{Line}
 use Rattle.dist_locked_book.specs.declared.closing.Closed.{Closed}
-use Rattle.dist_audit.specs.Lines.{Told, ticket_of, told_by, told_from, lines_by_node, AreLinesOf}
+use Rattle.dist_audit.specs.Lines.{NodeLine, ticket_of, lines_at, lines_from, lines_by_node, AreLinesOf}
 use Rattle.dist_audit.specs.Faults.{starts_above, rises, rises_in, falls, has_ticket, has_ticket_in, twice}
 use Rattle.dist_audit.proofs.Either.{left-false, right-false, distinct-none}
 
@@ -122,29 +122,29 @@ above-first m (l ∷ ls) s r =
     (lt, above-more m l.ticket ls lt (above-first l.ticket ls (both-left (starts_above l.ticket ls) (rises ls) r) (both-right (starts_above l.ticket ls) (rises ls) r)))
 
 -- a ticket below those of a node and of the others differs from them all
-apart : (i m : ℕ) (ls : List Line) (ts : List Told) → AllByRecursion (λ (l : Line). m < l.ticket) ls → AllByRecursion (λ k. eqb m k ≡ false) (map ticket_of ts) → AllByRecursion (λ k. eqb m k ≡ false) (map ticket_of (told_by i ls ++ ts))
+apart : (i m : ℕ) (ls : List Line) (ts : List NodeLine) → AllByRecursion (λ (l : Line). m < l.ticket) ls → AllByRecursion (λ k. eqb m k ≡ false) (map ticket_of ts) → AllByRecursion (λ k. eqb m k ≡ false) (map ticket_of (lines_at i ls ++ ts))
 apart i m [] ts a h = h
 apart i m (l ∷ ls) ts a h = (less-differs m l.ticket a.0, apart i m ls ts a.1 h)
 
-none-here : (i m : ℕ) (ls : List Line) (ts : List Told) → has_ticket m ls ≡ false → AllByRecursion (λ k. eqb m k ≡ false) (map ticket_of ts) → AllByRecursion (λ k. eqb m k ≡ false) (map ticket_of (told_by i ls ++ ts))
+none-here : (i m : ℕ) (ls : List Line) (ts : List NodeLine) → has_ticket m ls ≡ false → AllByRecursion (λ k. eqb m k ≡ false) (map ticket_of ts) → AllByRecursion (λ k. eqb m k ≡ false) (map ticket_of (lines_at i ls ++ ts))
 none-here i m [] ts e h = h
 none-here i m (l ∷ ls) ts e h = (flips m l.ticket ∙ left-false (l.ticket == m) (has_ticket m ls) e, none-here i m ls ts (right-false (l.ticket == m) (has_ticket m ls) e) h)
 
-none-there : (i m : ℕ) (cs : List Closed) → has_ticket_in m cs ≡ false → AllByRecursion (λ k. eqb m k ≡ false) (map ticket_of (told_from i cs))
+none-there : (i m : ℕ) (cs : List Closed) → has_ticket_in m cs ≡ false → AllByRecursion (λ k. eqb m k ≡ false) (map ticket_of (lines_from i cs))
 none-there i m [] e = tt
-none-there i m (c ∷ cs) e = none-here i m (lines_in c) (told_from (suc i) cs) (left-false (has_ticket m (lines_in c)) (has_ticket_in m cs) e) (none-there (suc i) m cs (right-false (has_ticket m (lines_in c)) (has_ticket_in m cs) e))
+none-there i m (c ∷ cs) e = none-here i m (lines_in c) (lines_from (suc i) cs) (left-false (has_ticket m (lines_in c)) (has_ticket_in m cs) e) (none-there (suc i) m cs (right-false (has_ticket m (lines_in c)) (has_ticket_in m cs) e))
 
-differ-with : (i : ℕ) (ls : List Line) (cs : List Closed) → rises ls ≡ true → list_any (λ (l : Line). has_ticket_in l.ticket cs) ls ≡ false → IsDistinct eqb (map ticket_of (told_from (suc i) cs)) → IsDistinct eqb (map ticket_of (told_by i ls ++ told_from (suc i) cs))
+differ-with : (i : ℕ) (ls : List Line) (cs : List Closed) → rises ls ≡ true → list_any (λ (l : Line). has_ticket_in l.ticket cs) ls ≡ false → IsDistinct eqb (map ticket_of (lines_from (suc i) cs)) → IsDistinct eqb (map ticket_of (lines_at i ls ++ lines_from (suc i) cs))
 differ-with i [] cs r t d = d
 differ-with i (l ∷ ls) cs r t d =
     let here = left-false (has_ticket_in l.ticket cs) (list_any (λ (l : Line). has_ticket_in l.ticket cs) ls) t in
     let later = right-false (has_ticket_in l.ticket cs) (list_any (λ (l : Line). has_ticket_in l.ticket cs) ls) t in
     let up = above-first l.ticket ls (both-left (starts_above l.ticket ls) (rises ls) r) (both-right (starts_above l.ticket ls) (rises ls) r) in
-    IsDistinct-cons eqb l.ticket (map ticket_of (told_by i ls ++ told_from (suc i) cs))
-    (apart i l.ticket ls (told_from (suc i) cs) up (none-there (suc i) l.ticket cs here))
+    IsDistinct-cons eqb l.ticket (map ticket_of (lines_at i ls ++ lines_from (suc i) cs))
+    (apart i l.ticket ls (lines_from (suc i) cs) up (none-there (suc i) l.ticket cs here))
     (differ-with i ls cs (both-right (starts_above l.ticket ls) (rises ls) r) later d)
 
-tickets-differ : (i : ℕ) (cs : List Closed) → falls cs ≡ false → twice cs ≡ false → IsDistinct eqb (map ticket_of (told_from i cs))
+tickets-differ : (i : ℕ) (cs : List Closed) → falls cs ≡ false → twice cs ≡ false → IsDistinct eqb (map ticket_of (lines_from i cs))
 tickets-differ i [] f t = distinct-none eqb
 tickets-differ i (c ∷ cs) f t =
     differ-with i (lines_in c) cs
@@ -153,5 +153,5 @@ tickets-differ i (c ∷ cs) f t =
     (tickets-differ (suc i) cs (right-false (not (rises_in c)) (falls cs) f) (right-false (list_any (λ (l : Line). has_ticket_in l.ticket cs) (lines_in c)) (twice cs) t))
 
 -- two lists of all lines in the order of their tickets are one
-pub one-order-of-lines : (cs : List Closed) (ts us : List Told) → falls cs ≡ false → twice cs ≡ false → AreLinesOf cs ts → AreLinesOf cs us → ts ≡ us
+pub one-order-of-lines : (cs : List Closed) (ts us : List NodeLine) → falls cs ≡ false → twice cs ≡ false → AreLinesOf cs ts → AreLinesOf cs us → ts ≡ us
 one-order-of-lines cs ts us f t a b = one-order ticket_of (lines_by_node cs) ts us (tickets-differ 0 cs f t) a.all a.order b.all b.order

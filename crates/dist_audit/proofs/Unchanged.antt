@@ -11,7 +11,7 @@ use Rattle.dist_world_model.specs.World.{World, empty}
 use Rattle.dist_world_model.specs.Run.{run}
 use Rattle.dist_world_model.specs.Laws.{AllLives}
 use Rattle.dist_world_model.specs.OwnSetups.{AreNoResets, HasSetDigests, IsNoReset, IsSetUp}
-use Rattle.dist_audit.specs.Lines.{Told}
+use Rattle.dist_audit.specs.Lines.{NodeLine}
 use Rattle.dist_audit.specs.Links.{dialler_of, is_among}
 use Rattle.dist_audit.specs.Happenings.{ahead, before, begins, happenings, itself, of_lines, own, reach, reach_first, setups_of, with_mentions}
 use Rattle.dist_audit.specs.Audit.{world_of}
@@ -32,18 +32,18 @@ all-begin i (s ∷ ss) = (tt, all-begin (suc i) ss)
 abbrev IsPlain : Option Happening → Type 0
 IsPlain o = AllByRecursion IsNoReset (option_to_list o)
 
-reaches : (all : List Told) (count k : ℕ) (o : Option (ℕ × EndId)) → IsPlain (reach all count k o)
+reaches : (all : List NodeLine) (count k : ℕ) (o : Option (ℕ × EndId)) → IsPlain (reach all count k o)
 reaches all count k None = tt
 reaches all count k (Some x) = (tt, tt)
 
-reaches-first : (all : List Told) (count : ℕ) (ks : List ℕ) (k : ℕ) → IsPlain (reach_first all count ks k)
+reaches-first : (all : List NodeLine) (count : ℕ) (ks : List ℕ) (k : ℕ) → IsPlain (reach_first all count ks k)
 reaches-first all count ks k = by (is_among k ks)
   where
     by : (b : Bool) → IsPlain (cond b None (reach all count k (dialler_of k all)))
     by true = tt
     by false = reaches all count k (dialler_of k all)
 
-before-plain : (all : List Told) (count : ℕ) (ks : List ℕ) (i : ℕ) (v : Event) → IsPlain (before all count ks i v)
+before-plain : (all : List NodeLine) (count : ℕ) (ks : List ℕ) (i : ℕ) (v : Event) → IsPlain (before all count ks i v)
 before-plain all count ks i (event.Dial p o) = tt
 before-plain all count ks i (event.Opened id k) = reaches-first all count ks k
 before-plain all count ks i (event.Incoming k) = reaches-first all count ks k
@@ -59,19 +59,19 @@ own-plain ks i (event.Frame id body) fresh = tt
 own-plain ks i (event.Lost id w) fresh = tt
 own-plain ks i (event.Tick id) fresh = tt
 
-lines-plain : (all : List Told) (count : ℕ) (ks : List ℕ) (ts : List Told) → AllByRecursion IsNoReset (of_lines all count ks ts)
+lines-plain : (all : List NodeLine) (count : ℕ) (ks : List ℕ) (ts : List NodeLine) → AllByRecursion IsNoReset (of_lines all count ks ts)
 lines-plain all count ks [] = tt
 lines-plain all count ks (t ∷ ts) =
     let l = t.line in
     both (option_to_list (ahead all count ks t)) (itself ks t ∷ of_lines all count (with_mentions ks t) ts)
     (before-plain all count ks t.node l.event) (own-plain _ t.node l.event l.fresh, lines-plain all count (with_mentions ks t) ts)
 
-plain : (cs : List Closed) (ts : List Told) → AreNoResets (happenings cs ts)
+plain : (cs : List Closed) (ts : List NodeLine) → AreNoResets (happenings cs ts)
 plain cs ts = both (begins 0 (setups_of cs)) (of_lines ts (length cs) [] ts) (all-begin 0 (setups_of cs)) (lines-plain ts (length cs) [] ts)
 
 -- each incarnation has its closed node's setup
-pub own-setups : KeepsSetups → (cs : List Closed) (ts : List Told) (w : World) → w ≡ world_of cs ts → AllLives (IsSetUp (setups_of cs) []) w
+pub own-setups : KeepsSetups → (cs : List Closed) (ts : List NodeLine) (w : World) → w ≡ world_of cs ts → AllLives (IsSetUp (setups_of cs) []) w
 own-setups keeps cs ts w is = subst (AllLives (IsSetUp (setups_of cs) [])) (sym is) (keeps.unchanged (setups_of cs) (happenings cs ts) (plain cs ts))
 
-pub own-digests : KeepsSetups → (cs : List Closed) (ts : List Told) (w : World) → w ≡ world_of cs ts → AllLives (HasSetDigests (setups_of cs)) w
+pub own-digests : KeepsSetups → (cs : List Closed) (ts : List NodeLine) (w : World) → w ≡ world_of cs ts → AllLives (HasSetDigests (setups_of cs)) w
 own-digests keeps cs ts w is = subst (AllLives (HasSetDigests (setups_of cs))) (sym is) (keeps.digests (setups_of cs) (happenings cs ts) (plain cs ts))

@@ -7,7 +7,7 @@ use Rattle.dist_world_model.specs.Run.{run, count_applied, one_where}
 use Rattle.dist_world_model.specs.Happenings.{happens, applied_at}
 use Rattle.dist_audit.specs.declared.audit_error.AuditError.{AuditError}
 use Rattle.dist_audit.specs.declared.audit_error.AuditError.TheVariants as error
-use Rattle.dist_audit.specs.Lines.{Told}
+use Rattle.dist_audit.specs.Lines.{NodeLine}
 use Rattle.dist_audit.specs.Happenings.{setups_of, begins, happenings, of_lines, ahead, itself, with_mentions}
 use Rattle.dist_audit.specs.Audit.{AllApply, IsFollowed, AreFollowed, AreOfOneWorld, after, world_before_lines, Refutes, RefusesLine, StopsAt, UnlessShort}
 
@@ -34,15 +34,15 @@ unless-more error.TicketTwice P Q f p = f p
 unless-more error.Unpaired P Q f p = f p
 
 -- what is left of the lines decides
-pub record Decides (all : List Told) (count : ℕ) (ks : List ℕ) (w : World) (rest : List Told) (world_before_lines : World) : Type 0 where
+pub record Decides (all : List NodeLine) (count : ℕ) (ks : List ℕ) (w : World) (rest : List NodeLine) (world_before_lines : World) : Type 0 where
   pub whole : AreFollowed all count ks w rest → AreFollowed all count [] world_before_lines all
   pub part : AreFollowed all count [] world_before_lines all → AreFollowed all count ks w rest
   pub runs : run (of_lines all count ks rest) w ≡ run (of_lines all count [] all) world_before_lines
   pub stops : (e : AuditError) → StopsAt e all count ks w rest → StopsAt e all count [] world_before_lines all
 
-module _ (all : List Told) (count : ℕ) (ks : List ℕ) (w world_before_lines : World) (i : ℕ) (t : Told) (few : i < length all) (is : t ≡ get_or all i t) where
+module _ (all : List NodeLine) (count : ℕ) (ks : List ℕ) (w world_before_lines : World) (i : ℕ) (t : NodeLine) (few : i < length all) (is : t ≡ get_or all i t) where
   split : drop i all ≡ t ∷ drop (i + 1) all
-  split = drop-cons all i t few ∙ (ap (λ (x : Told). x ∷ drop (suc i) all) (sym is) ∙ ap (λ n. t ∷ drop n all) (sym (add-one i)))
+  split = drop-cons all i t few ∙ (ap (λ (x : NodeLine). x ∷ drop (suc i) all) (sym is) ∙ ap (λ n. t ∷ drop n all) (sym (add-one i)))
 
   -- the first of those that are left is followed
   pub first_of_rest : Decides all count ks w (drop i all) world_before_lines → AreFollowed all count [] world_before_lines all → IsFollowed all count ks w t
@@ -59,7 +59,7 @@ module _ (all : List Told) (count : ℕ) (ks : List ℕ) (w world_before_lines :
         whole = λ g. d.whole (subst (AreFollowed all count ks w) (sym split) (f, g));
         part = λ g. (subst (AreFollowed all count ks w) split (d.part g)).1;
         stops = λ e r. d.stops e (subst (StopsAt e all count ks w) (sym split) (inr (f, r)));
-        runs = sym (run-append (option_to_list (ahead all count ks t)) (itself ks t ∷ of_lines all count (with_mentions ks t) (drop (i + 1) all)) w) ∙ (sym (ap (λ (rest : List Told). run (of_lines all count ks rest) w) split) ∙ d.runs);
+        runs = sym (run-append (option_to_list (ahead all count ks t)) (itself ks t ∷ of_lines all count (with_mentions ks t) (drop (i + 1) all)) w) ∙ (sym (ap (λ (rest : List NodeLine). run (of_lines all count ks rest) w) split) ∙ d.runs);
       } in
       subst (λ v. Q js v) (sym did) (subst (λ ls. Q ls (after all count ks w t)) (sym named) at)
 
@@ -73,7 +73,7 @@ count-append (x ∷ xs) ys w = ap (λ n. one_where (applied_at w x) + n) (count-
 all-append : (xs ys : List Happening) (w : World) → AllApply xs w → AllApply ys (run xs w) → AllApply (xs ++ ys) w
 all-append xs ys w p q = count-append xs ys w ∙ ((λ j. p j + q j) ∙ sym (length-append xs ys))
 
-all-followed : (all : List Told) (count : ℕ) (ks : List ℕ) (w : World) (ts : List Told) → AreFollowed all count ks w ts → AllApply (of_lines all count ks ts) w
+all-followed : (all : List NodeLine) (count : ℕ) (ks : List ℕ) (w : World) (ts : List NodeLine) → AreFollowed all count ks w ts → AllApply (of_lines all count ks ts) w
 all-followed all count ks w [] f = refl
 all-followed all count ks w (t ∷ ts) f =
     let x = ahead all count ks t in
@@ -81,5 +81,5 @@ all-followed all count ks w (t ∷ ts) f =
     all-append (option_to_list x) (itself ks t ∷ of_lines all count (with_mentions ks t) ts) w (let g = f.0 in g.before) (all-append (itself ks t ∷ []) (of_lines all count (with_mentions ks t) ts) (run (option_to_list x) w) (let g = f.0 in g.applies) later)
 
 -- all the happenings of histories of one world apply
-pub all-apply : (cs : List Closed) (ts : List Told) → AllApply (begins 0 (setups_of cs)) (empty (setups_of cs)) → AreOfOneWorld cs ts → AllApply (happenings cs ts) (empty (setups_of cs))
+pub all-apply : (cs : List Closed) (ts : List NodeLine) → AllApply (begins 0 (setups_of cs)) (empty (setups_of cs)) → AreOfOneWorld cs ts → AllApply (happenings cs ts) (empty (setups_of cs))
 all-apply cs ts b f = all-append (begins 0 (setups_of cs)) (of_lines ts (length cs) [] ts) (empty (setups_of cs)) b (all-followed ts (length cs) [] (world_before_lines cs) ts f.followed)

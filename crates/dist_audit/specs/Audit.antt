@@ -28,7 +28,7 @@ use Rattle.dist_world_model.specs.Laws.{AllLives}
 use Rattle.dist_world_model.specs.OwnSetups.{HasSetDigests, IsSetUp}
 use Rattle.dist_audit.specs.declared.audit_error.AuditError.{AuditError}
 use Rattle.dist_audit.specs.declared.audit_error.AuditError.TheVariants as error
-use Rattle.dist_audit.specs.Lines.{Told, AreLinesOf}
+use Rattle.dist_audit.specs.Lines.{NodeLine, AreLinesOf}
 use Rattle.dist_audit.specs.Links.{conn_of}
 use Rattle.dist_audit.specs.Faults.{fault_of}
 use Rattle.dist_audit.specs.Happenings.{setups_of, begins, ahead, itself, with_mentions, happenings}
@@ -62,18 +62,18 @@ AllApply hs w = count_applied hs w ≡ length hs
 
 -- A LINE IS FOLLOWED from world w on: a frame's body is the next one sent; what is to happen before it applies; the node
 -- gives that very reply; and the line itself applies
-pub record IsFollowed (all : List Told) (count : ℕ) (ks : List ℕ) (w : World) (t : Told) : Type 0 where
+pub record IsFollowed (all : List NodeLine) (count : ℕ) (ks : List ℕ) (w : World) (t : NodeLine) : Type 0 where
   pub next : IsNext w t.node (let l = t.line in l.event)
   pub before : AllApply (option_to_list (ahead all count ks t)) w
   pub reply : Replies (node_of (run (option_to_list (ahead all count ks t)) w) t.node) t.line
   pub applies : AllApply (itself ks t ∷ []) (run (option_to_list (ahead all count ks t)) w)
 
 -- the world after one line
-abbrev pub after : List Told → ℕ → List ℕ → World → Told → World
+abbrev pub after : List NodeLine → ℕ → List ℕ → World → NodeLine → World
 after all count ks w t = run (itself ks t ∷ []) (run (option_to_list (ahead all count ks t)) w)
 
 -- these lines are followed in turn
-abbrev pub AreFollowed : List Told → ℕ → List ℕ → World → List Told → Type 0
+abbrev pub AreFollowed : List NodeLine → ℕ → List ℕ → World → List NodeLine → Type 0
 AreFollowed all count ks w [] = Unit {0}
 AreFollowed all count ks w (t ∷ ts) = IsFollowed all count ks w t × AreFollowed all count (with_mentions ks t) (after all count ks w t) ts
 
@@ -105,12 +105,12 @@ abbrev pub world_before_lines : List Closed → World
 world_before_lines cs = run (begins 0 (setups_of cs)) (empty (setups_of cs))
 
 -- what the happenings of these lines leave
-abbrev pub world_of : List Closed → List Told → World
+abbrev pub world_of : List Closed → List NodeLine → World
 world_of cs ts = run (happenings cs ts) (empty (setups_of cs))
 
 -- THE HISTORIES ARE THOSE OF ONE WORLD, by their lines in this order: each line is followed, and each closed node has the entries
 -- and the records of its node in that world
-pub record AreOfOneWorld (cs : List Closed) (ts : List Told) : Type 0 where
+pub record AreOfOneWorld (cs : List Closed) (ts : List NodeLine) : Type 0 where
   pub followed : AreFollowed ts (length cs) [] (world_before_lines cs) ts
   pub tables : HasTables (world_of cs ts) cs
 
@@ -125,15 +125,15 @@ Refutes e P = ⊥
 
 -- they are not, by their lines in the order of their tickets
 abbrev pub AreOfNoWorld : List Closed → Type 0
-AreOfNoWorld cs = (ts : List Told) × AreLinesOf cs ts × (AreOfOneWorld cs ts → ⊥)
+AreOfNoWorld cs = (ts : List NodeLine) × AreLinesOf cs ts × (AreOfOneWorld cs ts → ⊥)
 
--- WHAT A REFUSAL TELLS: the first fault of the histories by themselves; where there is none, that they are not those of
+-- WHAT A REFUSAL REPORTS: the first fault of the histories by themselves; where there is none, that they are not those of
 -- one world; and nothing where memory was short
-abbrev pub Tells : AuditError → List Closed → Type 0
-Tells error.NoMemory cs = Unit {0}
-Tells error.NotSent cs = (fault_of cs ≡ None) × AreOfNoWorld cs
-Tells error.OtherReply cs = (fault_of cs ≡ None) × AreOfNoWorld cs
-Tells e cs = fault_of cs ≡ Some e
+abbrev pub Reports : AuditError → List Closed → Type 0
+Reports error.NoMemory cs = Unit {0}
+Reports error.NotSent cs = (fault_of cs ≡ None) × AreOfNoWorld cs
+Reports error.OtherReply cs = (fault_of cs ≡ None) × AreOfNoWorld cs
+Reports e cs = fault_of cs ≡ Some e
 
 -- ---- which refusal
 
@@ -144,32 +144,32 @@ UnlessShort e P = P
 
 -- A line is refused so: NotSent, where a frame's body is not the next one sent; OtherReply, where nothing is wrong with a
 -- frame's body, and the line is not followed all the same.
-abbrev pub RefusesLine : AuditError → List Told → ℕ → List ℕ → World → Told → Type 0
+abbrev pub RefusesLine : AuditError → List NodeLine → ℕ → List ℕ → World → NodeLine → Type 0
 RefusesLine error.NotSent all count ks w t = IsNext w t.node (let l = t.line in l.event) → ⊥
 RefusesLine error.OtherReply all count ks w t = IsNext w t.node (let l = t.line in l.event) × (IsFollowed all count ks w t → ⊥)
 RefusesLine e all count ks w t = ⊥
 
 -- THE FIRST OF THESE LINES THAT IS NOT FOLLOWED is refused so
-abbrev pub StopsAt : AuditError → List Told → ℕ → List ℕ → World → List Told → Type 0
+abbrev pub StopsAt : AuditError → List NodeLine → ℕ → List ℕ → World → List NodeLine → Type 0
 StopsAt e all count ks w [] = ⊥
 StopsAt e all count ks w (t ∷ ts) =
     RefusesLine e all count ks w t
     ⊎ (IsFollowed all count ks w t × StopsAt e all count (with_mentions ks t) (after all count ks w t) ts)
 
 -- each line is followed, and a closed node has other entries or records than its node in the world
-abbrev pub HasOtherTables : AuditError → List Closed → List Told → Type 0
+abbrev pub HasOtherTables : AuditError → List Closed → List NodeLine → Type 0
 HasOtherTables error.OtherReply cs ts = AreFollowed ts (length cs) [] (world_before_lines cs) ts × (HasTables (world_of cs ts) cs → ⊥)
 HasOtherTables e cs ts = ⊥
 
 -- the first of these lines that is not followed is refused so, or all are followed and the tables are
-abbrev pub AreRefused : AuditError → List Closed → List Told → Type 0
+abbrev pub AreRefused : AuditError → List Closed → List NodeLine → Type 0
 AreRefused e cs ts = StopsAt e ts (length cs) [] (world_before_lines cs) ts ⊎ HasOtherTables e cs ts
 
 -- WHICH OF THE TWO IT IS where the histories have no fault by themselves, by their lines in the order of their tickets
-abbrev pub TellsFirst : AuditError → List Closed → Type 0
-TellsFirst error.NotSent cs = (ts : List Told) × AreLinesOf cs ts × AreRefused error.NotSent cs ts
-TellsFirst error.OtherReply cs = (ts : List Told) × AreLinesOf cs ts × AreRefused error.OtherReply cs ts
-TellsFirst e cs = Unit {0}
+abbrev pub ReportsFirst : AuditError → List Closed → Type 0
+ReportsFirst error.NotSent cs = (ts : List NodeLine) × AreLinesOf cs ts × AreRefused error.NotSent cs ts
+ReportsFirst error.OtherReply cs = (ts : List NodeLine) × AreLinesOf cs ts × AreRefused error.OtherReply cs ts
+ReportsFirst e cs = Unit {0}
 
 -- ---- what each line takes
 
@@ -188,14 +188,14 @@ IsFront w i (event.Frame id body) = option_and_then (first_body w16) (come_to w 
 IsFront w i _ = Unit {0}
 
 -- THESE LINES TAKE THEIR VERY BODIES, each once what is to happen before it has happened
-abbrev pub TakeTheirs : List Told → ℕ → List ℕ → World → List Told → Type 0
+abbrev pub TakeTheirs : List NodeLine → ℕ → List ℕ → World → List NodeLine → Type 0
 TakeTheirs all count ks w [] = Unit {0}
 TakeTheirs all count ks w (t ∷ ts) =
     IsFront (run (option_to_list (ahead all count ks t)) w) t.node (let l = t.line in l.event)
     × TakeTheirs all count (with_mentions ks t) (after all count ks w t) ts
 
 -- each of these lines of histories takes its very body
-abbrev pub EachTakesItsBody : List Closed → List Told → Type 0
+abbrev pub EachTakesItsBody : List Closed → List NodeLine → Type 0
 EachTakesItsBody cs ts = TakeTheirs ts (length cs) [] (world_before_lines cs) ts
 
 -- ---- where each link leads
@@ -206,20 +206,20 @@ ComesHere w ks i (event.Incoming k) = option_map (λ c. c.target) (slice_get w.c
 ComesHere w ks i _ = Unit {0}
 
 -- these lines come to the nodes to which their links lead
-abbrev pub ComeHome : List Told → ℕ → List ℕ → World → List Told → Type 0
+abbrev pub ComeHome : List NodeLine → ℕ → List ℕ → World → List NodeLine → Type 0
 ComeHome all count ks w [] = Unit {0}
 ComeHome all count ks w (t ∷ ts) =
     ComesHere (run (option_to_list (ahead all count ks t)) w) (with_mentions ks t) t.node (let l = t.line in l.event)
     × ComeHome all count (with_mentions ks t) (after all count ks w t) ts
 
 -- each link that comes to a node in these lines of histories leads to that node
-abbrev pub EachLinkComesHome : List Closed → List Told → Type 0
+abbrev pub EachLinkComesHome : List Closed → List NodeLine → Type 0
 EachLinkComesHome cs ts = ComeHome ts (length cs) [] (world_before_lines cs) ts
 
 -- ---- the whole
 
 -- THESE LINES OF CLOSED NODES PLAY UP TO WORLD w
-pub record PlayUpTo (cs : List Closed) (w : World) (ts : List Told) : Type 0 where
+pub record PlayUpTo (cs : List Closed) (w : World) (ts : List NodeLine) : Type 0 where
   -- they are all lines, in the order of their tickets
   pub lines : AreLinesOf cs ts
   -- the world is what their happenings leave
@@ -239,4 +239,4 @@ pub record PlayUpTo (cs : List Closed) (w : World) (ts : List Told) : Type 0 whe
 
 -- w IS THE WORLD OF THESE HISTORIES
 abbrev pub IsWorldOf : List Closed → World → Type 0
-IsWorldOf cs w = (ts : List Told) × PlayUpTo cs w ts
+IsWorldOf cs w = (ts : List NodeLine) × PlayUpTo cs w ts

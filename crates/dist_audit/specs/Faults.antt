@@ -9,7 +9,7 @@ use Rattle.dist_locked_book.specs.declared.line.Line.{Line}
 use Rattle.dist_locked_book.specs.declared.closing.Closed.{Closed}
 use Rattle.dist_audit.specs.declared.audit_error.AuditError.{AuditError}
 use Rattle.dist_audit.specs.declared.audit_error.AuditError.TheVariants as error
-use Rattle.dist_audit.specs.Lines.{Told, lines_by_node}
+use Rattle.dist_audit.specs.Lines.{NodeLine, lines_by_node}
 use Rattle.dist_audit.specs.Links.{opens_in, comes_in}
 use Rattle.dist_audit.specs.Happenings.{setups_of}
 
@@ -45,23 +45,23 @@ twice [] = false
 twice (c ∷ cs) = list_any (λ l. has_ticket_in l.ticket cs) (let h = c.history in h.items) || twice cs
 
 -- the link of this event stands in one of these lines of its kind
-abbrev pub repeats : Event → List Told → Bool
+abbrev pub repeats : Event → List NodeLine → Bool
 repeats (event.Opened id k) ts = list_any (opens_in k) ts
 repeats (event.Incoming k) ts = list_any (comes_in k) ts
 repeats _ ts = false
 
 -- a link stands in two lines of one kind
-abbrev pub links_repeat : List Told → Bool
+abbrev pub links_repeat : List NodeLine → Bool
 links_repeat [] = false
 links_repeat (t ∷ ts) = repeats (let l = t.line in l.event) ts || links_repeat ts
 
 -- it is of a link that came, and that no node learned of when it had dialled
-abbrev pub is_unopened : List Told → Event → Bool
+abbrev pub is_unopened : List NodeLine → Event → Bool
 is_unopened all (event.Incoming k) = not (list_any (opens_in k) all)
 is_unopened all _ = false
 
 -- a link came that no node learned of when it had dialled
-abbrev pub comes_unopened : List Told → Bool
+abbrev pub comes_unopened : List NodeLine → Bool
 comes_unopened all = list_any (λ t. is_unopened all (let l = t.line in l.event)) all
 
 -- there are too many nodes, or two of one name
@@ -69,7 +69,7 @@ abbrev pub nodes_unpaired : List Closed → Bool
 nodes_unpaired cs = nat_lt 1048576 (length cs) || names_repeat (setups_of cs)
 
 -- a link is dialled twice, or comes twice, or comes and is not dialled
-abbrev pub links_unpaired : List Told → Bool
+abbrev pub links_unpaired : List NodeLine → Bool
 links_unpaired all = links_repeat all || comes_unopened all
 
 -- NODES OR LINKS ARE NOT IN PAIRS

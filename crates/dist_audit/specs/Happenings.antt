@@ -8,7 +8,7 @@ use Rattle.dist_locked_book.specs.declared.line.Line.{Line}
 use Rattle.dist_locked_book.specs.declared.closing.Closed.{Closed}
 use Rattle.dist_world_model.specs.declared.happening.Happening.{Happening}
 use Rattle.dist_world_model.specs.declared.happening.Happening.TheVariants as happening
-use Rattle.dist_audit.specs.Lines.{Told}
+use Rattle.dist_audit.specs.Lines.{NodeLine}
 use Rattle.dist_audit.specs.Links.{link_in, dialler_of, acceptor_of, target_of, is_among, mention, conn_of}
 
 -- what all nodes were set up with
@@ -22,16 +22,16 @@ begins i [] = []
 begins i (s ∷ ss) = happening.Begin i s.creation ∷ begins (suc i) ss
 
 -- the dialling end reaches the node to which the link comes
-abbrev pub reach : List Told → ℕ → ℕ → Option (ℕ × EndId) → Option Happening
+abbrev pub reach : List NodeLine → ℕ → ℕ → Option (ℕ × EndId) → Option Happening
 reach all count k None = None
 reach all count k (Some x) = Some (happening.Reach x.0 x.1 (target_of count x.0 (acceptor_of k all)))
 
 -- at the first mention of a link
-abbrev pub reach_first : List Told → ℕ → List ℕ → ℕ → Option Happening
+abbrev pub reach_first : List NodeLine → ℕ → List ℕ → ℕ → Option Happening
 reach_first all count ks k = if is_among k ks then None else reach all count k (dialler_of k all)
 
 -- WHAT HAPPENS BEFORE A LINE: of all these lines, with this many nodes, where these links were mentioned before
-abbrev pub before : List Told → ℕ → List ℕ → ℕ → Event → Option Happening
+abbrev pub before : List NodeLine → ℕ → List ℕ → ℕ → Event → Option Happening
 before all count ks i (event.Dial p o) = None
 before all count ks i (event.Opened id k) = reach_first all count ks k
 before all count ks i (event.Incoming k) = reach_first all count ks k
@@ -49,11 +49,11 @@ own ks i (event.Lost id w) fresh = happening.Lose i id w
 own ks i (event.Tick id) fresh = happening.Tick i id
 
 -- the links mentioned, those of this line among them
-abbrev pub with_mentions : List ℕ → Told → List ℕ
+abbrev pub with_mentions : List ℕ → NodeLine → List ℕ
 with_mentions ks t = let l = t.line in mention ks (link_in l.event)
 
 -- what happens before this line
-abbrev pub ahead : List Told → ℕ → List ℕ → Told → Option Happening
+abbrev pub ahead : List NodeLine → ℕ → List ℕ → NodeLine → Option Happening
 ahead all count ks t = let l = t.line in before all count ks t.node l.event
 
 -- the same, where those mentioned before are given
@@ -61,14 +61,14 @@ abbrev pub own_of : List ℕ → ℕ → Line → Happening
 own_of ks i l = own (mention ks (link_in l.event)) i l.event l.fresh
 
 -- the happening of this line
-abbrev pub itself : List ℕ → Told → Happening
+abbrev pub itself : List ℕ → NodeLine → Happening
 itself ks t = own_of ks t.node t.line
 
 -- what happens for these lines, in turn
-abbrev pub of_lines : List Told → ℕ → List ℕ → List Told → List Happening
+abbrev pub of_lines : List NodeLine → ℕ → List ℕ → List NodeLine → List Happening
 of_lines all count ks [] = []
 of_lines all count ks (t ∷ ts) = option_to_list (ahead all count ks t) ++ (itself ks t ∷ of_lines all count (with_mentions ks t) ts)
 
 -- THE HAPPENINGS OF HISTORIES that have these lines, in this order: each node begins, and then each line happens
-abbrev pub happenings : List Closed → List Told → List Happening
+abbrev pub happenings : List Closed → List NodeLine → List Happening
 happenings cs ts = begins 0 (setups_of cs) ++ of_lines ts (length cs) [] ts

@@ -1,4 +1,4 @@
--- WHAT THE CODE KEEPS BESIDE THE LINES, so that no line is looked for twice.
+-- WHAT THE CODE KEEPS BESIDE THE LINES, so that it never searches the lines twice.
 use Rattle.std.specs.Prelude.{◌≡◌, ℕ, suc, ◌==◌, Bool, false, not, if◌then◌else◌, is_some, List, [], ◌∷◌, Option, Some, None}
 use Rattle.std.specs.Option.{option_map}
 use Rattle.std.specs.Ordering.{nat_cmp}
@@ -6,30 +6,30 @@ use Rattle.std.specs.BTreeMap.{BTreeMap, get}
 use Rattle.dist_peers.specs.declared.entry.EndId.{EndId}
 use Rattle.dist_core.specs.declared.event.Event.{Event}
 use Rattle.dist_core.specs.declared.event.Event.TheVariants as event
-use Rattle.dist_audit.specs.Lines.{Told}
+use Rattle.dist_audit.specs.Lines.{NodeLine}
 use Rattle.dist_audit.specs.Links.{dialler_of, acceptor_of}
 
--- these maps have, for each link, who was told of it when it had dialled, and to whom it came
-pub record Knows (diallers : BTreeMap ℕ (ℕ × EndId)) (acceptors : BTreeMap ℕ ℕ) (ts : List Told) : Type 0 where
+-- these maps have, for each link, the end that dialled it, with its node, and the node that accepted it
+pub record Knows (diallers : BTreeMap ℕ (ℕ × EndId)) (acceptors : BTreeMap ℕ ℕ) (ts : List NodeLine) : Type 0 where
   pub dialled : (k : ℕ) → get nat_cmp diallers k ≡ dialler_of k ts
   pub came : (k : ℕ) → get nat_cmp acceptors k ≡ acceptor_of k ts
 
--- the link of this event is known from another of its kind
+-- an earlier event of this kind has the same link
 abbrev pub is_again : BTreeMap ℕ (ℕ × EndId) → BTreeMap ℕ ℕ → Event → Bool
 is_again diallers acceptors (event.Opened id k) = is_some (get nat_cmp diallers k)
 is_again diallers acceptors (event.Incoming k) = is_some (get nat_cmp acceptors k)
 is_again diallers acceptors _ = false
 
--- it is of a link that came, and no dialler is known
+-- the event is that a link came, and no node is known to have dialled it
 abbrev pub is_unknown : BTreeMap ℕ (ℕ × EndId) → Event → Bool
 is_unknown diallers (event.Incoming k) = not (is_some (get nat_cmp diallers k))
 is_unknown diallers _ = false
 
--- the place of a link among those
+-- the place of a link in a list
 abbrev pub number_of : ℕ → List ℕ → Option ℕ
 number_of k [] = None
 number_of k (j ∷ js) = if j == k then Some 0 else option_map suc (number_of k js)
 
--- these are the places of links among those
+-- the map has the place of each link in the list
 abbrev pub AreNumbers : BTreeMap ℕ ℕ → List ℕ → Type 0
 AreNumbers numbers ks = (k : ℕ) → get nat_cmp numbers k ≡ number_of k ks

@@ -5,34 +5,34 @@ use Rattle.dist_locked_book.specs.declared.line.Line.{Line}
 use Rattle.dist_locked_book.specs.declared.closing.Closed.{Closed}
 
 -- a line, and whose it is: the place of its node among all
-pub record Told : Type 0 where
+pub record NodeLine : Type 0 where
   pub node : ℕ
   pub line : Line
 
 -- this line of node i
-abbrev pub line_of_node : ℕ → Line → Told
+abbrev pub line_of_node : ℕ → Line → NodeLine
 line_of_node i l = record { node = i; line = l }
 
 -- its ticket
-abbrev pub ticket_of : Told → ℕ
+abbrev pub ticket_of : NodeLine → ℕ
 ticket_of t = let l = t.line in l.ticket
 
 -- the lines of node i
-abbrev pub told_by : ℕ → List Line → List Told
-told_by i [] = []
-told_by i (l ∷ ls) = line_of_node i l ∷ told_by i ls
+abbrev pub lines_at : ℕ → List Line → List NodeLine
+lines_at i [] = []
+lines_at i (l ∷ ls) = line_of_node i l ∷ lines_at i ls
 
 -- the lines of these nodes, of which the first is node i
-abbrev pub told_from : ℕ → List Closed → List Told
-told_from i [] = []
-told_from i (c ∷ cs) = told_by i (let h = c.history in h.items) ++ told_from (suc i) cs
+abbrev pub lines_from : ℕ → List Closed → List NodeLine
+lines_from i [] = []
+lines_from i (c ∷ cs) = lines_at i (let h = c.history in h.items) ++ lines_from (suc i) cs
 
 -- all lines, node by node
-abbrev pub lines_by_node : List Closed → List Told
-lines_by_node cs = told_from 0 cs
+abbrev pub lines_by_node : List Closed → List NodeLine
+lines_by_node cs = lines_from 0 cs
 
 -- THESE ARE ALL LINES, IN THE ORDER OF THEIR TICKETS
-pub record AreLinesOf (cs : List Closed) (ts : List Told) : Type 0 where
+pub record AreLinesOf (cs : List Closed) (ts : List NodeLine) : Type 0 where
   -- each line of each node, as often as it stands there, and no other
   pub all : IsPermutation (lines_by_node cs) ts
   -- no ticket is greater than a later one

@@ -4,7 +4,7 @@ use Rattle.std.specs.List.{list_any}
 use Rattle.dist_peers.specs.declared.entry.EndId.{EndId}
 use Rattle.dist_core.specs.declared.event.Event.{Event}
 use Rattle.dist_core.specs.declared.event.Event.TheVariants as event
-use Rattle.dist_audit.specs.Lines.{Told}
+use Rattle.dist_audit.specs.Lines.{NodeLine}
 
 -- the link that an event mentions
 abbrev pub link_in : Event → Option ℕ
@@ -23,11 +23,11 @@ comes k (event.Incoming j) = j == k
 comes k _ = false
 
 -- in the line the dialling end learns of this link
-abbrev pub opens_in : ℕ → Told → Bool
+abbrev pub opens_in : ℕ → NodeLine → Bool
 opens_in k t = let l = t.line in opens k l.event
 
 -- in the line this link comes to a node
-abbrev pub comes_in : ℕ → Told → Bool
+abbrev pub comes_in : ℕ → NodeLine → Bool
 comes_in k t = let l = t.line in comes k l.event
 
 -- the dialled end that learns of this link
@@ -36,7 +36,7 @@ dialled_end k (event.Opened id j) = if j == k then Some id else None
 dialled_end k _ = None
 
 -- the dialled end that learns of this link in the line
-abbrev pub dialled_in : ℕ → Told → Option EndId
+abbrev pub dialled_in : ℕ → NodeLine → Option EndId
 dialled_in k t = let l = t.line in dialled_end k l.event
 
 -- node i and this end, or else what there is
@@ -45,12 +45,12 @@ or_else i None other = other
 or_else i (Some id) other = Some (i, id)
 
 -- the node and the end that learned of the link when they had dialled
-abbrev pub dialler_of : ℕ → List Told → Option (ℕ × EndId)
+abbrev pub dialler_of : ℕ → List NodeLine → Option (ℕ × EndId)
 dialler_of k [] = None
 dialler_of k (t ∷ ts) = or_else t.node (dialled_in k t) (dialler_of k ts)
 
 -- the node to which the link came
-abbrev pub acceptor_of : ℕ → List Told → Option ℕ
+abbrev pub acceptor_of : ℕ → List NodeLine → Option ℕ
 acceptor_of k [] = None
 acceptor_of k (t ∷ ts) = if comes_in k t then Some t.node else acceptor_of k ts
 

@@ -2,10 +2,10 @@
 ghost use Rattle.std.specs.Prelude.{◌≡◌, ◌↔◌, List, None, Some, IsTrue, true, false, IfOk, IfErr, OnOk};
 ghost use Rattle.dist_world_model.specs.World.{empty};
 ghost use Rattle.dist_world_model.specs.Run.{run};
-ghost use Rattle.dist_audit.specs.Lines.{Told, AreLinesOf};
+ghost use Rattle.dist_audit.specs.Lines.{NodeLine, AreLinesOf};
 ghost use Rattle.dist_audit.specs.Happenings.{setups_of, begins};
 ghost use Rattle.dist_audit.specs.Faults.{falls, twice, fault_of, nodes_unpaired, Unpairs, IsFault};
-ghost use Rattle.dist_audit.specs.Audit.{AllApply, AreOfOneWorld, AreRefused, IsWorldOf, Refutes, Tells, TellsFirst, UnlessShort, world_of};
+ghost use Rattle.dist_audit.specs.Audit.{AllApply, AreOfOneWorld, AreRefused, IsWorldOf, Refutes, Reports, ReportsFirst, UnlessShort, world_of};
 
 use crate::audit_error::AuditError;
 use crate::checks::{falls, twice};
@@ -92,10 +92,10 @@ fn play_in_order(alloc: Global, world: &mut World, closed: &[Closed]) -> Result<
     requires opening { world.old ≡ empty (setups_of closed.now) }
     requires tickets { (falls closed.now ≡ false) × (twice closed.now ≡ false) }
     requires nodes { nodes_unpaired closed.now ≡ false }
-    ensures played { OnOk result ((ts : List Told) × AreLinesOf closed.now ts × (world.new ≡ world_of closed.now ts) × AreOfOneWorld closed.now ts) }
+    ensures played { OnOk result ((ts : List NodeLine) × AreLinesOf closed.now ts × (world.new ≡ world_of closed.now ts) × AreOfOneWorld closed.now ts) }
     ensures faultless { OnOk result (fault_of closed.now ≡ None) }
-    ensures err { IfErr result (λ e. Tells e closed.now) }
-    ensures first { IfErr result (λ e. TellsFirst e closed.now) }
+    ensures err { IfErr result (λ e. Reports e closed.now) }
+    ensures first { IfErr result (λ e. ReportsFirst e closed.now) }
 {
     let lines = paired_lines(alloc, closed)?;
     play(alloc, world, &lines, closed)?;
@@ -114,10 +114,10 @@ pub fn audit(alloc: Global, closed: &[Closed]) -> Result<World, AuditError>
     ensures faultless { OnOk result (fault_of closed.now ≡ None) }
 
     // A refusal names the first fault, or says that the histories are not those of one world.
-    ensures err { IfErr result (λ e. Tells e closed.now) }
+    ensures err { IfErr result (λ e. Reports e closed.now) }
 
     // NotSent and OtherReply are returned for the first line that is not followed, and OtherReply of tables where all are.
-    ensures first { IfErr result (λ e. TellsFirst e closed.now) }
+    ensures first { IfErr result (λ e. ReportsFirst e closed.now) }
 {
     frame_in_front();
     setups_are_own();

@@ -1,6 +1,6 @@
 //! The lines of all histories, in the order of their tickets.
 ghost use Rattle.std.specs.Prelude.{◌≡◌, ◌++◌, OnOk, IfOk};
-ghost use Rattle.dist_audit.specs.Lines.{told_by, lines_by_node, AreLinesOf};
+ghost use Rattle.dist_audit.specs.Lines.{lines_at, lines_by_node, AreLinesOf};
 
 use dist_locked_book::{Closed, SharedLine};
 use std::alloc::{AllocError, Global};
@@ -8,20 +8,20 @@ use std::marker::Model;
 
 /// A line, and the place of its node among all.
 #[derive(Drop)]
-pub struct Told<'a> {
+pub struct NodeLine<'a> {
     node: usize,
     line: &'a SharedLine,
 }
 
-impl<'a> Model for Told<'a> {
+impl<'a> Model for NodeLine<'a> {
     ghost use Rattle.dist_audit.specs.Lines as lines;
 
-    ghost Value = { lines.Told };
+    ghost Value = { lines.NodeLine };
 
     ghost view = { λ t. record { node = t.node; line = t.line.now } };
 }
 
-impl<'a> Told<'a> {
+impl<'a> NodeLine<'a> {
     /// The place of its node among all.
     pub fn node(&self) -> usize
         ensures { result ≡ self.now.node }
@@ -38,20 +38,20 @@ impl<'a> Told<'a> {
 
 // Adds the lines of a node.
 fn add_lines<'a>(
-    lines: &mut Vec<Told<'a>>,
+    lines: &mut Vec<NodeLine<'a>>,
     node: usize,
     history: &'a [SharedLine],
 ) -> Result<(), AllocError>
-    ensures { OnOk result (lines.new.items ≡ lines.old.items ++ told_by node history.now) }
+    ensures { OnOk result (lines.new.items ≡ lines.old.items ++ lines_at node history.now) }
 {
     for line in history {
-        lines.push(Told { node, line })?;
+        lines.push(NodeLine { node, line })?;
     }
     Ok(())
 }
 
 // All lines, node by node.
-fn lines_by_node(alloc: Global, closed: &[Closed]) -> Result<Vec<Told>, AllocError>
+fn lines_by_node(alloc: Global, closed: &[Closed]) -> Result<Vec<NodeLine>, AllocError>
     ensures { IfOk result (λ lines. lines.items ≡ lines_by_node closed.now) }
 {
     let mut lines = Vec::new(alloc);
@@ -62,10 +62,10 @@ fn lines_by_node(alloc: Global, closed: &[Closed]) -> Result<Vec<Told>, AllocErr
 }
 
 /// All lines, in the order of their tickets.
-pub fn lines_of(alloc: Global, closed: &[Closed]) -> Result<Vec<Told>, AllocError>
+pub fn lines_of(alloc: Global, closed: &[Closed]) -> Result<Vec<NodeLine>, AllocError>
     ensures { IfOk result (λ lines. AreLinesOf closed.now lines.items) }
 {
     let mut lines = lines_by_node(alloc, closed)?;
-    lines.sort_unstable_by_key(|told| told.line().ticket());
+    lines.sort_unstable_by_key(|noted| noted.line().ticket());
     Ok(lines)
 }

@@ -8,7 +8,7 @@ ghost use Rattle.dist_audit.specs.Faults.{links_repeat, comes_unopened, Unpairs}
 ghost use Rattle.dist_audit.specs.Kept.{Knows, is_again, is_unknown};
 
 use crate::audit_error::AuditError;
-use crate::lines::Told;
+use crate::lines::NodeLine;
 use dist_core::Event;
 use dist_peers::EndId;
 use std::alloc::{AllocError, Global};
@@ -75,15 +75,15 @@ impl LinkTable {
     }
 
     // The same of what a line says.
-    fn learn(&mut self, told: &Told) -> Result<bool, AllocError>
+    fn learn(&mut self, noted: &NodeLine) -> Result<bool, AllocError>
         ensures diallers { OnOk result ((k : ℕ) → get nat_cmp self.new.diallers k
-            ≡ or_else told.now.node (dialled_in k told.now) (get nat_cmp self.old.diallers k)) }
+            ≡ or_else noted.now.node (dialled_in k noted.now) (get nat_cmp self.old.diallers k)) }
         ensures acceptors { OnOk result ((k : ℕ) → get nat_cmp self.new.acceptors k
-            ≡ (if comes_in k told.now then Some told.now.node else get nat_cmp self.old.acceptors k)) }
-        ensures again { IfOk result (λ b. b ≡ is_again self.old.diallers self.old.acceptors (let l = told.now.line in l.event)) }
+            ≡ (if comes_in k noted.now then Some noted.now.node else get nat_cmp self.old.acceptors k)) }
+        ensures again { IfOk result (λ b. b ≡ is_again self.old.diallers self.old.acceptors (let l = noted.now.line in l.event)) }
     {
-        let view = told.line().read();
-        self.learn_event(told.node(), &view.line().event)
+        let view = noted.line().read();
+        self.learn_event(noted.node(), &view.line().event)
     }
 
     // A link came that has no dialler.
@@ -97,18 +97,18 @@ impl LinkTable {
     }
 
     // The same of the event of a line.
-    fn is_told_unknown(&self, told: &Told) -> bool
-        ensures { result ≡ is_unknown self.now.diallers (let l = told.now.line in l.event) }
+    fn is_unknown_line(&self, noted: &NodeLine) -> bool
+        ensures { result ≡ is_unknown self.now.diallers (let l = noted.now.line in l.event) }
     {
-        let view = told.line().read();
+        let view = noted.line().read();
         self.is_unknown(&view.line().event)
     }
 
-    fn has_unknown(&self, lines: &[Told]) -> bool
+    fn has_unknown(&self, lines: &[NodeLine]) -> bool
         ensures { result ≡ list_any (λ t. is_unknown self.now.diallers (let l = t.line in l.event)) lines.now }
     {
-        for told in lines {
-            if self.is_told_unknown(told) {
+        for noted in lines {
+            if self.is_unknown_line(noted) {
                 return true;
             }
         }
@@ -116,7 +116,7 @@ impl LinkTable {
     }
 
     /// A link came that no node learned of when it had dialled.
-    pub fn comes_unopened(&self, lines: &[Told]) -> bool
+    pub fn comes_unopened(&self, lines: &[NodeLine]) -> bool
         requires { Knows self.now.diallers self.now.acceptors lines.now }
         ensures { result ≡ comes_unopened lines.now }
     {
@@ -125,7 +125,7 @@ impl LinkTable {
 }
 
 /// What these lines say of each link, where no link stands in two lines of one kind.
-pub fn link_table(alloc: Global, lines: &[Told]) -> Result<LinkTable, AuditError>
+pub fn link_table(alloc: Global, lines: &[NodeLine]) -> Result<LinkTable, AuditError>
     ensures known { IfOk result (λ t. Knows t.diallers t.acceptors lines.now) }
     ensures once { OnOk result (links_repeat lines.now ≡ false) }
     ensures err { IfErr result (λ e. Unpairs e (links_repeat lines.now)) }

@@ -5,7 +5,7 @@ ghost use Rattle.dist_audit.specs.Links.{dialler_of, acceptor_of};
 ghost use Rattle.dist_audit.specs.Faults.{links_unpaired, Unpairs};
 
 use crate::audit_error::AuditError;
-use crate::lines::{Told, lines_of};
+use crate::lines::{NodeLine, lines_of};
 use crate::links::{LinkTable, link_table};
 use dist_locked_book::Closed;
 use dist_peers::EndId;
@@ -15,7 +15,7 @@ use std::marker::Model;
 /// All lines in the order of their tickets, and what they say of each link.
 #[derive(Drop)]
 pub struct Lines<'a> {
-    told: Vec<Told<'a>>,
+    noted: Vec<NodeLine<'a>>,
     links: LinkTable,
 }
 
@@ -24,18 +24,18 @@ impl<'a> Model for Lines<'a> {
     ghost use Rattle.dist_audit.specs.Lines as lines;
     ghost use Rattle.dist_audit.specs.Kept as kept;
 
-    ghost Value = { List lines.Told };
+    ghost Value = { List lines.NodeLine };
 
-    ghost view = { λ l. l.told.items };
+    ghost view = { λ l. l.noted.items };
 
-    ghost invariant = { λ l. kept.Knows (let t = l.links in t.diallers) (let t = l.links in t.acceptors) l.told.items };
+    ghost invariant = { λ l. kept.Knows (let t = l.links in t.diallers) (let t = l.links in t.acceptors) l.noted.items };
 }
 
 impl<'a> Lines<'a> {
-    pub fn ordered_lines(&self) -> &[Told<'a>]
+    pub fn ordered_lines(&self) -> &[NodeLine<'a>]
         ensures { result.now ≡ self.now }
     {
-        &self.told
+        &self.noted
     }
 
     /// The node and the end that learned of the link when they had dialled.
@@ -54,16 +54,16 @@ impl<'a> Lines<'a> {
 }
 
 // These lines, whose links are in pairs.
-fn pair(alloc: Global, told: Vec<Told>) -> Result<Lines, AuditError>
-    ensures ok { IfOk result (λ lines. lines ≡ told.entry.items) }
-    ensures paired { OnOk result (links_unpaired told.entry.items ≡ false) }
-    ensures err { IfErr result (λ e. Unpairs e (links_unpaired told.entry.items)) }
+fn pair(alloc: Global, noted: Vec<NodeLine>) -> Result<Lines, AuditError>
+    ensures ok { IfOk result (λ lines. lines ≡ noted.entry.items) }
+    ensures paired { OnOk result (links_unpaired noted.entry.items ≡ false) }
+    ensures err { IfErr result (λ e. Unpairs e (links_unpaired noted.entry.items)) }
 {
-    let links = link_table(alloc, &told)?;
-    if links.comes_unopened(&told) {
+    let links = link_table(alloc, &noted)?;
+    if links.comes_unopened(&noted) {
         return Err(AuditError::Unpaired);
     }
-    Ok(Lines { told, links })
+    Ok(Lines { noted, links })
 }
 
 /// All lines of these nodes, in the order of their tickets, whose links are in pairs.
@@ -72,6 +72,6 @@ pub fn paired_lines(alloc: Global, closed: &[Closed]) -> Result<Lines, AuditErro
     ensures paired { OnOk result (links_unpaired (lines_by_node closed.now) ≡ false) }
     ensures err { IfErr result (λ e. Unpairs e (links_unpaired (lines_by_node closed.now))) }
 {
-    let told = lines_of(alloc, closed)?;
-    pair(alloc, told)
+    let noted = lines_of(alloc, closed)?;
+    pair(alloc, noted)
 }

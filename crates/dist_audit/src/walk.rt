@@ -9,7 +9,7 @@ ghost use Rattle.dist_audit.specs.Audit.{AllApply, Says, IsNext, Replies, IsFoll
 
 use crate::audit_error::AuditError;
 use crate::happenings::{before, own};
-use crate::lines::Told;
+use crate::lines::NodeLine;
 use crate::mentions::Mentioned;
 use crate::pairing::Lines;
 use dist_core::{Event, StepError};
@@ -154,16 +154,16 @@ fn follow(
     lines: &Lines,
     count: usize,
     links: &mut Mentioned,
-    told: &Told,
+    noted: &NodeLine,
 ) -> Result<(), AuditError>
-    ensures followed { OnOk result (IsFollowed lines.now count links.old world.old told.now) }
-    ensures after { OnOk result (world.new ≡ after lines.now count links.old world.old told.now) }
-    ensures links { OnOk result (links.new ≡ with_mentions links.old told.now) }
-    ensures err { IfErr result (λ e. Refutes e (IsFollowed lines.now count links.old world.old told.now)) }
-    ensures which { IfErr result (λ e. UnlessShort e (RefusesLine e lines.now count links.old world.old told.now)) }
+    ensures followed { OnOk result (IsFollowed lines.now count links.old world.old noted.now) }
+    ensures after { OnOk result (world.new ≡ after lines.now count links.old world.old noted.now) }
+    ensures links { OnOk result (links.new ≡ with_mentions links.old noted.now) }
+    ensures err { IfErr result (λ e. Refutes e (IsFollowed lines.now count links.old world.old noted.now)) }
+    ensures which { IfErr result (λ e. UnlessShort e (RefusesLine e lines.now count links.old world.old noted.now)) }
 {
-    let view = told.line().read();
-    let node = told.node();
+    let view = noted.line().read();
+    let node = noted.node();
     let line = view.line();
     follow_line(alloc, world, lines, count, links, ReadLine { node, line })
 }
@@ -181,9 +181,9 @@ pub fn follow_all(
     ensures first { IfErr result (λ e. UnlessShort e (StopsAt e lines.now count [] world.old lines.now)) }
 {
     let mut links = Mentioned::new(alloc);
-    let told = lines.ordered_lines();
-    for i in 0..told.len() {
-        follow(alloc, world, lines, count, &mut links, &told[i])?;
+    let noted = lines.ordered_lines();
+    for i in 0..noted.len() {
+        follow(alloc, world, lines, count, &mut links, &noted[i])?;
     }
     Ok(())
 }

@@ -64,17 +64,17 @@ at_want : (s t : Answer) → IsOk s → Alike s t → IsOk t
 at_want (Ok x) t o a = a
 at_want (Err x) t o a = absurd (false≢true o)
 
-told : (s t : Answer) (e : StepError) → s ≡ Err e → Alike s t → t ≡ Err e
-told s t e is a = subst (λ (z : Answer). Alike z t) is a
+notified : (s t : Answer) (e : StepError) → s ≡ Err e → Alike s t → t ≡ Err e
+notified s t e is a = subst (λ (z : Answer). Alike z t) is a
 
 refuses : (e : StepError) (s t : Answer) → Refuses e s → Alike s t → Refuses e t
 refuses error.NoMemory s t h a = at_want s t h a
-refuses error.NoSuchEnd s t h a = told s t error.NoSuchEnd h a
-refuses (error.Gone w) s t h a = told s t (error.Gone w) h a
-refuses error.WrongPhase s t h a = told s t error.WrongPhase h a
-refuses (error.Busy x) s t h a = told s t (error.Busy x) h a
-refuses error.Spent s t h a = told s t error.Spent h a
-refuses error.Full s t h a = told s t error.Full h a
+refuses error.NoSuchEnd s t h a = notified s t error.NoSuchEnd h a
+refuses (error.Gone w) s t h a = notified s t (error.Gone w) h a
+refuses error.WrongPhase s t h a = notified s t error.WrongPhase h a
+refuses (error.Busy x) s t h a = notified s t (error.Busy x) h a
+refuses error.Spent s t h a = notified s t error.Spent h a
+refuses error.Full s t h a = notified s t error.Full h a
 
 -- the answer with the names given back is refused alike
 ok-back : (n : NodeState) (s : Answer) → IsOk s → IsOk (answer_after n s)

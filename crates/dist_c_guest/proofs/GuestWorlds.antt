@@ -13,7 +13,7 @@ use Rattle.dist_world_model.specs.declared.happening.Happening.TheVariants as ha
 use Rattle.dist_world_model.specs.Lists.{at_place}
 use Rattle.dist_world_model.specs.World.{World, Conn, empty, row_at, running}
 use Rattle.dist_world_model.specs.Delivery.{body_taken, change_to, text_to}
-use Rattle.dist_world_model.specs.Happenings.{◌>>=◌, happens, most_applied, take_frame, take_read, tell, ticked_on, without_closing, world_after}
+use Rattle.dist_world_model.specs.Happenings.{◌>>=◌, happens, most_applied, take_frame, take_read, notify, ticked_on, without_closing, world_after}
 use Rattle.dist_world_model.specs.Run.{run}
 use Rattle.dist_world_model.specs.Agreement.{Agreement, AllFit, AreSetups, Fits}
 use Rattle.dist_world_model.specs.Frames.{AreCanonical}
@@ -68,7 +68,7 @@ module _ (guests : Guests) (whole : AreWhole guests) where
           same-bind row.conn _ _ (λ c on.
           same-bind (slice_get w.conns c) _ _ (λ k there.
           same-bind (let t = text_to row.side k in first_body w16 t.come) _ _ (λ body first.
-          ap (λ b. tell (record w { conns = at_place c (change_to row.side body_taken) w.conns }) j (event.Frame id b) fresh) (as-it-came c k there row.side body first))))))
+          ap (λ b. notify (record w { conns = at_place c (change_to row.side body_taken) w.conns }) j (event.Frame id b) fresh) (as-it-came c k there row.side body first))))))
 
     after-same : (h : Happening) → world_after_guests guests w h ≡ world_after w h
     after-same (happening.Take i id fresh) = takes-same i id fresh

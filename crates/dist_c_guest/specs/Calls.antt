@@ -20,25 +20,25 @@ use Rattle.dist_c_guest.specs.declared.guest.Guest.{Guest}
 use Rattle.dist_c_guest.specs.declared.call_error.CallError.{CallError}
 use Rattle.dist_c_guest.specs.declared.call_error.CallError.TheVariants.{Step, Awaits}
 
--- a guest whose node has made no step, and which reads bodies as they come
+-- a guest whose node has made no step, and which reads bodies unchanged
 abbrev pub first_guest : Setup → Guest
 first_guest s = record { node = opening s; last = None; received_status = None; reading = plain }
 
--- the guest that begins anew, with the same setup and the same reading
+-- the guest, restarted with the same setup and the same reading
 abbrev pub restarted_guest : Guest → Guest
 restarted_guest g = record (first_guest g.node.setup) { reading = g.reading }
 
--- the node as it is asked: these names may connect, or all
+-- the node that is asked: these names may connect, or all
 abbrev pub node_letting : NodeState → Option (List Name) → NodeState
 node_letting n names = after_change n (Allow names)
 
--- what was answered, and the node after it with the names that might connect before
+-- the answer, and the node after it, with its own allow list again
 abbrev pub answer_after : NodeState → Result (Reply × NodeState) StepError → Result (Reply × NodeState) StepError
 answer_after n (Ok x) = Ok (x.0, node_letting x.1 n.setup.allow)
 answer_after n (Err e) = Err e
 
--- THE EVENT OF A BODY THAT CAME, as the guest reads it, and what the node's definition answers to it: where a form stands for
--- the name in it, that name may connect
+-- THE EVENT OF A BODY, as the guest reads it, and how the node's definition answers it; if the name in the body has one of the guest's
+-- forms, that name may connect
 abbrev pub frame_to : Guest → EndId → List ℕ → Event
 frame_to g id body = event.Frame id (expansion g.reading.mandatory.0 body)
 
@@ -47,13 +47,13 @@ answer_to g id body fresh =
     let came = expansion g.reading.mandatory.0 body in
     answer_after g.node (step (node_letting g.node (allowed_names g.reading.forms came g.node.setup.allow)) (event.Frame id came) fresh)
 
--- The call of this event made this step of the definition, and its reply is kept, with the status that it received; or it
--- refused as the definition does, or ran out of memory where that refuses nothing. A refusal changed nothing.
+-- The call with this event made this step of the definition, and kept its reply and the status that it received; or it refused as the
+-- definition does, or ran out of memory if the definition does not refuse. A refusal changed nothing.
 abbrev pub IsCall : Event → Result (Unit {0}) StepError → Result (Reply × NodeState) StepError → Guest → Guest → Type 0
 IsCall v (Ok u) s old new = (r : Reply) × (s ≡ Ok (r, new.node)) × (new.last ≡ Some r) × (new.received_status ≡ status_received v) × (new.reading ≡ old.reading)
 IsCall v (Err e) s old new = Refuses e s × (new ≡ old)
 
--- the same of a frame that stood at the front of bytes, of which this many are its own
+-- the same for a frame at the front of the bytes, which has this many of them
 abbrev pub IsReceived : Result ℕ CallError → EndId → ℕ → Option (List ℕ) → Guest → Guest → Type 0
 IsReceived (Ok n) id fresh None old new = ⊥
 IsReceived (Ok n) id fresh (Some body) old new = (n ≡ 2 + length body) × IsCall (frame_to old id body) (Ok tt) (answer_to old id body fresh) old new
@@ -61,7 +61,7 @@ IsReceived (Err Awaits) id fresh front old new = (front ≡ None) × (new ≡ ol
 IsReceived (Err (Step e)) id fresh None old new = ⊥
 IsReceived (Err (Step e)) id fresh (Some body) old new = IsCall (frame_to old id body) (Err e) (answer_to old id body fresh) old new
 
--- what a frame at the front of bytes would be answered by this guest, and how many bytes are its own
+-- how this guest would answer a frame at the front of the bytes, and how many of them the frame has
 abbrev pub IsForeseen : Result (Reply × ℕ) CallError → EndId → ℕ → Option (List ℕ) → Guest → Type 0
 IsForeseen (Ok x) id fresh None g = ⊥
 IsForeseen (Ok x) id fresh (Some body) g = (x.1 ≡ 2 + length body) × (reply_of (answer_to g id body fresh) ≡ Ok x.0)

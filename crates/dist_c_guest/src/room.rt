@@ -39,7 +39,7 @@ impl Guest {
     /// Thus whoever comes anew finds room while somebody holds a connection open and shows no cookie, and a handshake that has
     /// begun is not given up while somebody says nothing. An end that is up is never given up. It takes memory for the answer to
     /// the event alone, and where it has none it changes nothing.
-    pub fn make_room(&mut self, alloc: Global, event: &Event) -> Option<EndId>
+    pub fn evict(&mut self, alloc: Global, event: &Event) -> Option<EndId>
         ensures end { result ≡ room_for event.now self.old.node }
         ensures room { MakesRoom result self.old self.new }
     {

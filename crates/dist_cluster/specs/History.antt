@@ -2,7 +2,7 @@
 use Rattle.std.specs.Prelude.{◌==◌, ℕ, ◌<◌, Bool, List, [], ◌∷◌, ◌++◌, Option, Some, None, map, filter, option_map, option_to_list}
 use Rattle.std.specs.List.{AllByRecursion}
 use Rattle.dist_cluster.specs.declared.change.Observation.{Observation}
-use Rattle.dist_cluster.specs.declared.change.Change.{Change}
+use Rattle.dist_cluster.specs.declared.change.VerdictChange.{VerdictChange}
 use Rattle.dist_cluster.specs.Watching.{Verdicts, verdict_of, after_one, is_other, change_from, report}
 
 -- the last element, where there is one
@@ -38,18 +38,18 @@ abbrev pub is_change : Moment → Bool
 is_change m = is_other (verdict_before m) m.seen.verdict
 
 -- the changes of a history, in order
-abbrev pub changes : List Observation → List Change
+abbrev pub changes : List Observation → List VerdictChange
 changes history = map (λ m. change_from (verdict_before m) m.seen) (filter is_change (moments history))
 
 -- ---- what a watch does
 
 -- WHAT A WATCH REPORTS of these observations in turn
-abbrev pub reports : Verdicts → List Observation → List Change
+abbrev pub reports : Verdicts → List Observation → List VerdictChange
 reports shown [] = []
 reports shown (o ∷ os) = option_to_list (report (verdict_of shown o.target) o) ++ reports (after_one shown o) os
 
 -- the verdict in the last report of a target
-abbrev pub last_reported : ℕ → List Change → Option (List ℕ)
+abbrev pub last_reported : ℕ → List VerdictChange → Option (List ℕ)
 last_reported target reported = option_map (λ c. c.after) (last (filter (λ c. c.target == target) reported))
 
 -- each observation is of one of this many targets

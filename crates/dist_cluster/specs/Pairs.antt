@@ -3,8 +3,8 @@ use Rattle.std.specs.Prelude.{ℕ, ◌==◌, ◌&&◌, Bool, true, false, List, 
 use Rattle.dist_names.specs.Order.{same_name}
 use Rattle.dist_names.specs.declared.flags.Flags.{Flags}
 use Rattle.dist_flags.specs.Releases.{missing, release_of, required_by}
-use Rattle.dist_probe.specs.declared.verdict.Verdict.{Verdict}
-use Rattle.dist_probe.specs.declared.verdict.Verdict.TheVariants as verdict
+use Rattle.dist_probe.specs.declared.verdict.ProbeVerdict.{ProbeVerdict}
+use Rattle.dist_probe.specs.declared.verdict.ProbeVerdict.TheVariants as verdict
 use Rattle.dist_probe.specs.declared.names.NameStyle.{NameStyle}
 use Rattle.dist_probe.specs.declared.names.NameStyle.TheVariants as style
 use Rattle.dist_probe.specs.Styles.{style_of}
@@ -17,7 +17,7 @@ abbrev pub lacks : Flags → Flags → Flags
 lacks first second = record { 0 = missing first.0 (required_by (release_of second.0)) }
 
 -- what the cookies show: certain is a difference alone, where one takes what the other does not
-abbrev pub behind_cookies : Verdict → Verdict → Pairing
+abbrev pub behind_cookies : ProbeVerdict → ProbeVerdict → Pairing
 behind_cookies verdict.Up verdict.Up = pairing.Agree
 behind_cookies verdict.Up verdict.WrongCookie = pairing.OtherCookies
 behind_cookies verdict.WrongCookie verdict.Up = pairing.OtherCookies

@@ -45,8 +45,8 @@ tallied count [] = []
 tallied count (word ∷ words) = if count word == 0 then tallied count words else (word, count word) ∷ tallied count words
 
 -- what counts say: each word, and how many have it
-abbrev pub told_counts : List WordCount → List (List ℕ × ℕ)
-told_counts counts = map (λ c. (c.word.now, c.count)) counts
+abbrev pub shown_counts : List WordCount → List (List ℕ × ℕ)
+shown_counts counts = map (λ c. (c.word.now, c.count)) counts
 
 -- which verdicts the nodes came to, and how many to each
 abbrev pub verdict_counts : List Half → List (List ℕ × ℕ)
@@ -59,6 +59,6 @@ pair_counts halves = tallied (how_many halves) pair_words
 -- WHAT ALL NODES CAME TO: how many there are, and how many pairs they make (of at most 2^32 nodes), each with the words that some have
 pub record Summarizes (halves : List Half) (s : Summary) : Type 0 where
   pub nodes : s.nodes ≡ length halves
-  pub verdicts : told_counts s.verdicts.items ≡ verdict_counts halves
+  pub verdicts : shown_counts s.verdicts.items ≡ verdict_counts halves
   pub pairs : s.pairs ≡ min (length halves * (length halves - 1)) (2 ^ 64 - 1) / 2
-  pub pairings : told_counts s.pairings.items ≡ pair_counts halves
+  pub pairings : shown_counts s.pairings.items ≡ pair_counts halves

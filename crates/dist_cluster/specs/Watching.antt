@@ -2,7 +2,7 @@
 use Rattle.std.specs.Prelude.{◌==◌, ℕ, Bool, true, not, List, Option, Some, None, if◌then◌else◌, replicate, slice_set, slice_index_or}
 use Rattle.std.specs.Cmp.Lexicographic.{pointwise}
 use Rattle.dist_cluster.specs.declared.change.Observation.{Observation}
-use Rattle.dist_cluster.specs.declared.change.Change.{Change}
+use Rattle.dist_cluster.specs.declared.change.VerdictChange.{VerdictChange}
 
 -- the verdict that each target showed last, where anything was seen of it
 abbrev pub Verdicts : Type 0
@@ -26,9 +26,9 @@ is_other None verdict = true
 is_other (Some before) verdict = not (pointwise ◌==◌ before verdict)
 
 -- an observation as a change from the verdict before
-abbrev pub change_from : Option (List ℕ) → Observation → Change
+abbrev pub change_from : Option (List ℕ) → Observation → VerdictChange
 change_from before seen = record { target = seen.target; at = seen.at; before = before; after = seen.verdict }
 
 -- WHAT IS REPORTED of an observation, by the verdict that its target showed before
-abbrev pub report : Option (List ℕ) → Observation → Option Change
+abbrev pub report : Option (List ℕ) → Observation → Option VerdictChange
 report before seen = if is_other before seen.verdict then Some (change_from before seen) else None

@@ -15,7 +15,7 @@ pub struct Observation {
 
 /// A verdict that is not the one before it.
 #[derive(Drop)]
-pub struct Change {
+pub struct VerdictChange {
     /// The target's position in the caller's list, from 0.
     pub target: usize,
     /// When the new verdict was seen.

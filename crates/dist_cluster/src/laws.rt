@@ -3,7 +3,7 @@
 
 ghost use Rattle.std.specs.Prelude.{◌≡◌, ◌≢◌, ℕ, ◌-◌, ◌^◌, min, List, [], ◌∷◌, ◌++◌, Some, length};
 ghost use Rattle.dist_cluster.specs.declared.change.Observation.{Observation};
-ghost use Rattle.dist_cluster.specs.declared.change.Change.{Change};
+ghost use Rattle.dist_cluster.specs.declared.change.VerdictChange.{VerdictChange};
 ghost use Rattle.dist_cluster.specs.Watching.{watching};
 ghost use Rattle.dist_cluster.specs.History.{AreOfTargets, changes, last_observed, last_reported, reports};
 ghost use Rattle.dist_cluster.specs.Latency.{FitWord, IsGreatest, IsLeast, last_few, most_kept, tally_of};
@@ -23,9 +23,9 @@ pub fn reports_show_how_things_stand()
 
 /// The verdict before, in a report, is the one that was reported last of that target, and the new verdict is another.
 pub fn each_change_differs()
-    ensures before { (targets : ℕ) (history : List Observation) (early late : List Change) (change : Change) → AreOfTargets targets history →
+    ensures before { (targets : ℕ) (history : List Observation) (early late : List VerdictChange) (change : VerdictChange) → AreOfTargets targets history →
         reports (watching targets) history ≡ early ++ change ∷ late → change.before ≡ last_reported change.target early }
-    ensures other { (targets : ℕ) (history : List Observation) (early late : List Change) (change : Change) → AreOfTargets targets history →
+    ensures other { (targets : ℕ) (history : List Observation) (early late : List VerdictChange) (change : VerdictChange) → AreOfTargets targets history →
         reports (watching targets) history ≡ early ++ change ∷ late → change.before ≢ Some change.after }
 {}
 

@@ -17,7 +17,7 @@ mod targets;
 mod watch;
 mod watch_error;
 
-pub use change::{Change, Observation};
+pub use change::{Observation, VerdictChange};
 pub use latencies::{Latencies, LatencySummary, MOST_KEPT};
 pub use laws::{
     each_change_differs, each_change_is_reported_once, reports_show_how_things_stand,

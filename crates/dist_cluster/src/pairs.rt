@@ -7,7 +7,7 @@ ghost use Rattle.dist_cluster.specs.Pairs.{behind_cookies, behind_flags, is_bad,
 
 use dist_flags::{missing, release_of};
 use dist_names::{Flags, NodeName};
-use dist_probe::{Verdict, style_of};
+use dist_probe::{ProbeVerdict, style_of};
 
 /// What a probe left of one node.
 #[derive(Clone, Copy)]
@@ -17,7 +17,7 @@ pub struct Half<'a> {
     /// The flags that it announces, where it sent them under that name.
     pub flags: Option<Flags>,
     /// What the probe came to.
-    pub verdict: Verdict,
+    pub verdict: ProbeVerdict,
 }
 
 /// What can be said of two nodes from outside: the first of these that holds.
@@ -47,14 +47,13 @@ fn lacks(first: Flags, second: Flags) -> Flags
 }
 
 // What the cookies show.
-fn behind_cookies(first: Verdict, second: Verdict) -> Pairing
+fn behind_cookies(first: ProbeVerdict, second: ProbeVerdict) -> Pairing
     ensures { result ≡ behind_cookies first second }
 {
     match (first, second) {
-        (Verdict::Up, Verdict::Up) => Pairing::Agree,
-        (Verdict::Up, Verdict::WrongCookie) | (Verdict::WrongCookie, Verdict::Up) => {
-            Pairing::OtherCookies
-        }
+        (ProbeVerdict::Up, ProbeVerdict::Up) => Pairing::Agree,
+        (ProbeVerdict::Up, ProbeVerdict::WrongCookie)
+        | (ProbeVerdict::WrongCookie, ProbeVerdict::Up) => { Pairing::OtherCookies }
         _ => Pairing::Unsure,
     }
 }

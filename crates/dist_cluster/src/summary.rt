@@ -1,7 +1,7 @@
 //! What is said of many nodes in few words: how many came to which verdict, and how many pairs to which word.
 
 ghost use Rattle.std.specs.Prelude.{◌≡◌, ◌∷◌, ◌++◌, ◌^◌, ◌-◌, ◌*◌, ◌/◌, [], IfOk, OnOk, map, min, count_by};
-ghost use Rattle.dist_cluster.specs.Summary.{Summarizes, comes_to, how_many, makes_pair, pair_count, tallied, told_counts};
+ghost use Rattle.dist_cluster.specs.Summary.{Summarizes, comes_to, how_many, makes_pair, pair_count, tallied, shown_counts};
 
 use crate::pairs::{Half, pairing_of};
 use dist_names::is_same_text;
@@ -120,7 +120,7 @@ fn push_tally(
     word: &'static str,
     count: u64,
 ) -> Result<(), AllocError>
-    ensures { OnOk result (told_counts tallies.new.items ≡ told_counts tallies.old.items ++ tallied (λ _. count) (word.now ∷ [])) }
+    ensures { OnOk result (shown_counts tallies.new.items ≡ shown_counts tallies.old.items ++ tallied (λ _. count) (word.now ∷ [])) }
 {
     if count > 0 {
         tallies.push(WordCount { word, count })?;
@@ -134,7 +134,7 @@ fn tally_verdicts(
     halves: &[Half<'_>],
     words: &[&'static str],
 ) -> Result<Vec<WordCount>, AllocError>
-    ensures { IfOk result (λ tallies. told_counts tallies.items ≡ tallied (λ word. count_by (comes_to word) halves.now) (map (λ word. word.now) words.now)) }
+    ensures { IfOk result (λ tallies. shown_counts tallies.items ≡ tallied (λ word. count_by (comes_to word) halves.now) (map (λ word. word.now) words.now)) }
 {
     let mut tallies = Vec::new(alloc);
     for word in words {
@@ -149,7 +149,7 @@ fn tally_pairs(
     halves: &[Half<'_>],
     words: &[&'static str],
 ) -> Result<Vec<WordCount>, AllocError>
-    ensures { IfOk result (λ tallies. told_counts tallies.items ≡ tallied (how_many halves.now) (map (λ word. word.now) words.now)) }
+    ensures { IfOk result (λ tallies. shown_counts tallies.items ≡ tallied (how_many halves.now) (map (λ word. word.now) words.now)) }
 {
     let mut tallies = Vec::new(alloc);
     for word in words {

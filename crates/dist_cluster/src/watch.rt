@@ -3,7 +3,7 @@
 ghost use Rattle.std.specs.Prelude.{◌≡◌, ◌≤◌, ◌↔◌, length, option_copied, IfOk, OnOk, OnErr, IsSome, not};
 ghost use Rattle.dist_cluster.specs.Watching.{watching, verdict_of, after_one, is_other, report};
 
-use crate::change::{Change, Observation};
+use crate::change::{Observation, VerdictChange};
 use crate::watch_error::WatchError;
 use dist_names::ByteString;
 use std::alloc::{AllocError, Global};
@@ -61,7 +61,7 @@ impl Watch {
 
     /// Takes an observation, and returns the change that it is. `None` where the target showed the same verdict last, and
     /// then nothing changes.
-    pub fn observe(&mut self, seen: Observation) -> Result<Option<Change>, WatchError>
+    pub fn observe(&mut self, seen: Observation) -> Result<Option<VerdictChange>, WatchError>
         ensures change { IfOk result (λ change. change ≡ report (verdict_of self.old seen.target) seen) }
         ensures after { OnOk result (self.new ≡ after_one self.old seen) }
 
@@ -79,7 +79,7 @@ impl Watch {
         }
         let kept = seen.verdict.try_clone(self.alloc)?;
         let before = self.verdicts[seen.target].replace(kept);
-        Ok(Some(Change {
+        Ok(Some(VerdictChange {
             target: seen.target,
             at: seen.at,
             before,

@@ -1,4 +1,4 @@
--- How a fault ends the program, and what is said of it on standard error.
+-- How a fault ends the program, and its line on standard error.
 use Rattle.std.specs.Prelude.{ℕ, List, [], ◌∷◌, codes}
 use Rattle.std.specs.List.{concat}
 use Rattle.dist_secret.specs.Answer as cookies
@@ -16,7 +16,7 @@ use Rattle.dist_commands.specs.declared.fault.Fault.{Fault}
 use Rattle.dist_commands.specs.declared.fault.Fault.TheVariants.{BadCommandLine, BadNodesFile, RunEnded, ReadFailed, WriteFailed}
 use Rattle.dist_commands.specs.declared.fault.Fault.TheVariants.{OpenFailed, NoCookie, ConnectFailed, NoAnswer, NoMemory}
 
--- the exit status: 2 where what the user wrote is at fault, else 1
+-- the exit status: 2 if the user's input is at fault, else 1
 abbrev pub status_of : Fault → ℕ
 status_of BadCommandLine = 2
 status_of BadNodesFile = 2
@@ -29,7 +29,7 @@ status_of ConnectFailed = 1
 status_of (NoAnswer error) = 1
 status_of NoMemory = 1
 
--- the words for it: its name, or that of the error which it carries
+-- the text of a fault: its name, or that of the error in it
 abbrev pub fault_text : Fault → List ℕ
 fault_text BadCommandLine = codes "bad command line"
 fault_text BadNodesFile = codes "bad nodes file"
@@ -42,7 +42,7 @@ fault_text ConnectFailed = codes "ConnectFailed"
 fault_text (NoAnswer error) = lookups.lookup_error_name error
 fault_text NoMemory = codes "NoMemory"
 
--- THE LINE ON STANDARD ERROR: these words behind the program's name
+-- THE LINE ON STANDARD ERROR: the program's name, then these words
 abbrev pub line_of : List ℕ → List ℕ
 line_of text = concat (codes "distnode: " ∷ text ∷ codes "\n" ∷ [])
 
@@ -50,11 +50,11 @@ line_of text = concat (codes "distnode: " ∷ text ∷ codes "\n" ∷ [])
 abbrev pub fault_line : Fault → List ℕ
 fault_line fault = line_of (fault_text fault)
 
--- the same of a bad ERL_EPMD_PORT
+-- the same for a bad ERL_EPMD_PORT
 abbrev pub port_line : PortError → List ℕ
 port_line error = line_of (port_error_text error)
 
--- how reading fails that scripts share with nodes files: a text that is at fault is a nodes file
+-- the fault of reading a nodes file, by that of reading a script: a text at fault is a bad nodes file
 abbrev pub fault_of : ScriptFault → Fault
 fault_of script.TooLong = BadNodesFile
 fault_of (script.BadLine number) = BadNodesFile
@@ -64,12 +64,12 @@ fault_of script.ReadFailed = ReadFailed
 fault_of script.WriteFailed = WriteFailed
 fault_of script.NoMemory = NoMemory
 
--- what the words of the command line are where they give no text: no command, unless memory ran out
+-- the fault of words that are not UTF-8: no command, unless memory ran out
 abbrev pub fault_of_text : TextError → Fault
 fault_of_text words.NoText = BadCommandLine
 fault_of_text words.NoMemory = NoMemory
 
--- the same where they give no order
+-- the same for words that give no order
 abbrev pub fault_of_order : OrderError → Fault
 fault_of_order order.Bad = BadCommandLine
 fault_of_order order.NoMemory = NoMemory

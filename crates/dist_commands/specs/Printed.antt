@@ -18,18 +18,18 @@ cookie_line cookie challenge =
     concat (codes "cookie of " ∷ decimal (length cookie) ∷ codes " bytes, digest of " ∷ decimal challenge
     ∷ codes " is " ∷ encode_lower (digest_of cookie challenge) ∷ codes "\n" ∷ [])
 
--- the line of the cookie that was read was put there
+-- the line of the cookie that was read was written
 abbrev pub PrintsCookie : Option (List ℕ) → Option (List ℕ) → ℕ → Option (List ℕ) → Option (List ℕ) → Type 0
 PrintsCookie before after challenge old new = (cookie : List ℕ) × Hears before after (Ok cookie) × Appends old new (cookie_line cookie challenge)
 
 -- ---- `names`
 
--- the text of the answer to a question for all nodes was put there, asked in at most this many turns
+-- the text of the answer to the question for all nodes was written, after at most this many turns
 abbrev pub PrintsNames : StreamState → StreamState → ℕ → Option (List ℕ) → Option (List ℕ) → Type 0
 PrintsNames before after turns old new =
     (port : ℕ) × (text : List ℕ) × AsksFor Names before after turns names_meant (Ok (port, text)) × Appends old new text
 
--- ON A TERMINAL: the escape of that text was put there, of which no terminal acts upon a byte
+-- ON A TERMINAL: the escape of that text was written; no terminal acts on its bytes
 abbrev pub PrintsEscapedNames : StreamState → StreamState → ℕ → Option (List ℕ) → Option (List ℕ) → Type 0
 PrintsEscapedNames before after turns old new =
     (port : ℕ) × (text : List ℕ) × AsksFor Names before after turns names_meant (Ok (port, text))

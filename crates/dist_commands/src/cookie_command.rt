@@ -1,4 +1,4 @@
-//! The command `cookie`: the length of a file's cookie, and the digest that is made with it.
+//! The command `cookie`: the length of a file's cookie, and a digest made with it.
 
 ghost use Rattle.std.specs.Prelude.{◌≡◌, ◌≤◌, IfErr, IfOk, OnOk};
 ghost use Rattle.std.specs.Io.KnownBytes.{Appends};
@@ -67,9 +67,8 @@ fn perform<R: Read, W: Write>(
     }
 }
 
-/// Prints how many bytes the cookie of a file has, and the digest of it and a challenge. The cookie itself is never
-/// printed. Returns the exit status, 0, or 1 for a fault, which is reported on `err`: why the file has no cookie, a write that
-/// failed, or memory that ran out.
+/// Prints how many bytes the cookie of a file has, and the digest of it and a challenge; never the cookie itself. Returns the exit
+/// status: 0, or 1 for a fault, which is reported on `err`: why the file has no cookie, a write that failed, or out of memory.
 pub fn cookie<R: Read, W: Write, E: Write>(
     alloc: Global,
     file: &mut R,
@@ -81,14 +80,14 @@ pub fn cookie<R: Read, W: Write, E: Write>(
     ensures printed { result ≡ 0 → PrintsCookie (R.remaining file.old) (R.remaining file.new) challenge (W.contents out.old) (W.contents out.new) }
     ensures silent { result ≡ 0 → E.contents err.new ≡ E.contents err.old }
 
-    // With status 1 a fault ended it, whose line stands on `err`: the file has no cookie, for the first reason, and nothing was
-    // printed; or its line could not be printed, and just a beginning of it was.
+    // With status 1 a fault ended it, whose line was written to `err`: the file has no cookie, for the first reason that holds, and
+    // nothing was printed; or just a prefix of its line was printed.
     ensures fault { result ≡ 1 → EndsByFault
         (StopsCookie (R.remaining file.old) (R.remaining file.new) challenge (W.contents out.old) (W.contents out.new))
         1 (E.contents err.old) (E.contents err.new) }
 {
     match perform(alloc, file, challenge, out) {
         Ok(()) => 0,
-        Err(fault) => fault.tell(err),
+        Err(fault) => fault.report_to(err),
     }
 }

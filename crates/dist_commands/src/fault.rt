@@ -1,4 +1,4 @@
-//! What stops a command before its work is done, and how that is reported.
+//! What stops a command early, and how that is reported.
 
 ghost use Rattle.std.specs.Prelude.{◌≡◌};
 ghost use Rattle.dist_program.specs.PortTexts.{port_error_status};
@@ -17,11 +17,11 @@ use std::io::Write;
 /// What ends a command.
 #[derive(Clone, Copy, Debug, PartialEq, Eq)]
 pub enum Fault {
-    /// The words of the command line are no command of this program, help and version among them.
+    /// The words of the command line are not a command of this program. `--help` and `--version` are not commands.
     BadCommandLine,
-    /// The file is no nodes file: it is above 1,048,576 bytes, no UTF-8, or breaks a rule.
+    /// The file is not a nodes file: it has more than 1,048,576 bytes, is not UTF-8, or breaks a rule.
     BadNodesFile,
-    /// The run of the nodes ended before its work was done.
+    /// The run of the nodes ended early.
     RunEnded(RunError),
     /// The input could not be read.
     ReadFailed,
@@ -31,7 +31,7 @@ pub enum Fault {
     OpenFailed,
     /// The file has no cookie.
     NoCookie(CookieError),
-    /// Nobody listens where the port mapper should.
+    /// No program listens at the port of the port mapper.
     ConnectFailed,
     /// The port mapper did not answer the question.
     NoAnswer(LookupError),
@@ -61,7 +61,7 @@ impl From<OrderError> for Fault {
     }
 }
 
-// How reading and printing fail that scripts share with nodes files: a text that is at fault is a nodes file.
+// How reading a nodes file fails, by how reading a script does: a text at fault is a bad nodes file.
 impl From<ScriptFault> for Fault {
     ghost from_gives = { λ fault made. made ≡ fault_of fault };
 
@@ -79,7 +79,7 @@ impl From<ScriptFault> for Fault {
 }
 
 impl Fault {
-    /// The exit status: 2 where what the user wrote is at fault, else 1.
+    /// The exit status: 2 if the user's input is at fault, else 1.
     pub fn status(self) -> u8
         ensures { result ≡ status_of self }
     {
@@ -89,7 +89,7 @@ impl Fault {
         }
     }
 
-    /// The words for it on standard error: its name, or that of the error which it carries.
+    /// The text on standard error: the fault's name, or that of the error in it.
     pub fn text(self) -> &'static str
         ensures { result.now ≡ fault_text self }
     {
@@ -107,9 +107,8 @@ impl Fault {
         }
     }
 
-    /// Reports the fault on standard error and returns the exit status. Where its line cannot be written, a beginning of it may
-    /// stand there, and nothing else is lost.
-    pub fn tell<E: Write>(self, err: &mut E) -> u8
+    /// Reports the fault on standard error, and returns the exit status. If its line can't be written whole, just the rest of it is lost.
+    pub fn report_to<E: Write>(self, err: &mut E) -> u8
         ensures status { result ≡ status_of self }
         ensures line { PutsFront (fault_line self) (E.contents err.old) (E.contents err.new) }
     {
@@ -118,7 +117,7 @@ impl Fault {
     }
 }
 
-// Writes a line of these words behind the program's name, as far as it can be written.
+// Writes the program's name and these words in a line, as far as they can be written.
 #[tactic(auto, using(dist_script::proofs::Fronts::front_either))]
 fn put_line<E: Write>(text: &str, err: &mut E)
     ensures { PutsFront (line_of text.now) (E.contents err.old) (E.contents err.new) }
@@ -133,8 +132,8 @@ fn put_line<E: Write>(text: &str, err: &mut E)
     );
 }
 
-/// Reports on standard error why ERL_EPMD_PORT names no port, and returns the exit status. The line is written as that of a fault.
-pub fn tell_port<E: Write>(error: &PortError, err: &mut E) -> u8
+/// Reports on standard error why ERL_EPMD_PORT is not a port, and returns the exit status. Its line is written like that of a fault.
+pub fn report_port<E: Write>(error: &PortError, err: &mut E) -> u8
     ensures status { result ≡ port_error_status error.now }
     ensures line { PutsFront (port_line error.now) (E.contents err.old) (E.contents err.new) }
 {

@@ -1,4 +1,4 @@
-//! The order that stands in what the parser of command lines matched.
+//! The order in what the parser of command lines matched.
 
 ghost use Rattle.std.specs.Prelude.{ℕ, IsSomeAnd, codes};
 ghost use Rattle.clap.specs.Words.{first_of, found_of, rows_of, subcommand_rows_of};
@@ -50,7 +50,7 @@ fn run_order<'a>(matches: &ArgMatches<'a>) -> Option<Order<'a>>
     Some(Order::Run { file })
 }
 
-/// The order of the command that was matched, where the port mapper's port is `usual` unless it is named.
+/// The order of the command that was matched. The port mapper's port is `usual` unless one is named.
 pub fn order_in<'a>(matches: &ArgMatches<'a>, usual: u16) -> Option<Order<'a>>
     ensures { FoundBy (λ order. IsSomeAnd (subcommand_rows_of matches.now) (IsOrderOf usual order)) result }
 {

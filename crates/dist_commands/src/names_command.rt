@@ -1,4 +1,4 @@
-//! The command `names`: what a port mapper answers about the nodes that it knows.
+//! The command `names`: asks a port mapper which nodes it knows.
 
 ghost use Rattle.std.specs.Prelude.{◌≡◌, ◌≤◌, IfErr, OnOk};
 ghost use Rattle.dist_commands.specs.Fault.{status_of};
@@ -13,9 +13,8 @@ use dist_stream::Stream;
 use std::alloc::Global;
 use std::io::Write;
 
-/// The most turns. A turn is one read or one write, a quiet one among them. A real port mapper writes each line of its answer
-/// by itself, so that as many reads may be needed as it knows nodes: an `epmd` holds some 1,018, and there is room for 1,024.
-/// Our own choice.
+/// The most turns. A turn is one read or one write, even a quiet one. A real port mapper writes each line of its answer by itself, so
+/// it may take one read for each node: an `epmd` holds some 1,018, and there is room for 1,024. Our own choice.
 const MOST_TURNS: usize = 1280;
 
 // Asks, and prints the answer.
@@ -35,8 +34,8 @@ fn perform<S: Stream, W: Write>(alloc: Global, stream: &mut S, out: &mut W) -> R
     }
 }
 
-/// Asks a port mapper for the nodes that it knows, and prints the text of its answer as it came. Returns the exit
-/// status, 0, or 1 for a fault, which is reported on `err`: that of the question, or a write that failed.
+/// Asks a port mapper for the nodes that it knows, and prints the text of its answer unchanged. Returns the exit status: 0, or 1 for a
+/// fault, which is reported on `err`: the question failed, or a write did.
 pub fn names<S: Stream, W: Write, E: Write>(
     alloc: Global,
     stream: &mut S,
@@ -47,19 +46,19 @@ pub fn names<S: Stream, W: Write, E: Write>(
     ensures printed { result ≡ 0 → PrintsNames (S.meaning stream.old) (S.meaning stream.new) MOST_TURNS (W.contents out.old) (W.contents out.new) }
     ensures silent { result ≡ 0 → E.contents err.new ≡ E.contents err.old }
 
-    // With status 1 a fault ended it, whose line stands on `err`: the question has no answer, for the first reason, and nothing was
-    // printed; or just a beginning of the answer was.
+    // With status 1 a fault ended it, whose line was written to `err`: the question has no answer, for the first reason that holds, and
+    // nothing was printed; or just a prefix of the answer was.
     ensures fault { result ≡ 1 → EndsByFault
         (StopsNames (S.meaning stream.old) (S.meaning stream.new) MOST_TURNS (W.contents out.old) (W.contents out.new))
         1 (E.contents err.old) (E.contents err.new) }
 {
     match perform(alloc, stream, out) {
         Ok(()) => 0,
-        Err(fault) => fault.tell(err),
+        Err(fault) => fault.report_to(err),
     }
 }
 
-// Asks, and prints the answer's escape.
+// Asks, and prints the answer, escaped.
 #[tactic(auto, using(crate::proofs::Stopped::cut_escaped))]
 fn perform_on_terminal<S: Stream, W: Write>(
     alloc: Global,
@@ -83,8 +82,7 @@ fn perform_on_terminal<S: Stream, W: Write>(
     }
 }
 
-/// The same for an output that is a terminal: whoever listens at the port may have written the answer, and a terminal acts
-/// upon some bytes, so each line is printed by its escape.
+/// The same for a terminal. It acts on some bytes, and any program that listens at the port may have sent them; so each line is escaped.
 pub fn names_on_terminal<S: Stream, W: Write, E: Write>(
     alloc: Global,
     stream: &mut S,
@@ -95,13 +93,13 @@ pub fn names_on_terminal<S: Stream, W: Write, E: Write>(
     ensures printed { result ≡ 0 → PrintsEscapedNames (S.meaning stream.old) (S.meaning stream.new) MOST_TURNS (W.contents out.old) (W.contents out.new) }
     ensures silent { result ≡ 0 → E.contents err.new ≡ E.contents err.old }
 
-    // The same, where memory may run out for the escape of the answer.
+    // The same; memory may also run out for the escaped answer.
     ensures fault { result ≡ 1 → EndsByFault
         (StopsEscapedNames (S.meaning stream.old) (S.meaning stream.new) MOST_TURNS (W.contents out.old) (W.contents out.new))
         1 (E.contents err.old) (E.contents err.new) }
 {
     match perform_on_terminal(alloc, stream, out) {
         Ok(()) => 0,
-        Err(fault) => fault.tell(err),
+        Err(fault) => fault.report_to(err),
     }
 }

@@ -16,7 +16,7 @@ use thiserror::Error;
 /// What the program is asked to do.
 #[derive(Clone, Copy)]
 pub enum Order<'a> {
-    /// Enact the script on standard input.
+    /// Play the script on standard input.
     Enact,
     /// Print the digest of the cookie in this file and the challenge.
     Cookie { file: &'a str, challenge: u32 },
@@ -26,10 +26,10 @@ pub enum Order<'a> {
     Run { file: &'a str },
 }
 
-/// Why the words ask for nothing.
+/// Why the words give no order.
 #[derive(Clone, Copy, Debug, PartialEq, Eq, Error)]
 pub enum OrderError {
-    /// They are no command of this program. Asking for help or the version is none.
+    /// They are not a command of this program. Asking for help or the version is not one.
     #[error("words are no command")]
     Bad,
     /// No memory was left to read them.
@@ -46,7 +46,7 @@ impl From<AllocError> for OrderError {
 }
 
 // Why the parser refuses the words.
-fn refusal(error: &clap::Error) -> OrderError
+fn order_error(error: &clap::Error) -> OrderError
     ensures { kind_of error.now ≡ ErrorKind.OutOfMemory → result ≡ OrderError.NoMemory }
 {
     match error.kind() {
@@ -55,9 +55,8 @@ fn refusal(error: &clap::Error) -> OrderError
     }
 }
 
-/// The order that the words after the program's name give: that of the command which the parser of command lines matches
-/// in them, with the file and the number that it matches, and with this port of the port mapper where they name none. They are
-/// `Bad` where it matches none.
+/// The order that the words after the program's name give: that of the command which the parser matches in them, with its file and its
+/// number. If they name no port, the port mapper's is `mapper_port`. `Bad` if the parser matches no command.
 pub fn order_with<'a>(
     alloc: Global,
     words: &'a [&'a str],
@@ -68,11 +67,11 @@ pub fn order_with<'a>(
 {
     match program(alloc)?.try_get_matches_from(words) {
         Ok(matches) => order_in(&matches, mapper_port).ok_or(OrderError::Bad),
-        Err(error) => Err(refusal(&error)),
+        Err(error) => Err(order_error(&error)),
     }
 }
 
-/// The same, with port 4369 where they name none.
+/// The same, with port 4369 if they name none.
 pub fn order_of<'a>(alloc: Global, words: &'a [&'a str]) -> Result<Order<'a>, OrderError>
     ensures ok { IfOk result (Asks (map (λ word. word.now) words.now)) }
     ensures bad { result ≡ Err OrderError.Bad → (order : Order) → Asks (map (λ word. word.now) words.now) order → ⊥ }

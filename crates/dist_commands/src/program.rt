@@ -1,4 +1,4 @@
-//! The program, as it is described to the parser of command lines.
+//! Describes the program to the parser of command lines.
 
 ghost use Rattle.std.specs.Prelude.{◌≡◌, IfOk, codes, false, true};
 ghost use Rattle.clap.specs.Words.{App, app_of, new_app, rule_of, with_subcommand};
@@ -20,7 +20,7 @@ fn cookie_command<'a>(alloc: Global) -> Result<Command<'a>, AllocError>
     command.arg(challenge)
 }
 
-// The port of the port mapper, by its first name.
+// The port of the port mapper, with its first name.
 fn port<'a>(alloc: Global) -> Arg<'a>
     ensures rule { rule_of result ≡ value (codes "port") }
     ensures local { result.global ≡ false }
@@ -28,7 +28,7 @@ fn port<'a>(alloc: Global) -> Arg<'a>
     Arg::new(alloc, "port").long("port").action(ArgAction::Set)
 }
 
-// The same, by both names.
+// The same, with both names.
 fn port_or_epmd_port<'a>(alloc: Global) -> Result<Arg<'a>, AllocError>
     ensures rule { IfOk result (λ a. rule_of a ≡ value_or (codes "port") (codes "epmd-port")) }
     ensures local { IfOk result (λ a. a.global ≡ false) }
@@ -52,7 +52,7 @@ fn run_command<'a>(alloc: Global) -> Result<Command<'a>, AllocError>
     Command::new(alloc, "run").arg(file)
 }
 
-// The program without its commands, of which one is wanted.
+// The program without its commands, one of which is required.
 fn bare<'a>(alloc: Global) -> Command<'a>
     ensures { app_of result ≡ bare_app }
 {
@@ -62,7 +62,7 @@ fn bare<'a>(alloc: Global) -> Command<'a>
         .subcommand_required(true)
 }
 
-// The program with one more command, where there was memory for it.
+// The program with one more command, if there was memory for it.
 fn with_command<'a>(
     program: Command<'a>,
     command: Result<Command<'a>, AllocError>,
@@ -83,7 +83,7 @@ fn enact_program<'a>(alloc: Global) -> Result<Command<'a>, AllocError>
     bare(alloc).subcommand(Command::new(alloc, "enact"))
 }
 
-/// The program with its commands, of which one is wanted.
+/// The program with its commands, one of which is required.
 pub fn program<'a>(alloc: Global) -> Result<Command<'a>, AllocError>
     ensures { IfOk result (λ c. app_of c ≡ program_app) }
 {

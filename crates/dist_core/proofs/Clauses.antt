@@ -21,9 +21,9 @@ use Rattle.dist_core.specs.Clauses.{end_of, loss_reply, ClosesOnReply}
 use Rattle.dist_core.proofs.Closings.{closes_on_reply}
 
 -- what a call of step returns
-pub told : (r : Result Reply StepError) (s : Result (Reply × NodeState) StepError) (old new : NodeState) → IsStep r s old new → GivesReply r s
-told (Ok r) s old new h = ap reply_of h
-told (Err e) s old new h = h.0
+pub reported : (r : Result Reply StepError) (s : Result (Reply × NodeState) StepError) (old new : NodeState) → IsStep r s old new → GivesReply r s
+reported (Ok r) s old new h = ap reply_of h
+reported (Err e) s old new h = h.0
 
 refused : (x e : StepError) (s : Result (Reply × NodeState) StepError) → Refuses x s → s ≡ Err e → ◌≡◌ {A = Result Reply StepError} (Err x) (Err e)
 refused (error.Busy y) e s h is = let same : ◌≡◌ {A = Result (Reply × NodeState) StepError} (Err (error.Busy y)) (Err e) = sym h ∙ is in cc

@@ -39,8 +39,8 @@ pub whole : (n : NodeState) (w v : Event) (fresh : ℕ) (s : Result Effect StepE
 whole n w v fresh s same is = ap (step_result n v) (sym is) ∙ ap (λ (e : Event). step n e fresh) (sym same)
 
 -- the reply of a step is that of its effect
-pub told-so : (n : NodeState) (v : Event) (s : Result Effect StepError) (f : Effect) (r : Reply) → s ≡ Ok f → r ≡ f.reply → reply_of (step_result n v s) ≡ Ok r
-told-so n v s f r is same = ap (λ (s : Result Effect StepError). reply_of (step_result n v s)) is ∙ ap (λ (r : Reply). Ok r) (sym same)
+pub reported-so : (n : NodeState) (v : Event) (s : Result Effect StepError) (f : Effect) (r : Reply) → s ≡ Ok f → r ≡ f.reply → reply_of (step_result n v s) ≡ Ok r
+reported-so n v s f r is same = ap (λ (s : Result Effect StepError). reply_of (step_result n v s)) is ∙ ap (λ (r : Reply). Ok r) (sym same)
 
 -- a step that has a reply is made
 pub given : (s : Result (Reply × NodeState) StepError) (r : Reply) → reply_of s ≡ Ok r → IsOk s

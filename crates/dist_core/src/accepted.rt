@@ -8,7 +8,7 @@ ghost use Rattle.dist_core.specs.Accepted.{in_await_true, in_await_complement, i
 
 use crate::effect::{Effect, attempt_in, goes_on, record_of, reply_phase, shuts, shuts_other};
 use crate::node::Node;
-use crate::progress::{Progress, refusal};
+use crate::progress::{Progress, shuts_silently};
 use crate::reply::Note;
 use dist_core_ends::{Attempt, End, Ends, Phase, Stage, Why};
 use dist_core_setup::{
@@ -195,8 +195,8 @@ pub fn in_await_true(
             };
             Ok(Progress::Goes { say, to })
         }
-        MessageView::Status(Status::False) => Ok(refusal(alloc, Why::StatusRefused)),
-        _ => Ok(refusal(alloc, Why::Unexpected)),
+        MessageView::Status(Status::False) => Ok(shuts_silently(alloc, Why::StatusRefused)),
+        _ => Ok(shuts_silently(alloc, Why::Unexpected)),
     }
 }
 
@@ -213,11 +213,11 @@ pub fn in_await_complement(
     ensures holds { IfOk result (HoldsOn attempt.now) }
 {
     let MessageView::Complement { high, creation } = message else {
-        return Ok(refusal(alloc, Why::Unexpected));
+        return Ok(shuts_silently(alloc, Why::Unexpected));
     };
     let flags = Flags::of_halves(*high, attempt.flags.low());
     if !flags.has(required_of(setup, Form::New)) {
-        return Ok(refusal(alloc, Why::WrongFlags));
+        return Ok(shuts_silently(alloc, Why::WrongFlags));
     }
     let say = ByteString::new(alloc);
     let to = Stage {
@@ -246,11 +246,11 @@ pub fn in_await_reply(
         digest: came,
     } = message
     else {
-        return Ok(refusal(alloc, Why::Unexpected));
+        return Ok(shuts_silently(alloc, Why::Unexpected));
     };
     let own = own_digest(setup, &attempt.peer, attempt.challenge);
     if *came != own {
-        return Ok(refusal(alloc, Why::WrongDigest));
+        return Ok(shuts_silently(alloc, Why::WrongDigest));
     }
     let say = ack_frame(alloc, setup, &attempt.peer, *challenge)?;
     let came = record_of(alloc, setup, attempt, came)?;

@@ -9,7 +9,7 @@ ghost use Rattle.dist_core.specs.Progress.{effect_by, HoldsOn};
 ghost use Rattle.dist_core.specs.Dialled.{in_await_status, in_doomed, challenge_effect, in_await_challenge, in_await_ack};
 
 use crate::effect::record_of;
-use crate::progress::{Progress, moves, refusal};
+use crate::progress::{Progress, moves, shuts_silently};
 use dist_core_ends::{Attempt, Phase, Stage, Why};
 use dist_core_setup::{
     Setup, knows_six, opens_new, own_digest, reply_frame, required_of, status_frame,
@@ -39,9 +39,9 @@ pub fn in_await_status(
             Ok(moves(say, attempt, Phase::AwaitChallenge))
         }
         MessageView::Status(Status::Nok) | MessageView::Status(Status::NotAllowed) => {
-            Ok(refusal(alloc, Why::StatusRefused))
+            Ok(shuts_silently(alloc, Why::StatusRefused))
         }
-        _ => Ok(refusal(alloc, Why::Unexpected)),
+        _ => Ok(shuts_silently(alloc, Why::Unexpected)),
     }
 }
 
@@ -58,8 +58,8 @@ pub fn in_doomed(alloc: Global, message: &MessageView) -> Result<Progress, Alloc
                 why: Why::Crossed,
             })
         }
-        MessageView::Status(_) => Ok(refusal(alloc, Why::Crossed)),
-        _ => Ok(refusal(alloc, Why::Unexpected)),
+        MessageView::Status(_) => Ok(shuts_silently(alloc, Why::Crossed)),
+        _ => Ok(shuts_silently(alloc, Why::Unexpected)),
     }
 }
 
@@ -116,10 +116,10 @@ fn answer_challenge(
     ensures holds { IfOk result (HoldsOn attempt.now) }
 {
     if !attempt.peer.has_bytes(came.name) {
-        return Ok(refusal(alloc, Why::WrongName));
+        return Ok(shuts_silently(alloc, Why::WrongName));
     }
     if !came.flags.has(came.required) {
-        return Ok(refusal(alloc, Why::WrongFlags));
+        return Ok(shuts_silently(alloc, Why::WrongFlags));
     }
     send_reply(alloc, setup, fresh, attempt, came)
 }
@@ -169,7 +169,7 @@ pub fn in_await_challenge(
             };
             answer_challenge(alloc, setup, fresh, attempt, came)
         }
-        _ => Ok(refusal(alloc, Why::Unexpected)),
+        _ => Ok(shuts_silently(alloc, Why::Unexpected)),
     }
 }
 
@@ -186,11 +186,11 @@ pub fn in_await_ack(
     ensures holds { IfOk result (HoldsOn attempt.now) }
 {
     let MessageView::Ack { digest: came } = message else {
-        return Ok(refusal(alloc, Why::Unexpected));
+        return Ok(shuts_silently(alloc, Why::Unexpected));
     };
     let own = own_digest(setup, &attempt.peer, attempt.challenge);
     if *came != own {
-        return Ok(refusal(alloc, Why::WrongDigest));
+        return Ok(shuts_silently(alloc, Why::WrongDigest));
     }
     let say = ByteString::new(alloc);
     let came = record_of(alloc, setup, attempt, came)?;

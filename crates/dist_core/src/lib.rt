@@ -2,11 +2,11 @@
 //! what is sent on each. `Node::step` takes one event and one number that was drawn, and returns one reply.
 //!
 //! No input or output, no clock, no randomness, no threads: whoever reads a socket or draws a challenge hands it in.
-//! Once an end is up, the packets on its connection are nobody's concern here. Of an end that was closed the node keeps the
+//! Once an end is up, the packets on its connection are the caller's. Of an end that was closed the node keeps the
 //! cause alone, until `Node::forget` lets that go too.
 //!
-//! Between two steps the setup can change: the cookies of peers that have no entry, and which names may connect. Where no end is
-//! open, the node can begin anew (`Node::renew`).
+//! Between two steps the setup can change: the cookies of peers with which no end is up, and which names may connect. If no end is open,
+//! the node can begin anew (`Node::renew`).
 #![tactic(auto)]
 
 mod accepted;

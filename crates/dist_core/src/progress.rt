@@ -20,7 +20,7 @@ pub enum Progress {
 }
 
 // It is closed, and sends nothing.
-pub fn refusal(alloc: Global, why: Why) -> Progress
+pub fn shuts_silently(alloc: Global, why: Why) -> Progress
     ensures { result ≡ Progress.Shuts [] why }
 {
     let say = ByteString::new(alloc);

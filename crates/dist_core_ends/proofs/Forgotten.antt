@@ -9,8 +9,8 @@ use Rattle.dist_peers.specs.Table.{Table}
 use Rattle.dist_core_ends.specs.declared.known.End.{End}
 use Rattle.dist_core_ends.specs.declared.known.End.TheVariants as ends
 use Rattle.dist_core_ends.specs.declared.phase.Kind.{Kind}
-use Rattle.dist_core_ends.specs.declared.slots.Row.{Row}
-use Rattle.dist_core_ends.specs.declared.slots.Row.TheVariants as row
+use Rattle.dist_core_ends.specs.declared.slots.EndPlace.{EndPlace}
+use Rattle.dist_core_ends.specs.declared.slots.EndPlace.TheVariants as row
 use Rattle.dist_core_ends.specs.Ends.{is_open, is_held, holds, Agree}
 use Rattle.dist_core_ends.specs.Change.{one_if}
 use Rattle.dist_core_ends.specs.Forgetting.{without_cause, without_causes_below}
@@ -68,7 +68,7 @@ forgotten-count (suc b) (e ∷ es) = count-cons (without_cause e) (without_cause
 
 -- ---- the list of rows
 
-pub rows-slot : (b : ℕ) (rows : List Row) (i k : ℕ) → slice_get (rows_forgotten b rows) i ≡ Some (row.Slot k) → slice_get rows i ≡ Some (row.Slot k)
+pub rows-slot : (b : ℕ) (rows : List EndPlace) (i k : ℕ) → slice_get (rows_forgotten b rows) i ≡ Some (row.Slot k) → slice_get rows i ≡ Some (row.Slot k)
 rows-slot b [] i k h = h
 rows-slot zero (r ∷ rows) i k h = h
 rows-slot (suc b) (row.Slot m ∷ rows) zero k h = h
@@ -76,23 +76,23 @@ rows-slot (suc b) (row.Closed w ∷ rows) zero k h = absurd cc
 rows-slot (suc b) (r ∷ rows) (suc i) k h = rows-slot b rows i k h
 
 -- the rows show the ends of which it is forgotten
-same-row : (slots : Slots) (r : Row) → ((k : ℕ) → r ≡ row.Slot k → is_open (end_of_row slots r) ≡ true) → end_of_row slots (without_row_cause r) ≡ without_cause (end_of_row slots r)
+same-row : (slots : Slots) (r : EndPlace) → ((k : ℕ) → r ≡ row.Slot k → is_open (end_of_row slots r) ≡ true) → end_of_row slots (without_row_cause r) ≡ without_cause (end_of_row slots r)
 same-row slots (row.Slot k) h = sym (same-end (end_of_row slots (row.Slot k)) (h k refl))
 same-row slots (row.Closed w) h = refl
 
-pub shown-forgotten : (b : ℕ) (rows : List Row) (slots : Slots) → ((i k : ℕ) → slice_get rows i ≡ Some (row.Slot k) → is_open (end_of_row slots (row.Slot k)) ≡ true) → ends_of_rows (rows_forgotten b rows) slots ≡ without_causes_below b (ends_of_rows rows slots)
+pub shown-forgotten : (b : ℕ) (rows : List EndPlace) (slots : Slots) → ((i k : ℕ) → slice_get rows i ≡ Some (row.Slot k) → is_open (end_of_row slots (row.Slot k)) ≡ true) → ends_of_rows (rows_forgotten b rows) slots ≡ without_causes_below b (ends_of_rows rows slots)
 shown-forgotten b [] slots h = sym (forgotten-none b)
 shown-forgotten zero (r ∷ rows) slots h = refl
 shown-forgotten (suc b) (r ∷ rows) slots h =
-    let opened : (k : ℕ) → r ≡ row.Slot k → is_open (end_of_row slots r) ≡ true = λ k e. ap (λ (x : Row). is_open (end_of_row slots x)) e ∙ h zero k (ap Some e) in
+    let opened : (k : ℕ) → r ≡ row.Slot k → is_open (end_of_row slots r) ≡ true = λ k e. ap (λ (x : EndPlace). is_open (end_of_row slots x)) e ∙ h zero k (ap Some e) in
     let rest : ends_of_rows (rows_forgotten b rows) slots ≡ without_causes_below b (ends_of_rows rows slots) = shown-forgotten b rows slots (λ i k e. h (suc i) k e) in
     λ j. same-row slots r opened j ∷ rest j
 
-pub kept-shown : (b : ℕ) (rows : List Row) (slots : Slots) → AreKept rows slots → ends_of_rows (rows_forgotten b rows) slots ≡ without_causes_below b (ends_of_rows rows slots)
+pub kept-shown : (b : ℕ) (rows : List EndPlace) (slots : Slots) → AreKept rows slots → ends_of_rows (rows_forgotten b rows) slots ≡ without_causes_below b (ends_of_rows rows slots)
 kept-shown b rows slots a =
     shown-forgotten b rows slots (λ i k h. let f = a.full i k h in ap (λ (o : Option End). is_open (found_end o)) f.there ∙ f.opened)
 
-pub kept-forgotten : (b : ℕ) (rows : List Row) (slots : Slots) → AreKept rows slots → AreKept (rows_forgotten b rows) slots
+pub kept-forgotten : (b : ℕ) (rows : List EndPlace) (slots : Slots) → AreKept rows slots → AreKept (rows_forgotten b rows) slots
 kept-forgotten b rows slots a = record {
   full = λ i k h. a.full i k (rows-slot b rows i k h);
   apart = λ i j k h g. a.apart i j k (rows-slot b rows i k h) (rows-slot b rows j k g);
@@ -101,36 +101,36 @@ kept-forgotten b rows slots a = record {
 
 -- ---- a row at a time
 
-pub rows-here : (i : ℕ) (rows : List Row) → slice_get (rows_forgotten i rows) i ≡ slice_get rows i
+pub rows-here : (i : ℕ) (rows : List EndPlace) → slice_get (rows_forgotten i rows) i ≡ slice_get rows i
 rows-here i [] = refl
 rows-here zero (r ∷ rows) = refl
 rows-here (suc i) (r ∷ rows) = rows-here i rows
 
-pub rows-length : (b : ℕ) (rows : List Row) → length (rows_forgotten b rows) ≡ length rows
+pub rows-length : (b : ℕ) (rows : List EndPlace) → length (rows_forgotten b rows) ≡ length rows
 rows-length b [] = refl
 rows-length zero (r ∷ rows) = refl
 rows-length (suc b) (r ∷ rows) = ap suc (rows-length b rows)
 
-pub rows-none : (rows : List Row) → rows_forgotten 0 rows ≡ rows
+pub rows-none : (rows : List EndPlace) → rows_forgotten 0 rows ≡ rows
 rows-none [] = refl
 rows-none (r ∷ rows) = refl
 
-pub rows-next : (i : ℕ) (rows : List Row) (r : Row) → slice_get rows i ≡ Some r → set (rows_forgotten i rows) i (without_row_cause r) ≡ rows_forgotten (suc i) rows
+pub rows-next : (i : ℕ) (rows : List EndPlace) (r : EndPlace) → slice_get rows i ≡ Some r → set (rows_forgotten i rows) i (without_row_cause r) ≡ rows_forgotten (suc i) rows
 rows-next i [] r h = refl
 rows-next zero (x ∷ rows) r h = let same : r ≡ x = cc in (λ j. without_row_cause (same j) ∷ sym (rows-none rows) j)
 rows-next (suc i) (x ∷ rows) r h = ap (λ rs. without_row_cause x ∷ rs) (rows-next i rows r h)
 
-pub row-there : (rows : List Row) (i : ℕ) → i < length rows → (r : Row) × (slice_get rows i ≡ Some r)
+pub row-there : (rows : List EndPlace) (i : ℕ) → i < length rows → (r : EndPlace) × (slice_get rows i ≡ Some r)
 row-there [] i h = absurd (omega (arith, h))
 row-there (r ∷ rows) zero h = (r, refl)
 row-there (r ∷ rows) (suc i) h = row-there rows i (omega (arith, h))
 
-rows-past : (b c : ℕ) (rows : List Row) → length rows ≤ b → length rows ≤ c → rows_forgotten b rows ≡ rows_forgotten c rows
+rows-past : (b c : ℕ) (rows : List EndPlace) → length rows ≤ b → length rows ≤ c → rows_forgotten b rows ≡ rows_forgotten c rows
 rows-past b c [] h g = refl
 rows-past zero c (r ∷ rows) h g = absurd (omega (arith, h))
 rows-past (suc b) zero (r ∷ rows) h g = absurd (omega (arith, g))
 rows-past (suc b) (suc c) (r ∷ rows) h g = ap (λ rs. without_row_cause r ∷ rs) (rows-past b c rows (omega (arith, h)) (omega (arith, g)))
 
 -- up to a number, or to the last row
-pub rows-upto : (i b : ℕ) (rows : List Row) → i ≡ min b (length rows) → rows_forgotten i rows ≡ rows_forgotten b rows
+pub rows-upto : (i b : ℕ) (rows : List EndPlace) → i ≡ min b (length rows) → rows_forgotten i rows ≡ rows_forgotten b rows
 rows-upto i b rows h = elim (leb_tells b (length rows)) [ inl f ↦ (let same : i ≡ b = omega (arith, h, f.1) in ap (λ n. rows_forgotten n rows) same) | inr f ↦ rows-past i b rows (omega (arith, h, f.1)) (omega (arith, f.1)) ]

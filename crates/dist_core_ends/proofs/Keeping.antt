@@ -8,8 +8,8 @@ use Rattle.std.proofs.lemmas.Bool.Decides.{nat_tests}
 use Rattle.dist_core_ends.specs.declared.known.End.{End}
 use Rattle.dist_core_ends.specs.declared.known.End.TheVariants as ends
 use Rattle.dist_core_ends.specs.declared.why.Why.{Why}
-use Rattle.dist_core_ends.specs.declared.slots.Row.{Row}
-use Rattle.dist_core_ends.specs.declared.slots.Row.TheVariants as row
+use Rattle.dist_core_ends.specs.declared.slots.EndPlace.{EndPlace}
+use Rattle.dist_core_ends.specs.declared.slots.EndPlace.TheVariants as row
 use Rattle.dist_core_ends.specs.Ends.{is_open}
 use Rattle.slab.specs.Slab.{Slab, ContainsKey}
 use Rattle.dist_core_ends.specs.Change.{one_if, put_end, claim_at, IsThere, StaysClosed}
@@ -20,31 +20,31 @@ use Rattle.dist_core_ends.proofs.Opens.{count-set, count-push}
 
 -- ---- the ends that rows show
 
-pub row-get : (rows : List Row) (slots : Slots) (i : ℕ) (r : Row) → slice_get rows i ≡ Some r → slice_get (ends_of_rows rows slots) i ≡ Some (end_of_row slots r)
+pub row-get : (rows : List EndPlace) (slots : Slots) (i : ℕ) (r : EndPlace) → slice_get rows i ≡ Some r → slice_get (ends_of_rows rows slots) i ≡ Some (end_of_row slots r)
 row-get [] slots i r h = absurd cc
-row-get (x ∷ rows) slots zero r h = let same : x ≡ r = cc in ap (λ (y : Row). Some (end_of_row slots y)) same
+row-get (x ∷ rows) slots zero r h = let same : x ≡ r = cc in ap (λ (y : EndPlace). Some (end_of_row slots y)) same
 row-get (x ∷ rows) slots (suc i) r h = row-get rows slots i r h
 
-pub shown-length : (rows : List Row) (slots : Slots) → length (ends_of_rows rows slots) ≡ length rows
+pub shown-length : (rows : List EndPlace) (slots : Slots) → length (ends_of_rows rows slots) ≡ length rows
 shown-length [] slots = refl
 shown-length (x ∷ rows) slots = ap suc (shown-length rows slots)
 
-pub shown-put : (rows : List Row) (slots : Slots) (i : ℕ) (r : Row) → ends_of_rows (set rows i r) slots ≡ set (ends_of_rows rows slots) i (end_of_row slots r)
+pub shown-put : (rows : List EndPlace) (slots : Slots) (i : ℕ) (r : EndPlace) → ends_of_rows (set rows i r) slots ≡ set (ends_of_rows rows slots) i (end_of_row slots r)
 shown-put [] slots i r = refl
 shown-put (x ∷ rows) slots zero r = refl
 shown-put (x ∷ rows) slots (suc i) r = ap (λ es. end_of_row slots x ∷ es) (shown-put rows slots i r)
 
-pub shown-push : (rows : List Row) (slots : Slots) (r : Row) → ends_of_rows (rows ++ r ∷ []) slots ≡ ends_of_rows rows slots ++ end_of_row slots r ∷ []
+pub shown-push : (rows : List EndPlace) (slots : Slots) (r : EndPlace) → ends_of_rows (rows ++ r ∷ []) slots ≡ ends_of_rows rows slots ++ end_of_row slots r ∷ []
 shown-push [] slots r = refl
 shown-push (x ∷ rows) slots r = ap (λ es. end_of_row slots x ∷ es) (shown-push rows slots r)
 
 -- the slot of this row is not k
-row-other : (old new : Slots) (k : ℕ) (o : Option End) → Puts old new k o → (x : Row) → (x ≡ row.Slot k → ⊥) → end_of_row new x ≡ end_of_row old x
+row-other : (old new : Slots) (k : ℕ) (o : Option End) → Puts old new k o → (x : EndPlace) → (x ≡ row.Slot k → ⊥) → end_of_row new x ≡ end_of_row old x
 row-other old new k o p (row.Slot m) h = ap found_end (p.others m (λ e. h (ap row.Slot e)))
 row-other old new k o p (row.Closed w) h = refl
 
 -- no row has the slot that changes
-pub shown-other : (rows : List Row) (old new : Slots) (k : ℕ) (o : Option End) → Puts old new k o → ((i : ℕ) → slice_get rows i ≡ Some (row.Slot k) → ⊥) → ends_of_rows rows new ≡ ends_of_rows rows old
+pub shown-other : (rows : List EndPlace) (old new : Slots) (k : ℕ) (o : Option End) → Puts old new k o → ((i : ℕ) → slice_get rows i ≡ Some (row.Slot k) → ⊥) → ends_of_rows rows new ≡ ends_of_rows rows old
 shown-other [] old new k o p h = refl
 shown-other (x ∷ rows) old new k o p h =
     let here : end_of_row new x ≡ end_of_row old x = row-other old new k o p x (λ e. h zero (ap Some e)) in
@@ -55,7 +55,7 @@ suc-apart : (i : ℕ) → suc i ≡ zero → ⊥
 suc-apart i e = omega (arith, e)
 
 -- one row has the slot that changes
-pub shown-set : (rows : List Row) (old new : Slots) (i k : ℕ) (o : Option End) (r : Row) → Puts old new k o → slice_get rows i ≡ Some (row.Slot k) → ((j : ℕ) → slice_get rows j ≡ Some (row.Slot k) → j ≡ i)
+pub shown-set : (rows : List EndPlace) (old new : Slots) (i k : ℕ) (o : Option End) (r : EndPlace) → Puts old new k o → slice_get rows i ≡ Some (row.Slot k) → ((j : ℕ) → slice_get rows j ≡ Some (row.Slot k) → j ≡ i)
     → ends_of_rows (set rows i r) new ≡ set (ends_of_rows rows old) i (end_of_row new r)
 shown-set [] old new i k o r p at only = absurd cc
 shown-set (x ∷ rows) old new zero k o r p at only =
@@ -67,12 +67,12 @@ shown-set (x ∷ rows) old new (suc i) k o r p at only =
 
 -- ---- rows
 
-pub set-here : (rows : List Row) (i : ℕ) (r : Row) → slice_get rows i ≡ Some r → set rows i r ≡ rows
+pub set-here : (rows : List EndPlace) (i : ℕ) (r : EndPlace) → slice_get rows i ≡ Some r → set rows i r ≡ rows
 set-here [] i r h = refl
 set-here (x ∷ rows) zero r h = let same : r ≡ x = cc in ap (λ y. y ∷ rows) same
 set-here (x ∷ rows) (suc i) r h = ap (λ xs. x ∷ xs) (set-here rows i r h)
 
-get-set : (rows : List Row) (x : ℕ) (r : Row) (i : ℕ) → x < length rows → slice_get (set rows x r) i ≡ cond (eqb x i) (Some r) (slice_get rows i)
+get-set : (rows : List EndPlace) (x : ℕ) (r : EndPlace) (i : ℕ) → x < length rows → slice_get (set rows x r) i ≡ cond (eqb x i) (Some r) (slice_get rows i)
 get-set [] x r i h = absurd (omega arith)
 get-set (d ∷ rows) zero r zero h = refl
 get-set (d ∷ rows) zero r (suc i) h = sym (ap (λ b. cond b (Some r) (slice_get rows i)) (eqb-zero-suc i))
@@ -80,7 +80,7 @@ get-set (d ∷ rows) (suc x) r zero h = sym (ap (λ b. cond b (Some r) (Some d))
 get-set (d ∷ rows) (suc x) r (suc i) h = get-set rows x r i (omega arith) ∙ sym (ap (λ b. cond b (Some r) (slice_get rows i)) (eqb-suc-suc x i))
 
 -- a row with a slot, once row i is that of a closed end
-pub kept-row : (rows : List Row) (i : ℕ) (w : Why) (j m : ℕ) → i < length rows → slice_get (set rows i (row.Closed w)) j ≡ Some (row.Slot m) → (slice_get rows j ≡ Some (row.Slot m)) × (eqb i j ≡ false)
+pub kept-row : (rows : List EndPlace) (i : ℕ) (w : Why) (j m : ℕ) → i < length rows → slice_get (set rows i (row.Closed w)) j ≡ Some (row.Slot m) → (slice_get rows j ≡ Some (row.Slot m)) × (eqb i j ≡ false)
 kept-row rows i w j m within h =
     elim (eqb i j) as (λ b. eqb i j ≡ b → cond b (Some (row.Closed w)) (slice_get rows j) ≡ Some (row.Slot m) → (slice_get rows j ≡ Some (row.Slot m)) × (eqb i j ≡ false)) [
       | true ↦ λ e g. absurd cc
@@ -88,7 +88,7 @@ kept-row rows i w j m within h =
     ] refl (sym (get-set rows i (row.Closed w) j within) ∙ h)
 
 -- a row with a slot, once one more row is there
-pub more-row : (rows : List Row) (r : Row) (j m : ℕ) → slice_get (rows ++ r ∷ []) j ≡ Some (row.Slot m) → ((j ≡ length rows) × (r ≡ row.Slot m)) ⊎ (slice_get rows j ≡ Some (row.Slot m))
+pub more-row : (rows : List EndPlace) (r : EndPlace) (j m : ℕ) → slice_get (rows ++ r ∷ []) j ≡ Some (row.Slot m) → ((j ≡ length rows) × (r ≡ row.Slot m)) ⊎ (slice_get rows j ≡ Some (row.Slot m))
 more-row [] r zero m h = inl (refl, cc)
 more-row [] r (suc j) m h = absurd cc
 more-row (x ∷ rows) r zero m h = inr h
@@ -99,23 +99,23 @@ not-equal i j h e = false≢true (sym h ∙ eq-eqb i j e)
 
 -- ---- what is kept
 
-pub has-slot : (rows : List Row) (s : Slab End) (i k : ℕ) (r : Row) → AreKept rows s.slots → slice_get rows i ≡ Some r → r ≡ row.Slot k → ContainsKey s k
+pub has-slot : (rows : List EndPlace) (s : Slab End) (i k : ℕ) (r : EndPlace) → AreKept rows s.slots → slice_get rows i ≡ Some r → r ≡ row.Slot k → ContainsKey s k
 has-slot rows s i k r a at is =
     let f = a.full i k (at ∙ ap Some is) in
     let P : Option End → Type 0 = λ o. IsSome o in
     subst P (sym f.there) refl
 
-pub finds-slot : (rows : List Row) (slots : Slots) (i k : ℕ) (r : Row) (e : End) → AreKept rows slots → slice_get rows i ≡ Some r → r ≡ row.Slot k → in_slot slots k ≡ Some e → (slice_get (ends_of_rows rows slots) i ≡ Some e) × (is_open e ≡ true)
+pub finds-slot : (rows : List EndPlace) (slots : Slots) (i k : ℕ) (r : EndPlace) (e : End) → AreKept rows slots → slice_get rows i ≡ Some r → r ≡ row.Slot k → in_slot slots k ≡ Some e → (slice_get (ends_of_rows rows slots) i ≡ Some e) × (is_open e ≡ true)
 finds-slot rows slots i k r e a at is there =
     let f = a.full i k (at ∙ ap Some is) in
     let both : ◌≡◌ {A = Option End} (Some f.kept) (Some e) = sym f.there ∙ there in
     let same : f.kept ≡ e = (let b = both in cc) in (
-      row-get rows slots i r at ∙ ap (λ (x : Row). Some (end_of_row slots x)) is ∙ ap (λ (o : Option End). Some (found_end o)) there,
+      row-get rows slots i r at ∙ ap (λ (x : EndPlace). Some (end_of_row slots x)) is ∙ ap (λ (o : Option End). Some (found_end o)) there,
       ap is_open (sym same) ∙ f.opened,
     )
 
-pub finds-closed : (rows : List Row) (slots : Slots) (i : ℕ) (w : Why) (r : Row) → slice_get rows i ≡ Some r → r ≡ row.Closed w → slice_get (ends_of_rows rows slots) i ≡ Some (ends.Closed w)
-finds-closed rows slots i w r at is = row-get rows slots i r at ∙ ap (λ (x : Row). Some (end_of_row slots x)) is
+pub finds-closed : (rows : List EndPlace) (slots : Slots) (i : ℕ) (w : Why) (r : EndPlace) → slice_get rows i ≡ Some r → r ≡ row.Closed w → slice_get (ends_of_rows rows slots) i ≡ Some (ends.Closed w)
+finds-closed rows slots i w r at is = row-get rows slots i r at ∙ ap (λ (x : EndPlace). Some (end_of_row slots x)) is
 
 -- a closed end stays closed
 pub stays-shut : (es : List End) (i : ℕ) (w : Why) (e : End) → slice_get es i ≡ Some (ends.Closed w) → StaysClosed (slice_get es i) e → is_open e ≡ true → ⊥
@@ -130,10 +130,10 @@ set-same (x ∷ es) zero e h = let same : e ≡ x = cc in ap (λ y. y ∷ es) sa
 set-same (x ∷ es) (suc i) e h = ap (λ xs. x ∷ xs) (set-same es i e h)
 
 -- the end of a row
-pub kept-end : (rows : List Row) (slots : Slots) (i k : ℕ) → slice_get rows i ≡ Some (row.Slot k) → (f : IsFull slots k) → slice_get (ends_of_rows rows slots) i ≡ Some f.kept
+pub kept-end : (rows : List EndPlace) (slots : Slots) (i k : ℕ) → slice_get rows i ≡ Some (row.Slot k) → (f : IsFull slots k) → slice_get (ends_of_rows rows slots) i ≡ Some f.kept
 kept-end rows slots i k at f = row-get rows slots i (row.Slot k) at ∙ ap (λ (o : Option End). Some (found_end o)) f.there
 
-module _ (rows : List Row) (old new : Slots) (a : AreKept rows old) where
+module _ (rows : List EndPlace) (old new : Slots) (a : AreKept rows old) where
   -- an open end becomes another
   pub refilled-shown : (i k : ℕ) (e : End) → slice_get rows i ≡ Some (row.Slot k) → Puts old new k (Some e) → ends_of_rows rows new ≡ set (ends_of_rows rows old) i e
   refilled-shown i k e at p =
@@ -178,16 +178,16 @@ module _ (rows : List Row) (old new : Slots) (a : AreKept rows old) where
       }
 
 -- one end more
-unused : (rows : List Row) (slots : Slots) (k : ℕ) → AreKept rows slots → in_slot slots k ≡ None → (i : ℕ) → slice_get rows i ≡ Some (row.Slot k) → ⊥
+unused : (rows : List EndPlace) (slots : Slots) (k : ℕ) → AreKept rows slots → in_slot slots k ≡ None → (i : ℕ) → slice_get rows i ≡ Some (row.Slot k) → ⊥
 unused rows slots k a free i at = let f = a.full i k at in let bad : ◌≡◌ {A = Option End} None (Some f.kept) = sym free ∙ f.there in absurd cc
 
-pub pushed-shown : (rows : List Row) (old new : Slots) (e : End) (r : Row) → AreKept rows old → GivesRow old new e r → ends_of_rows (rows ++ r ∷ []) new ≡ ends_of_rows rows old ++ e ∷ []
+pub pushed-shown : (rows : List EndPlace) (old new : Slots) (e : End) (r : EndPlace) → AreKept rows old → GivesRow old new e r → ends_of_rows (rows ++ r ∷ []) new ≡ ends_of_rows rows old ++ e ∷ []
 pushed-shown rows old new e (row.Slot k) a g =
     let p = g.1 in
     shown-push rows new (row.Slot k) ∙ (λ j. shown-other rows old new k (Some e) p (unused rows old k a (g.0)) j ++ found_end (p.here j) ∷ [])
 pushed-shown rows old new e (row.Closed w) a g = shown-push rows new (row.Closed w) ∙ (λ j. ends_of_rows rows (g.0 j) ++ sym (g.1) j ∷ [])
 
-pub pushed : (rows : List Row) (old new : Slots) (e : End) (r : Row) → AreKept rows old → GivesRow old new e r → AreKept (rows ++ r ∷ []) new
+pub pushed : (rows : List EndPlace) (old new : Slots) (e : End) (r : EndPlace) → AreKept rows old → GivesRow old new e r → AreKept (rows ++ r ∷ []) new
 pushed rows old new e (row.Slot k) a g =
     let p = g.1 in
     let is : one_if (is_open e) ≡ 1 = ap one_if (g.3) in
@@ -214,13 +214,13 @@ pushed rows old new e (row.Closed w) a g =
       counted = ap (count_by is_some) (g.0) ∙ a.counted ∙ sym more ∙ ap (count_by is_open) (sym (pushed-shown rows old new e (row.Closed w) a g));
     }
 
-pub none-kept : (rows : List Row) (slots : Slots) → rows ≡ [] → slots ≡ [] → AreKept rows slots
+pub none-kept : (rows : List EndPlace) (slots : Slots) → rows ≡ [] → slots ≡ [] → AreKept rows slots
 none-kept rows slots e f =
-    let none : (i k : ℕ) → slice_get rows i ≡ Some (row.Slot k) → ⊥ = λ i k h. (let bad : ◌≡◌ {A = Option Row} None (Some (row.Slot k)) = ap (λ (xs : List Row). slice_get xs i) (sym e) ∙ h in absurd cc) in
+    let none : (i k : ℕ) → slice_get rows i ≡ Some (row.Slot k) → ⊥ = λ i k h. (let bad : ◌≡◌ {A = Option EndPlace} None (Some (row.Slot k)) = ap (λ (xs : List EndPlace). slice_get xs i) (sym e) ∙ h in absurd cc) in
     record {
       full = λ i k h. absurd (none i k h);
       apart = λ i j k h g. absurd (none i k h);
-      counted = ap (count_by is_some) f ∙ ap (λ (xs : List Row). count_by is_open (ends_of_rows xs slots)) (sym e);
+      counted = ap (count_by is_some) f ∙ ap (λ (xs : List EndPlace). count_by is_open (ends_of_rows xs slots)) (sym e);
     }
 
 -- an end put in a place that is there
@@ -232,20 +232,20 @@ pub put-behind : (es : List End) (i : ℕ) (e : End) → i ≡ length es → es 
 put-behind es i e h = elim (ltb i (length es)) as (λ b. ltb i (length es) ≡ b → es ++ e ∷ [] ≡ cond b (set es i e) (es ++ e ∷ [])) [ true ↦ λ b. absurd (grind (arith, nat_tests)) | false ↦ λ b. refl ] refl
 
 -- one end more, where the slots had room
-pub behind-shown : (rows more : List Row) (old mid new : Slots) (i : ℕ) (e : End) (r : Row) → i ≡ length rows → more ≡ rows ++ r ∷ [] → mid ≡ old → AreKept rows old → GivesRow mid new e r → ends_of_rows more new ≡ put_end (ends_of_rows rows old) i e
+pub behind-shown : (rows more : List EndPlace) (old mid new : Slots) (i : ℕ) (e : End) (r : EndPlace) → i ≡ length rows → more ≡ rows ++ r ∷ [] → mid ≡ old → AreKept rows old → GivesRow mid new e r → ends_of_rows more new ≡ put_end (ends_of_rows rows old) i e
 behind-shown rows more old mid new i e r at is same a g =
     let P : Slots → Type 0 = λ s. GivesRow s new e r in
     ap (λ rs. ends_of_rows rs new) is ∙ pushed-shown rows old new e r a (subst P same g) ∙ put-behind (ends_of_rows rows old) i e (at ∙ sym (shown-length rows old))
 
-pub behind : (rows more : List Row) (old mid new : Slots) (e : End) (r : Row) → more ≡ rows ++ r ∷ [] → mid ≡ old → AreKept rows old → GivesRow mid new e r → AreKept more new
+pub behind : (rows more : List EndPlace) (old mid new : Slots) (e : End) (r : EndPlace) → more ≡ rows ++ r ∷ [] → mid ≡ old → AreKept rows old → GivesRow mid new e r → AreKept more new
 behind rows more old mid new e r is same a g =
     let P : Slots → Type 0 = λ s. GivesRow s new e r in
-    let Q : List Row → Type 0 = λ rs. AreKept rs new in
+    let Q : List EndPlace → Type 0 = λ rs. AreKept rs new in
     subst Q (sym is) (pushed rows old new e r a (subst P same g))
 
 pub there-put : (es : List End) (i : ℕ) (e : End) (o : Option (EndId × End)) → IsThere es o → IsThere (put_end es i e) o
 there-put es i e None h = tt
 there-put es i e (Some x) h = omega (arith, h, length-put es i e)
 
-pub past-claim : (rows : List Row) (slots : Slots) (i : ℕ) → length rows ≤ i → claim_at (slice_get (ends_of_rows rows slots) i) ≡ None
+pub past-claim : (rows : List EndPlace) (slots : Slots) (i : ℕ) → length rows ≤ i → claim_at (slice_get (ends_of_rows rows slots) i) ≡ None
 past-claim rows slots i h = ap claim_at (slice_get_past (ends_of_rows rows slots) i (omega (arith, h, shown-length rows slots)))

@@ -9,22 +9,22 @@ use Rattle.std.proofs.lemmas.Bool.Decides.{nat_tests, leb_tells}
 use Rattle.std.proofs.lemmas.Map.Entries.{option_filter, lookup-filter-values}
 use Rattle.dist_core_ends.specs.declared.why.Why.{Why}
 use Rattle.dist_core_ends.specs.declared.why.Why.TheVariants as why
-use Rattle.dist_core_ends.specs.declared.slots.Row.{Row}
-use Rattle.dist_core_ends.specs.declared.slots.Row.TheVariants as row
+use Rattle.dist_core_ends.specs.declared.slots.EndPlace.{EndPlace}
+use Rattle.dist_core_ends.specs.declared.slots.EndPlace.TheVariants as row
 use Rattle.dist_core_ends.specs.Keeping.{without_row_cause, rows_forgotten}
 use Rattle.dist_core_ends.specs.Places.{row_by, rows_from, all_causes, is_slot, IsSlot, stays_kept, kept_row, AreWithin, causes_forgotten}
 
-pub rows-length : (f : ℕ → Option Row) (b : ℕ) (ws : List Why) → length (rows_from f b ws) ≡ length ws
+pub rows-length : (f : ℕ → Option EndPlace) (b : ℕ) (ws : List Why) → length (rows_from f b ws) ≡ length ws
 rows-length f b [] = refl
 rows-length f b (w ∷ ws) = ap suc (rows-length f (suc b) ws)
 
-rows-get : (f : ℕ → Option Row) (b : ℕ) (ws : List Why) (i : ℕ) (w : Why) → slice_get ws i ≡ Some w → slice_get (rows_from f b ws) i ≡ Some (row_by (f (b + i)) w)
+rows-get : (f : ℕ → Option EndPlace) (b : ℕ) (ws : List Why) (i : ℕ) (w : Why) → slice_get ws i ≡ Some w → slice_get (rows_from f b ws) i ≡ Some (row_by (f (b + i)) w)
 rows-get f b [] i w h = absurd cc
 rows-get f b (x ∷ ws) zero w h = let same : x ≡ w = cc in let at : b ≡ b + 0 = omega arith in λ j. Some (row_by (f (at j)) (same j))
 rows-get f b (x ∷ ws) (suc i) w h = let at : suc b + i ≡ b + suc i = omega arith in rows-get f (suc b) ws i w h ∙ ap (λ (k : ℕ). Some (row_by (f k) w)) at
 
 -- other rows alone change
-rows-same : (f g : ℕ → Option Row) (b : ℕ) (ws : List Why) → ((q : ℕ) → b ≤ q → q < b + length ws → g q ≡ f q) → rows_from g b ws ≡ rows_from f b ws
+rows-same : (f g : ℕ → Option EndPlace) (b : ℕ) (ws : List Why) → ((q : ℕ) → b ≤ q → q < b + length ws → g q ≡ f q) → rows_from g b ws ≡ rows_from f b ws
 rows-same f g b [] h = refl
 rows-same f g b (w ∷ ws) h =
     let here : g b ≡ f b = h b (omega arith) (omega arith) in
@@ -32,7 +32,7 @@ rows-same f g b (w ∷ ws) h =
     λ j. row_by (here j) w ∷ rest j
 
 -- an end is closed
-rows-set : (f g : ℕ → Option Row) (b : ℕ) (ws : List Why) (i : ℕ) (w : Why) → g (b + i) ≡ None → ((q : ℕ) → q ≢ b + i → g q ≡ f q) → rows_from g b (set ws i w) ≡ set (rows_from f b ws) i (row.Closed w)
+rows-set : (f g : ℕ → Option EndPlace) (b : ℕ) (ws : List Why) (i : ℕ) (w : Why) → g (b + i) ≡ None → ((q : ℕ) → q ≢ b + i → g q ≡ f q) → rows_from g b (set ws i w) ≡ set (rows_from f b ws) i (row.Closed w)
 rows-set f g b [] i w n h = refl
 rows-set f g b (x ∷ ws) zero w n h =
     let at : b + 0 ≡ b = omega arith in
@@ -46,8 +46,8 @@ rows-set f g b (x ∷ ws) (suc i) w n h =
     λ j. row_by (here j) x ∷ rest j
 
 -- one more is there
-rows-push : (f g : ℕ → Option Row) (b : ℕ) (ws : List Why) (w : Why) (r : Row) → row_by (g (b + length ws)) w ≡ r → ((q : ℕ) → q ≢ b + length ws → g q ≡ f q) → rows_from g b (ws ++ w ∷ []) ≡ rows_from f b ws ++ r ∷ []
-rows-push f g b [] w r n h = let at : b ≡ b + 0 = omega arith in ap (λ (x : Row). x ∷ []) (ap (λ (k : ℕ). row_by (g k) w) at ∙ n)
+rows-push : (f g : ℕ → Option EndPlace) (b : ℕ) (ws : List Why) (w : Why) (r : EndPlace) → row_by (g (b + length ws)) w ≡ r → ((q : ℕ) → q ≢ b + length ws → g q ≡ f q) → rows_from g b (ws ++ w ∷ []) ≡ rows_from f b ws ++ r ∷ []
+rows-push f g b [] w r n h = let at : b ≡ b + 0 = omega arith in ap (λ (x : EndPlace). x ∷ []) (ap (λ (k : ℕ). row_by (g k) w) at ∙ n)
 rows-push f g b (x ∷ ws) w r n h =
     let at : suc b + length ws ≡ b + suc (length ws) = omega arith in
     let here : g b ≡ f b = h b (λ e. omega (arith, e)) in
@@ -60,26 +60,26 @@ within-some (x ∷ ws) zero h = (x, refl)
 within-some (x ∷ ws) (suc i) h = within-some ws i (omega (arith, h))
 
 -- a row of its own
-pub rows-row : (f : ℕ → Option Row) (ws : List Why) (i : ℕ) (r : Row) → i < length ws → f i ≡ Some r → slice_get (rows_from f 0 ws) i ≡ Some r
-rows-row f ws i r h e = let w = within-some ws i h in let at : 0 + i ≡ i = omega arith in rows-get f 0 ws i (w.0) (w.1) ∙ ap (λ (o : Option Row). Some (row_by o (w.0))) (ap f at ∙ e)
+pub rows-row : (f : ℕ → Option EndPlace) (ws : List Why) (i : ℕ) (r : EndPlace) → i < length ws → f i ≡ Some r → slice_get (rows_from f 0 ws) i ≡ Some r
+rows-row f ws i r h e = let w = within-some ws i h in let at : 0 + i ≡ i = omega arith in rows-get f 0 ws i (w.0) (w.1) ∙ ap (λ (o : Option EndPlace). Some (row_by o (w.0))) (ap f at ∙ e)
 
 -- the row of a closed end
-pub rows-cause : (f : ℕ → Option Row) (ws : List Why) (i : ℕ) (w : Why) → slice_get ws i ≡ Some w → f i ≡ None → slice_get (rows_from f 0 ws) i ≡ Some (row.Closed w)
-rows-cause f ws i w there e = let at : 0 + i ≡ i = omega arith in rows-get f 0 ws i w there ∙ ap (λ (o : Option Row). Some (row_by o w)) (ap f at ∙ e)
+pub rows-cause : (f : ℕ → Option EndPlace) (ws : List Why) (i : ℕ) (w : Why) → slice_get ws i ≡ Some w → f i ≡ None → slice_get (rows_from f 0 ws) i ≡ Some (row.Closed w)
+rows-cause f ws i w there e = let at : 0 + i ≡ i = omega arith in rows-get f 0 ws i w there ∙ ap (λ (o : Option EndPlace). Some (row_by o w)) (ap f at ∙ e)
 
 -- another number is another key
 other-key : (i q : ℕ) → (q ≡ i → ⊥) → eqb i q ≡ false
 other-key i q d = elim (cases_eq q i) [ inl e ↦ absurd (d e) | inr n ↦ grind (arith, nat_tests, n) ]
 
 -- all of them, from number 0 on
-pub rows-shut : (f g : ℕ → Option Row) (ws : List Why) (i : ℕ) (w : Why) → g i ≡ None → ((q : ℕ) → eqb i q ≡ false → g q ≡ f q) → rows_from g 0 (set ws i w) ≡ set (rows_from f 0 ws) i (row.Closed w)
+pub rows-shut : (f g : ℕ → Option EndPlace) (ws : List Why) (i : ℕ) (w : Why) → g i ≡ None → ((q : ℕ) → eqb i q ≡ false → g q ≡ f q) → rows_from g 0 (set ws i w) ≡ set (rows_from f 0 ws) i (row.Closed w)
 rows-shut f g ws i w n h = let at : 0 + i ≡ i = omega arith in rows-set f g 0 ws i w (ap g at ∙ n) (λ q d. h q (other-key i q (λ e. d (e ∙ sym at))))
 
-pub rows-more : (f g : ℕ → Option Row) (ws : List Why) (i : ℕ) (w : Why) (r : Row) → i ≡ length ws → row_by (g i) w ≡ r → ((q : ℕ) → eqb i q ≡ false → g q ≡ f q) → rows_from g 0 (ws ++ w ∷ []) ≡ rows_from f 0 ws ++ r ∷ []
+pub rows-more : (f g : ℕ → Option EndPlace) (ws : List Why) (i : ℕ) (w : Why) (r : EndPlace) → i ≡ length ws → row_by (g i) w ≡ r → ((q : ℕ) → eqb i q ≡ false → g q ≡ f q) → rows_from g 0 (ws ++ w ∷ []) ≡ rows_from f 0 ws ++ r ∷ []
 rows-more f g ws i w r len n h = let at : 0 + length ws ≡ i = omega (arith, len) in rows-push f g 0 ws w r (ap (λ (k : ℕ). row_by (g k) w) at ∙ n) (λ q d. h q (other-key i q (λ e. d (e ∙ sym at))))
 
 -- an end has another row of its own
-rows-place : (f g : ℕ → Option Row) (b : ℕ) (ws : List Why) (i : ℕ) (r : Row) → g (b + i) ≡ Some r → ((q : ℕ) → q ≢ b + i → g q ≡ f q) → rows_from g b ws ≡ set (rows_from f b ws) i r
+rows-place : (f g : ℕ → Option EndPlace) (b : ℕ) (ws : List Why) (i : ℕ) (r : EndPlace) → g (b + i) ≡ Some r → ((q : ℕ) → q ≢ b + i → g q ≡ f q) → rows_from g b ws ≡ set (rows_from f b ws) i r
 rows-place f g b [] i r n h = refl
 rows-place f g b (x ∷ ws) zero r n h =
     let at : b + 0 ≡ b = omega arith in
@@ -92,17 +92,17 @@ rows-place f g b (x ∷ ws) (suc i) r n h =
     let rest : rows_from g (suc b) ws ≡ set (rows_from f (suc b) ws) i r = rows-place f g (suc b) ws i r (ap g at ∙ n) (λ q d. h q (λ e. d (e ∙ sym at))) in
     λ j. row_by (here j) x ∷ rest j
 
-pub rows-placed : (f g : ℕ → Option Row) (ws : List Why) (i : ℕ) (r : Row) → g i ≡ Some r → ((q : ℕ) → eqb i q ≡ false → g q ≡ f q) → rows_from g 0 ws ≡ set (rows_from f 0 ws) i r
+pub rows-placed : (f g : ℕ → Option EndPlace) (ws : List Why) (i : ℕ) (r : EndPlace) → g i ≡ Some r → ((q : ℕ) → eqb i q ≡ false → g q ≡ f q) → rows_from g 0 ws ≡ set (rows_from f 0 ws) i r
 rows-placed f g ws i r n h = let at : 0 + i ≡ i = omega arith in rows-place f g 0 ws i r (ap g at ∙ n) (λ q d. h q (other-key i q (λ e. d (e ∙ sym at))))
 
 -- an open end has a row of its own
-pub place-of-slot : (f : ℕ → Option Row) (ws : List Why) (i : ℕ) → i < length ws → IsSlot (slice_get (rows_from f 0 ws) i) → f i ≡ None → ⊥
+pub place-of-slot : (f : ℕ → Option EndPlace) (ws : List Why) (i : ℕ) → i < length ws → IsSlot (slice_get (rows_from f 0 ws) i) → f i ≡ None → ⊥
 place-of-slot f ws i h s none =
     let w = within-some ws i h in
-    let P : Option Row → Type 0 = λ o. IsSlot o in
+    let P : Option EndPlace → Type 0 = λ o. IsSlot o in
     subst P (rows-cause f ws i (w.0) (w.1) none) s
 
-pub slot-within : (rows : List Row) (i : ℕ) → IsSlot (slice_get rows i) → i < length rows
+pub slot-within : (rows : List EndPlace) (i : ℕ) → IsSlot (slice_get rows i) → i < length rows
 slot-within [] i s = absurd s
 slot-within (r ∷ rows) zero s = omega arith
 slot-within (r ∷ rows) (suc i) s = omega (arith, slot-within rows i s)
@@ -171,19 +171,19 @@ leb-true : (a b : ℕ) → a ≤ b → leb a b ≡ true
 leb-true a b h = elim (leb_tells a b) [ inl f ↦ f.0 | inr f ↦ absurd (omega (arith, f.1, h)) ]
 
 -- a row of its own that is kept, or not
-kept-below : (below q : ℕ) (o : Option Row) (w : Why) → q < below → row_by (kept_row below q o) why.Ended ≡ without_row_cause (row_by o w)
+kept-below : (below q : ℕ) (o : Option EndPlace) (w : Why) → q < below → row_by (kept_row below q o) why.Ended ≡ without_row_cause (row_by o w)
 kept-below below q None w h = refl
 kept-below below q (Some r) w h = by r (leb-false below q h)
   where
-    by : (r : Row) → leb below q ≡ false → row_by (kept_row below q (Some r)) why.Ended ≡ without_row_cause r
+    by : (r : EndPlace) → leb below q ≡ false → row_by (kept_row below q (Some r)) why.Ended ≡ without_row_cause r
     by (row.Slot k) e = ap (λ b. row_by (cond (b || true) (Some (row.Slot k)) None) why.Ended) e
     by (row.Closed v) e = ap (λ b. row_by (cond (b || false) (Some (row.Closed v)) None) why.Ended) e
 
-kept-from : (below q : ℕ) (o : Option Row) → below ≤ q → kept_row below q o ≡ o
+kept-from : (below q : ℕ) (o : Option EndPlace) → below ≤ q → kept_row below q o ≡ o
 kept-from below q None h = refl
 kept-from below q (Some r) h = ap (λ b. cond (b || is_slot r) (Some r) None) (leb-true below q h)
 
-rows-forgotten-from : (f g : ℕ → Option Row) (below b n : ℕ) (ws : List Why) → b + n ≡ below → ((q : ℕ) → g q ≡ kept_row below q (f q)) → rows_from g b (causes_forgotten n ws) ≡ rows_forgotten n (rows_from f b ws)
+rows-forgotten-from : (f g : ℕ → Option EndPlace) (below b n : ℕ) (ws : List Why) → b + n ≡ below → ((q : ℕ) → g q ≡ kept_row below q (f q)) → rows_from g b (causes_forgotten n ws) ≡ rows_forgotten n (rows_from f b ws)
 rows-forgotten-from f g below b n [] e h = refl
 rows-forgotten-from f g below b zero (w ∷ ws) e h = rows-same f g b (w ∷ ws) (λ q u v. h q ∙ kept-from below q (f q) (omega (arith, e, u)))
 rows-forgotten-from f g below b (suc n) (w ∷ ws) e h =
@@ -191,7 +191,7 @@ rows-forgotten-from f g below b (suc n) (w ∷ ws) e h =
     let rest : rows_from g (suc b) (causes_forgotten n ws) ≡ rows_forgotten n (rows_from f (suc b) ws) = rows-forgotten-from f g below (suc b) n ws (omega (arith, e)) h in
     λ j. here j ∷ rest j
 
-pub rows-forgotten : (f g : ℕ → Option Row) (below : ℕ) (ws : List Why) → ((q : ℕ) → g q ≡ kept_row below q (f q)) → rows_from g 0 (causes_forgotten below ws) ≡ rows_forgotten below (rows_from f 0 ws)
+pub rows-forgotten : (f g : ℕ → Option EndPlace) (below : ℕ) (ws : List Why) → ((q : ℕ) → g q ≡ kept_row below q (f q)) → rows_from g 0 (causes_forgotten below ws) ≡ rows_forgotten below (rows_from f 0 ws)
 rows-forgotten f g below ws h = rows-forgotten-from f g below 0 below ws (omega arith) h
 
 causes-past : (b c : ℕ) (ws : List Why) → length ws ≤ b → length ws ≤ c → causes_forgotten b ws ≡ causes_forgotten c ws
@@ -211,7 +211,7 @@ done P (Err e) x is h = absurd cc
 
 -- ---- no number beyond the last has a row
 
-pub within-more : (f g : ℕ → Option Row) (b : ℕ) (ws : List Why) (n : ℕ) (w : Why) → AreWithin b ws f → n ≡ b + length ws → n < 2 ^ 32 → ((q : ℕ) → eqb n q ≡ false → g q ≡ f q) → AreWithin b (ws ++ w ∷ []) g
+pub within-more : (f g : ℕ → Option EndPlace) (b : ℕ) (ws : List Why) (n : ℕ) (w : Why) → AreWithin b ws f → n ≡ b + length ws → n < 2 ^ 32 → ((q : ℕ) → eqb n q ≡ false → g q ≡ f q) → AreWithin b (ws ++ w ∷ []) g
 within-more f g b ws n w a len few h =
     let longer : length (ws ++ w ∷ []) ≡ length ws + 1 = omega (arith, length-append {A = Why}) in
     record {
@@ -220,23 +220,23 @@ within-more f g b ws n w a len few h =
     }
 
 -- what was inserted where an entry stood was inserted
-pub not-refused : {X E : Type 0} (r : Result X E) (o : Option Row) → OnErr r (o ≡ None) → (o ≡ None → ⊥) → IsOk r
+pub not-refused : {X E : Type 0} (r : Result X E) (o : Option EndPlace) → OnErr r (o ≡ None) → (o ≡ None → ⊥) → IsOk r
 not-refused (Ok x) o h d = refl
 not-refused (Err e) o h d = absurd (d h)
 
 -- ---- a filter, at a key
 
-same-filter : (test : ℕ → Bool) (p p' : ℕ × Row → Bool) (es : List (ℕ × Row)) → ((e : ℕ × Row) → test e.0 ≡ true → p e ≡ p' e) → lookup test (filter p es) ≡ lookup test (filter p' es)
+same-filter : (test : ℕ → Bool) (p p' : ℕ × EndPlace → Bool) (es : List (ℕ × EndPlace)) → ((e : ℕ × EndPlace) → test e.0 ≡ true → p e ≡ p' e) → lookup test (filter p es) ≡ lookup test (filter p' es)
 same-filter test p p' [] h = refl
 same-filter test p p' (e ∷ es) h = grind (arith, h e, same-filter test p p' es h)
 
-option-kept : (below q : ℕ) (o : Option Row) → option_filter (stays_kept below q) o ≡ kept_row below q o
+option-kept : (below q : ℕ) (o : Option EndPlace) → option_filter (stays_kept below q) o ≡ kept_row below q o
 option-kept below q None = refl
 option-kept below q (Some r) = refl
 
 -- what is kept of the rows of their own
-pub places-kept : (below : ℕ) (es : List (ℕ × Row)) → IsDistinct eqb (keys_of es) → (q : ℕ) → lookup (eqb q) (filter (λ (e : ℕ × Row). stays_kept below e.0 e.1) es) ≡ kept_row below q (lookup (eqb q) es)
+pub places-kept : (below : ℕ) (es : List (ℕ × EndPlace)) → IsDistinct eqb (keys_of es) → (q : ℕ) → lookup (eqb q) (filter (λ (e : ℕ × EndPlace). stays_kept below e.0 e.1) es) ≡ kept_row below q (lookup (eqb q) es)
 places-kept below es d q =
-    same-filter (eqb q) (λ (e : ℕ × Row). stays_kept below e.0 e.1) (λ (e : ℕ × Row). stays_kept below q e.1) es (λ e h. ap (λ (k : ℕ). stays_kept below k e.1) (sym (eqb-true q e.0 h)))
+    same-filter (eqb q) (λ (e : ℕ × EndPlace). stays_kept below e.0 e.1) (λ (e : ℕ × EndPlace). stays_kept below q e.1) es (λ e h. ap (λ (k : ℕ). stays_kept below k e.1) (sym (eqb-true q e.0 h)))
     ∙ lookup-filter-values nat_eq_equiv (stays_kept below q) q es d
     ∙ option-kept below q (lookup (eqb q) es)

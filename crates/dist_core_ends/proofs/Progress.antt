@@ -18,8 +18,8 @@ use Rattle.dist_core_ends.specs.declared.phase.Phase.{Phase}
 use Rattle.dist_core_ends.specs.declared.phase.Phase.TheVariants as phase
 use Rattle.dist_core_ends.specs.declared.phase.Kind.{Kind}
 use Rattle.dist_core_ends.specs.declared.phase.Kind.TheVariants.{Out, In, Up}
-use Rattle.dist_core_ends.specs.declared.slots.Row.{Row}
-use Rattle.dist_core_ends.specs.declared.slots.Row.TheVariants as row
+use Rattle.dist_core_ends.specs.declared.slots.EndPlace.{EndPlace}
+use Rattle.dist_core_ends.specs.declared.slots.EndPlace.TheVariants as row
 use Rattle.dist_core_ends.specs.Ends.{Claim, claim_of, kind_in, names, same_kind, entry_in, table_of, Agree, AreLegal}
 use Rattle.dist_core_ends.specs.Change.{Fits, HasEntry, AsksShift, table_after_shift, claim_at, put_end}
 use Rattle.dist_core_ends.specs.Keeping.{Slots, in_slot, ends_of_rows, AreKept}
@@ -31,7 +31,7 @@ use Rattle.dist_core_ends.proofs.Keeping.{kept-end, put-within}
 use Rattle.dist_core_ends.proofs.Fitting.{claims, named-at, own-claim, same-shift, stays-open, fit-keeps}
 
 -- what stands in the slot of a row is the end of its number
-pub slot-shown : (rows : List Row) (slots : Slots) (i k : ℕ) (r : Row) → AreKept rows slots → slice_get rows i ≡ Some r → r ≡ row.Slot k → in_slot slots k ≡ slice_get (ends_of_rows rows slots) i
+pub slot-shown : (rows : List EndPlace) (slots : Slots) (i k : ℕ) (r : EndPlace) → AreKept rows slots → slice_get rows i ≡ Some r → r ≡ row.Slot k → in_slot slots k ≡ slice_get (ends_of_rows rows slots) i
 slot-shown rows slots i k r a at is =
     let there = at ∙ ap Some is in
     let f = a.full i k there in

@@ -7,7 +7,7 @@ use Rattle.dist_peers.specs.declared.entry.EndId.{EndId}
 use Rattle.dist_peers.specs.Table.{Table}
 use Rattle.dist_core_ends.specs.declared.known.End.{End}
 use Rattle.dist_core_ends.specs.declared.known.End.TheVariants as ends
-use Rattle.dist_core_ends.specs.declared.slots.Row.{Row}
+use Rattle.dist_core_ends.specs.declared.slots.EndPlace.{EndPlace}
 use Rattle.dist_core_ends.specs.declared.slots.Sought.{Sought}
 use Rattle.dist_core_ends.specs.declared.slots.Sought.TheVariants as sought
 use Rattle.dist_core_ends.specs.Ends.{is_pending, is_unnamed}
@@ -75,7 +75,7 @@ module _ (k : Sought) where
       subst P (sym (put-within fs y x.1 (omega (arith, there, longer)))) (put-settled fs n y x.1 (put-settled es n id.0 this a within place s) (omega (arith, within, longer)) (omega (arith, there, longer)) o)
 
   -- the ends after a change
-  pub past-changed : (me : Name) (t : Table) (rows new : List Row) (old slots : Slots) (n : ℕ) (id : EndId) (this : End) (other : Option (EndId × End))
+  pub past-changed : (me : Name) (t : Table) (rows new : List EndPlace) (old slots : Slots) (n : ℕ) (id : EndId) (this : End) (other : Option (EndId × End))
       → IsPast k rows old n → Fits me (ends_of_rows rows old) t id this other → ends_of_rows new slots ≡ with_change (ends_of_rows rows old) id this other → IsPast k new slots n
   past-changed me t rows new old slots n id this other p f is =
       let es = ends_of_rows rows old in
@@ -86,7 +86,7 @@ module _ (k : Sought) where
       }
 
   -- ends that are as they were
-  past-kept : (rows new : List Row) (old slots : Slots) (n : ℕ) → IsPast k rows old n → ends_of_rows new slots ≡ ends_of_rows rows old → IsPast k new slots n
+  past-kept : (rows new : List EndPlace) (old slots : Slots) (n : ℕ) → IsPast k rows old n → ends_of_rows new slots ≡ ends_of_rows rows old → IsPast k new slots n
   past-kept rows new old slots n p is =
       let P : List End → Type 0 = λ gs. AreSettled k gs n in
       record {
@@ -95,7 +95,7 @@ module _ (k : Sought) where
       }
 
   -- the ends after a change for which memory may have run out
-  pub past-either : {X E : Type 0} (r : Result X E) (me : Name) (t : Table) (rows new : List Row) (old slots : Slots) (n : ℕ) (id : EndId) (this : End) (other : Option (EndId × End))
+  pub past-either : {X E : Type 0} (r : Result X E) (me : Name) (t : Table) (rows new : List EndPlace) (old slots : Slots) (n : ℕ) (id : EndId) (this : End) (other : Option (EndId × End))
       → IsPast k rows old n → Fits me (ends_of_rows rows old) t id this other
       → OnOk r (ends_of_rows new slots ≡ with_change (ends_of_rows rows old) id this other) → OnErr r (ends_of_rows new slots ≡ ends_of_rows rows old) → IsPast k new slots n
   past-either (Ok x) me t rows new old slots n id this other p f h g = past-changed me t rows new old slots n id this other p f h
@@ -108,7 +108,7 @@ module _ (k : Sought) where
   sought-forgotten (suc b) (e ∷ es) zero = same-sought k e
   sought-forgotten (suc b) (e ∷ es) (suc i) = sought-forgotten b es i
 
-  pub past-forgotten : (b : ℕ) (rows new : List Row) (slots : Slots) (n : ℕ) → IsPast k rows slots n → length new ≡ length rows → ends_of_rows new slots ≡ without_causes_below b (ends_of_rows rows slots) → IsPast k new slots n
+  pub past-forgotten : (b : ℕ) (rows new : List EndPlace) (slots : Slots) (n : ℕ) → IsPast k rows slots n → length new ≡ length rows → ends_of_rows new slots ≡ without_causes_below b (ends_of_rows rows slots) → IsPast k new slots n
   past-forgotten b rows new slots n p len is =
       let P : List End → Type 0 = λ gs. AreSettled k gs n in
       record {

@@ -5,8 +5,8 @@ use Rattle.slab.specs.Slab.{Slab, slab_len}
 use Rattle.dist_core_ends.specs.declared.why.Why.TheVariants as why
 use Rattle.dist_core_ends.specs.declared.known.End.{End}
 use Rattle.dist_core_ends.specs.declared.known.End.TheVariants as ends
-use Rattle.dist_core_ends.specs.declared.slots.Row.{Row}
-use Rattle.dist_core_ends.specs.declared.slots.Row.TheVariants as row
+use Rattle.dist_core_ends.specs.declared.slots.EndPlace.{EndPlace}
+use Rattle.dist_core_ends.specs.declared.slots.EndPlace.TheVariants as row
 use Rattle.dist_core_ends.specs.declared.slots.Sought.{Sought}
 use Rattle.dist_core_ends.specs.declared.slots.Sought.TheVariants as sought
 use Rattle.dist_core_ends.specs.Ends.{is_open, is_pending, is_unnamed}
@@ -24,12 +24,12 @@ found_end None = ends.Unnamed
 found_end (Some e) = e
 
 -- the end of a row
-abbrev pub end_of_row : Slots → Row → End
+abbrev pub end_of_row : Slots → EndPlace → End
 end_of_row slots (row.Slot k) = found_end (in_slot slots k)
 end_of_row slots (row.Closed w) = ends.Closed w
 
 -- THE ENDS, by their numbers
-abbrev pub ends_of_rows : List Row → Slots → List End
+abbrev pub ends_of_rows : List EndPlace → Slots → List End
 ends_of_rows [] slots = []
 ends_of_rows (r ∷ rows) slots = end_of_row slots r ∷ ends_of_rows rows slots
 
@@ -40,7 +40,7 @@ pub record IsFull (slots : Slots) (k : ℕ) : Type 0 where
   pub opened : is_open kept ≡ true
 
 -- each row's slot has an open end, no two rows have one slot, and nothing else is kept
-pub record AreKept (rows : List Row) (slots : Slots) : Type 0 where
+pub record AreKept (rows : List EndPlace) (slots : Slots) : Type 0 where
   pub full : (i k : ℕ) → slice_get rows i ≡ Some (row.Slot k) → IsFull slots k
   pub apart : (i j k : ℕ) → slice_get rows i ≡ Some (row.Slot k) → slice_get rows j ≡ Some (row.Slot k) → i ≡ j
   pub counted : count_by is_some slots ≡ count_by is_open (ends_of_rows rows slots)
@@ -59,17 +59,17 @@ abbrev pub Empties : Slab End → Slab End → ℕ → Type 0
 Empties old new k = Puts old.slots new.slots k None × (slab_len new + 1 ≡ slab_len old)
 
 -- the row of a further end, and the slots with it
-abbrev pub GivesRow : Slots → Slots → End → Row → Type 0
+abbrev pub GivesRow : Slots → Slots → End → EndPlace → Type 0
 GivesRow old new e (row.Slot k) = (in_slot old k ≡ None) × Puts old new k (Some e) × (count_by is_some new ≡ count_by is_some old + 1) × (is_open e ≡ true)
 GivesRow old new e (row.Closed w) = (new ≡ old) × (e ≡ ends.Closed w)
 
 -- the row of an end of which it is forgotten why it was closed
-abbrev pub without_row_cause : Row → Row
+abbrev pub without_row_cause : EndPlace → EndPlace
 without_row_cause (row.Slot k) = row.Slot k
 without_row_cause (row.Closed w) = row.Closed why.Ended
 
 -- the rows, once it is forgotten why the ends below a number were closed
-abbrev pub rows_forgotten : ℕ → List Row → List Row
+abbrev pub rows_forgotten : ℕ → List EndPlace → List EndPlace
 rows_forgotten b [] = []
 rows_forgotten zero (r ∷ rows) = r ∷ rows
 rows_forgotten (suc b) (r ∷ rows) = without_row_cause r ∷ rows_forgotten b rows
@@ -89,6 +89,6 @@ abbrev pub AreSettled : Sought → List End → ℕ → Type 0
 AreSettled k es n = (i : ℕ) → i < n → finds_sought k (slice_get es i) ≡ false
 
 -- the same of a number that was given out, or is the next one
-pub record IsPast (k : Sought) (rows : List Row) (slots : Slots) (n : ℕ) : Type 0 where
+pub record IsPast (k : Sought) (rows : List EndPlace) (slots : Slots) (n : ℕ) : Type 0 where
   pub within : n ≤ length rows
   pub settled : AreSettled k (ends_of_rows rows slots) n

@@ -5,7 +5,7 @@ ghost use Rattle.dist_core_ends.specs.Keeping.{rows_forgotten};
 ghost use Rattle.std.specs.HashMap.{get};
 ghost use Rattle.dist_core_ends.specs.Places.{IsSlot, all_causes, kept_row};
 
-use crate::slots::Row;
+use crate::slots::EndPlace;
 use crate::why::Why;
 use std::alloc::{AllocError, Global};
 use std::collections::HashMap;
@@ -22,7 +22,7 @@ pub struct PastRows {
     /// From `base` on, for each number the cause of its end's closing, one byte; an open end's says nothing.
     causes: Vec<Why>,
     /// The rows of the open ends, and of those below `base` that were closed after it was forgotten why others were.
-    places: HashMap<usize, Row>,
+    places: HashMap<usize, EndPlace>,
 }
 
 impl Model for PastRows {
@@ -62,13 +62,13 @@ impl PastRows {
 
     /// The row of this number.
     #[inline(never)]
-    pub fn at(&self, i: usize) -> Row
+    pub fn at(&self, i: usize) -> EndPlace
         requires { i < length self.now.items }
         ensures { slice_get self.now.items i ≡ Some result }
     {
         match self.places.get(&i) {
             Some(row) => *row,
-            None => Row::Closed(cause_at(self.base, &self.causes, i)),
+            None => EndPlace::Closed(cause_at(self.base, &self.causes, i)),
         }
     }
 
@@ -76,10 +76,10 @@ impl PastRows {
     #[inline(never)]
     pub fn close(&mut self, i: usize, why: Why)
         requires { IsSlot (slice_get self.old.items i) }
-        ensures { self.new.items ≡ slice_set self.old.items i (Row.Closed why) }
+        ensures { self.new.items ≡ slice_set self.old.items i (EndPlace.Closed why) }
     {
         if i < self.base {
-            let put: Result<_, _> = self.places.insert(i, Row::Closed(why));
+            let put: Result<_, _> = self.places.insert(i, EndPlace::Closed(why));
             let _ = put.unwrap();
         } else {
             let _ = self.places.remove(&i);
@@ -98,20 +98,20 @@ impl PastRows {
     }
 
     /// Adds the row of the next number, for which room was made.
-    pub fn push(&mut self, row: Row)
+    pub fn push(&mut self, row: EndPlace)
         requires room { 0 < self.old.room }
         requires few { length self.old.items < 2 ^ 32 }
         ensures rows { self.new.items ≡ self.old.items ++ row ∷ [] }
         ensures room { self.old.room ≤ self.new.room + 1 }
     {
         match row {
-            Row::Slot(_) => {
+            EndPlace::Slot(_) => {
                 let next = self.base + self.causes.len();
                 let added: Result<_, _> = self.places.insert(next, row);
                 let _ = added.unwrap();
                 self.causes.push_reserved(Why::Ended);
             }
-            Row::Closed(why) => self.causes.push_reserved(why),
+            EndPlace::Closed(why) => self.causes.push_reserved(why),
         }
     }
 
@@ -141,10 +141,10 @@ fn cause_at(base: usize, causes: &[Why], i: usize) -> Why
 }
 
 // Drops the rows of closed ends below a number.
-fn keep_open(places: &mut HashMap<usize, Row>, below: usize)
+fn keep_open(places: &mut HashMap<usize, EndPlace>, below: usize)
     ensures { (q : ℕ) → get nat_eq places.new q ≡ kept_row below q (get nat_eq places.old q) }
 {
-    places.retain(|i, row| below <= *i || matches!(row, Row::Slot(_)));
+    places.retain(|i, row| below <= *i || matches!(row, EndPlace::Slot(_)));
 }
 
 fn drop_first(causes: &mut Vec<Why>, count: usize)

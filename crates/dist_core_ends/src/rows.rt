@@ -4,7 +4,7 @@ ghost use Rattle.dist_core_ends.specs.Keeping.{rows_forgotten, without_row_cause
 ghost use Rattle.dist_core_ends.specs.Places.{IsSlot};
 
 use crate::past_rows::PastRows;
-use crate::slots::Row;
+use crate::slots::EndPlace;
 use crate::why::Why;
 use std::alloc::{AllocError, Global};
 use std::marker::Model;
@@ -27,7 +27,7 @@ pub struct Rows {
     /// How many past rows there are, which each look asks first.
     before: usize,
     /// The rows of the numbers that were given out last.
-    recent: Vec<Row>,
+    recent: Vec<EndPlace>,
 }
 
 impl Model for Rows {
@@ -64,7 +64,7 @@ impl Rows {
 
     /// The row of this number.
     #[inline(always)]
-    pub fn at(&self, i: usize) -> Row
+    pub fn at(&self, i: usize) -> EndPlace
         requires { i < length self.now.items }
         ensures { slice_get self.now.items i ≡ Some result }
     {
@@ -79,12 +79,12 @@ impl Rows {
     #[inline(always)]
     pub fn close(&mut self, i: usize, why: Why)
         requires { IsSlot (slice_get self.old.items i) }
-        ensures { self.new.items ≡ slice_set self.old.items i (Row.Closed why) }
+        ensures { self.new.items ≡ slice_set self.old.items i (EndPlace.Closed why) }
     {
         if i < self.before {
             self.past.close(i, why);
         } else {
-            self.recent[i - self.before] = Row::Closed(why);
+            self.recent[i - self.before] = EndPlace::Closed(why);
         }
     }
 
@@ -108,7 +108,7 @@ impl Rows {
 
     /// Adds the row of the next number, for which room was made.
     #[inline(always)]
-    pub fn push(&mut self, row: Row)
+    pub fn push(&mut self, row: EndPlace)
         requires room { 0 < self.old.room }
         requires few { length self.old.items < 2 ^ 32 }
         ensures { self.new.items ≡ self.old.items ++ row ∷ [] }
@@ -127,7 +127,7 @@ impl Rows {
 
 // Moves all rows of an array behind the past ones.
 #[cold]
-fn move_rows(recent: &mut Vec<Row>, past: &mut PastRows)
+fn move_rows(recent: &mut Vec<EndPlace>, past: &mut PastRows)
     requires room { length recent.old.items ≤ past.old.room }
     requires few { length (past.old.items ++ recent.old.items) ≤ 2 ^ 32 }
     ensures moved { past.new.items ≡ past.old.items ++ recent.old.items }
@@ -138,7 +138,7 @@ fn move_rows(recent: &mut Vec<Row>, past: &mut PastRows)
 }
 
 // Adds all rows of an array to the past ones.
-fn push_all(past: &mut PastRows, rows: &[Row])
+fn push_all(past: &mut PastRows, rows: &[EndPlace])
     requires room { length rows.now ≤ past.old.room }
     requires few { length (past.old.items ++ rows.now) ≤ 2 ^ 32 }
     ensures { past.new.items ≡ past.old.items ++ rows.now }
@@ -149,7 +149,7 @@ fn push_all(past: &mut PastRows, rows: &[Row])
 }
 
 // Forgets the causes among the first rows of an array.
-fn forget_first(rows: &mut Vec<Row>, count: usize)
+fn forget_first(rows: &mut Vec<EndPlace>, count: usize)
     ensures { rows.new.items ≡ rows_forgotten count rows.old.items }
 {
     for i in 0..count.min(rows.len()) {
@@ -157,11 +157,11 @@ fn forget_first(rows: &mut Vec<Row>, count: usize)
     }
 }
 
-fn without_cause(row: Row) -> Row
+fn without_cause(row: EndPlace) -> EndPlace
     ensures { result ≡ without_row_cause row }
 {
     match row {
-        Row::Slot(slot) => Row::Slot(slot),
-        Row::Closed(_) => Row::Closed(Why::Ended),
+        EndPlace::Slot(slot) => EndPlace::Slot(slot),
+        EndPlace::Closed(_) => EndPlace::Closed(Why::Ended),
     }
 }

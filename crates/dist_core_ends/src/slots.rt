@@ -16,7 +16,7 @@ use slab::Slab;
 
 /// Where an end is, by its number.
 #[derive(Clone, Copy, PartialEq, Eq)]
-pub enum Row {
+pub enum EndPlace {
     /// The end is open, and stands in this slot.
     Slot(usize),
     /// The end is closed, for this cause.
@@ -41,8 +41,8 @@ pub fn find<'a>(rows: &Rows, slots: &'a Slab<End>, id: EndId) -> Result<&'a End,
         return Err(Absent::NoSuchEnd);
     }
     match rows.at(i) {
-        Row::Slot(slot) => Ok(&slots[slot]),
-        Row::Closed(why) => Err(Absent::Gone(why)),
+        EndPlace::Slot(slot) => Ok(&slots[slot]),
+        EndPlace::Closed(why) => Err(Absent::Gone(why)),
     }
 }
 
@@ -83,7 +83,7 @@ pub fn change_attempt(rows: &Rows, slots: &mut Slab<End>, id: EndId, to: Stage)
         → ends_of_rows rows.now.items slots.new.slots ≡ slice_set (ends_of_rows rows.now.items slots.old.slots) id.0 (End.Attempt (at_stage a to)) }
     ensures kept { AreKept rows.now.items slots.new.slots }
 {
-    if let Row::Slot(slot) = rows.at(id.0 as usize) {
+    if let EndPlace::Slot(slot) = rows.at(id.0 as usize) {
         restage(slots, slot, to);
     }
 }
@@ -95,7 +95,7 @@ fn put_record(rows: &Rows, slots: &mut Slab<End>, id: EndId, kept: &UpRecord)
     ensures ends { ends_of_rows rows.now.items slots.new.slots ≡ slice_set (ends_of_rows rows.now.items slots.old.slots) id.0 (End.Up kept.now) }
     ensures kept { AreKept rows.now.items slots.new.slots }
 {
-    if let Row::Slot(slot) = rows.at(id.0 as usize) {
+    if let EndPlace::Slot(slot) = rows.at(id.0 as usize) {
         complete(slots, slot, kept);
     }
 }
@@ -152,7 +152,7 @@ pub fn close(rows: &mut Rows, slots: &mut Slab<End>, i: usize, why: Why)
     ensures kept { AreKept rows.new.items slots.new.slots }
     ensures len { length rows.new.items ≡ length rows.old.items }
 {
-    if let Row::Slot(slot) = rows.at(i) {
+    if let EndPlace::Slot(slot) = rows.at(i) {
         let _closed = empty(slots, slot);
         rows.close(i, why);
     }
@@ -167,7 +167,7 @@ fn fill(rows: &Rows, slots: &mut Slab<End>, i: usize, end: End)
     ensures ends { ends_of_rows rows.now.items slots.new.slots ≡ slice_set (ends_of_rows rows.now.items slots.old.slots) i end }
     ensures kept { AreKept rows.now.items slots.new.slots }
 {
-    if let Row::Slot(slot) = rows.at(i) {
+    if let EndPlace::Slot(slot) = rows.at(i) {
         refill(slots, slot, end);
     }
 }
@@ -200,13 +200,13 @@ pub fn put_second(rows: &mut Rows, slots: &mut Slab<End>, other: Option<(EndId, 
 
 // The row of a further end, which stands in a slot where it is open.
 #[inline(always)]
-pub fn keep(slots: &mut Slab<End>, end: End) -> Row
+pub fn keep(slots: &mut Slab<End>, end: End) -> EndPlace
     requires { HasRoomFor slots.old 1 }
     ensures { GivesRow slots.old.slots slots.new.slots end result }
 {
     match end {
-        End::Closed(why) => Row::Closed(why),
-        end => Row::Slot(slots.insert_reserved(end)),
+        End::Closed(why) => EndPlace::Closed(why),
+        end => EndPlace::Slot(slots.insert_reserved(end)),
     }
 }
 

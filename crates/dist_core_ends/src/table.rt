@@ -13,7 +13,7 @@ ghost use Rattle.dist_core_ends.specs.Change.{table_after_shift, HasEntry, AsksS
 use crate::known::{Attempt, End, UpRecord};
 use crate::phase::{Kind, Phase};
 use crate::rows::Rows;
-use crate::slots::{Row, empty, find, keep, put, put_second, put_up};
+use crate::slots::{EndPlace, empty, find, keep, put, put_second, put_up};
 use crate::why::Why;
 use dist_names::NodeName;
 use dist_peers::{EndId, Entry, Peers};
@@ -163,7 +163,7 @@ pub fn close_end(peers: &mut Peers, rows: &mut Rows, slots: &mut Slab<End>, id: 
     ensures kept { AreKept rows.new.items slots.new.slots }
 {
     let i = id.0 as usize;
-    if let Row::Slot(slot) = rows.at(i) {
+    if let EndPlace::Slot(slot) = rows.at(i) {
         let closed = empty(slots, slot);
         rows.close(i, why);
         leave(peers, id, closed);

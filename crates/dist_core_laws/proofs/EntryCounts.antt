@@ -136,7 +136,7 @@ claims-peer b q h = by (kind_in b.phase) h
   where
     by : (k : Option Kind) → option_map {U = Claim} (λ l. record { peer = b.peer; kind = l }) k ≡ Some q → q.peer ≡ b.peer
     by None h = let bad : ◌≡◌ {A = Option Claim} None (Some q) = h in absurd cc
-    by (Some k) h = let told : ◌≡◌ {A = Claim} (record { peer = b.peer; kind = k }) q = cc in ap (λ (c : Claim). c.peer) (sym told)
+    by (Some k) h = let reported : ◌≡◌ {A = Claim} (record { peer = b.peer; kind = k }) q = cc in ap (λ (c : Claim). c.peer) (sym reported)
 
 superseding : (id : EndId) (say : List ℕ) (b : Attempt) (x : EndId) (s : End) → (let f = supersedes id say b x s in f.this) ≡ ends.Attempt b
 superseding id say b x (ends.Closed w) = refl

@@ -55,14 +55,14 @@ use Rattle.dist_core_laws.specs.Forgetting.{AreAlike, AreAlikeAnswers, Both_gone
 use Rattle.dist_core_laws.proofs.Causes.{changed-alike, end-alike, entry-alike, forgotten-alike, length-alike, opens-alike, superseded-alike, table-alike}
 
 -- a refusal, whatever the cause that it names
-abbrev told : StepError → StepError
-told (error.Gone w) = error.Gone why.Ended
-told e = e
+abbrev reported : StepError → StepError
+reported (error.Gone w) = error.Gone why.Ended
+reported e = e
 
 -- an effect, or a refusal whatever the cause that it names
 abbrev seen : Result Effect StepError → Result Effect StepError
 seen (Ok f) = Ok f
-seen (Err e) = Err (told e)
+seen (Err e) = Err (reported e)
 
 -- an end that is closed is refused, whatever the cause
 at-forgotten : (o : Option End) (f : End → Result Effect StepError) → seen (at_end (option_map without_cause o) f) ≡ seen (at_end o f)
@@ -168,7 +168,7 @@ module _ (s : Setup) (k : ℕ) (es ds : List End) (alike : map without_cause es 
   effects (event.Lost id w) fresh = at-alike (slice_get es id.0) (slice_get ds id.0) (λ e. Ok (closes id w)) (λ e. Ok (closes id w)) (end-alike es ds alike id.0) (λ e. refl)
   effects (event.Tick id) fresh = at-alike (slice_get es id.0) (slice_get ds id.0) (tick_effect m id) (tick_effect n id) (end-alike es ds alike id.0) (ticks id)
 
-  refusals : (d e : StepError) → told d ≡ told e → AreAlikeAnswers (Err d) (Err e)
+  refusals : (d e : StepError) → reported d ≡ reported e → AreAlikeAnswers (Err d) (Err e)
   refusals (error.Gone v) (error.Gone w) same = Both_gone v w refl refl
   refusals (error.Gone v) e same = absurd cc
   refusals d (error.Gone w) same = absurd cc
@@ -180,7 +180,7 @@ module _ (s : Setup) (k : ℕ) (es ds : List End) (alike : map without_cause es 
       Same_reply f.reply (after m v f) (after n v f) refl (ap (λ (e : Effect). Ok (e.reply, after n v e)) one) (record { setup = refl; steps = refl; ends = changed-alike es ds alike f.reply.end_ f.this f.other })
   answers v (Ok f) (Err e) same = absurd cc
   answers v (Err d) (Ok g) same = absurd cc
-  answers v (Err d) (Err e) same = let one : told d ≡ told e = cc in refusals d e one
+  answers v (Err d) (Err e) same = let one : reported d ≡ reported e = cc in refusals d e one
 
   -- ---- a change
 

@@ -168,7 +168,7 @@ module _ (n : NodeState) where
       by v e (Begins id link b is at ph sp k) = let bad : event.Opened id link ≡ event.Lost x w = sym is ∙ e in absurd cc
       by v e (Ceases id link b is at ph sp k) = let bad : event.Opened id link ≡ event.Lost x w = sym is ∙ e in absurd cc
       by v e (Loses id c d is at opened k) =
-          let told : event.Lost id c ≡ event.Lost x w = sym is ∙ e in
+          let reported : event.Lost id c ≡ event.Lost x w = sym is ∙ e in
           let one : id ≡ x = cc in
           let why : c ≡ w = cc in
           let P : Effect → Type 0 = λ f. (ends_after n.ends f ≡ put_end n.ends x.0 (ends.Closed w)) × (count_by is_open (ends_after n.ends f) + 1 ≡ count_by is_open n.ends) in

@@ -35,8 +35,8 @@ has-effect n v fresh r m is = by (effect_of n v fresh) refl is
   where
     by : (s : Result Effect StepError) → effect_of n v fresh ≡ s → step_result n v s ≡ Ok (r, m) → HasEffect n v fresh r m
     by (Ok f) at e =
-        let told : ◌≡◌ {A = Reply × NodeState} (f.reply, after n v f) (r, m) = cc in
-        record { effect = f; is = at; reply = ap (λ (x : Reply × NodeState). x.0) told; node = sym (ap (λ (x : Reply × NodeState). x.1) told) }
+        let reported : ◌≡◌ {A = Reply × NodeState} (f.reply, after n v f) (r, m) = cc in
+        record { effect = f; is = at; reply = ap (λ (x : Reply × NodeState). x.0) reported; node = sym (ap (λ (x : Reply × NodeState). x.1) reported) }
     by (Err x) at e = absurd cc
 
 pub keeps-setup : (n : NodeState) (v : Event) (fresh : ℕ) (r : Reply) (m : NodeState) → step n v fresh ≡ Ok (r, m) → m.setup ≡ n.setup

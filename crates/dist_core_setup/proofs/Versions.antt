@@ -19,13 +19,13 @@ in_six flags = and_assoc 16777216 (bit_or flags 16777216) 18446744065119617023 �
 in_five : (flags : ℕ) → bit_and (announced_five flags) handshake_23 ≡ 0
 in_five flags = and_assoc 16777216 flags 4278190079 ∙ and_comm flags 0
 
-tells : (v : Version) (flags : ℕ) → has_all (low_half (announced_in v flags)) handshake_23 ≡ is_six v
-tells version.Six flags = ap (λ n. eqb n 16777216) (in_low (announced flags) ∙ in_six flags)
-tells version.Five flags = ap (λ n. eqb n 16777216) (in_low (announced_five flags) ∙ in_five flags)
+reports : (v : Version) (flags : ℕ) → has_all (low_half (announced_in v flags)) handshake_23 ≡ is_six v
+reports version.Six flags = ap (λ n. eqb n 16777216) (in_low (announced flags) ∙ in_six flags)
+reports version.Five flags = ap (λ n. eqb n 16777216) (in_low (announced_five flags) ∙ in_five flags)
 
-pub told : (s : Setup) → has_all (low_half (announced_by s)) handshake_23 ≡ knows_six s
+pub reported : (s : Setup) → has_all (low_half (announced_by s)) handshake_23 ≡ knows_six s
 unfolding announced_by
-told s = tells s.version s.flags.0
+reported s = reports s.version s.flags.0
 
 few : (flags : ℕ) → announced_five flags < 2 ^ 32
 few flags = omega (arith, and_le_r flags 4278190079)

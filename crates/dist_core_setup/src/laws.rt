@@ -50,7 +50,7 @@ pub fn announced_flags_fit()
 {}
 
 /// The lower half of what a node announces shows whether it knows version 6.
-pub fn flags_tell_versions()
+pub fn flags_show_versions()
     ensures { (s : Setup) → has_all (low_half (announced_by s)) handshake_23 ≡ knows_six s }
 {}
 

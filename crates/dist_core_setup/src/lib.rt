@@ -17,7 +17,7 @@ pub use checks::{
 };
 pub use dist_secret::Cookie;
 pub use laws::{
-    announced_flags_fit, flags_tell_versions, low_halves_suffice, messages_can_be_said,
+    announced_flags_fit, flags_show_versions, low_halves_suffice, messages_can_be_said,
     other_digests_stay, what_is_said_is_read,
 };
 pub use limits::Limits;

@@ -1,8 +1,7 @@
 -- How a call goes on, and how it ends.
-use Rattle.std.proofs.Common.{◌≡◌, ℕ, ◌+◌, ◌≤◌, Bool, List, [], ◌∷◌, ◌++◌, length, take, drop, map, Some, None, Ok, Err, refl, sym, ap, subst, ◌∙◌, append_assoc, inl, inr}
+use Rattle.std.proofs.Common.{◌≡◌, ℕ, ◌+◌, ◌≤◌, Bool, List, [], ◌∷◌, ◌++◌, length, take, drop, map, Some, None, Ok, Err, refl, sym, ap, subst, ◌∙◌, append_assoc, inl, inr, arith}
 use Rattle.std.specs.Prelude.{is_some, true, false, ◌||◌}
 use Rattle.std.proofs.lemmas.List.{append-nil, map-append, take-append-drop}
-use Rattle.std.specs.Io.KnownBytes.{prepend_known, append_known}
 use Rattle.dist_frames.specs.Reader.{Reader, Short, Linked, with_bytes, next_body, without_next, without_count, to_come}
 use Rattle.dist_frames.specs.History.{IsBytes}
 use Rattle.dist_peers.specs.declared.entry.EndId.{EndId}
@@ -19,12 +18,12 @@ use Rattle.dist_drive.specs.declared.outcome.Ending.{Ending}
 use Rattle.dist_drive.specs.declared.outcome.Ending.TheVariants as ending
 use Rattle.dist_drive.specs.Desks.{Step, event_of, last_reply, DeskFacts, IsOther}
 use Rattle.dist_drive.specs.Numbers.{Gives, DrawsOneAtMost}
-use Rattle.dist_drive.specs.Driven.{Start, Course, Finish, IsFront, frames_of, next_frame, events_of, text_of, HandsOnAll, WritesAll, HasCause, is_of_end, is_of_failed_read, Carries}
+use Rattle.dist_drive.specs.Driven.{Start, Course, Finish, IsFront, frames_of, next_frame, events_of, text_of, HandsOnAll, WritesAll, HasCause, is_of_end, is_of_failed_read, whole_course, Does, Carries}
 use Rattle.dist_drive.specs.Running.{Place, RunsOn, GoesOn, Goes, after_step, EndsSo, Runs, Keeps, MakesStep, SaysReply, own_why, ending_of_refusal, ending_of_stream, HandsOn, HearsPiece}
 use Rattle.dist_drive.proofs.Steps.{last_pushed}
-use Rattle.dist_drive.proofs.Texts.{append_known-append, prepend_known-append, prepend_known-none, IsFront-refl, IsFront-more, text_front, text_one, text_before}
-use Rattle.dist_drive.proofs.Keeping.{frames_are, next_is, next_none, keeps_next, keeps_rest, keeps_fed, keeps_told, FrameLaws}
-use Rattle.dist_drive.proofs.Shown.{same_length, pieces_on, pieces_one, spent, events_one, numbers_one, list_one, goes_on, shows, endings_are, not_refused, at_end, unheard_shows, ends_whole, endings_same, marks_since, reply_marks, hear_marks}
+use Rattle.dist_drive.proofs.Texts.{IsFront-refl, IsFront-more, text_front, text_one, text_before}
+use Rattle.dist_drive.proofs.Keeping.{frames_are, next_is, next_none, keeps_next, keeps_rest, keeps_fed, keeps_noted, FrameLaws}
+use Rattle.dist_drive.proofs.Shown.{same_length, events_one, does_step, does_read, no_mark, goes_on, shows, endings_are, not_refused, at_end, unheard_shows, ends_whole, endings_same, marks_since, reply_marks, hear_marks}
 
 module _ (laws : FrameLaws) where
   -- what was handed on is a front of the frames of the call
@@ -50,7 +49,7 @@ finish_at place = record { stream = place.stream; desk = place.desk; draws = pla
 module _ (laws : FrameLaws) {D W : Type 0} (facts : DeskFacts D) (gives : Gives W) where
   -- what a call that is on its way at this place does, where all was sent
   abbrev pub course_at : (start : Start D W) (place : Place D W) (reader : Reader) → Runs facts gives start place reader → Course W
-  course_at start place reader p = record { input = p.input; steps = p.steps; output = text_of start.first p.steps; left = place.left; draws = place.draws }
+  course_at start place reader p = whole_course start.first p.input p.steps place.left place.draws
 
   -- where the call stops once all was sent
   pub carries : (start : Start D W) (place : Place D W) (reader : Reader) (drawn : W) (e : Ending) (p : Runs facts gives start place reader)
@@ -63,21 +62,15 @@ module _ (laws : FrameLaws) {D W : Type 0} (facts : DeskFacts D) (gives : Gives 
       → Carries facts gives start (record { stream = place.stream; desk = place.desk; draws = drawn }) e
   carries start place reader drawn e p draws cause all written unended unfailed = record {
     course = course_at start place reader p;
-    input_is = p.input_is;
-    output_is = p.output_is;
-    list_is = p.list_is;
+    does = p.does;
     events = frames_front laws start.end_ p.input p.frames p.steps reader p.events p.keeps;
     all_events = all;
-    numbers = p.numbers;
     draws_are = draws;
     cause = cause;
     text = IsFront-refl _;
     all_text = written;
     in_turn = λ i h. text_front start.first p.steps i;
-    within = p.within;
-    turns = p.turns;
-    pieces = p.pieces;
-    marks = record { ended = p.ended ∙ ap (λ b. b || start.stream.ended) (sym unended); read_failed = p.read_failed ∙ ap (λ b. b || start.stream.read_failed) (sym unfailed); write_failed = inl p.write_failed };
+    marks = record { ended = p.marks.ended ∙ ap (λ b. b || start.stream.ended) (sym unended); read_failed = p.marks.read_failed ∙ ap (λ b. b || start.stream.read_failed) (sym unfailed); write_failed = inl p.marks.write_failed };
   }
 
   -- memory ran out
@@ -109,22 +102,13 @@ module _ (laws : FrameLaws) {D W : Type 0} (facts : DeskFacts D) (gives : Gives 
       → Runs facts gives start after (after_step up (without_next reader))
   runs_on start before after reader body up m p next says is =
       let s : Step = (event.Frame start.end_ body, m.number, m.reply) in
-      let made = spent start.stream.calls start.limit before.left after.left p.within p.turns says.spends in
       record {
         input = p.input;
         frames = p.frames ++ body ∷ [];
         steps = p.steps ++ s ∷ [];
-        input_is = p.input_is ∙ ap (prepend_known p.input) (sym says.unread);
-        output_is = says.written ∙ ap (λ known. append_known known m.reply.say) p.output_is ∙ append_known-append start.stream.written (text_of start.first p.steps) m.reply.say ∙ ap (append_known start.stream.written) (sym (text_one start.first p.steps s));
-        within = made.within;
-        turns = made.calls;
-        list_is = list_one (facts.list start.desk) (facts.list before.desk) (facts.list after.desk) p.steps s p.list_is m.list_is;
+        does = subst (λ (l : List ℕ). Does facts gives start (record { input = p.input; steps = p.steps ++ s ∷ []; output = l; left = after.left; draws = after.draws }) after.stream after.desk) (sym (text_one start.first p.steps s)) (does_step facts gives start before after p.input p.steps body m m.reply.say p.does says);
         events = events_one start.end_ p.steps p.frames body m.number m.reply p.events;
-        numbers = numbers_one gives start.draws p.steps before.draws after.draws s p.numbers m.number_is;
-        pieces = pieces_on (length p.input) start.limit before.left after.left says.spends.within p.pieces;
-        ended = says.spends.ended ∙ p.ended;
-        read_failed = says.spends.read_failed ∙ p.read_failed;
-        write_failed = says.spends.write_failed ∙ p.write_failed;
+        marks = no_mark p.marks says.spends;
         keeps = keeps_next laws p.input p.frames p.steps s body reader up is next p.keeps;
       }
 
@@ -140,24 +124,17 @@ module _ (laws : FrameLaws) {D W : Type 0} (facts : DeskFacts D) (gives : Gives 
       let all : text_of start.first (p.steps ++ s ∷ []) ≡ text_of start.first p.steps ++ m.reply.say = text_one start.first p.steps s in
       let course : Course W = record { input = p.input; steps = p.steps ++ s ∷ []; output = text_of start.first p.steps ++ part; left = after.left; draws = after.draws } in
       let shown = shows facts start course (finish_at after) m.reply (map event_of (p.steps ++ s ∷ []) ≡ events_of start.end_ (frames_of p.input (p.steps ++ s ∷ []))) (text_of start.first p.steps) says.fault e says.says (says.ends e refl) in
-      let made = spent start.stream.calls start.limit before.left after.left p.within p.turns says.says.says.spends in
       record {
         course = course;
-        input_is = p.input_is ∙ ap (prepend_known p.input) (sym says.says.says.unread);
-        output_is = says.says.says.written ∙ ap (λ known. append_known known part) p.output_is ∙ append_known-append start.stream.written (text_of start.first p.steps) part;
-        list_is = list_one (facts.list start.desk) (facts.list before.desk) (facts.list after.desk) p.steps s p.list_is m.list_is;
+        does = does_step facts gives start before after p.input p.steps body m part p.does says.says.says;
         events = frames_front laws start.end_ p.input (p.frames ++ body ∷ []) (p.steps ++ s ∷ []) _ events keeps;
         all_events = shown.all;
-        numbers = numbers_one gives start.draws p.steps before.draws after.draws s p.numbers m.number_is;
         draws_are = inl refl;
         cause = shown.cause (last_pushed p.steps s);
         text = (drop says.says.count m.reply.say, all ∙ ap (λ l. text_of start.first p.steps ++ l) (sym (take-append-drop says.says.count m.reply.say)) ∙ sym (append_assoc (text_of start.first p.steps) part (drop says.says.count m.reply.say)));
         all_text = subst (λ (l : List ℕ). WritesAll e after.stream (text_of start.first p.steps ++ part ≡ l)) (sym all) shown.whole;
         in_turn = λ i h. text_before start.first p.steps s (text_of start.first p.steps ++ part) i h (IsFront-more _ _);
-        within = made.within;
-        turns = made.calls;
-        pieces = pieces_on (length p.input) start.limit before.left after.left says.says.says.spends.within p.pieces;
-        marks = marks_since e p.ended p.read_failed p.write_failed (reply_marks (own_why start.end_ m.reply.closed) says.fault e m.reply.say says.says (says.ends e refl));
+        marks = marks_since e p.marks (reply_marks (own_why start.end_ m.reply.closed) says.fault e m.reply.say says.says (says.ends e refl));
       }
 
   -- the desk refused the frame, or it was handed on and not sent whole
@@ -236,23 +213,14 @@ module _ (laws : FrameLaws) {D W : Type 0} (facts : DeskFacts D) (gives : Gives 
       → Runs facts gives start place reader → Hears place.stream stream place.left left None piece → IsBytes piece → length piece ≤ 4096 → place.left ≡ left + 1
       → Runs facts gives start (read_to place stream left) (without_count (with_bytes reader piece))
   hears_on start place stream left reader piece p hears bytes small turn =
-      let made = spent start.stream.calls start.limit place.left left p.within p.turns hears.spends in
       record {
         input = p.input ++ piece;
         frames = p.frames;
         steps = p.steps;
-        input_is = p.input_is ∙ ap (prepend_known p.input) hears.unread ∙ prepend_known-append stream.unread p.input piece;
-        output_is = hears.written ∙ p.output_is;
-        within = made.within;
-        turns = made.calls;
-        list_is = p.list_is;
+        does = does_read facts gives start place stream left p.input piece p.steps p.does hears (omega (arith, turn, small));
         events = p.events;
-        numbers = p.numbers;
-        pieces = pieces_one p.input piece start.limit place.left left p.within turn small p.pieces;
-        ended = hears.spends.ended ∙ p.ended;
-        read_failed = hears.spends.read_failed ∙ p.read_failed;
-        write_failed = hears.spends.write_failed ∙ p.write_failed;
-        keeps = keeps_told (p.input ++ piece) p.frames p.steps (with_bytes reader piece) (keeps_fed laws p.input piece p.frames p.steps reader bytes p.keeps);
+        marks = no_mark p.marks hears.spends;
+        keeps = keeps_noted (p.input ++ piece) p.frames p.steps (with_bytes reader piece) (keeps_fed laws p.input piece p.frames p.steps reader bytes p.keeps);
       }
 
   -- the read was refused
@@ -261,26 +229,19 @@ module _ (laws : FrameLaws) {D W : Type 0} (facts : DeskFacts D) (gives : Gives 
       → Carries facts gives start (finish_at (read_to place stream left)) (ending_of_stream error)
   unheard start place stream left reader error p none hears =
       let all : map event_of p.steps ≡ events_of start.end_ (frames_of p.input p.steps) = frames_all laws start.end_ p.input p.frames p.steps reader p.events p.keeps none in
-      let made = spent start.stream.calls start.limit place.left left p.within p.turns hears.spends in
-      let course : Course W = record { input = p.input; steps = p.steps; output = text_of start.first p.steps; left = left; draws = place.draws } in
+      let course : Course W = whole_course start.first p.input p.steps left place.draws in
       let shown = unheard_shows facts start course (finish_at (read_to place stream left)) error (map event_of p.steps ≡ events_of start.end_ (frames_of p.input p.steps)) (text_of start.first p.steps) all hears in
       record {
         course = course;
-        input_is = p.input_is ∙ ap (prepend_known p.input) (hears.unread ∙ prepend_known-none stream.unread);
-        output_is = hears.written ∙ p.output_is;
-        list_is = p.list_is;
+        does = subst (λ (l : List ℕ). Does facts gives start (whole_course start.first l p.steps left place.draws) stream place.desk) (append-nil p.input) (does_read facts gives start place stream left p.input [] p.steps p.does hears (omega arith));
         events = frames_front laws start.end_ p.input p.frames p.steps reader p.events p.keeps;
         all_events = shown.all;
-        numbers = p.numbers;
         draws_are = inl refl;
         cause = shown.cause;
         text = IsFront-refl _;
         all_text = shown.whole;
         in_turn = λ i h. text_front start.first p.steps i;
-        within = made.within;
-        turns = made.calls;
-        pieces = pieces_on (length p.input) start.limit place.left left hears.spends.within p.pieces;
-        marks = marks_since (ending_of_stream error) p.ended p.read_failed p.write_failed (hear_marks error hears);
+        marks = marks_since (ending_of_stream error) p.marks (hear_marks error hears);
       }
 
   -- no piece came to the reader

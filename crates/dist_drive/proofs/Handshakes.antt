@@ -1,15 +1,14 @@
 -- How a handshake ends well.
-use Rattle.std.proofs.Common.{◌≡◌, ℕ, ◌*◌, ◌-◌, ◌≤◌, true, List, ◌++◌, length, refl, sym, ap, subst, ◌∙◌}
+use Rattle.std.proofs.Common.{◌≡◌, ℕ, true, List, ◌++◌, refl, sym, ap, subst, ◌∙◌}
 use Rattle.std.specs.List.{flat_map}
 use Rattle.std.specs.Int.{w16}
 use Rattle.std.proofs.lemmas.List.{append-nil}
-use Rattle.std.specs.Io.KnownBytes.{prepend_known}
 use Rattle.dist_frames.specs.Stream.{body_frame}
 use Rattle.dist_frames.specs.Reader.{Reader, Short, Linked, as_linked, rest_of}
 use Rattle.dist_core_ends.specs.declared.known.UpRecord.{UpRecord}
 use Rattle.dist_drive.specs.Desks.{DeskFacts}
 use Rattle.dist_drive.specs.Numbers.{Gives}
-use Rattle.dist_drive.specs.Driven.{Start, frames_of, IsOnlyGone}
+use Rattle.dist_drive.specs.Driven.{Start, frames_of, whole_course, IsOnlyGone, Does}
 use Rattle.dist_drive.specs.Handshaking.{IsUpWith, ComesUp}
 use Rattle.dist_drive.specs.Running.{Place, Goes}
 use Rattle.dist_drive.proofs.Keeping.{FrameLaws, frames_are}
@@ -30,19 +29,11 @@ comes_up laws facts gives start place (Short pending) kept rest goes up rest_is 
       frames = runs.frames;
       steps = runs.steps;
       left = place.left;
-      input_is = runs.input_is ∙ ap (λ (l : List ℕ). prepend_known l place.stream.unread) input_is;
+      does = subst (λ (l : List ℕ). Does facts gives start (whole_course start.first l runs.steps place.left place.draws) place.stream place.desk) input_is runs.does;
       frames_are = sym (ap (λ (l : List ℕ). frames_of l runs.steps) (sym input_is) ∙ frames_are laws runs.input runs.frames runs.steps (as_linked (Short pending)) (same_length start.end_ runs.steps runs.frames runs.events) runs.keeps ∙ append-nil runs.frames);
-      list_is = runs.list_is;
       events = runs.events;
-      numbers = runs.numbers;
       up = up;
-      output_is = runs.output_is;
-      within = runs.within;
-      turns = runs.turns;
-      pieces = subst (λ (l : List ℕ). length l ≤ 4096 * (start.limit - place.left)) input_is runs.pieces;
-      ended = runs.ended;
-      read_failed = runs.read_failed;
-      write_failed = runs.write_failed;
+      marks = runs.marks;
       open_ = open_;
     }
 comes_up laws facts gives start place (Linked ended rest') kept rest goes up rest_is open_ = absurd (goes.rest refl)

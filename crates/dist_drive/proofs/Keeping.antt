@@ -115,9 +115,9 @@ pub keeps_fed : FrameLaws → (input piece : List ℕ) (frames : List (List ℕ)
 keeps_fed laws input piece frames steps (Short pending) bytes k = record { accounts = laws.fed_on input piece frames pending k.accounts bytes; none_up = k.none_up }
 keeps_fed laws input piece frames steps (Linked ended rest) bytes (more, k) = (more ++ piece, record { accounts = laws.fed_on input piece frames more k.accounts bytes; last_up = k.last_up })
 
-pub keeps_told : (input : List ℕ) (frames : List (List ℕ)) (steps : List Step) (r : Reader) → Keeps input frames steps r → Keeps input frames steps (without_count r)
-keeps_told input frames steps (Short pending) k = k
-keeps_told input frames steps (Linked ended rest) k = k
+pub keeps_noted : (input : List ℕ) (frames : List (List ℕ)) (steps : List Step) (r : Reader) → Keeps input frames steps r → Keeps input frames steps (without_count r)
+keeps_noted input frames steps (Short pending) k = k
+keeps_noted input frames steps (Linked ended rest) k = k
 
 pub keeps_none : Accounts [] [] [] → Keeps [] [] [] (Short [])
 keeps_none none = record { accounts = none; none_up = refl }

@@ -22,10 +22,10 @@ use Rattle.dist_drive.specs.declared.outcome.Ending.TheVariants as ending
 use Rattle.dist_drive.specs.Desks.{Step, event_of, number_of, last_reply, DeskFacts}
 use Rattle.dist_core.specs.Losses.{IsGone}
 use Rattle.dist_drive.specs.Numbers.{Gives, DrawsAll}
-use Rattle.dist_drive.specs.Driven.{Start, Course, Finish, frames_of, events_of, HandsOnAll, WritesAll, HasCause, TellsLoss, Marks, is_of_end, is_of_failed_read, LeavesUnread, Carries}
+use Rattle.dist_drive.specs.Driven.{Start, Course, Finish, frames_of, events_of, HandsOnAll, WritesAll, HasCause, ReportsLoss, Marks, SetsNoMark, is_of_end, is_of_failed_read, LeavesUnread, text_of, whole_course, Does, Carries}
 use Rattle.std.specs.Prelude.{◌≢◌, ◌||◌, IsErrAnd, IfOk, IfErr, OnOk, OnErr}
-use Rattle.dist_drive.specs.Running.{Place, Runs, SaysReply, after_reply, own_why, ending_of_stream, HandsOn}
-use Rattle.dist_drive.proofs.Texts.{prepend_known-none, Rises-trans, text_none}
+use Rattle.dist_drive.specs.Running.{Place, Runs, MakesStep, SaysReply, after_reply, own_why, ending_of_stream, HandsOn}
+use Rattle.dist_drive.proofs.Texts.{append_known-append, prepend_known-append, prepend_known-none, Rises-trans, text_none}
 use Rattle.dist_drive.proofs.Keeping.{keeps_none}
 
 pub says_as : {end_ : EndId} {old new : StreamState} {turns left : ℕ} {result : Result Bool Ending} (r q : Reply) → r ≡ q → SaysReply end_ r old new turns left result → SaysReply end_ q old new turns left result
@@ -44,16 +44,16 @@ draws_push gives w (m ∷ ns) v u n (next, g, more) h = (next, g, draws_push giv
 pub pieces_on : (n limit turns left : ℕ) → left ≤ turns → n ≤ 4096 * (limit - turns) → n ≤ 4096 * (limit - left)
 pieces_on n limit turns left fewer h = omega (arith, fewer, h)
 
--- in one turn one piece more
-pub pieces_one : (heard piece : List ℕ) (limit turns left : ℕ) → turns ≤ limit → turns ≡ left + 1 → length piece ≤ 4096 → length heard ≤ 4096 * (limit - turns) → length (heard ++ piece) ≤ 4096 * (limit - left)
-pieces_one heard piece limit turns left within one small h = omega (arith, length-append heard piece, within, one, small, h)
+-- in these turns this piece more
+pub pieces_more : (heard piece : List ℕ) (limit turns left : ℕ) → turns ≤ limit → left ≤ turns → length piece ≤ 4096 * (turns - left) → length heard ≤ 4096 * (limit - turns) → length (heard ++ piece) ≤ 4096 * (limit - left)
+pieces_more heard piece limit turns left within fewer small h = omega (arith, length-append heard piece, within, fewer, small, h)
 
 -- this many calls were made, in this many turns
 pub record Spent (limit left old new : ℕ) : Type 0 where
   pub within : left ≤ limit
   pub calls : Rises (limit - left) old new
 
-pub spent : {mid new : StreamState} {told : Option TurnError} (before limit turns left : ℕ) → turns ≤ limit → Rises (limit - turns) before mid.calls → Spends mid new turns left told → Spent limit left before new.calls
+pub spent : {mid new : StreamState} {noted : Option TurnError} (before limit turns left : ℕ) → turns ≤ limit → Rises (limit - turns) before mid.calls → Spends mid new turns left noted → Spent limit left before new.calls
 spent {mid = mid} {new = new} before limit turns left within calls s =
     let fewer : left ≤ turns = s.within in
     record { within = omega (arith, within, fewer); calls = Rises-trans (limit - turns) (turns - left) (limit - left) before mid.calls new.calls (omega (arith, within, fewer)) calls s.calls }
@@ -77,7 +77,7 @@ whole_reply {old = old} {new = new} {turns = turns} {left = left} text p =
     subst (λ (l : List ℕ). Says old new turns left None l) all p.says
 
 -- where the call goes on, all was sent
-pub goes_on : {old new : StreamState} {turns left : ℕ} (own : Option Why) (told : Option TurnError) (text : List ℕ) → after_reply own told ≡ Ok tt → SaysFront old new turns left told text → Says old new turns left None text
+pub goes_on : {old new : StreamState} {turns left : ℕ} (own : Option Why) (noted : Option TurnError) (text : List ℕ) → after_reply own noted ≡ Ok tt → SaysFront old new turns left noted text → Says old new turns left None text
 goes_on own None text e p = whole_reply text p
 goes_on own (Some fault.Limit) text e p = absurd cc
 goes_on (Some w) (Some fault.ReadFailed) text e p = absurd cc
@@ -93,16 +93,20 @@ ends_whole e = Err e
 abbrev pub ends_as : Ending → Result Bool Ending
 ends_as e = Err e
 
+-- where there is no fault no mark is set
+pub no_mark : {start old new : StreamState} {turns left : ℕ} → SetsNoMark start old → Spends old new turns left None → SetsNoMark start new
+no_mark none s = record { ended = s.ended ∙ none.ended; read_failed = s.read_failed ∙ none.read_failed; write_failed = s.write_failed ∙ none.write_failed }
+
 -- the marks that a call set since it began
-pub marks_since : (e : Ending) {start mid new : StreamState} → mid.ended ≡ start.ended → mid.read_failed ≡ start.read_failed → mid.write_failed ≡ start.write_failed → Marks e mid new → Marks e start new
-marks_since e ended read written m = record {
-  ended = m.ended ∙ ap (λ b. is_of_end e || b) ended;
-  read_failed = m.read_failed ∙ ap (λ b. is_of_failed_read e || b) read;
-  write_failed = ⊎_elim (λ h. inl (h ∙ written)) (λ h. inr h) m.write_failed;
+pub marks_since : (e : Ending) {start mid new : StreamState} → SetsNoMark start mid → Marks e mid new → Marks e start new
+marks_since e none m = record {
+  ended = m.ended ∙ ap (λ b. is_of_end e || b) none.ended;
+  read_failed = m.read_failed ∙ ap (λ b. is_of_failed_read e || b) none.read_failed;
+  write_failed = ⊎_elim (λ h. inl (h ∙ none.write_failed)) (λ h. inr h) m.write_failed;
 }
 
 -- after a reply that was not sent whole, or that closed the end
-pub reply_marks : {old new : StreamState} {turns left : ℕ} (own : Option Why) (told : Option TurnError) (e : Ending) (text : List ℕ) → SaysFront old new turns left told text → after_reply own told ≡ Err e → Marks e old new
+pub reply_marks : {old new : StreamState} {turns left : ℕ} (own : Option Why) (noted : Option TurnError) (e : Ending) (text : List ℕ) → SaysFront old new turns left noted text → after_reply own noted ≡ Err e → Marks e old new
 reply_marks own (Some fault.ReadFailed) e text p h = absurd p.says.fault_is
 reply_marks own (Some fault.Ended) e text p h = absurd p.says.fault_is
 reply_marks {old = old} {new = new} own (Some fault.Limit) e text p h =
@@ -149,8 +153,8 @@ first_unread fault.Ended first p = absurd p.says.fault_is
 -- where the desk reports that the end is gone nothing was read
 pub gone_unread : (first : List ℕ) (start mid new : StreamState) (w : Why) (e : Ending) → ends_as e ≡ ends_as (ending.Gone w) → new ≡ mid → (mid.unread ≡ start.unread) × (mid.ended ≡ start.ended) × (mid.read_failed ≡ start.read_failed) → LeavesUnread first start new e
 gone_unread first start mid new w e is same kept =
-    let told : ending.Gone w ≡ e = cc in
-    subst (λ (x : Ending). LeavesUnread first start new x) told (record { unread = ap (λ s. s.unread) same ∙ kept.0; ended = ap (λ s. s.ended) same ∙ kept.1; read_failed = ap (λ s. s.read_failed) same ∙ kept.2; ending_is = tt })
+    let noted : ending.Gone w ≡ e = cc in
+    subst (λ (x : Ending). LeavesUnread first start new x) noted (record { unread = ap (λ s. s.unread) same ∙ kept.0; ended = ap (λ s. s.ended) same ∙ kept.1; read_failed = ap (λ s. s.read_failed) same ∙ kept.2; ending_is = tt })
 
 pub own_is : (end_ : EndId) (closed : Option (EndId × Why)) (w : Why) → own_why end_ closed ≡ Some w → closed ≡ Some (end_, w)
 own_is end_ None w e = absurd cc
@@ -213,8 +217,8 @@ module _ {D W : Type 0} (facts : DeskFacts D) (start : Start D W) (course : Cour
       let same : ending.Limit ≡ e = cc in
       subst (λ (x : Ending). ShowsEnd reply (take p.count reply.say) Handed before x) same (record { all = tt; whole = tt; cause = λ newest. p.says.spends.cause })
 
-  pub shows : (reply : Reply) {old : StreamState} {turns : ℕ} (Handed : Type 0) (before : List ℕ) (told : Option TurnError) (e : Ending)
-      → (p : SaysFront old finish.stream turns course.left told reply.say) → after_reply (own_why start.end_ reply.closed) told ≡ Err e
+  pub shows : (reply : Reply) {old : StreamState} {turns : ℕ} (Handed : Type 0) (before : List ℕ) (noted : Option TurnError) (e : Ending)
+      → (p : SaysFront old finish.stream turns course.left noted reply.say) → after_reply (own_why start.end_ reply.closed) noted ≡ Err e
       → ShowsEnd reply (take p.count reply.say) Handed before e
   shows reply Handed before None e p h = shows_whole reply Handed before (own_why start.end_ reply.closed) e refl p h
   shows reply Handed before (Some fault.WriteFailed) e p h = shows_failed reply Handed before (own_why start.end_ reply.closed) e refl p h
@@ -253,6 +257,57 @@ at_end facts gives end_ other body before after result e h = subst (λ (x : EndI
 pub endings_same : (e f : Ending) → ends_whole e ≡ ends_whole f → f ≡ e
 endings_same e f h = cc
 
+-- ---- what a call does, step by step
+
+module _ {D W : Type 0} (facts : DeskFacts D) (gives : Gives W) (start : Start D W) where
+  -- a part of the first words is written
+  pub does_first : (stream : StreamState) (left : ℕ) {noted : Option TurnError} (part : List ℕ) → Says start.stream stream start.limit left noted part
+      → Does facts gives start (record { input = []; steps = []; output = part; left = left; draws = start.draws }) stream start.desk
+  does_first stream left part says = record {
+    input_is = sym (prepend_known-none start.stream.unread) ∙ ap (prepend_known []) (sym says.unread);
+    output_is = says.written;
+    list_is = sym (append-nil (facts.list start.desk));
+    numbers = refl;
+    within = says.spends.within;
+    turns = says.spends.calls;
+    pieces = (let none : 0 ≤ 4096 * (start.limit - left) = omega arith in none);
+  }
+
+  -- a frame is handed on, and a part of its reply is written
+  pub does_step : (before after : Place D W) (input : List ℕ) (steps : List Step) (body : List ℕ) (m : MakesStep facts gives start.end_ body before.desk after.desk before.draws after.draws) {noted : Option TurnError} (part : List ℕ)
+      → Does facts gives start (whole_course start.first input steps before.left before.draws) before.stream before.desk
+      → Says before.stream after.stream before.left after.left noted part
+      → Does facts gives start (record { input = input; steps = steps ++ (event.Frame start.end_ body, m.number, m.reply) ∷ []; output = text_of start.first steps ++ part; left = after.left; draws = after.draws }) after.stream after.desk
+  does_step before after input steps body m part p says =
+      let s : Step = (event.Frame start.end_ body, m.number, m.reply) in
+      let made = spent start.stream.calls start.limit before.left after.left p.within p.turns says.spends in
+      record {
+        input_is = p.input_is ∙ ap (prepend_known input) (sym says.unread);
+        output_is = says.written ∙ ap (λ known. append_known known part) p.output_is ∙ append_known-append start.stream.written (text_of start.first steps) part;
+        list_is = list_one (facts.list start.desk) (facts.list before.desk) (facts.list after.desk) steps s p.list_is m.list_is;
+        numbers = numbers_one gives start.draws steps before.draws after.draws s p.numbers m.number_is;
+        within = made.within;
+        turns = made.calls;
+        pieces = pieces_on (length input) start.limit before.left after.left says.spends.within p.pieces;
+      }
+
+  -- a piece is read
+  pub does_read : (place : Place D W) (stream : StreamState) (left : ℕ) (input piece : List ℕ) (steps : List Step) {noted : Option TurnError}
+      → Does facts gives start (whole_course start.first input steps place.left place.draws) place.stream place.desk
+      → Hears place.stream stream place.left left noted piece → length piece ≤ 4096 * (place.left - left)
+      → Does facts gives start (whole_course start.first (input ++ piece) steps left place.draws) stream place.desk
+  does_read place stream left input piece steps p hears small =
+      let made = spent start.stream.calls start.limit place.left left p.within p.turns hears.spends in
+      record {
+        input_is = p.input_is ∙ ap (prepend_known input) hears.unread ∙ prepend_known-append stream.unread input piece;
+        output_is = hears.written ∙ p.output_is;
+        list_is = p.list_is;
+        numbers = p.numbers;
+        within = made.within;
+        turns = made.calls;
+        pieces = pieces_more input piece start.limit place.left left p.within hears.spends.within small p.pieces;
+      }
+
 -- the first words were not written whole
 pub first_cut : {D W : Type 0} (facts : DeskFacts D) (gives : Gives W) (start : Start D W) (stream : StreamState) (left : ℕ) (error : TurnError)
     → SaysFront start.stream stream start.limit left (Some error) start.first
@@ -263,20 +318,14 @@ first_cut {D = D} {W = W} facts gives start stream left error p =
     let shown = first_shows facts start course finish error p in
     record {
       course = course;
-      input_is = sym (prepend_known-none start.stream.unread) ∙ ap (prepend_known []) (sym p.says.unread);
-      output_is = p.says.written;
-      list_is = sym (append-nil (facts.list start.desk));
+      does = does_first facts gives start stream left (take p.count start.first) p.says;
       events = (events_of start.end_ (frames_of [] []), refl);
       all_events = shown.all;
-      numbers = refl;
       draws_are = inl refl;
       cause = shown.cause;
       text = (drop p.count start.first, text_none start.first ∙ sym (take-append-drop p.count start.first));
       all_text = shown.whole;
       in_turn = λ i h. absurd (let none : i < 0 = h in omega (arith, none));
-      within = p.says.spends.within;
-      turns = p.says.spends.calls;
-      pieces = (let none : 0 ≤ 4096 * (start.limit - left) = omega arith in none);
       marks = first_marks error start.first p;
     }
 
@@ -290,29 +339,21 @@ begins_so none facts gives start stream left p =
       input = [];
       frames = [];
       steps = [];
-      input_is = sym (prepend_known-none start.stream.unread) ∙ ap (prepend_known []) (sym says.unread);
-      output_is = says.written ∙ ap (append_known start.stream.written) (sym (text_none start.first));
-      within = says.spends.within;
-      turns = says.spends.calls;
-      list_is = sym (append-nil (facts.list start.desk));
+      does = subst (λ (l : List ℕ). Does facts gives start (record { input = []; steps = []; output = l; left = left; draws = start.draws }) stream start.desk) (sym (text_none start.first)) (does_first facts gives start stream left start.first says);
       events = refl;
-      numbers = refl;
-      pieces = omega arith;
-      ended = says.spends.ended;
-      read_failed = says.spends.read_failed;
-      write_failed = says.spends.write_failed;
+      marks = record { ended = says.spends.ended; read_failed = says.spends.read_failed; write_failed = says.spends.write_failed };
       keeps = keeps_none none;
     }
 
 -- the loss was reported, or the end was gone or unknown by then
-pub tells : {D : Type 0} (facts : DeskFacts D) (end_ : EndId) (before after : D) (w : Why) (r : Result (Unit {0}) StepError)
+pub notes : {D : Type 0} (facts : DeskFacts D) (end_ : EndId) (before after : D) (w : Why) (r : Result (Unit {0}) StepError)
     → OnOk r ((reply : Reply) × (facts.list after ≡ facts.list before ++ (event.Lost end_ w, 0, reply) ∷ []))
     → OnErr r (after ≡ before)
     → IfErr r (λ e. facts.refusal before (event.Lost end_ w) 0 e)
     → IfErr r IsGone
-    → (losses : List Step) × (facts.list after ≡ facts.list before ++ losses) × TellsLoss facts end_ before (ending.Fault w) losses
-tells facts end_ before after w (Ok x) (reply, list) same why gone = ((event.Lost end_ w, 0, reply) ∷ [], list, inl (reply, refl))
-tells facts end_ before after w (Err e) made same why gone = ([], ap facts.list same ∙ sym (append-nil (facts.list before)), inr (refl, (e, why, gone)))
+    → (losses : List Step) × (facts.list after ≡ facts.list before ++ losses) × ReportsLoss facts end_ before (ending.Fault w) losses
+notes facts end_ before after w (Ok x) (reply, list) same why gone = ((event.Lost end_ w, 0, reply) ∷ [], list, inl (reply, refl))
+notes facts end_ before after w (Err e) made same why gone = ([], ap facts.list same ∙ sym (append-nil (facts.list before)), inr (refl, (e, why, gone)))
 
 pub if_ok_maps : {X E : Type 0} (P Q : X → Type 0) (r : Result X E) → IfOk r P → ((x : X) → P x → Q x) → IfOk r Q
 if_ok_maps P Q (Ok x) p f = f x p

@@ -95,6 +95,10 @@ events_of end_ frames = map (event.Frame end_) frames
 abbrev pub text_of : List ℕ → List Step → List ℕ
 text_of first steps = first ++ flat_map (λ step. (reply_of step).say) steps
 
+-- what a call does that writes its whole text
+abbrev pub whole_course : {W : Type 0} → List ℕ → List ℕ → List Step → ℕ → W → Course W
+whole_course first input steps left draws = record { input = input; steps = steps; output = text_of first steps; left = left; draws = draws }
+
 -- ---- the ending
 
 -- the outcome of a call that ends so
@@ -173,6 +177,12 @@ pub record Marks (ending : Ending) (old new : StreamState) : Type 0 where
   -- That a write failed is marked at most where the call may end for that.
   pub write_failed : (new.write_failed ≡ old.write_failed) ⊎ IsOfFailedWrite ending
 
+-- No mark is set.
+pub record SetsNoMark (old new : StreamState) : Type 0 where
+  pub ended : new.ended ≡ old.ended
+  pub read_failed : new.read_failed ≡ old.read_failed
+  pub write_failed : new.write_failed ≡ old.write_failed
+
 -- ---- an end that is gone
 
 -- All that the desk can say of the end is that it is gone.
@@ -198,32 +208,41 @@ pub record LeavesUnread (first : List ℕ) (old new : StreamState) (ending : End
 
 -- A fault of the call's own is reported to the desk as one loss with that cause, unless the desk refuses it, since the end is
 -- gone or unknown by then. Nothing else is reported. The list has the steps by which it is reported.
-abbrev pub TellsLoss : {D : Type 0} → DeskFacts D → EndId → D → Ending → List Step → Type 0
-TellsLoss facts end_ desk (ending.Fault w) losses =
+abbrev pub ReportsLoss : {D : Type 0} → DeskFacts D → EndId → D → Ending → List Step → Type 0
+ReportsLoss facts end_ desk (ending.Fault w) losses =
     ((reply : Reply) × (losses ≡ (event.Lost end_ w, 0, reply) ∷ []))
     ⊎ ((losses ≡ []) × ((e : StepError) × facts.refusal desk (event.Lost end_ w) 0 e × IsGone e))
-TellsLoss facts end_ desk other losses = losses ≡ []
+ReportsLoss facts end_ desk other losses = losses ≡ []
 
 -- ---- the call
 
 module _ {D W : Type 0} (facts : DeskFacts D) (gives : Gives W) (start : Start D W) where
+  -- The call does this, as its stream and its desk show.
+  pub record Does (course : Course W) (stream : StreamState) (desk : D) : Type 0 where
+    -- What it reads is a front of what the stream had for reads, and the rest of that is unread still.
+    pub input_is : start.stream.unread ≡ prepend_known course.input stream.unread
+    -- What it writes stands behind what was written before.
+    pub output_is : stream.written ≡ append_known start.stream.written course.output
+    -- The desk's list grows by the steps.
+    pub list_is : facts.list desk ≡ facts.list start.desk ++ course.steps
+    -- Each frame has a number of its own, as they are drawn.
+    pub numbers : DrawsAll gives start.draws (map number_of course.steps) course.draws
+    -- At most as many reads and writes are made as may be, and where the limit is returned, exactly as many.
+    pub within : course.left ≤ start.limit
+    pub turns : Rises (start.limit - course.left) start.stream.calls stream.calls
+    -- No read gives more than 4,096 bytes.
+    pub pieces : length course.input ≤ 4096 * (start.limit - course.left)
+
   -- What is read, handed on and written, up to the ending.
   pub record Carries (finish : Finish D W) (ending : Ending) : Type 0 where
     -- what the call does
     pub course : Course W
-    -- What it reads is a front of what the stream had for reads, and the rest of that is unread still.
-    pub input_is : start.stream.unread ≡ prepend_known course.input finish.stream.unread
-    -- What it writes stands behind what was written before.
-    pub output_is : finish.stream.written ≡ append_known start.stream.written course.output
-    -- The desk's list grows by the steps.
-    pub list_is : facts.list finish.desk ≡ facts.list start.desk ++ course.steps
+    pub does : Does course finish.stream finish.desk
     -- What is handed on is a front of the frames of the call, in order.
     pub events : IsFront (map event_of course.steps) (events_of start.end_ (frames_of course.input course.steps))
     -- It is all of them, where the ending says so.
     pub all_events : HandsOnAll ending (map event_of course.steps ≡ events_of start.end_ (frames_of course.input course.steps))
-    -- Each frame has a number of its own, as they are drawn.
-    pub numbers : DrawsAll gives start.draws (map number_of course.steps) course.draws
-    -- At most one more is drawn: for a frame that the desk refuses.
+    -- At most one more number is drawn: for a frame that the desk refuses.
     pub draws_are : DrawsOneAtMost gives course.draws finish.draws
     -- The ending has its cause.
     pub cause : HasCause facts start course finish ending
@@ -233,11 +252,6 @@ module _ {D W : Type 0} (facts : DeskFacts D) (gives : Gives W) (start : Start D
     pub all_text : WritesAll ending finish.stream (course.output ≡ text_of start.first course.steps)
     -- Before a frame is handed on, all is written that is to be sent before it.
     pub in_turn : (i : ℕ) → i < length course.steps → IsFront (text_of start.first (take i course.steps)) course.output
-    -- At most as many reads and writes are made as may be, and where the limit is returned, exactly as many.
-    pub within : course.left ≤ start.limit
-    pub turns : Rises (start.limit - course.left) start.stream.calls finish.stream.calls
-    -- No read gives more than 4,096 bytes.
-    pub pieces : length course.input ≤ 4096 * (start.limit - course.left)
     -- Once a mark is set, the call ends.
     pub marks : Marks ending start.stream finish.stream
 
@@ -252,7 +266,7 @@ module _ {D W : Type 0} (facts : DeskFacts D) (gives : Gives W) (start : Start D
     -- the steps by which a loss is reported
     pub losses : List Step
     -- They are of a fault of the call's own.
-    pub losses_are : TellsLoss facts start.end_ desk ending losses
+    pub losses_are : ReportsLoss facts start.end_ desk ending losses
     -- The desk's list grows by them.
     pub list_is : facts.list finish.desk ≡ facts.list desk ++ losses
     -- The outcome shows how it ends.

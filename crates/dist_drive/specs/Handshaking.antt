@@ -1,17 +1,15 @@
 -- ONE HANDSHAKE: an end that is driven until it is up.
-use Rattle.std.specs.Prelude.{◌≡◌, ℕ, ◌-◌, ◌*◌, ◌≤◌, List, ◌++◌, length, map, Some}
+use Rattle.std.specs.Prelude.{◌≡◌, ℕ, List, ◌++◌, map, Some}
 use Rattle.std.specs.List.{flat_map}
 use Rattle.std.specs.Int.{w16}
-use Rattle.std.specs.Io.KnownBytes.{prepend_known, append_known}
 use Rattle.dist_frames.specs.Stream.{body_frame}
 use Rattle.dist_core_ends.specs.declared.known.UpRecord.{UpRecord}
 use Rattle.dist_core.specs.declared.reply.Reply.{Reply}
-use Rattle.dist_stream.specs.Turns.{Rises}
 use Rattle.dist_drive.specs.declared.reached.Reached.{Reached}
 use Rattle.dist_drive.specs.declared.reached.Reached.TheVariants as reached
-use Rattle.dist_drive.specs.Desks.{Step, event_of, number_of, last_reply, DeskFacts}
-use Rattle.dist_drive.specs.Numbers.{Gives, DrawsAll}
-use Rattle.dist_drive.specs.Driven.{Start, Finish, frames_of, events_of, text_of, IsOnlyGone, Drives}
+use Rattle.dist_drive.specs.Desks.{Step, event_of, last_reply, DeskFacts}
+use Rattle.dist_drive.specs.Numbers.{Gives}
+use Rattle.dist_drive.specs.Driven.{Start, Finish, frames_of, events_of, whole_course, SetsNoMark, IsOnlyGone, Does, Drives}
 
 -- the newest reply brought the end up, with this record
 abbrev pub IsUpWith : List Step → UpRecord → Type 0
@@ -26,29 +24,15 @@ module _ {D W : Type 0} (facts : DeskFacts D) (gives : Gives W) (start : Start D
     pub steps : List Step
     -- how many reads and writes are left
     pub left : ℕ
-    -- No byte that was read is lost.
-    pub input_is : start.stream.unread ≡ prepend_known (flat_map (body_frame w16) frames ++ rest) finish.stream.unread
+    -- No byte that is read is lost, no number is drawn for more, and all that is to be sent is written.
+    pub does : Does facts gives start (whole_course start.first (flat_map (body_frame w16) frames ++ rest) steps left finish.draws) finish.stream finish.desk
     -- The frames are those of the call, up to and with the one whose reply brings the end up.
     pub frames_are : frames ≡ frames_of (flat_map (body_frame w16) frames ++ rest) steps
     -- They are handed on, in order.
     pub events : map event_of steps ≡ events_of start.end_ frames
-    -- The desk's list grows by their steps.
-    pub list_is : facts.list finish.desk ≡ facts.list start.desk ++ steps
-    -- Each has a number of its own, as they are drawn, and no more are drawn.
-    pub numbers : DrawsAll gives start.draws (map number_of steps) finish.draws
     -- The newest reply has the record.
     pub up : IsUpWith (facts.list finish.desk) kept
-    -- All that is to be sent is written.
-    pub output_is : finish.stream.written ≡ append_known start.stream.written (text_of start.first steps)
-    -- At most as many reads and writes are made as may be.
-    pub within : left ≤ start.limit
-    pub turns : Rises (start.limit - left) start.stream.calls finish.stream.calls
-    -- No read gives more than 4,096 bytes.
-    pub pieces : length (flat_map (body_frame w16) frames ++ rest) ≤ 4096 * (start.limit - left)
-    -- No mark is set.
-    pub ended : finish.stream.ended ≡ start.stream.ended
-    pub read_failed : finish.stream.read_failed ≡ start.stream.read_failed
-    pub write_failed : finish.stream.write_failed ≡ start.stream.write_failed
+    pub marks : SetsNoMark start.stream finish.stream
     -- The desk is asked before anything is read: an end that is gone does not come up.
     pub open_ : IsOnlyGone facts start.desk start.end_ → ⊥
 

@@ -1,8 +1,7 @@
 -- What a driven call keeps on its way, and what its parts do.
-use Rattle.std.specs.Prelude.{◌≡◌, ℕ, suc, ◌+◌, ◌-◌, ◌*◌, ◌≤◌, ◌⊎◌, Bool, true, List, [], ◌∷◌, ◌++◌, length, map}
+use Rattle.std.specs.Prelude.{◌≡◌, ℕ, suc, ◌+◌, ◌≤◌, ◌⊎◌, Bool, true, List, [], ◌∷◌, ◌++◌, length, map}
 use Rattle.std.specs.Prelude.{Option, Some, None, is_some, Result, Ok, Err, IfOk, IfErr, OnOk, eqb, if◌then◌else◌}
 use Rattle.std.specs.List.{position_or_len}
-use Rattle.std.specs.Io.KnownBytes.{prepend_known, append_known}
 use Rattle.dist_frames.specs.Reader.{Reader, Short, Linked, with_bytes, as_linked, without_count}
 use Rattle.dist_frames.specs.History.{Accounts, IsBytes}
 use Rattle.dist_peers.specs.declared.entry.EndId.{EndId}
@@ -13,14 +12,14 @@ use Rattle.dist_core.specs.declared.reply.Reply.{Reply}
 use Rattle.dist_core.specs.declared.step_error.StepError.{StepError}
 use Rattle.dist_core.specs.declared.step_error.StepError.TheVariants as error
 use Rattle.dist_stream.specs.Stream.{StreamState}
-use Rattle.dist_stream.specs.Turns.{Rises, Hears, SaysFront}
+use Rattle.dist_stream.specs.Turns.{Hears, SaysFront}
 use Rattle.dist_stream.specs.declared.turn_error.TurnError.{TurnError}
 use Rattle.dist_stream.specs.declared.turn_error.TurnError.TheVariants as fault
 use Rattle.dist_drive.specs.declared.outcome.Ending.{Ending}
 use Rattle.dist_drive.specs.declared.outcome.Ending.TheVariants as ending
-use Rattle.dist_drive.specs.Desks.{Step, event_of, number_of, last_reply, DeskFacts}
-use Rattle.dist_drive.specs.Numbers.{Gives, DrawsAll}
-use Rattle.dist_drive.specs.Driven.{Start, Finish, is_up, events_of, text_of, Carries}
+use Rattle.dist_drive.specs.Desks.{Step, event_of, last_reply, DeskFacts}
+use Rattle.dist_drive.specs.Numbers.{Gives}
+use Rattle.dist_drive.specs.Driven.{Start, Finish, is_up, events_of, whole_course, SetsNoMark, Does, Carries}
 
 -- ---- the reader
 
@@ -78,25 +77,11 @@ module _ {D W : Type 0} (facts : DeskFacts D) (gives : Gives W) where
     pub frames : List (List ℕ)
     -- their steps
     pub steps : List Step
-    -- No byte that was read is lost.
-    pub input_is : start.stream.unread ≡ prepend_known input place.stream.unread
     -- All that was to be sent was written.
-    pub output_is : place.stream.written ≡ append_known start.stream.written (text_of start.first steps)
-    -- At most as many reads and writes were made as may be.
-    pub within : place.left ≤ start.limit
-    pub turns : Rises (start.limit - place.left) start.stream.calls place.stream.calls
-    -- The desk's list grew by the steps.
-    pub list_is : facts.list place.desk ≡ facts.list start.desk ++ steps
+    pub does : Does facts gives start (whole_course start.first input steps place.left place.draws) place.stream place.desk
     -- The steps hand on these frames, in order.
     pub events : map event_of steps ≡ events_of start.end_ frames
-    -- Each has a number of its own, as they are drawn.
-    pub numbers : DrawsAll gives start.draws (map number_of steps) place.draws
-    -- No read gave more than 4,096 bytes.
-    pub pieces : length input ≤ 4096 * (start.limit - place.left)
-    -- No mark was set.
-    pub ended : place.stream.ended ≡ start.stream.ended
-    pub read_failed : place.stream.read_failed ≡ start.stream.read_failed
-    pub write_failed : place.stream.write_failed ≡ start.stream.write_failed
+    pub marks : SetsNoMark start.stream place.stream
     -- The reader holds what stands behind those frames.
     pub keeps : Keeps input frames steps reader
 

@@ -1,13 +1,13 @@
 //! One end, driven over a stream.
-ghost use Rattle.std.specs.Prelude.{◌≡◌, ◌<◌, ◌≤◌, ◌+◌, ◌++◌, ◌∷◌, [], List, MatchOption, Err, IfOk, IfErr, OnOk, OnErr};
+ghost use Rattle.std.specs.Prelude.{◌≡◌, ℕ, ◌<◌, ◌≤◌, ◌+◌, ◌++◌, ◌∷◌, [], true, List, MatchOption, Err, IfOk, IfErr, OnOk, OnErr};
 ghost use Rattle.dist_drive.specs.Desks.{Step};
-ghost use Rattle.dist_drive.specs.Driven.{Carries, Drives, IsOnlyGone, LeavesUnread, TellsLoss};
+ghost use Rattle.dist_drive.specs.Driven.{Carries, Drives, IsOnlyGone, LeavesUnread, ReportsLoss, outcome_of};
 ghost use Rattle.dist_frames.specs.Reader.Reader.{Short};
 ghost use Rattle.dist_frames.specs.Reader.{next_body, without_next, to_come, with_bytes, without_count};
 ghost use Rattle.dist_frames.specs.History.{IsBytes};
 ghost use Rattle.dist_stream.specs.Turns.{fault_of};
 ghost use Rattle.dist_drive.specs.Running.{after_reply, after_step, ending_of_refusal, ending_of_stream, own_why};
-ghost use Rattle.dist_drive.specs.Running.{MakesStep, RefusesStep, SaysReply, HandsOn, GoesOn, EndsSo, HearsPiece};
+ghost use Rattle.dist_drive.specs.Running.{MakesStep, RefusesStep, SaysReply, HandsOn, Goes, GoesOn, EndsSo, HearsPiece};
 
 use crate::desk::Desk;
 use crate::draws::Draws;
@@ -31,7 +31,7 @@ fn ending_of_refusal(error: StepError) -> Ending
 }
 
 // Why the call ends where a read or a write failed.
-pub fn ending_of_stream(error: TurnError) -> Ending
+fn ending_of_stream(error: TurnError) -> Ending
     ensures { result ≡ ending_of_stream error }
 {
     match error {
@@ -203,7 +203,7 @@ fn hear<S: Stream>(limited: &mut Limited<'_, S>, frames: &mut Frames) -> Result<
 }
 
 // Reads a piece, and hands on what came whole, unless the end is closed. Whether a frame brought the end up.
-pub fn turn<S: Stream, D: Desk, W: Draws>(
+fn turn<S: Stream, D: Desk, W: Draws>(
     limited: &mut Limited<'_, S>,
     desk: &mut D,
     draws: &mut W,
@@ -234,8 +234,9 @@ pub fn turn<S: Stream, D: Desk, W: Draws>(
     }
 }
 
-// Drives to the end, but for the loss that is then reported.
-fn run<S: Stream, D: Desk, W: Draws>(
+// Drives until the call ends, but for the loss that is then reported. With `until_up` the frame whose reply brings the end
+// up is the last one, and the reader holds what came behind it.
+pub fn run<S: Stream, D: Desk, W: Draws>(
     alloc: Global,
     stream: &mut S,
     desk: &mut D,
@@ -243,12 +244,18 @@ fn run<S: Stream, D: Desk, W: Draws>(
     end_: EndId,
     first: &[u8],
     limit: usize,
-) -> Ending
-    ensures carries { Carries D.facts W.gives
+    until_up: bool,
+) -> Result<Frames, Ending>
+    ensures only { OnOk result (until_up ≡ true) }
+    ensures up { IfOk result (λ frames. (left : ℕ) × Goes D.facts W.gives
         (record { end_ = end_; first = first.now; limit = limit; stream = S.meaning stream.old; desk = desk.old; draws = draws.old })
-        (record { stream = S.meaning stream.new; desk = desk.new; draws = draws.new })
-        result }
-    ensures gone { IsOnlyGone D.facts desk.old end_ → LeavesUnread first.now (S.meaning stream.old) (S.meaning stream.new) result }
+        (record { stream = S.meaning stream.new; left = left; desk = desk.new; draws = draws.new })
+        frames true) }
+    ensures carries { IfErr result (Carries D.facts W.gives
+        (record { end_ = end_; first = first.now; limit = limit; stream = S.meaning stream.old; desk = desk.old; draws = draws.old })
+        (record { stream = S.meaning stream.new; desk = desk.new; draws = draws.new })) }
+    ensures gone { IsOnlyGone D.facts desk.old end_ → IfErr result (LeavesUnread first.now (S.meaning stream.old) (S.meaning stream.new)) }
+    ensures not_gone { OnOk result (IsOnlyGone D.facts desk.old end_ → ⊥) }
     ensures base { D.base desk.new ≡ D.base desk.old }
     ensures serves { D.serves desk.new ≡ D.serves desk.old }
 {
@@ -259,29 +266,34 @@ fn run<S: Stream, D: Desk, W: Draws>(
         left: limit,
     };
     if let Err(error) = limited.write_all(first) {
-        return ending_of_stream(error);
+        return Err(ending_of_stream(error));
     }
     let mut frames = Frames::new(alloc);
     loop {
-        match turn(&mut limited, desk, draws, end_, &mut frames) {
-            Ok(up) => {
-                if up {
-                    frames.to_linked();
-                }
+        if turn(&mut limited, desk, draws, end_, &mut frames)? {
+            if until_up {
+                return Ok(frames);
             }
-            Err(ending) => return ending,
+            frames.to_linked();
         }
     }
 }
 
-// Reports a fault of the call's own as a loss.
-pub fn tell<D: Desk>(desk: &mut D, end_: EndId, ending: Ending)
-    ensures told { (losses : List Step) × (D.facts.list desk.new ≡ D.facts.list desk.old ++ losses) × TellsLoss D.facts end_ desk.old ending losses }
+// Reports a fault of the call's own as a loss. How the call ended.
+pub fn report_ending<D: Desk>(desk: &mut D, end_: EndId, ending: Ending) -> Outcome
+    ensures noted { (losses : List Step) × (D.facts.list desk.new ≡ D.facts.list desk.old ++ losses) × ReportsLoss D.facts end_ desk.old ending losses }
+    ensures outcome { result ≡ outcome_of ending }
     ensures base { D.base desk.new ≡ D.base desk.old }
     ensures serves { D.serves desk.new ≡ D.serves desk.old }
 {
-    if let Ending::Fault(why) = ending {
-        let _ = desk.step(Event::Lost { end_, why }, 0);
+    match ending {
+        Ending::Limit => Outcome::Limit,
+        Ending::Shut(why) => Outcome::Closed(why),
+        Ending::Gone(why) => Outcome::Closed(why),
+        Ending::Fault(why) => {
+            let _ = desk.step(Event::Lost { end_, why }, 0);
+            Outcome::Closed(why)
+        }
     }
 }
 
@@ -316,7 +328,8 @@ pub fn drive<S: Stream, D: Desk, W: Draws>(
     ensures base { D.base desk.new ≡ D.base desk.old }
     ensures serves { D.serves desk.new ≡ D.serves desk.old }
 {
-    let ending = run(alloc, stream, desk, draws, end_, first, limit);
-    tell(desk, end_, ending);
-    ending.outcome()
+    let Err(ending) = run(alloc, stream, desk, draws, end_, first, limit, false) else {
+        unreachable!()
+    };
+    report_ending(desk, end_, ending)
 }

@@ -40,7 +40,7 @@ fn registered_answer(request: &AliveReq, creation: u32) -> Answer
 }
 
 // The answer that refuses.
-fn refusal(request: &AliveReq) -> Answer
+fn refusing_answer(request: &AliveReq) -> Answer
     ensures { result ≡ refusal_answer request.now }
 {
     if request.highest < NEWER {
@@ -131,7 +131,7 @@ impl Registry {
         ensures err { OnErr result (self.new ≡ self.old) }
     {
         if has_conn(&self.rows, conn) {
-            return Ok(refusal(request));
+            return Ok(refusing_answer(request));
         }
         self.alive_first(alloc, conn, request)
     }
@@ -153,7 +153,7 @@ impl Registry {
         ensures err { OnErr result (self.new ≡ self.old) }
     {
         if !self.has_place(request) {
-            return Ok(refusal(request));
+            return Ok(refusing_answer(request));
         }
         let creation = self.next as u32;
         register(&mut self.rows, alloc, conn, request, creation)?;

@@ -18,18 +18,18 @@ use Rattle.dist_stream.proofs.Talks.{prepend_known-none, append_known-none, Spen
 use Rattle.dist_epmd_calls.specs.declared.lookup_error.LookupError.{LookupError}
 use Rattle.dist_epmd_calls.specs.declared.lookup_error.LookupError.TheVariants as error
 use Rattle.dist_epmd_calls.specs.Refusals.{lookup_error}
-use Rattle.dist_epmd_calls.specs.Asking.{Talks, TellsBy, Settles, AsksWritten}
+use Rattle.dist_epmd_calls.specs.Asking.{Talks, ReportsBy, Settles, AsksWritten}
 use Rattle.dist_epmd_calls.specs.Steps.{IsFrameOf, HearsAll, Exchanges, ExchangesWritten}
 
 -- what an exit by `?` returns
-pub told : {X : Type 0} {r : Result X LookupError} {e : LookupError} → IsErrAnd r (λ y. y ≡ e) → r ≡ Err e
-told {r = Ok x} h = absurd h
-told {r = Err y} h = ap Err h
+pub reported : {X : Type 0} {r : Result X LookupError} {e : LookupError} → IsErrAnd r (λ y. y ≡ e) → r ≡ Err e
+reported {r = Ok x} h = absurd h
+reported {r = Err y} h = ap Err h
 
 -- the same of the faults of a stream
-pub told_fault : {X : Type 0} {r : Result X TurnError} {e : TurnError} → IsErrAnd r (λ y. y ≡ e) → r ≡ Err e
-told_fault {r = Ok x} h = absurd h
-told_fault {r = Err y} h = ap Err h
+pub reported_fault : {X : Type 0} {r : Result X TurnError} {e : TurnError} → IsErrAnd r (λ y. y ≡ e) → r ≡ Err e
+reported_fault {r = Ok x} h = absurd h
+reported_fault {r = Err y} h = ap Err h
 
 abbrev bad : {X : Type 0} → LookupError → Result X LookupError
 bad e = Err e
@@ -79,7 +79,7 @@ said_and_heard {left = left} {frame = frame} p q = record {
 
 -- ---- one exchange
 
-cut_write : (e : TurnError) → IsWriteFault (Some e) → (AtEnd : Type 0) → TellsBy {X = List ℕ} (Some e) (Err (lookup_error e)) AtEnd
+cut_write : (e : TurnError) → IsWriteFault (Some e) → (AtEnd : Type 0) → ReportsBy {X = List ℕ} (Some e) (Err (lookup_error e)) AtEnd
 cut_write fault.ReadFailed h AtEnd = absurd h
 cut_write fault.WriteFailed h AtEnd = refl
 cut_write fault.Ended h AtEnd = absurd h
@@ -92,19 +92,19 @@ exchange_in_part {frame = frame} e p = record {
   stop = Some e;
   talks = said_in_part p.count p.says;
   whole = λ none. let no : Some e ≡ None = none in absurd cc;
-  tells = cut_write e p.says.fault_is _;
+  reports = cut_write e p.says.fault_is _;
 }
 
 err_as : {X Y : Type 0} (a b : LookupError) → bad {X = X} a ≡ bad b → bad {X = Y} a ≡ bad b
 err_as a b e = let same : a ≡ b = cc in ap bad same
 
 -- another type of answers, where none was given
-tells_as : (X Y : Type 0) (stop : Option TurnError) (e : LookupError) (A B : Type 0) → (A → B) → TellsBy {X = X} stop (Err e) A → TellsBy {X = Y} stop (Err e) B
-tells_as X Y (Some fault.ReadFailed) e A B f t = err_as e error.ReadFailed t
-tells_as X Y (Some fault.WriteFailed) e A B f t = err_as e error.WriteFailed t
-tells_as X Y (Some fault.Ended) e A B f t = f t
-tells_as X Y (Some fault.Limit) e A B f t = err_as e error.Limit t
-tells_as X Y None e A B f t = err_as e error.NoMemory t
+reports_as : (X Y : Type 0) (stop : Option TurnError) (e : LookupError) (A B : Type 0) → (A → B) → ReportsBy {X = X} stop (Err e) A → ReportsBy {X = Y} stop (Err e) B
+reports_as X Y (Some fault.ReadFailed) e A B f t = err_as e error.ReadFailed t
+reports_as X Y (Some fault.WriteFailed) e A B f t = err_as e error.WriteFailed t
+reports_as X Y (Some fault.Ended) e A B f t = f t
+reports_as X Y (Some fault.Limit) e A B f t = err_as e error.Limit t
+reports_as X Y None e A B f t = err_as e error.NoMemory t
 
 abbrev good : List ℕ → Result (List ℕ) LookupError
 good x = Ok x
@@ -128,15 +128,15 @@ exchange_unheard {frame = frame} {before = before} {after = after} e p q = recor
   stop = q.stop;
   talks = said_and_heard (all_said p) q.hears;
   whole = λ none. inr refl;
-  tells = tells_as (Unit {0}) (List ℕ) q.stop e (IsAll (Err e) after (before ++ q.heard)) (IsHeard (Err e) q.heard frame frame) (not_all e after (before ++ q.heard)) q.tells;
+  reports = reports_as (Unit {0}) (List ℕ) q.stop e (IsAll (Err e) after (before ++ q.heard)) (IsHeard (Err e) q.heard frame frame) (not_all e after (before ++ q.heard)) q.reports;
 }
 
-whole_tells : (stop : Option TurnError) (x : Unit {0}) (before after answer heard : List ℕ) (frame : List ℕ) → before ≡ [] → answer ≡ after → TellsBy stop (done x) (IsAll (done x) after (before ++ heard)) → TellsBy stop (good answer) (IsHeard (good answer) heard frame frame)
-whole_tells (Some fault.ReadFailed) x before after answer heard frame none same t = absurd cc
-whole_tells (Some fault.WriteFailed) x before after answer heard frame none same t = absurd cc
-whole_tells (Some fault.Ended) x before after answer heard frame none same t = (ap good (same ∙ t.1 ∙ ap (λ (l : List ℕ). l ++ heard) none), refl)
-whole_tells (Some fault.Limit) x before after answer heard frame none same t = absurd cc
-whole_tells None x before after answer heard frame none same t = absurd cc
+whole_reports : (stop : Option TurnError) (x : Unit {0}) (before after answer heard : List ℕ) (frame : List ℕ) → before ≡ [] → answer ≡ after → ReportsBy stop (done x) (IsAll (done x) after (before ++ heard)) → ReportsBy stop (good answer) (IsHeard (good answer) heard frame frame)
+whole_reports (Some fault.ReadFailed) x before after answer heard frame none same t = absurd cc
+whole_reports (Some fault.WriteFailed) x before after answer heard frame none same t = absurd cc
+whole_reports (Some fault.Ended) x before after answer heard frame none same t = (ap good (same ∙ t.1 ∙ ap (λ (l : List ℕ). l ++ heard) none), refl)
+whole_reports (Some fault.Limit) x before after answer heard frame none same t = absurd cc
+whole_reports None x before after answer heard frame none same t = absurd cc
 
 pub exchange_whole : {old mid new : StreamState} {turns between left : ℕ} {frame : List ℕ} (x : Unit {0}) (before after answer : List ℕ) → before ≡ [] → answer ≡ after → SaysFront old mid turns between None frame → HearsAll mid new between left (Ok x) before after → Exchanges old new turns (Ok answer) frame
 exchange_whole {frame = frame} x before after answer none same p q = record {
@@ -145,7 +145,7 @@ exchange_whole {frame = frame} x before after answer none same p q = record {
   stop = q.stop;
   talks = said_and_heard (all_said p) q.hears;
   whole = λ none. inr refl;
-  tells = whole_tells q.stop x before after answer q.heard frame none same q.tells;
+  reports = whole_reports q.stop x before after answer q.heard frame none same q.reports;
 }
 
 pub exchange_written : {old new : StreamState} {limit : ℕ} {result : Result (List ℕ) LookupError} {frame text : List ℕ} {written : Result (List ℕ) EpmdError} → IsFrameOf (Ok frame) written → text ≡ frame → Exchanges old new limit result text → ExchangesWritten written old new limit result
@@ -154,7 +154,7 @@ exchange_written {old = old} {new = new} {limit = limit} {result = result} f sam
 
 -- memory runs out before a byte is written
 pub unsent : (s : StreamState) (limit : ℕ) (written : Result (List ℕ) EpmdError) → IsOk written → ExchangesWritten written s s limit (Err error.NoMemory)
-unsent s limit (Ok body) h = record { said = []; heard = []; stop = None; talks = nothing_said s limit _; whole = λ none. inl (refl, refl); tells = refl }
+unsent s limit (Ok body) h = record { said = []; heard = []; stop = None; talks = nothing_said s limit _; whole = λ none. inl (refl, refl); reports = refl }
 unsent s limit (Err why) h = absurd cc
 
 -- there is no frame
@@ -175,13 +175,13 @@ no_bytes e heard said frame h = let no : bad e ≡ good heard = h.0 in absurd cc
 
 -- the bytes were not had
 pub refusal_of : {X : Type 0} (asked : Asked) (w : Result (List ℕ) EpmdError) (old new : StreamState) (limit : ℕ) (means : List ℕ → Result X LookupError) (e : LookupError) → ExchangesWritten w old new limit (Err e) → AsksWritten w old new limit asked means (Err e)
-refusal_of {X = X} asked (Ok body) old new limit means e a = record { said = a.said; heard = a.heard; stop = a.stop; talks = a.talks; whole = a.whole; tells = tells_as (List ℕ) X a.stop e (IsHeard (Err e) a.heard a.said (body_frame w16 body)) ((a.said ≡ body_frame w16 body) × Settles (Err e) (means a.heard) (read_answer asked a.heard)) (no_bytes e a.heard a.said (body_frame w16 body)) a.tells }
+refusal_of {X = X} asked (Ok body) old new limit means e a = record { said = a.said; heard = a.heard; stop = a.stop; talks = a.talks; whole = a.whole; reports = reports_as (List ℕ) X a.stop e (IsHeard (Err e) a.heard a.said (body_frame w16 body)) ((a.said ≡ body_frame w16 body) × Settles (Err e) (means a.heard) (read_answer asked a.heard)) (no_bytes e a.heard a.said (body_frame w16 body)) a.reports }
 refusal_of asked (Err why) old new limit means e a = (err_as e error.Malformed a.0, a.1)
 
 good_same : (a b : List ℕ) → good a ≡ good b → a ≡ b
 good_same a b e = cc
 
-meant : {X : Type 0} (stop : Option TurnError) (asked : Asked) (means : List ℕ → Result X LookupError) (bytes heard said frame : List ℕ) (r : Result X LookupError) → Settles r (means bytes) (read_answer asked bytes) → TellsBy stop (good bytes) (IsHeard (good bytes) heard said frame) → TellsBy stop r ((said ≡ frame) × Settles r (means heard) (read_answer asked heard))
+meant : {X : Type 0} (stop : Option TurnError) (asked : Asked) (means : List ℕ → Result X LookupError) (bytes heard said frame : List ℕ) (r : Result X LookupError) → Settles r (means bytes) (read_answer asked bytes) → ReportsBy stop (good bytes) (IsHeard (good bytes) heard said frame) → ReportsBy stop r ((said ≡ frame) × Settles r (means heard) (read_answer asked heard))
 meant (Some fault.ReadFailed) asked means bytes heard said frame r s t = absurd cc
 meant (Some fault.WriteFailed) asked means bytes heard said frame r s t = absurd cc
 meant (Some fault.Ended) asked means bytes heard said frame r s t = (t.1, subst (λ (l : List ℕ). Settles r (means l) (read_answer asked l)) (good_same bytes heard t.0) s)
@@ -190,7 +190,7 @@ meant None asked means bytes heard said frame r s t = absurd cc
 
 -- the bytes were had
 pub answer_of : {X : Type 0} (asked : Asked) (w : Result (List ℕ) EpmdError) (old new : StreamState) (limit : ℕ) (means : List ℕ → Result X LookupError) (bytes : List ℕ) (r : Result X LookupError) → Settles r (means bytes) (read_answer asked bytes) → ExchangesWritten w old new limit (Ok bytes) → AsksWritten w old new limit asked means r
-answer_of asked (Ok body) old new limit means bytes r s a = record { said = a.said; heard = a.heard; stop = a.stop; talks = a.talks; whole = a.whole; tells = meant a.stop asked means bytes a.heard a.said (body_frame w16 body) r s a.tells }
+answer_of asked (Ok body) old new limit means bytes r s a = record { said = a.said; heard = a.heard; stop = a.stop; talks = a.talks; whole = a.whole; reports = meant a.stop asked means bytes a.heard a.said (body_frame w16 body) r s a.reports }
 answer_of asked (Err why) old new limit means bytes r s a = absurd cc
 
 -- memory runs out before there is a request

@@ -14,7 +14,7 @@ use Rattle.dist_stream.proofs.Talks.{Hears-trans}
 use Rattle.dist_epmd_calls.specs.declared.lookup_error.LookupError.{LookupError}
 use Rattle.dist_epmd_calls.specs.declared.lookup_error.LookupError.TheVariants as error
 use Rattle.dist_epmd_calls.specs.Refusals.{lookup_error}
-use Rattle.dist_epmd_calls.specs.Asking.{Settles, Registers, RegistersWritten, TellsWhole, answer_len, rest_len, creation_meant}
+use Rattle.dist_epmd_calls.specs.Asking.{Settles, Registers, RegistersWritten, ReportsWhole, answer_len, rest_len, creation_meant}
 use Rattle.dist_epmd_calls.specs.Steps.{IsFrameOf, HearsAnswer}
 use Rattle.dist_epmd_calls.proofs.Asks.{all_said, nothing_said, said_in_part, said_and_heard}
 use borrow.Rule.Slice.PartMut.{put_mid, post_of}
@@ -92,13 +92,13 @@ answer_whole first tail more n k one rest all p q =
 
 -- ---- one registration
 
-cut_write : (e : TurnError) (said : List ℕ) → IsWriteFault (Some e) → TellsWhole (Some e) (Err (lookup_error e)) said []
+cut_write : (e : TurnError) (said : List ℕ) → IsWriteFault (Some e) → ReportsWhole (Some e) (Err (lookup_error e)) said []
 cut_write fault.ReadFailed said h = absurd h
 cut_write fault.WriteFailed said h = (refl, refl)
 cut_write fault.Ended said h = absurd h
 cut_write fault.Limit said h = (refl, omega arith)
 
-cut_read : (e : TurnError) (said heard : List ℕ) → IsReadFault (Some e) → length heard < answer_len heard → TellsWhole (Some e) (Err (lookup_error e)) said heard
+cut_read : (e : TurnError) (said heard : List ℕ) → IsReadFault (Some e) → length heard < answer_len heard → ReportsWhole (Some e) (Err (lookup_error e)) said heard
 cut_read fault.ReadFailed said heard h cut = (refl, cut)
 cut_read fault.WriteFailed said heard h cut = absurd h
 cut_read fault.Ended said heard h cut = (refl, cut)
@@ -111,7 +111,7 @@ registers_in_part {frame = frame} e p = record {
   stop = Some e;
   most = omega arith;
   talks = said_in_part p.count p.says;
-  tells = cut_write e (take p.count frame) p.says.fault_is;
+  reports = cut_write e (take p.count frame) p.says.fault_is;
 }
 
 pub registers_unheard : {old mid new : StreamState} {turns between left : ℕ} {frame room : List ℕ} (e : TurnError) → SaysFront old mid turns between None frame → HearsAnswer mid new between left (Err e) room → Registers old new turns frame (Err (lookup_error e))
@@ -121,7 +121,7 @@ registers_unheard {frame = frame} e p q = record {
   stop = Some e;
   most = q.most;
   talks = said_and_heard (all_said p) q.hears;
-  tells = cut_read e frame q.heard q.hears.fault_is q.cut;
+  reports = cut_read e frame q.heard q.hears.fault_is q.cut;
 }
 
 pub registers_whole : {old mid new : StreamState} {turns between left : ℕ} {frame room bytes : List ℕ} (n : ℕ) (r : Result Creation LookupError) → bytes ≡ take n room → Settles r (creation_meant bytes) (read_answer asked.Alive bytes) → SaysFront old mid turns between None frame → HearsAnswer mid new between left (Ok n) room → Registers old new turns frame r
@@ -134,7 +134,7 @@ registers_whole {frame = frame} {room = room} {bytes = bytes} n r front s p q =
       stop = None;
       most = q.most;
       talks = said_and_heard (all_said p) q.hears;
-      tells = inr (len, subst (λ (l : List ℕ). Settles r (creation_meant l) (read_answer asked.Alive l)) same s);
+      reports = inr (len, subst (λ (l : List ℕ). Settles r (creation_meant l) (read_answer asked.Alive l)) same s);
     }
 
 -- ---- with the request
@@ -144,7 +144,7 @@ registers_written {old = old} {new = new} {limit = limit} {result = result} f sa
     subst (λ w. RegistersWritten w old new limit result) (sym f.1) (subst (λ x. Registers old new limit x result) (same ∙ f.2) p)
 
 unasked : (s : StreamState) (limit : ℕ) (written : Result (List ℕ) EpmdError) → IsOk written → RegistersWritten written s s limit (Err error.NoMemory)
-unasked s limit (Ok body) h = record { said = []; heard = []; stop = None; most = omega arith; talks = nothing_said s limit _; tells = inl (refl, refl, refl) }
+unasked s limit (Ok body) h = record { said = []; heard = []; stop = None; most = omega arith; talks = nothing_said s limit _; reports = inl (refl, refl, refl) }
 unasked s limit (Err why) h = absurd cc
 
 pub no_frame : (s : StreamState) (limit : ℕ) (written : Result (List ℕ) EpmdError) (e : LookupError) → IsFrameOf (Err e) written → RegistersWritten written s s limit (Err e)

@@ -87,10 +87,10 @@ pub record Talks (old new : StreamState) (limit : ℕ) (stop : Option TurnError)
 
 -- What is returned, by what stopped the talk: a fault other than the end is returned as it is, and without a fault memory ran
 -- out.
-abbrev pub TellsBy : {X : Type 0} → Option TurnError → Result X LookupError → Type 0 → Type 0
-TellsBy (Some fault.Ended) result AtEnd = AtEnd
-TellsBy (Some other) result AtEnd = result ≡ Err (lookup_error other)
-TellsBy None result AtEnd = result ≡ Err error.NoMemory
+abbrev pub ReportsBy : {X : Type 0} → Option TurnError → Result X LookupError → Type 0 → Type 0
+ReportsBy (Some fault.Ended) result AtEnd = AtEnd
+ReportsBy (Some other) result AtEnd = result ≡ Err (lookup_error other)
+ReportsBy None result AtEnd = result ≡ Err error.NoMemory
 
 -- Nothing was written and nothing read, or the whole frame was written.
 abbrev pub IsUnsentOrSent : List ℕ → List ℕ → List ℕ → Type 0
@@ -105,7 +105,7 @@ pub record Asks {X : Type 0} (old new : StreamState) (limit : ℕ) (frame : List
   pub stop : Option TurnError
   pub talks : Talks old new limit stop frame said heard
   pub whole : (stop ≡ None) → IsUnsentOrSent frame said heard
-  pub tells : TellsBy stop result ((said ≡ frame) × Settles result (means heard) (read_answer asked heard))
+  pub reports : ReportsBy stop result ((said ≡ frame) × Settles result (means heard) (read_answer asked heard))
 
 -- A request that fits no frame is refused, and the stream is as it was.
 abbrev pub AsksWritten : {X : Type 0} → Result (List ℕ) EpmdError → StreamState → StreamState → ℕ → Asked
@@ -131,10 +131,10 @@ answer_len (tag ∷ rest) = 1 + rest_len tag
 -- What is returned, by what stopped the registration. A write fails before anything is read; a read fails, the stream ends, or
 -- the turns run out inside the answer or before it. Without a fault memory ran out before anything was written, or the answer
 -- came whole, and what it means is returned.
-abbrev pub TellsWhole : Option TurnError → Result Creation LookupError → List ℕ → List ℕ → Type 0
-TellsWhole (Some fault.WriteFailed) result said heard = (result ≡ Err error.WriteFailed) × (heard ≡ [])
-TellsWhole (Some other) result said heard = (result ≡ Err (lookup_error other)) × (length heard < answer_len heard)
-TellsWhole None result said heard =
+abbrev pub ReportsWhole : Option TurnError → Result Creation LookupError → List ℕ → List ℕ → Type 0
+ReportsWhole (Some fault.WriteFailed) result said heard = (result ≡ Err error.WriteFailed) × (heard ≡ [])
+ReportsWhole (Some other) result said heard = (result ≡ Err (lookup_error other)) × (length heard < answer_len heard)
+ReportsWhole None result said heard =
     ((result ≡ Err error.NoMemory) × (said ≡ []) × (heard ≡ []))
     ⊎ ((length heard ≡ answer_len heard) × Settles result (creation_meant heard) (read_answer asked.Alive heard))
 
@@ -145,7 +145,7 @@ pub record Registers (old new : StreamState) (limit : ℕ) (frame : List ℕ) (r
   pub stop : Option TurnError
   pub most : length heard ≤ answer_len heard
   pub talks : Talks old new limit stop frame said heard
-  pub tells : TellsWhole stop result said heard
+  pub reports : ReportsWhole stop result said heard
 
 -- A request that fits no frame is refused, and the stream is as it was.
 abbrev pub RegistersWritten : Result (List ℕ) EpmdError → StreamState → StreamState → ℕ → Result Creation LookupError → Type 0

@@ -14,7 +14,7 @@ use Rattle.dist_epmd_calls.specs.declared.lookup_error.LookupError.{LookupError}
 use Rattle.dist_epmd_calls.specs.declared.lookup_error.LookupError.TheVariants as error
 use Rattle.dist_epmd_calls.specs.declared.serve.Served.{Served}
 use Rattle.dist_epmd_calls.specs.Refusals.{lookup_error}
-use Rattle.dist_epmd_calls.specs.Asking.{Talks, TellsBy, IsUnsentOrSent, answer_len}
+use Rattle.dist_epmd_calls.specs.Asking.{Talks, ReportsBy, IsUnsentOrSent, answer_len}
 use Rattle.dist_epmd_calls.specs.Serving.{IsInside, IsLength, Came, IsSaid, Replies}
 
 -- ---- of a client
@@ -31,7 +31,7 @@ pub record HearsAll (old new : StreamState) (turns left : ℕ) (result : Result 
   pub heard : List ℕ
   pub stop : Option TurnError
   pub hears : Hears old new turns left stop heard
-  pub tells : TellsBy stop result ((result ≡ Ok tt) × (after ≡ before ++ heard))
+  pub reports : ReportsBy stop result ((result ≡ Ok tt) × (after ≡ before ++ heard))
 
 -- A frame was written, and what came to the end of the stream was read.
 pub record Exchanges (old new : StreamState) (limit : ℕ) (result : Result (List ℕ) LookupError) (frame : List ℕ) : Type 0 where
@@ -40,7 +40,7 @@ pub record Exchanges (old new : StreamState) (limit : ℕ) (result : Result (Lis
   pub stop : Option TurnError
   pub talks : Talks old new limit stop frame said heard
   pub whole : (stop ≡ None) → IsUnsentOrSent frame said heard
-  pub tells : TellsBy stop result ((result ≡ Ok heard) × (said ≡ frame))
+  pub reports : ReportsBy stop result ((result ≡ Ok heard) × (said ≡ frame))
 
 -- A request that fits no frame is refused, and the stream is as it was.
 abbrev pub ExchangesWritten : Result (List ℕ) EpmdError → StreamState → StreamState → ℕ → Result (List ℕ) LookupError → Type 0

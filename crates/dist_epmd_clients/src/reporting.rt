@@ -39,7 +39,7 @@ pub fn note_end(journal: &mut Journal, conn: u64, talk: Talk)
 }
 
 /// A copy of the name of the node that a request registers, for the event of it. It is made before the request is answered, so
-/// that no event is missed for want of memory.
+/// that no event is missed for lack of memory.
 pub fn alive_name(alloc: Global, request: &Request) -> Result<ByteString, AllocError>
     ensures { IfOk result (λ name. name ≡ alive_name request.now) }
 {

@@ -1,3 +1,3 @@
 pub mod Owings
-pub mod Telling
+pub mod Reporting
 pub mod Turning

@@ -14,11 +14,11 @@ use Rattle.dist_epmd_clients.specs.declared.turn.Turn.TheVariants as turn
 use Rattle.dist_epmd_clients.specs.Carrying.{Carries, Moved}
 use Rattle.dist_epmd_clients.specs.Clients.{registrations_of, client_of, OthersStay, Becomes, CanLack, Drops, IsSame}
 use Rattle.dist_epmd_clients.specs.Replying.{Outcome, after_piece}
-use Rattle.dist_epmd_server.specs.declared.turns.Step.{Step}
-use Rattle.dist_epmd_server.specs.declared.turns.Step.TheVariants as step
+use Rattle.dist_epmd_server.specs.declared.turns.ReadStep.{ReadStep}
+use Rattle.dist_epmd_server.specs.declared.turns.ReadStep.TheVariants as step
 
 -- the step says that the client has left
-abbrev pub HasLeft : {S : Type 0} → Step S → Type 0
+abbrev pub HasLeft : {S : Type 0} → ReadStep S → Type 0
 HasLeft step.Quiet = ⊥
 HasLeft step.More = ⊥
 HasLeft step.Closed = Unit {0}
@@ -63,36 +63,36 @@ module _ {S : Type 0} (meaning : S → StreamState) where
 
   -- WHAT A PIECE LEADS TO: what is to be sent to a client that leaves is returned with its stream; one that is registered is
   -- sent its answer whole, by one write; and a stream is let go only where its client has left.
-  abbrev pub Follows : Outcome S → List ℕ → ℕ → Clients S → Clients S → Step S → Type 0
+  abbrev pub Follows : Outcome S → List ℕ → ℕ → Clients S → Clients S → ReadStep S → Type 0
   Follows after piece conn old new step.Quiet = ⊥
   Follows after piece conn old new step.More = GoesOn after.turn after.client after.registrations conn old new
   Follows after piece conn old new step.Closed = IsClosed after piece conn old new
   Follows after piece conn old new (step.Leaves stream text) = (after.turn ≡ turn.Leave stream text) × Becomes None after.registrations conn old new
 
   -- what follows from a piece; where there is none the connection is over
-  abbrev pub FollowsPiece : Bool → List ℕ → ℕ → Clients S → Clients S → Step S → Type 0
+  abbrev pub FollowsPiece : Bool → List ℕ → ℕ → Clients S → Clients S → ReadStep S → Type 0
   FollowsPiece true piece conn old new made = (made ≡ step.Closed) × Becomes None (after_closed conn (registrations_of old)) conn old new
   FollowsPiece false piece conn old new made = Follows (after_piece conn (client_of old conn) piece (registrations_of old)) piece conn old new made
 
   -- what follows from what was read
-  abbrev pub FollowsRead : Heard → List ℕ → ℕ → Clients S → Clients S → Step S → Type 0
+  abbrev pub FollowsRead : Heard → List ℕ → ℕ → Clients S → Clients S → ReadStep S → Type 0
   FollowsRead heard.Quiet room conn old new made = (made ≡ step.Quiet) × IsSame old new
   FollowsRead heard.Failed room conn old new made = (made ≡ step.Closed) × Becomes None (after_closed conn (registrations_of old)) conn old new
   FollowsRead (heard.Bytes count) room conn old new made = FollowsPiece (count == 0) (take count room) conn old new made
 
   -- A read of a connection, and what follows.
-  pub record Turns (room : List ℕ) (conn : ℕ) (old new : Clients S) (made : Step S) : Type 0 where
+  pub record Turns (room : List ℕ) (conn : ℕ) (old new : Clients S) (made : ReadStep S) : Type 0 where
     pub heard : Heard
     pub mid : Clients S
     pub read : Carries (λ a b. Reads (meaning a) (meaning b) room heard) conn old mid
     pub follows : FollowsRead heard room conn mid new made
 
   -- A read where nobody may be here: then nothing happens.
-  abbrev pub TurnsAny : List ℕ → ℕ → Clients S → Clients S → Step S → Type 0
+  abbrev pub TurnsAny : List ℕ → ℕ → Clients S → Clients S → ReadStep S → Type 0
   TurnsAny room conn old new made = MatchOption (client_of old conn) ((made ≡ step.Quiet) × IsSame old new) (λ client. Turns room conn old new made)
 
 -- READS OF A CONNECTION, one after another: each but the first is made where the one before said that more may have come.
-pub data Chain {S : Type 0} (meaning : S → StreamState) (conn : ℕ) (old : Clients S) : Clients S → Step S → Type 0 where
+pub data Chain {S : Type 0} (meaning : S → StreamState) (conn : ℕ) (old : Clients S) : Clients S → ReadStep S → Type 0 where
   none : Chain meaning conn old old step.More
-  next : (room : List ℕ) → (mid new : Clients S) → (made : Step S) → Chain meaning conn old mid step.More →
+  next : (room : List ℕ) → (mid new : Clients S) → (made : ReadStep S) → Chain meaning conn old mid step.More →
       TurnsAny meaning room conn mid new made → Chain meaning conn old new made

@@ -4,14 +4,14 @@ ghost use Rattle.dist_epmd_clients.specs.Clients.{OthersStay};
 ghost use Rattle.dist_epmd_server.specs.Attending.{Attends, GoesOnOwed, ServesClient, SettlesOwed, WatchIsOf};
 
 use crate::owing::Owing;
-use crate::turns::{Step, read_all};
+use crate::turns::{ReadStep, read_all};
 use dist_epmd_clients::Clients;
 use dist_stream::Stream;
 use std::alloc::Global;
 
 /// What a connection is to be watched for, also again.
 #[derive(Clone, Copy, Debug, PartialEq, Eq)]
-pub enum Watch {
+pub enum Interests {
     /// Nothing that was not asked for already.
     Nothing,
     /// More may have come than was read.
@@ -27,24 +27,29 @@ pub struct Ready {
     pub second: u64,
 }
 
-fn watch_for_rest(is_left: bool) -> Watch
+fn watch_for_rest(is_left: bool) -> Interests
     ensures { WatchIsOf is_left result }
 {
     if is_left {
-        Watch::Writing
+        Interests::Writing
     } else {
-        Watch::Nothing
+        Interests::Nothing
     }
 }
 
 // Does what a step of a connection asks for.
-fn settle<S: Stream + Drop>(owing: &mut Owing<S>, conn: u64, step: Step<S>, now: u64) -> Watch
+fn settle<S: Stream + Drop>(
+    owing: &mut Owing<S>,
+    conn: u64,
+    step: ReadStep<S>,
+    now: u64,
+) -> Interests
     ensures { SettlesOwed S.meaning step conn now owing.old owing.new result }
 {
     match step {
-        Step::More => Watch::Reading,
-        Step::Leaves(stream, text) => watch_for_rest(owing.leave(conn, stream, text, now)),
-        Step::Quiet | Step::Closed => Watch::Nothing,
+        ReadStep::More => Interests::Reading,
+        ReadStep::Leaves(stream, text) => watch_for_rest(owing.leave(conn, stream, text, now)),
+        ReadStep::Quiet | ReadStep::Closed => Interests::Nothing,
     }
 }
 
@@ -55,7 +60,7 @@ fn serve_client<S: Stream + Drop>(
     alloc: Global,
     ready: Ready,
     room: &mut [u8],
-) -> Watch
+) -> Interests
     ensures serves { ServesClient S.meaning ready.conn ready.second clients.old clients.new owing.old owing.new result }
     ensures others { OthersStay ready.conn clients.old clients.new }
 {
@@ -64,7 +69,7 @@ fn serve_client<S: Stream + Drop>(
 }
 
 // Goes on to send what is owed on a connection.
-fn send_owed<S: Stream + Drop>(owing: &mut Owing<S>, conn: u64) -> Watch
+fn send_owed<S: Stream + Drop>(owing: &mut Owing<S>, conn: u64) -> Interests
     ensures { GoesOnOwed S.meaning conn owing.old owing.new result }
 {
     watch_for_rest(owing.go_on(conn))
@@ -80,7 +85,7 @@ pub fn attend<S: Stream + Drop>(
     alloc: Global,
     ready: Ready,
     room: &mut [u8],
-) -> Watch
+) -> Interests
     ensures attends { Attends S.meaning ready.conn ready.second clients.old clients.new owing.old owing.new result }
     ensures others { OthersStay ready.conn clients.old clients.new }
 {

@@ -17,10 +17,10 @@ mod serving;
 mod turns;
 mod waiting;
 
-pub use attending::{Watch, attend};
+pub use attending::{Interests, attend};
 pub use owed::Owed;
 pub use owing::Owing;
 pub use saying::{Said, say};
-pub use server::{Limits, Server, other_of};
+pub use server::{MapperLimits, Server, other_of};
 pub use serving::{serve, serve_ready};
-pub use turns::{Step, read_all};
+pub use turns::{ReadStep, read_all};

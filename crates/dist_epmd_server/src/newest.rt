@@ -5,7 +5,7 @@ ghost use Rattle.std.specs.Prelude.{◌≡◌};
 ghost use Rattle.dist_epmd_server.specs.Serving.{clients_at, owing_at, ready_newest, ServesNewest};
 
 use crate::server::{Server, token_of_listener};
-use crate::waiting::{Found, wait_for};
+use crate::waiting::{WaitResult, wait_for};
 use dist_stream::{SocketStream, Stream};
 use mio::Events;
 use std::io;
@@ -50,7 +50,7 @@ impl Server {
 
     // Puts into the events what else is ready. A listener at which none waits is reported again when one comes; one at which some
     // wait stays unsure only where nothing else is ready.
-    fn fetch(&mut self, found: Found, events: &mut Events) -> io::Result<()> {
+    fn fetch(&mut self, found: WaitResult, events: &mut Events) -> io::Result<()> {
         if !found.is_listener_ready {
             self.unsure = None;
         }

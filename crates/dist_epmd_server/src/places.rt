@@ -19,7 +19,7 @@ pub struct Newcomer<S> {
 
 /// Closes the client that is here for the longest without having asked; where all have asked, what is owed on the oldest
 /// connection is dropped. Returns whether that made room.
-pub fn make_room<S: Drop>(clients: &mut Clients<S>, owing: &mut Owing<S>) -> bool
+pub fn evict_oldest<S: Drop>(clients: &mut Clients<S>, owing: &mut Owing<S>) -> bool
     ensures { MakesRoom (oldest_of clients.old) clients.old clients.new owing.old owing.new result }
 {
     if clients.oldest().is_none() {
@@ -36,7 +36,7 @@ fn find_place<S: Drop>(clients: &mut Clients<S>, owing: &mut Owing<S>, most: usi
     if clients.len().saturating_add(owing.len()) < most {
         return true;
     }
-    make_room(clients, owing)
+    evict_oldest(clients, owing)
 }
 
 /// Takes a client in, where there may be this many. Where all places are taken, the oldest that has not asked makes room. The

@@ -6,14 +6,14 @@ ghost use Rattle.dist_epmd_clients.specs.Journal.{HasEvents};
 ghost use Rattle.dist_epmd_clients.specs.Reporting.{counts_of, events_of, journal_of};
 ghost use Rattle.dist_epmd_clients.specs.Sweeping.{is_late};
 ghost use Rattle.dist_epmd_server.specs.Attending.{Attends};
-ghost use Rattle.dist_epmd_server.specs.declared.attending.Watch.{Watch};
+ghost use Rattle.dist_epmd_server.specs.declared.attending.Interests.{Interests};
 ghost use Rattle.dist_epmd_server.specs.Owed.{since_of};
 ghost use Rattle.dist_epmd_server.specs.Owing.{all_owed};
 ghost use Rattle.dist_epmd_server.specs.Serving.{clients_at, oldest_of, owing_at, most_events, most_of, seconds_of, swept_at, ComesTo, MakesRoom};
 
-use crate::attending::{Ready, Watch, attend};
+use crate::attending::{Interests, Ready, attend};
 use crate::owing::Owing;
-use crate::places::{Newcomer, make_room, take_in};
+use crate::places::{Newcomer, evict_oldest, take_in};
 use dist_epmd_clients::Clients;
 use dist_stream::{SocketStream, Stream};
 use mio::net::{TcpListener, TcpStream};
@@ -35,7 +35,7 @@ const OTHERS: usize = 16;
 
 /// The limits of a port mapper.
 #[derive(Clone, Copy, Debug, PartialEq, Eq)]
-pub struct Limits {
+pub struct MapperLimits {
     /// The most clients at once, with those that have left and are owed something.
     pub clients: usize,
     /// After how many seconds a client is closed that has not asked, or does not read its answer.
@@ -51,7 +51,7 @@ pub struct Server {
     pub(crate) clients: Clients<SocketStream>,
     // What is sent to those that have left.
     pub(crate) owing: Owing<SocketStream>,
-    limits: Limits,
+    limits: MapperLimits,
     // Connections may wait at a listener, and none could be accepted.
     stuck: bool,
     // When the clients were looked through for late ones.
@@ -113,7 +113,7 @@ impl Server {
         alloc: Global,
         port: u16,
         first: u32,
-        limits: Limits,
+        limits: MapperLimits,
     ) -> io::Result<Server> {
         Ok(Server {
             alloc,
@@ -212,7 +212,7 @@ impl Server {
     fn drop_oldest(&mut self) -> bool
         ensures { MakesRoom (oldest_of (clients_at self.old)) (clients_at self.old) (clients_at self.new) (owing_at self.old) (owing_at self.new) result }
     {
-        make_room(&mut self.clients, &mut self.owing)
+        evict_oldest(&mut self.clients, &mut self.owing)
     }
 
     // Takes a connection in. Where all places are taken, the oldest client that has not asked makes room; where there is
@@ -322,8 +322,8 @@ impl Server {
     }
 
     // Asks for what a connection is to be watched for.
-    fn watch_again(&self, conn: u64, watch: Watch) {
-        if watch == Watch::Nothing {
+    fn watch_again(&self, conn: u64, watch: Interests) {
+        if watch == Interests::Nothing {
             return;
         }
         if let Some((fd, interest)) = self.socket_of(conn) {
@@ -332,7 +332,7 @@ impl Server {
     }
 
     // Does what is to be done for a connection that is ready. Returns what it is to be watched for.
-    pub(crate) fn attend(&mut self, conn: u64, room: &mut [u8], now: u64) -> Watch
+    pub(crate) fn attend(&mut self, conn: u64, room: &mut [u8], now: u64) -> Interests
         ensures { Attends ⟦<SocketStream as Stream>⟧.meaning conn now
             (clients_at self.old) (clients_at self.new) (owing_at self.old) (owing_at self.new) result }
     {

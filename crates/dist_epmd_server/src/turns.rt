@@ -5,7 +5,7 @@ ghost use Rattle.dist_epmd.specs.Registrations.{after_closed};
 ghost use Rattle.dist_epmd_clients.specs.Carrying.{Carries};
 ghost use Rattle.dist_epmd_clients.specs.Clients.{registrations_of, client_of, Becomes, OthersStay};
 ghost use Rattle.dist_epmd_clients.specs.Replying.{after_piece};
-ghost use Rattle.dist_epmd_server.specs.declared.turns.Step.TheVariants.{Closed};
+ghost use Rattle.dist_epmd_server.specs.declared.turns.ReadStep.TheVariants.{Closed};
 ghost use Rattle.dist_stream.specs.Stream.{heard_count};
 ghost use Rattle.dist_epmd_server.specs.Turns.{Chain, CutShort, Follows, FollowsRead, HasLeft, SaidWhole, TurnsAny};
 
@@ -16,7 +16,7 @@ use std::alloc::Global;
 
 /// What a read of a connection came to.
 #[derive(Drop)]
-pub enum Step<S> {
+pub enum ReadStep<S> {
     /// Nothing came, or nobody is here.
     Quiet,
     /// Something came. The client goes on, and more may have come.
@@ -64,33 +64,33 @@ fn take_piece<S: Stream + Drop>(
     alloc: Global,
     conn: u64,
     piece: &[u8],
-) -> Step<S>
+) -> ReadStep<S>
     ensures follows { Follows S.meaning (after_piece conn (client_of clients.old conn) piece.now (registrations_of clients.old))
         piece.now conn clients.old clients.new result }
     ensures others { OthersStay conn clients.old clients.new }
     ensures left { HasLeft result → client_of clients.new conn ≡ None }
 {
     match clients.hear(alloc, conn, piece) {
-        Ok(Turn::Wait) => Step::More,
+        Ok(Turn::Wait) => ReadStep::More,
         Ok(Turn::Stay(text)) => {
             if answer_registration(clients, conn, text.as_slice()) {
-                Step::More
+                ReadStep::More
             } else {
-                Step::Closed
+                ReadStep::Closed
             }
         }
-        Ok(Turn::Leave(stream, text)) => Step::Leaves(stream, text),
-        Err(_) => Step::Closed,
+        Ok(Turn::Leave(stream, text)) => ReadStep::Leaves(stream, text),
+        Err(_) => ReadStep::Closed,
     }
 }
 
 // A connection is over.
-fn drop_client<S: Stream + Drop>(clients: &mut Clients<S>, conn: u64) -> Step<S>
+fn drop_client<S: Stream + Drop>(clients: &mut Clients<S>, conn: u64) -> ReadStep<S>
     ensures closed { result ≡ Closed }
     ensures after { Becomes None (after_closed conn (registrations_of clients.old)) conn clients.old clients.new }
 {
     let _ = clients.close(conn);
-    Step::Closed
+    ReadStep::Closed
 }
 
 // A read of a connection gave this.
@@ -100,7 +100,7 @@ fn follow<S: Stream + Drop>(
     conn: u64,
     came: Heard,
     room: &[u8],
-) -> Step<S>
+) -> ReadStep<S>
     // A read says so.
     requires { heard_count came ≤ length room.now }
     ensures follows { FollowsRead S.meaning came room.now conn clients.old clients.new result }
@@ -115,7 +115,7 @@ fn follow<S: Stream + Drop>(
                 take_piece(clients, alloc, conn, &room[..count])
             }
         }
-        Heard::Quiet => Step::Quiet,
+        Heard::Quiet => ReadStep::Quiet,
         Heard::Failed => drop_client(clients, conn),
     }
 }
@@ -126,7 +126,7 @@ fn read_once<S: Stream + Drop>(
     alloc: Global,
     conn: u64,
     room: &mut [u8],
-) -> Step<S>
+) -> ReadStep<S>
     // The caller has room for bytes.
     requires { 0 < length room.old }
     ensures turns { TurnsAny S.meaning room.new conn clients.old clients.new result }
@@ -135,7 +135,7 @@ fn read_once<S: Stream + Drop>(
 {
     match clients.read(conn, room) {
         Some(came) => follow(clients, alloc, conn, came, room),
-        None => Step::Quiet,
+        None => ReadStep::Quiet,
     }
 }
 
@@ -149,19 +149,19 @@ pub fn read_all<S: Stream + Drop>(
     alloc: Global,
     conn: u64,
     room: &mut [u8],
-) -> Step<S>
+) -> ReadStep<S>
     ensures turns { Chain S.meaning conn clients.old clients.new result }
     ensures others { OthersStay conn clients.old clients.new }
     ensures left { HasLeft result → client_of clients.new conn ≡ None }
 {
     if room.is_empty() {
-        return Step::More;
+        return ReadStep::More;
     }
     for _ in 0..READS {
         match read_once(clients, alloc, conn, room) {
-            Step::More => {}
+            ReadStep::More => {}
             step => return step,
         }
     }
-    Step::More
+    ReadStep::More
 }

@@ -6,7 +6,7 @@ use std::time::Duration;
 
 /// What a wait found.
 #[derive(Clone, Copy, Debug, PartialEq, Eq)]
-pub struct Found {
+pub struct WaitResult {
     /// The newest client's socket can be read.
     pub is_newest_ready: bool,
     /// Some of all others may be ready.
@@ -36,11 +36,11 @@ fn entry_for(fd: i32) -> pollfd {
 /// Waits for `most` until the newest client's socket can be read, one of the set of others is ready, which the system keeps, or a
 /// connection waits at this listener. They are looked at in this order: what became ready among the others before the newest is found
 /// with it. Where the system does not wait, the others and the listener are to be asked.
-pub fn wait_for(newest: i32, others: i32, listener: Option<i32>, most: Duration) -> Found {
+pub fn wait_for(newest: i32, others: i32, listener: Option<i32>, most: Duration) -> WaitResult {
     let listener = listener.unwrap_or(NONE);
     let mut waits = [entry_for(newest), entry_for(others), entry_for(listener)];
     let is_over = poll(&mut waits, milliseconds_of(most)) < 0;
-    Found {
+    WaitResult {
         is_newest_ready: !is_over && waits[0].revents != 0,
         are_others_ready: is_over || waits[1].revents != 0,
         is_listener_ready: is_over || waits[2].revents != 0,

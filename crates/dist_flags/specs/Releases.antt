@@ -6,8 +6,8 @@ use Rattle.dist_names.specs.Flags.{has_all}
 use Rattle.dist_names.specs.declared.flags.Flags.{Flags}
 use Rattle.dist_flags.specs.declared.release.Release.{Release}
 use Rattle.dist_flags.specs.declared.release.Release.TheVariants as release
-use Rattle.dist_flags.specs.declared.release.Told.{Told}
-use Rattle.dist_flags.specs.declared.release.Told.TheVariants as told
+use Rattle.dist_flags.specs.declared.release.ReleaseShown.{ReleaseShown}
+use Rattle.dist_flags.specs.declared.release.ReleaseShown.TheVariants as shown
 
 -- what OTP 25 asks for: EXTENDED_REFERENCES, FUN_TAGS, NEW_FUN_TAGS, EXTENDED_PIDS_PORTS, EXPORT_PTR_TAG, BIT_BINARIES,
 -- NEW_FLOATS, UTF8_ATOMS, MAP_TAG, BIG_CREATION, HANDSHAKE_23
@@ -85,5 +85,5 @@ is_just None flags = false
 is_just (Some all) flags = bit_or flags 1 == all.0
 
 -- the release, and whether the flags are just those of it
-abbrev pub told_by : ℕ → Told
-told_by flags = if is_just (announced_by (release_of flags)) flags then told.Just (release_of flags) else told.UpTo (release_of flags)
+abbrev pub release_shown : ℕ → ReleaseShown
+release_shown flags = if is_just (announced_by (release_of flags)) flags then shown.Just (release_of flags) else shown.UpTo (release_of flags)

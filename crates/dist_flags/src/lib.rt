@@ -9,5 +9,6 @@ mod release;
 
 pub use dflag::Dflag;
 pub use release::{
-    Release, Told, is_refused_by_all, missing, oldest_refusal, release_of, told_by, with_mandatory,
+    Release, ReleaseShown, is_refused_by_all, missing, oldest_refusal, release_of, release_shown,
+    with_mandatory,
 };

@@ -2,7 +2,7 @@
 
 ghost use Rattle.std.specs.Prelude.{◌≡◌};
 ghost use Rattle.dist_flags.specs.Releases.{announced_by, with_mandatory, is_just, is_refused_by_all, missing, objection, oldest_refusal};
-ghost use Rattle.dist_flags.specs.Releases.{refuses, release_of, required_by, told_by};
+ghost use Rattle.dist_flags.specs.Releases.{refuses, release_of, required_by, release_shown};
 
 use dist_names::Flags;
 
@@ -25,7 +25,7 @@ pub enum Release {
 
 /// What a node's flags show of its release.
 #[derive(Clone, Copy, PartialEq, Eq)]
-pub enum Told {
+pub enum ReleaseShown {
     /// They are just those that this release announces, `PUBLISHED` apart.
     Just(Release),
     /// They are others, and this is the newest release one of whose own flags is there: a release whose flags are not known
@@ -152,13 +152,13 @@ fn is_just(announced: Option<Flags>, flags: Flags) -> bool
 }
 
 /// The release that a node's flags show, and whether they are just those of it.
-pub fn told_by(flags: Flags) -> Told
-    ensures { result ≡ told_by flags.0 }
+pub fn release_shown(flags: Flags) -> ReleaseShown
+    ensures { result ≡ release_shown flags.0 }
 {
     let release = release_of(flags);
     if is_just(release.announced(), flags) {
-        Told::Just(release)
+        ReleaseShown::Just(release)
     } else {
-        Told::UpTo(release)
+        ReleaseShown::UpTo(release)
     }
 }

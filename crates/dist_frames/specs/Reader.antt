@@ -42,9 +42,9 @@ as_linked (Short pending) = with_bytes (Linked 0 []) pending
 as_linked (Linked ended rest) = Linked ended rest
 
 -- how many packets ended and were not reported
-abbrev pub untold : Reader → ℕ
-untold (Short pending) = 0
-untold (Linked ended rest) = ended
+abbrev pub unreported : Reader → ℕ
+unreported (Short pending) = 0
+unreported (Linked ended rest) = ended
 
 -- the reader once they are reported
 abbrev pub without_count : Reader → Reader

@@ -1,5 +1,5 @@
 ghost use Rattle.std.specs.Prelude.{◌≡◌, [], option_map, option_copied, OnOk, OnErr, IfOk, IsOk, IsSome, MatchOption, drop, ◌∷◌};
-ghost use Rattle.dist_frames.specs.Reader.{with_bytes, next_body, to_come, without_next, as_linked, untold, without_count, rest_of, IsLinked};
+ghost use Rattle.dist_frames.specs.Reader.{with_bytes, next_body, to_come, without_next, as_linked, unreported, without_count, rest_of, IsLinked};
 ghost use Rattle.dist_frames.specs.Reader.Reader.{Short};
 
 use crate::partial::Partial;
@@ -15,12 +15,12 @@ use std::marker::Model;
 pub struct Frames {
     // Where the bodies that are moved out are copied to.
     alloc: Global,
-    stage: Stage,
+    stage: ReadStage,
 }
 
 // What comes next, and what is kept for it.
 #[derive(Drop)]
-enum Stage {
+enum ReadStage {
     // Short frames: the bytes that were not moved out.
     Short(ShortQueue),
     // Packets: how many ended and were not reported, and what is owed of the next.
@@ -43,7 +43,7 @@ impl Frames {
     {
         Frames {
             alloc,
-            stage: Stage::Short(ShortQueue::new(alloc)),
+            stage: ReadStage::Short(ShortQueue::new(alloc)),
         }
     }
 
@@ -51,8 +51,8 @@ impl Frames {
         ensures { option_copied result ≡ next_body self.now }
     {
         match &self.stage {
-            Stage::Short(pending) => pending.front(),
-            Stage::Linked { .. } => None,
+            ReadStage::Short(pending) => pending.front(),
+            ReadStage::Linked { .. } => None,
         }
     }
 
@@ -70,8 +70,8 @@ impl Frames {
         ensures { self.new ≡ without_next self.old }
     {
         match &mut self.stage {
-            Stage::Short(pending) => pending.drop_front(),
-            Stage::Linked { .. } => {}
+            ReadStage::Short(pending) => pending.drop_front(),
+            ReadStage::Linked { .. } => {}
         }
     }
 
@@ -91,8 +91,8 @@ impl Frames {
         ensures linked { IsLinked self.old → IsOk result }
     {
         match &mut self.stage {
-            Stage::Short(pending) => pending.extend(piece),
-            Stage::Linked { ended, left } => {
+            ReadStage::Short(pending) => pending.extend(piece),
+            ReadStage::Linked { ended, left } => {
                 let more = left.feed(piece);
                 *ended = ended.saturating_add(more);
                 Ok(())
@@ -124,22 +124,22 @@ impl Frames {
     pub fn to_linked(&mut self)
         ensures { self.new ≡ as_linked self.old }
     {
-        if let Stage::Short(pending) = &self.stage {
+        if let ReadStage::Short(pending) = &self.stage {
             let mut left = Partial::new();
             let ended = left.feed(pending.as_slice());
-            self.stage = Stage::Linked { ended, left };
+            self.stage = ReadStage::Linked { ended, left };
         }
     }
 
     /// Returns how many packets ended since the last call, at most the greatest `usize`, of which nothing is kept. Before
     /// `to_linked` it returns 0 and drops nothing. It takes no memory.
     pub fn skip_long(&mut self) -> usize
-        ensures count { result ≡ untold self.old }
+        ensures count { result ≡ unreported self.old }
         ensures after { self.new ≡ without_count self.old }
     {
         match &mut self.stage {
-            Stage::Short(_) => 0,
-            Stage::Linked { ended, .. } => {
+            ReadStage::Short(_) => 0,
+            ReadStage::Linked { ended, .. } => {
                 let count = *ended;
                 *ended = 0;
                 count
@@ -153,8 +153,8 @@ impl Frames {
         ensures { result.items ≡ rest_of self }
     {
         match self.stage {
-            Stage::Short(pending) => pending.into_vec(),
-            Stage::Linked { .. } => Vec::new(self.alloc),
+            ReadStage::Short(pending) => pending.into_vec(),
+            ReadStage::Linked { .. } => Vec::new(self.alloc),
         }
     }
 }

@@ -34,11 +34,11 @@ desk_of end_ seat steps = record { end_ = end_; number = seat.number; start = se
 
 -- some node with a legal history reports so of the end
 abbrev pub IsStill : EndId → Still → Type 0
-IsStill end_ told = (b : BookState) × IsLegal b × (told ≡ still_of (slice_get b.node.ends end_.0))
+IsStill end_ reported = (b : BookState) × IsLegal b × (reported ≡ still_of (slice_get b.node.ends end_.0))
 
 -- how it may say that an end stands: as the node under the lock does at some moment
 abbrev pub stands_so : DeskState → EndId → Still → Type 0
-stands_so d end_ told = IsStill end_ told
+stands_so d end_ reported = IsStill end_ reported
 
 -- the cause that the last step reports, where it is of a loss
 abbrev pub last_loss : List Step → Option Why

@@ -18,5 +18,5 @@ IsLost end_ w before after =
 
 -- An end is over exactly where it was not up: then it is lost with this cause, else nothing is done.
 abbrev pub IsGivenUp : EndId → Why → List Receipt → List Receipt → Bool → Type 0
-IsGivenUp end_ w before after true = ((told : Still) × IsStill end_ told × (told ≢ still.Up)) × IsLost end_ w before after
+IsGivenUp end_ w before after true = ((reported : Still) × IsStill end_ reported × (reported ≢ still.Up)) × IsLost end_ w before after
 IsGivenUp end_ w before after false = IsStill end_ still.Up × (after ≡ before)

@@ -6,14 +6,14 @@ use Rattle.dist_core.specs.declared.event.Event.TheVariants as event
 use Rattle.dist_core.specs.declared.reply.Reply.{Reply}
 use Rattle.dist_core.specs.Clauses.{loss_reply, silent_reply}
 use Rattle.dist_locked_book.specs.declared.line.Line.{Line}
-use Rattle.dist_locked_book.specs.declared.shared_line.Entry.{Entry}
+use Rattle.dist_locked_book.specs.declared.shared_line.LineNumbers.{LineNumbers}
 use Rattle.dist_locked_book.specs.declared.shared_line.Kept.{Kept}
 use Rattle.dist_locked_book.specs.declared.shared_line.Kept.TheVariants as kept
 use Rattle.dist_locked_book.specs.declared.shared_line.LineView.{LineView}
 use Rattle.dist_locked_book.specs.declared.shared_line.LineView.TheVariants as view
 
 -- the line of this entry, with this event and this reply
-abbrev pub line_with : Entry → Event → Reply → Line
+abbrev pub line_with : LineNumbers → Event → Reply → Line
 line_with entry v reply = record { ticket = entry.ticket; seat = entry.seat; event = v; fresh = entry.fresh; reply = reply }
 
 -- the line that is kept so
@@ -28,5 +28,5 @@ line_in (view.Lent line) = line.now
 line_in (view.Made line) = line
 
 -- a line of this entry, with this event
-abbrev pub IsEntry : Entry → Event → Line → Type 0
+abbrev pub IsEntry : LineNumbers → Event → Line → Type 0
 IsEntry entry v l = (l.ticket ≡ entry.ticket) × (l.seat ≡ entry.seat) × (l.event ≡ v) × (l.fresh ≡ entry.fresh)

@@ -3,9 +3,9 @@ use Rattle.std.specs.Prelude.{◌≡◌}
 use Rattle.dist_core.specs.declared.event.Event.{Event}
 use Rattle.dist_core.specs.declared.reply.Reply.{Reply}
 use Rattle.dist_locked_book.specs.Lines.{line_with}
-use Rattle.dist_locked_book.specs.declared.shared_line.Entry.{Entry}
-use Rattle.dist_locked_book.specs.declared.sharing.Lines.{Lines}
+use Rattle.dist_locked_book.specs.declared.shared_line.LineNumbers.{LineNumbers}
+use Rattle.dist_locked_book.specs.declared.sharing.LineCopies.{LineCopies}
 
 -- three times the line of this entry, with this event and this reply, and the reply itself
-abbrev pub AreLines : Entry → Event → Reply → Lines → Type 0
+abbrev pub AreLines : LineNumbers → Event → Reply → LineCopies → Type 0
 AreLines entry v reply s = (s.line ≡ line_with entry v reply) × (s.second ≡ s.line) × (s.third ≡ s.line) × (s.reply ≡ reply)

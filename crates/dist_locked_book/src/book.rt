@@ -13,8 +13,8 @@ ghost use Rattle.dist_locked_book.specs.Lines.{IsEntry};
 ghost use Rattle.dist_locked_book.specs.Sharing.{AreLines};
 
 use super::seat::{Receipt, Seat};
-use super::shared_line::{Entry, SharedLine, quiet};
-use super::sharing::{Lines, Sharing};
+use super::shared_line::{LineNumbers, SharedLine, quiet};
+use super::sharing::{LineCopies, Sharing};
 use dist_core::{Event, Node, Reply, Setup, StepError, Why};
 use dist_core_laws::{a_step_keeps, open_ends_after_a_step};
 use dist_peers::EndId;
@@ -95,7 +95,12 @@ impl Book {
 
     // Makes a step, and adds its line.
     #[inline(always)]
-    fn enter(&mut self, alloc: Global, entry: Entry, event: &Event) -> Result<Entered, StepError>
+    fn enter(
+        &mut self,
+        alloc: Global,
+        entry: LineNumbers,
+        event: &Event,
+    ) -> Result<Entered, StepError>
         ensures step { IfOk result (λ r. step self.old.node event.now entry.fresh ≡ Ok (r.line.reply, self.new.node)) }
         ensures line { IfOk result (λ r. IsEntry entry event.now r.line) }
         ensures same { IfOk result (λ r. r.second ≡ r.line) }
@@ -116,7 +121,7 @@ impl Book {
             return Err(self.node.refusal_without_memory(alloc, event, entry.fresh));
         };
         let lines = make_step(alloc, &mut self.node, entry, event)?;
-        let Lines {
+        let LineCopies {
             line,
             second,
             third,
@@ -197,7 +202,7 @@ pub fn step_on(
     let Ok(()) = seat.make_room(event.is_lost()) else {
         return Err(book.node().refusal_without_memory(alloc, event, fresh));
     };
-    let entry = Entry {
+    let entry = LineNumbers {
         ticket,
         seat: seat.number(),
         fresh,
@@ -218,9 +223,9 @@ pub fn step_on(
 fn make_step(
     alloc: Global,
     node: &mut Node,
-    entry: Entry,
+    entry: LineNumbers,
     event: &Event,
-) -> Result<Lines, StepError>
+) -> Result<LineCopies, StepError>
     ensures step { IfOk result (λ r. step node.old event.now entry.fresh ≡ Ok (r.reply, node.new)) }
     ensures lines { IfOk result (λ r. AreLines entry event.now r.reply r) }
     ensures refused { IfErr result (λ e. Refuses e (step node.old event.now entry.fresh)) }
@@ -243,10 +248,10 @@ fn make_step(
 }
 
 #[inline(always)]
-fn lines_of_arrival(alloc: Global, entry: Entry, link: u64, id: EndId) -> Lines
+fn lines_of_arrival(alloc: Global, entry: LineNumbers, link: u64, id: EndId) -> LineCopies
     ensures { AreLines entry (Event.Incoming link) (silent_reply id) result }
 {
-    Lines {
+    LineCopies {
         line: SharedLine::of_arrival(alloc, entry, link, id),
         second: SharedLine::of_arrival(alloc, entry, link, id),
         third: SharedLine::of_arrival(alloc, entry, link, id),
@@ -255,10 +260,10 @@ fn lines_of_arrival(alloc: Global, entry: Entry, link: u64, id: EndId) -> Lines
 }
 
 #[inline(always)]
-fn lines_of_loss(alloc: Global, entry: Entry, id: EndId, why: Why) -> Lines
+fn lines_of_loss(alloc: Global, entry: LineNumbers, id: EndId, why: Why) -> LineCopies
     ensures { AreLines entry (Event.Lost id why) (loss_reply id why) result }
 {
-    Lines {
+    LineCopies {
         line: SharedLine::of_loss(alloc, entry, id, why),
         second: SharedLine::of_loss(alloc, entry, id, why),
         third: SharedLine::of_loss(alloc, entry, id, why),
@@ -271,9 +276,9 @@ fn lines_of_loss(alloc: Global, entry: Entry, id: EndId, why: Why) -> Lines
 fn make_kept_step(
     alloc: Global,
     node: &mut Node,
-    entry: Entry,
+    entry: LineNumbers,
     event: &Event,
-) -> Result<Lines, StepError>
+) -> Result<LineCopies, StepError>
     ensures step { IfOk result (λ r. step node.old event.now entry.fresh ≡ Ok (r.reply, node.new)) }
     ensures lines { IfOk result (λ r. AreLines entry event.now r.reply r) }
     ensures refused { IfErr result (λ e. Refuses e (step node.old event.now entry.fresh)) }

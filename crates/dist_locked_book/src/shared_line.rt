@@ -15,13 +15,13 @@ use std::sync::Arc;
 
 /// What a line has beside its event and its reply.
 #[derive(Clone, Copy)]
-pub struct Entry {
+pub struct LineNumbers {
     pub ticket: u64,
     pub seat: u32,
     pub fresh: u32,
 }
 
-impl Entry {
+impl LineNumbers {
     /// The line of a step.
     #[inline(always)]
     pub fn line(self, event: Event, reply: Reply) -> Line
@@ -41,8 +41,16 @@ impl Entry {
 #[derive(Drop)]
 pub enum Kept {
     Shared(Arc<Line>),
-    Came { entry: Entry, link: u64, id: EndId },
-    Lost { entry: Entry, id: EndId, why: Why },
+    Came {
+        entry: LineNumbers,
+        link: u64,
+        id: EndId,
+    },
+    Lost {
+        entry: LineNumbers,
+        id: EndId,
+        why: Why,
+    },
 }
 
 /// A line that several hold at once: the history, the seat that made the step, and whoever called. Equal copies share it, so a
@@ -97,7 +105,7 @@ impl SharedLine {
 
     // The line of a connection that came, for which an end was given out. It takes no memory.
     #[inline(always)]
-    pub(crate) fn of_arrival(alloc: Global, entry: Entry, link: u64, id: EndId) -> SharedLine
+    pub(crate) fn of_arrival(alloc: Global, entry: LineNumbers, link: u64, id: EndId) -> SharedLine
         ensures { result ≡ line_with entry (Event.Incoming link) (silent_reply id) }
     {
         SharedLine {
@@ -108,7 +116,7 @@ impl SharedLine {
 
     // The line of a loss. It takes no memory.
     #[inline(always)]
-    pub(crate) fn of_loss(alloc: Global, entry: Entry, id: EndId, why: Why) -> SharedLine
+    pub(crate) fn of_loss(alloc: Global, entry: LineNumbers, id: EndId, why: Why) -> SharedLine
         ensures { result ≡ line_with entry (Event.Lost id why) (loss_reply id why) }
     {
         SharedLine {

@@ -2,13 +2,13 @@
 ghost use Rattle.std.specs.Prelude.{◌≡◌, IfOk};
 ghost use Rattle.dist_locked_book.specs.Sharing.{AreLines};
 
-use super::shared_line::{Entry, SharedLine};
+use super::shared_line::{LineNumbers, SharedLine};
 use dist_core::{Event, Keeper, Reply};
 use std::alloc::{AllocError, Global};
 
 /// The line of a step three times, and a copy of its reply for whoever hands it on.
 #[derive(Drop)]
-pub struct Lines {
+pub struct LineCopies {
     pub line: SharedLine,
     pub second: SharedLine,
     pub third: SharedLine,
@@ -18,24 +18,24 @@ pub struct Lines {
 /// Keeps the reply to an event in its line.
 #[derive(Drop)]
 pub struct Sharing<'a> {
-    pub entry: Entry,
+    pub entry: LineNumbers,
     pub event: &'a Event,
 }
 
 impl<'a> Keeper for Sharing<'a> {
-    type Kept = Lines;
+    type Kept = LineCopies;
 
     ghost keeps = { λ s reply kept. AreLines s.entry s.event.now reply kept };
 
     // No step of which nothing is known beforehand.
     ghost is_ready_for = { λ s reply. ⊥ };
 
-    fn keep(&self, alloc: Global, reply: Reply) -> Result<Lines, AllocError> {
+    fn keep(&self, alloc: Global, reply: Reply) -> Result<LineCopies, AllocError> {
         let copy = reply.try_clone(alloc)?;
         let event = self.event.try_clone(alloc)?;
         let line = SharedLine::new(alloc, self.entry.line(event, reply))?;
         let (second, third) = (line.try_clone()?, line.try_clone()?);
-        Ok(Lines {
+        Ok(LineCopies {
             line,
             second,
             third,
@@ -43,7 +43,7 @@ impl<'a> Keeper for Sharing<'a> {
         })
     }
 
-    fn reply<'k>(&self, kept: &'k Lines) -> &'k Reply {
+    fn reply<'k>(&self, kept: &'k LineCopies) -> &'k Reply {
         &kept.reply
     }
 }

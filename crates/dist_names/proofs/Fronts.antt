@@ -129,8 +129,8 @@ next_decides ours theirs x y same o t a b apart =
     (λ e more. e ∙ ap ordering_reverse (sym (smaller 16 theirs ours (bytes_of theirs y) (bytes_of ours x) (omega (arith, more, same, a, b, are_fronts ours, are_fronts theirs)))) ∙ sym (nat_list_cmp_total.antisymm ours theirs))
 
 -- and then the names are not one
-pub front_tells : (ours theirs : Name) (o t : ℕ) → o ≡ front_number ours → t ≡ front_number theirs → o ≢ t → (o == t) ≡ same_name ours theirs
-front_tells ours theirs o t a b apart = ne_eqb o t apart ∙ sym (by_answer (same_name ours theirs) refl) where
+pub front_differs : (ours theirs : Name) (o t : ℕ) → o ≡ front_number ours → t ≡ front_number theirs → o ≢ t → (o == t) ≡ same_name ours theirs
+front_differs ours theirs o t a b apart = ne_eqb o t apart ∙ sym (by_answer (same_name ours theirs) refl) where
   by_answer : (answer : Bool) → same_name ours theirs ≡ answer → same_name ours theirs ≡ false
   by_answer true e = absurd (apart (a ∙ ap front_number (one_lem ours theirs e) ∙ sym b))
   by_answer false e = e

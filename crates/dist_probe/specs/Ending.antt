@@ -14,10 +14,10 @@ use Rattle.dist_flags.specs.declared.release.Release.TheVariants as release
 use Rattle.dist_stream.specs.Stream.{StreamState}
 use Rattle.dist_stream.specs.Turns.{SaysFront}
 use Rattle.dist_stream.specs.declared.turn_error.TurnError.{TurnError}
-use Rattle.dist_probe.specs.declared.hearing.Heard.{Heard}
-use Rattle.dist_probe.specs.declared.hearing.Heard.TheVariants as heard
-use Rattle.dist_probe.specs.declared.verdict.Verdict.{Verdict}
-use Rattle.dist_probe.specs.declared.verdict.Verdict.TheVariants as verdict
+use Rattle.dist_probe.specs.declared.hearing.ReceivedMessage.{ReceivedMessage}
+use Rattle.dist_probe.specs.declared.hearing.ReceivedMessage.TheVariants as heard
+use Rattle.dist_probe.specs.declared.verdict.ProbeVerdict.{ProbeVerdict}
+use Rattle.dist_probe.specs.declared.verdict.ProbeVerdict.TheVariants as verdict
 use Rattle.dist_probe.specs.declared.asking.Peer.{Peer}
 use Rattle.dist_probe.specs.declared.asking.Report.{Report}
 use Rattle.dist_probe.specs.Hearing.{HearsMessage, heard_instead}
@@ -26,17 +26,17 @@ use Rattle.dist_probe.specs.Verdicts.{ack_verdict, challenge_verdict, status_ver
 -- ---- what is reported of what was received
 
 -- the status
-abbrev pub status_in : Heard → Option Status
+abbrev pub status_in : ReceivedMessage → Option Status
 status_in (heard.Said (message.Status said)) = Some said
 status_in other = None
 
 -- what the node says of itself
-abbrev pub peer_in : Heard → Option Peer
+abbrev pub peer_in : ReceivedMessage → Option Peer
 peer_in (heard.Said (message.NewChallenge flags challenge creation name)) = Some (record { flags = flags; creation = creation; name = name })
 peer_in other = None
 
 -- its challenge
-abbrev pub challenge_in : Heard → ℕ
+abbrev pub challenge_in : ReceivedMessage → ℕ
 challenge_in (heard.Said (message.NewChallenge flags challenge creation name)) = challenge
 challenge_in other = 0
 
@@ -45,7 +45,7 @@ abbrev pub lacking : Setup → Flags
 lacking setup = record { 0 = missing (announced_by setup) (required_by release.Otp28) }
 
 -- a verdict, as an outcome
-abbrev pub outcome_of : Verdict → Result (Unit {0}) Verdict
+abbrev pub outcome_of : ProbeVerdict → Result (Unit {0}) ProbeVerdict
 outcome_of verdict.Up = Ok tt
 outcome_of other = Err other
 
@@ -56,12 +56,12 @@ abbrev pub Rests : StreamState → StreamState → ℕ → ℕ → Type 0
 Rests old new turns left = (new ≡ old) × (left ≡ turns)
 
 -- what is received behind a text: the next message where all of it was sent, else why not
-abbrev pub HearsBehindText : Option TurnError → StreamState → StreamState → ℕ → ℕ → Heard → Type 0
+abbrev pub HearsBehindText : Option TurnError → StreamState → StreamState → ℕ → ℕ → ReceivedMessage → Type 0
 HearsBehindText None old new turns left h = HearsMessage old new turns left h
 HearsBehindText (Some error) old new turns left h = Rests old new turns left × (h ≡ heard_instead error 0)
 
 -- The text was sent, and then one message was received; or the text was not sent whole, and nothing was received.
-pub record Exchanges (text : List ℕ) (h : Heard) (old new : StreamState) (turns left : ℕ) : Type 0 where
+pub record Exchanges (text : List ℕ) (h : ReceivedMessage) (old new : StreamState) (turns left : ℕ) : Type 0 where
   pub mid : StreamState
   pub between : ℕ
   pub stop : Option TurnError
@@ -69,7 +69,7 @@ pub record Exchanges (text : List ℕ) (h : Heard) (old new : StreamState) (turn
   pub behind : HearsBehindText stop mid new between left h
 
 -- the same, or there was no memory for the text, and nothing was sent
-abbrev pub Asks : List ℕ → Heard → StreamState → StreamState → ℕ → ℕ → Type 0
+abbrev pub Asks : List ℕ → ReceivedMessage → StreamState → StreamState → ℕ → ℕ → Type 0
 Asks text h old new turns left = (Rests old new turns left × (h ≡ heard.NoMemory)) ⊎ Exchanges text h old new turns left
 
 -- the bytes of `false`, or a front of them where the stream takes no more
@@ -78,7 +78,7 @@ pub record SaysFalse (old new : StreamState) (turns left : ℕ) : Type 0 where
   pub said : SaysFront old new turns left stop (status_text status.False)
 
 -- behind `alive` the answer is `false`, so the connection that the node has stays; behind any other refusal nothing is sent
-abbrev pub Leaves : Verdict → StreamState → StreamState → ℕ → ℕ → Type 0
+abbrev pub Leaves : ProbeVerdict → StreamState → StreamState → ℕ → ℕ → Type 0
 Leaves verdict.AlreadyUp old new turns left = SaysFalse old new turns left
 Leaves other old new turns left = Rests old new turns left
 
@@ -86,24 +86,24 @@ Leaves other old new turns left = Rests old new turns left
 
 -- The reply was sent, and what was received upon it decides.
 pub record Replies (setup : Setup) (target : List ℕ)
-    (fresh challenge : ℕ) (old new : StreamState) (turns left : ℕ) (outcome : Result (Unit {0}) Verdict) : Type 0 where
-  pub third : Heard
+    (fresh challenge : ℕ) (old new : StreamState) (turns left : ℕ) (outcome : Result (Unit {0}) ProbeVerdict) : Type 0 where
+  pub third : ReceivedMessage
   pub asked : Asks (reply_text setup form.New target fresh challenge) third old new turns left
   pub is : outcome ≡ outcome_of (ack_verdict (lacking setup) (own_digest setup target fresh) third)
 
 -- behind the challenge of the node that was dialled: a reply where one is wanted
-abbrev pub BehindChallenge : Bool → Setup → List ℕ → ℕ → ℕ → StreamState → StreamState → ℕ → ℕ → Result (Unit {0}) Verdict → Type 0
+abbrev pub BehindChallenge : Bool → Setup → List ℕ → ℕ → ℕ → StreamState → StreamState → ℕ → ℕ → Result (Unit {0}) ProbeVerdict → Type 0
 BehindChallenge false setup target fresh challenge old new turns left outcome = Rests old new turns left × (outcome ≡ Err verdict.Reached)
 BehindChallenge true setup target fresh challenge old new turns left outcome = Replies setup target fresh challenge old new turns left outcome
 
 -- behind what was received where the challenge was due
-abbrev pub Decides : Option Verdict → Bool → Setup → List ℕ → ℕ → ℕ → StreamState → StreamState → ℕ → ℕ → Result (Unit {0}) Verdict → Type 0
+abbrev pub Decides : Option ProbeVerdict → Bool → Setup → List ℕ → ℕ → ℕ → StreamState → StreamState → ℕ → ℕ → Result (Unit {0}) ProbeVerdict → Type 0
 Decides (Some v) replies setup target fresh challenge old new turns left outcome = Rests old new turns left × (outcome ≡ Err v)
 Decides None replies setup target fresh challenge old new turns left outcome = BehindChallenge replies setup target fresh challenge old new turns left outcome
 
 -- The status went on: one message was received where the challenge is due, and the table says how it goes on.
 pub record GoesOn (replies : Bool) (setup : Setup) (target : List ℕ) (fresh : ℕ) (old new : StreamState) (turns left : ℕ) (report : Report) : Type 0 where
-  pub second : Heard
+  pub second : ReceivedMessage
   pub mid : StreamState
   pub between : ℕ
   pub heard_is : HearsMessage old mid turns between second
@@ -111,14 +111,14 @@ pub record GoesOn (replies : Bool) (setup : Setup) (target : List ℕ) (fresh : 
   pub decides : Decides (challenge_verdict (lacking setup) target second) replies setup target fresh (challenge_in second) mid new between left report.outcome
 
 -- behind what was received where the status was due
-abbrev pub BehindName : Option Verdict → Bool → Setup → List ℕ → ℕ → StreamState → StreamState → ℕ → ℕ → Report → Type 0
+abbrev pub BehindName : Option ProbeVerdict → Bool → Setup → List ℕ → ℕ → StreamState → StreamState → ℕ → ℕ → Report → Type 0
 BehindName (Some v) replies setup target fresh old new turns left report = Leaves v old new turns left × (report.peer ≡ None) × (report.outcome ≡ Err v)
 BehindName None replies setup target fresh old new turns left report = GoesOn replies setup target fresh old new turns left report
 
 -- THE TALK: the own name was sent, and what was received upon it decides, by the tables of Verdicts.antt, how it goes on, what
 -- is sent next, and what is reported. Never more reads and writes are made than there are turns.
 pub record Ends (replies : Bool) (setup : Setup) (target : List ℕ) (fresh : ℕ) (old new : StreamState) (turns : ℕ) (report : Report) : Type 0 where
-  pub first : Heard
+  pub first : ReceivedMessage
   pub mid : StreamState
   pub between : ℕ
   pub left : ℕ

@@ -1,4 +1,4 @@
--- What is told of a place that was not reached: what happened, and what can be done.
+-- What is reported of a place that was not reached: what happened, and what can be done.
 use Rattle.std.specs.Prelude.{ℕ, List, codes, ◌++◌}
 use Rattle.dist_probe.specs.declared.unreached.Unreached.{Unreached}
 use Rattle.dist_probe.specs.declared.unreached.Unreached.TheVariants as unreached

@@ -2,11 +2,11 @@
 use Rattle.std.specs.Prelude.{ℕ, ◌+◌, Bool, nat_le, nat_lt}
 use Rattle.dist_probe.specs.declared.unreached.Unreached.{Unreached}
 use Rattle.dist_probe.specs.declared.unreached.Unreached.TheVariants as unreached
-use Rattle.dist_probe.specs.declared.verdict.Awaited.{Awaited}
-use Rattle.dist_probe.specs.declared.verdict.Awaited.TheVariants as awaited
+use Rattle.dist_probe.specs.declared.verdict.AwaitedMessage.{AwaitedMessage}
+use Rattle.dist_probe.specs.declared.verdict.AwaitedMessage.TheVariants as awaited
 use Rattle.dist_probe.specs.declared.verdict.Party.TheVariants as party
-use Rattle.dist_probe.specs.declared.verdict.Verdict.{Verdict}
-use Rattle.dist_probe.specs.declared.verdict.Verdict.TheVariants as verdict
+use Rattle.dist_probe.specs.declared.verdict.ProbeVerdict.{ProbeVerdict}
+use Rattle.dist_probe.specs.declared.verdict.ProbeVerdict.TheVariants as verdict
 
 -- a connect that made no connection: nothing answered where this machine itself could not send
 abbrev pub unreached_reach : Unreached → ℕ
@@ -17,14 +17,14 @@ unreached_reach unreached.Failed = 0
 unreached_reach other = 1
 
 -- a talk that ended where this was awaited
-abbrev pub awaited_reach : Awaited → ℕ
+abbrev pub awaited_reach : AwaitedMessage → ℕ
 awaited_reach awaited.Status = 0
 awaited_reach awaited.Challenge = 2
 awaited_reach awaited.Ack = 3
 
 -- the order of the way: the host's name, the port mapper, the registration, the node's port, its status, its challenge, its
 -- acknowledgement; a fault of this machine ends the way
-abbrev pub reach : Verdict → ℕ
+abbrev pub reach : ProbeVerdict → ℕ
 reach (verdict.NoHost unresolved) = 0
 reach verdict.ResolverSilent = 0
 reach (verdict.MapperUnreachable unreached) = 1 + unreached_reach unreached
@@ -54,9 +54,9 @@ reach verdict.NoMemory = 14
 reach verdict.NoDescriptors = 14
 
 -- the node itself was found, under its name, or a fault of this machine ended the way
-abbrev pub is_found : Verdict → Bool
+abbrev pub is_found : ProbeVerdict → Bool
 is_found v = nat_le 12 (reach v)
 
 -- the first of two got further
-abbrev pub is_further : Verdict → Verdict → Bool
+abbrev pub is_further : ProbeVerdict → ProbeVerdict → Bool
 is_further first second = nat_lt (reach second) (reach first)

@@ -7,14 +7,14 @@ use Rattle.dist_probe.specs.declared.names.NameStyle.TheVariants as style
 use Rattle.dist_probe.specs.declared.service.Service.{Service}
 use Rattle.dist_probe.specs.declared.service.Service.TheVariants as service
 use Rattle.dist_probe.specs.declared.unreached.Unreached.TheVariants as unreached
-use Rattle.dist_probe.specs.declared.verdict.Awaited.{Awaited}
-use Rattle.dist_probe.specs.declared.verdict.Awaited.TheVariants as awaited
+use Rattle.dist_probe.specs.declared.verdict.AwaitedMessage.{AwaitedMessage}
+use Rattle.dist_probe.specs.declared.verdict.AwaitedMessage.TheVariants as awaited
 use Rattle.dist_probe.specs.declared.verdict.Party.{Party}
 use Rattle.dist_probe.specs.declared.verdict.Party.TheVariants as party
 use Rattle.dist_probe.specs.declared.verdict.Unresolved.{Unresolved}
 use Rattle.dist_probe.specs.declared.verdict.Unresolved.TheVariants as unresolved
-use Rattle.dist_probe.specs.declared.verdict.Verdict.{Verdict}
-use Rattle.dist_probe.specs.declared.verdict.Verdict.TheVariants as verdict
+use Rattle.dist_probe.specs.declared.verdict.ProbeVerdict.{ProbeVerdict}
+use Rattle.dist_probe.specs.declared.verdict.ProbeVerdict.TheVariants as verdict
 use Rattle.dist_probe.specs.Places.{mapper_cause, mapper_remedy, port_cause, port_remedy}
 
 -- what listens there
@@ -32,31 +32,31 @@ what_helps_foreign service.Ssh = codes "look which program has that port; the re
 what_helps_foreign service.Other = codes "look which program has that port; the registration may be stale"
 
 -- the connection was closed where this was awaited
-abbrev pub what_is_gone : Awaited → List ℕ
+abbrev pub what_is_gone : AwaitedMessage → List ℕ
 what_is_gone awaited.Status = codes "the connection was closed upon our name, before a whole message"
 what_is_gone awaited.Challenge = codes "the node took our name, and closed the connection before its challenge"
 what_is_gone awaited.Ack = codes "the connection was closed upon our reply"
 
 -- it was reset there
-abbrev pub what_is_reset : Awaited → List ℕ
+abbrev pub what_is_reset : AwaitedMessage → List ℕ
 what_is_reset awaited.Status = codes "the connection was reset upon our name, before a whole message"
 what_is_reset awaited.Challenge = codes "the node took our name, and the connection was reset before its challenge"
 what_is_reset awaited.Ack = codes "the connection was reset upon our reply"
 
 -- nothing came there
-abbrev pub what_is_silent : Awaited → List ℕ
+abbrev pub what_is_silent : AwaitedMessage → List ℕ
 what_is_silent awaited.Status = codes "the connection was accepted, and nothing was said"
 what_is_silent awaited.Challenge = codes "the node took our name, and never said its challenge"
 what_is_silent awaited.Ack = codes "the node never answered our reply"
 
 -- bytes came there, and no whole message
-abbrev pub what_is_cut : Awaited → List ℕ
+abbrev pub what_is_cut : AwaitedMessage → List ℕ
 what_is_cut awaited.Status = codes "the connection was accepted, and bytes came, but no whole message"
 what_is_cut awaited.Challenge = codes "the node took our name, and its challenge did not come whole"
 what_is_cut awaited.Ack = codes "the node took our reply, and its answer did not come whole"
 
 -- what can be done where nothing whole came
-abbrev pub what_helps_silent : Awaited → List ℕ
+abbrev pub what_helps_silent : AwaitedMessage → List ℕ
 what_helps_silent awaited.Status =
     codes "the node may be stopped, overloaded or behind a proxy, or packets are lost on the way; look at its host, " ++
     codes "and which program has that port"
@@ -124,7 +124,7 @@ what_helps_name style.Short =
     codes "or start it again by -name with a host part that has a dot"
 
 -- WHAT HAPPENED, by the verdict
-abbrev pub cause_of : Verdict → List ℕ
+abbrev pub cause_of : ProbeVerdict → List ℕ
 cause_of verdict.Up = codes "the two nodes connect: names, flags and cookie agree"
 cause_of verdict.Reached = codes "the node answers and takes our name and flags; the cookie was not tried"
 cause_of (verdict.NoHost unresolved) = what_is_unresolved unresolved
@@ -154,7 +154,7 @@ cause_of verdict.NoMemory = codes "memory ran out here"
 cause_of verdict.NoDescriptors = codes "this machine, or this process, may have no more descriptors open"
 
 -- WHAT CAN BE DONE, by the verdict
-abbrev pub remedy_of : Verdict → List ℕ
+abbrev pub remedy_of : ProbeVerdict → List ℕ
 remedy_of verdict.Up =
     codes "nothing to do under this name; what the node keeps for one peer alone (erlang:set_cookie/2, net_kernel:allow/1) " ++
     codes "shows under the name of that peer alone (--name PEER), and large packets were not tried"

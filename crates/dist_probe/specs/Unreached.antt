@@ -4,8 +4,8 @@ use Rattle.std.specs.declared.io.ErrorKind.{ErrorKind}
 use Rattle.std.specs.declared.io.ErrorKind.TheVariants as kind
 use Rattle.dist_probe.specs.declared.unreached.Unreached.{Unreached}
 use Rattle.dist_probe.specs.declared.unreached.Unreached.TheVariants as unreached
-use Rattle.dist_probe.specs.declared.verdict.Verdict.{Verdict}
-use Rattle.dist_probe.specs.declared.verdict.Verdict.TheVariants as verdict
+use Rattle.dist_probe.specs.declared.verdict.ProbeVerdict.{ProbeVerdict}
+use Rattle.dist_probe.specs.declared.verdict.ProbeVerdict.TheVariants as verdict
 
 -- by a number of the system's that has no kind of its own (Linux): ENONET 64, EHOSTDOWN 112, ENOPROTOOPT 92, EAFNOSUPPORT 97,
 -- ENFILE 23, EMFILE 24
@@ -58,14 +58,14 @@ unreached_text unreached.NoDescriptors = codes "out of descriptors here"
 unreached_text unreached.Failed = codes "the system could not connect"
 
 -- the port mapper's port was not reached
-abbrev pub mapper_verdict : Unreached → Verdict
+abbrev pub mapper_verdict : Unreached → ProbeVerdict
 mapper_verdict unreached.Refused = verdict.MapperRefused
 mapper_verdict unreached.NoMemory = verdict.NoMemory
 mapper_verdict unreached.NoDescriptors = verdict.NoDescriptors
 mapper_verdict other = verdict.MapperUnreachable other
 
 -- the node's port was not reached
-abbrev pub port_verdict : Unreached → Verdict
+abbrev pub port_verdict : Unreached → ProbeVerdict
 port_verdict unreached.Refused = verdict.PortRefused
 port_verdict unreached.NoMemory = verdict.NoMemory
 port_verdict unreached.NoDescriptors = verdict.NoDescriptors

@@ -6,60 +6,60 @@ use Rattle.dist_flags.specs.Releases.{is_refused_by_all, objection}
 use Rattle.dist_flags.specs.declared.release.Release.TheVariants as release
 use Rattle.dist_messages.specs.declared.message.Message.TheVariants as message
 use Rattle.dist_messages.specs.declared.message.Status.TheVariants as status
-use Rattle.dist_probe.specs.declared.hearing.Heard.{Heard}
-use Rattle.dist_probe.specs.declared.hearing.Heard.TheVariants as heard
-use Rattle.dist_probe.specs.declared.verdict.Awaited.{Awaited}
-use Rattle.dist_probe.specs.declared.verdict.Awaited.TheVariants as awaited
+use Rattle.dist_probe.specs.declared.hearing.ReceivedMessage.{ReceivedMessage}
+use Rattle.dist_probe.specs.declared.hearing.ReceivedMessage.TheVariants as heard
+use Rattle.dist_probe.specs.declared.verdict.AwaitedMessage.{AwaitedMessage}
+use Rattle.dist_probe.specs.declared.verdict.AwaitedMessage.TheVariants as awaited
 use Rattle.dist_probe.specs.declared.verdict.Party.TheVariants as party
-use Rattle.dist_probe.specs.declared.verdict.Verdict.{Verdict}
-use Rattle.dist_probe.specs.declared.verdict.Verdict.TheVariants as verdict
+use Rattle.dist_probe.specs.declared.verdict.ProbeVerdict.{ProbeVerdict}
+use Rattle.dist_probe.specs.declared.verdict.ProbeVerdict.TheVariants as verdict
 use Rattle.dist_probe.specs.Services.{service_of}
 use Rattle.dist_probe.specs.Styles.{style_of}
 
 -- `not_allowed`: the name is the node's own, or a flag that releases from 26 on ask for is missing, or the name is not on the
 -- node's list
-abbrev pub not_allowed : Bool → Flags → Verdict
+abbrev pub not_allowed : Bool → Flags → ProbeVerdict
 not_allowed is_own lacking = if is_own then verdict.OwnName else if lacking.0 == 0 then verdict.NotOnList else verdict.LacksFlags party.Probe lacking
 
 -- `nok`: the name is the node's own, or the node dials it just now
-abbrev pub refused_nok : Bool → Verdict
+abbrev pub refused_nok : Bool → ProbeVerdict
 refused_nok is_own = if is_own then verdict.OwnName else verdict.Busy
 
 -- the flags of the node that was dialled: each release refuses them, and OTP 23 asks for the least; or some release takes them
-abbrev pub flags_verdict : Flags → Option Verdict
+abbrev pub flags_verdict : Flags → Option ProbeVerdict
 flags_verdict flags =
     if is_refused_by_all flags.0 then Some (verdict.LacksFlags party.Node (record { 0 = objection release.Otp23 flags.0 })) else None
 
 -- anything but the message that is awaited
-abbrev pub refusal : Awaited → Heard → Verdict
-refusal a (heard.Said m) = verdict.Unexpected a
-refusal a (heard.NoMessage error) = verdict.Unexpected a
-refusal a (heard.Length front) = verdict.Foreign (service_of front)
-refusal a heard.Gone = verdict.Gone a
-refusal a heard.Broken = verdict.Reset a
-refusal a (heard.Silent count) = verdict.Silent a count
-refusal a heard.NoMemory = verdict.NoMemory
+abbrev pub verdict_of_other : AwaitedMessage → ReceivedMessage → ProbeVerdict
+verdict_of_other a (heard.Said m) = verdict.Unexpected a
+verdict_of_other a (heard.NoMessage error) = verdict.Unexpected a
+verdict_of_other a (heard.Length front) = verdict.Foreign (service_of front)
+verdict_of_other a heard.Gone = verdict.Gone a
+verdict_of_other a heard.Broken = verdict.Reset a
+verdict_of_other a (heard.Silent count) = verdict.Silent a count
+verdict_of_other a heard.NoMemory = verdict.NoMemory
 
 -- behind the own name
-abbrev pub status_verdict : Bool → Flags → Heard → Option Verdict
+abbrev pub status_verdict : Bool → Flags → ReceivedMessage → Option ProbeVerdict
 status_verdict is_own lacking (heard.Said (message.Status status.Ok)) = None
 status_verdict is_own lacking (heard.Said (message.Status status.OkSimultaneous)) = None
 status_verdict is_own lacking (heard.Said (message.Status status.Nok)) = Some (refused_nok is_own)
 status_verdict is_own lacking (heard.Said (message.Status status.NotAllowed)) = Some (not_allowed is_own lacking)
 status_verdict is_own lacking (heard.Said (message.Status status.Alive)) = Some verdict.AlreadyUp
-status_verdict is_own lacking other = Some (refusal awaited.Status other)
+status_verdict is_own lacking other = Some (verdict_of_other awaited.Status other)
 
 -- behind a status that goes on
-abbrev pub challenge_verdict : Flags → List ℕ → Heard → Option Verdict
+abbrev pub challenge_verdict : Flags → List ℕ → ReceivedMessage → Option ProbeVerdict
 challenge_verdict lacking target (heard.Said (message.NewChallenge flags challenge creation name)) = if pointwise ◌==◌ name target then flags_verdict flags
     else Some (verdict.OtherName (style_of name))
 challenge_verdict lacking target (heard.Said (message.OldChallenge flags challenge name)) = Some verdict.Version5
 challenge_verdict lacking target (heard.Said (message.Status status.NotAllowed)) = Some (not_allowed false lacking)
-challenge_verdict lacking target other = Some (refusal awaited.Challenge other)
+challenge_verdict lacking target other = Some (verdict_of_other awaited.Challenge other)
 
 -- behind the own reply: an end of the stream there is what a node that has another cookie does
-abbrev pub ack_verdict : Flags → List ℕ → Heard → Verdict
+abbrev pub ack_verdict : Flags → List ℕ → ReceivedMessage → ProbeVerdict
 ack_verdict lacking wanted (heard.Said (message.Ack digest)) = if pointwise ◌==◌ digest wanted then verdict.Up else verdict.WrongAck
 ack_verdict lacking wanted (heard.Said (message.Status status.NotAllowed)) = not_allowed false lacking
 ack_verdict lacking wanted heard.Gone = verdict.WrongCookie
-ack_verdict lacking wanted other = refusal awaited.Ack other
+ack_verdict lacking wanted other = verdict_of_other awaited.Ack other

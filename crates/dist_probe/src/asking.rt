@@ -6,9 +6,9 @@ ghost use Rattle.dist_core_setup.specs.Saying.{name_text, reply_text};
 ghost use Rattle.dist_probe.specs.Ending.{Asks, BehindChallenge, Ends, Exchanges, GoesOn, Leaves};
 ghost use Rattle.dist_probe.specs.Ending.{SaysFalse, challenge_in, lacking, outcome_of, peer_in, status_in};
 
-use crate::hearing::{Heard, hear, heard_instead};
+use crate::hearing::{ReceivedMessage, hear, heard_instead};
 use crate::judging::{ack_verdict, challenge_verdict, status_verdict};
-use crate::verdict::Verdict;
+use crate::verdict::ProbeVerdict;
 use dist_core_setup::{Setup, announced_by, name_frame, own_digest, reply_frame};
 use dist_flags::{Release, missing};
 use dist_messages::{Form, Message, Status};
@@ -35,17 +35,17 @@ pub struct Report {
     /// What it said of itself.
     pub peer: Option<Peer>,
     /// Whether the node came up, or why not.
-    pub outcome: Result<(), Verdict>,
+    pub outcome: Result<(), ProbeVerdict>,
 }
 
 impl Report {
     /// What it comes to.
-    pub fn verdict(&self) -> Verdict
-        ensures up { IsOk self.now.outcome → result ≡ Verdict.Up }
+    pub fn verdict(&self) -> ProbeVerdict
+        ensures up { IsOk self.now.outcome → result ≡ ProbeVerdict.Up }
         ensures other { IfErr self.now.outcome (λ v. result ≡ v) }
     {
         match self.outcome {
-            Ok(()) => Verdict::Up,
+            Ok(()) => ProbeVerdict::Up,
             Err(verdict) => verdict,
         }
     }
@@ -59,31 +59,31 @@ pub fn lacking(setup: &Setup) -> Flags
 }
 
 // The status that was sent.
-fn status_in(heard: &Heard) -> Option<Status>
+fn status_in(heard: &ReceivedMessage) -> Option<Status>
     ensures { result ≡ status_in heard.now }
 {
     match heard {
-        Heard::Said(Message::Status(status)) => Some(*status),
+        ReceivedMessage::Said(Message::Status(status)) => Some(*status),
         _ => None,
     }
 }
 
 // The challenge that was sent, and 0 where none was.
-fn challenge_in(heard: &Heard) -> u32
+fn challenge_in(heard: &ReceivedMessage) -> u32
     ensures { result ≡ challenge_in heard.now }
 {
     match heard {
-        Heard::Said(Message::NewChallenge { challenge, .. }) => *challenge,
+        ReceivedMessage::Said(Message::NewChallenge { challenge, .. }) => *challenge,
         _ => 0,
     }
 }
 
 // What the node said of itself.
-fn peer_in(heard: Heard) -> Option<Peer>
+fn peer_in(heard: ReceivedMessage) -> Option<Peer>
     ensures { result ≡ peer_in heard }
 {
     match heard {
-        Heard::Said(
+        ReceivedMessage::Said(
             Message::NewChallenge {
                 flags,
                 creation,
@@ -100,17 +100,21 @@ fn peer_in(heard: Heard) -> Option<Peer>
 }
 
 // A verdict, as an outcome.
-fn outcome_of(verdict: Verdict) -> Result<(), Verdict>
+fn outcome_of(verdict: ProbeVerdict) -> Result<(), ProbeVerdict>
     ensures { result ≡ outcome_of verdict }
 {
     match verdict {
-        Verdict::Up => Ok(()),
+        ProbeVerdict::Up => Ok(()),
         other => Err(other),
     }
 }
 
 // Sends a text, and receives the message behind it.
-fn exchange<S: Stream>(alloc: Global, limited: &mut Limited<'_, S>, text: &ByteString) -> Heard
+fn exchange<S: Stream>(
+    alloc: Global,
+    limited: &mut Limited<'_, S>,
+    text: &ByteString,
+) -> ReceivedMessage
     ensures asks { Exchanges text.now result (S.meaning limited.old.stream.now) (S.meaning limited.new.stream.now) limited.old.left limited.new.left }
     ensures loan { limited.new.stream.ghost_name ≡ limited.old.stream.ghost_name }
 {
@@ -121,14 +125,14 @@ fn exchange<S: Stream>(alloc: Global, limited: &mut Limited<'_, S>, text: &ByteS
 }
 
 // Sends the own name, and receives what comes upon it.
-fn greet<S: Stream>(alloc: Global, limited: &mut Limited<'_, S>, setup: &Setup) -> Heard
+fn greet<S: Stream>(alloc: Global, limited: &mut Limited<'_, S>, setup: &Setup) -> ReceivedMessage
     ensures asks { Asks (name_text setup.now form.New) result
         (S.meaning limited.old.stream.now) (S.meaning limited.new.stream.now) limited.old.left limited.new.left }
     ensures loan { limited.new.stream.ghost_name ≡ limited.old.stream.ghost_name }
 {
     match name_frame(alloc, setup, Form::New) {
         Ok(text) => exchange(alloc, limited, &text),
-        Err(_) => Heard::NoMemory,
+        Err(_) => ReceivedMessage::NoMemory,
     }
 }
 
@@ -140,14 +144,14 @@ fn reply<S: Stream>(
     target: &NodeName,
     fresh: u32,
     challenge: u32,
-) -> Heard
+) -> ReceivedMessage
     ensures asks { Asks (reply_text setup.now form.New target.now fresh challenge) result
         (S.meaning limited.old.stream.now) (S.meaning limited.new.stream.now) limited.old.left limited.new.left }
     ensures loan { limited.new.stream.ghost_name ≡ limited.old.stream.ghost_name }
 {
     match reply_frame(alloc, setup, Form::New, target, fresh, challenge) {
         Ok(text) => exchange(alloc, limited, &text),
-        Err(_) => Heard::NoMemory,
+        Err(_) => ReceivedMessage::NoMemory,
     }
 }
 
@@ -171,13 +175,13 @@ fn answer_challenge<S: Stream>(
     fresh: u32,
     replies: bool,
     challenge: u32,
-) -> Result<(), Verdict>
+) -> Result<(), ProbeVerdict>
     ensures tries { BehindChallenge replies setup.now target.now fresh challenge
         (S.meaning limited.old.stream.now) (S.meaning limited.new.stream.now) limited.old.left limited.new.left result }
     ensures loan { limited.new.stream.ghost_name ≡ limited.old.stream.ghost_name }
 {
     if !replies {
-        return Err(Verdict::Reached);
+        return Err(ProbeVerdict::Reached);
     }
     let heard = reply(alloc, limited, setup, target, fresh, challenge);
     let wanted = own_digest(setup, target, fresh);
@@ -216,13 +220,13 @@ fn go_on<S: Stream>(
 fn end_refused<S: Stream>(
     limited: &mut Limited<'_, S>,
     status: Option<Status>,
-    verdict: Verdict,
+    verdict: ProbeVerdict,
 ) -> Report
     ensures leaves { Leaves verdict (S.meaning limited.old.stream.now) (S.meaning limited.new.stream.now) limited.old.left limited.new.left }
     ensures report { result ≡ record { status = status; peer = None; outcome = Err verdict } }
     ensures loan { limited.new.stream.ghost_name ≡ limited.old.stream.ghost_name }
 {
-    if let Verdict::AlreadyUp = verdict {
+    if let ProbeVerdict::AlreadyUp = verdict {
         leave_alone(limited);
     }
     Report {

@@ -10,7 +10,7 @@ use std::alloc::Global;
 
 /// What came where a message was awaited.
 #[derive(Drop)]
-pub enum Heard {
+pub enum ReceivedMessage {
     /// A message of the accepting side.
     Said(Message),
     /// A body that is no message of the accepting side.
@@ -33,38 +33,38 @@ pub enum Heard {
 const TAGS: [u8; 4] = [0x73, 0x6e, 0x4e, 0x61];
 
 /// What is received where the stream gave or took no more, behind so many bytes of a message.
-pub fn heard_instead(fault: TurnError, count: usize) -> Heard
+pub fn heard_instead(fault: TurnError, count: usize) -> ReceivedMessage
     ensures { result ≡ heard_instead fault count }
 {
     match fault {
-        TurnError::Limit => Heard::Silent(count),
-        TurnError::Ended => Heard::Gone,
-        TurnError::ReadFailed | TurnError::WriteFailed => Heard::Broken,
+        TurnError::Limit => ReceivedMessage::Silent(count),
+        TurnError::Ended => ReceivedMessage::Gone,
+        TurnError::ReadFailed | TurnError::WriteFailed => ReceivedMessage::Broken,
     }
 }
 
 // What a body says.
-fn heard_in(alloc: Global, body: &[u8]) -> Heard
+fn heard_in(alloc: Global, body: &[u8]) -> ReceivedMessage
     ensures { IsHeardIn result body.now }
 {
     match decode(alloc, Side::Acceptor, body) {
-        Ok(message) => Heard::Said(message),
-        Err(MessageError::NoMemory) => Heard::NoMemory,
-        Err(error) => Heard::NoMessage(error),
+        Ok(message) => ReceivedMessage::Said(message),
+        Err(MessageError::NoMemory) => ReceivedMessage::NoMemory,
+        Err(error) => ReceivedMessage::NoMessage(error),
     }
 }
 
 /// The next message of the node, within the turns that are left. It writes nothing.
 ///
 /// A body has up to 65,535 bytes. Where the byte behind a length is no tag, those three bytes alone are read.
-pub fn hear<S: Stream>(alloc: Global, limited: &mut Limited<'_, S>) -> Heard
+pub fn hear<S: Stream>(alloc: Global, limited: &mut Limited<'_, S>) -> ReceivedMessage
     ensures hears { HearsMessage (S.meaning limited.old.stream.now) (S.meaning limited.new.stream.now) limited.old.left limited.new.left result }
     ensures loan { limited.new.stream.ghost_name ≡ limited.old.stream.ghost_name }
 {
     match read_frame_of(alloc, limited, &TAGS) {
         Came::Body(body) => heard_in(alloc, body.as_slice()),
-        Came::Front(len) => Heard::Length(len),
+        Came::Front(len) => ReceivedMessage::Length(len),
         Came::Stopped(fault, count) => heard_instead(fault, count),
-        Came::NoMemory => Heard::NoMemory,
+        Came::NoMemory => ReceivedMessage::NoMemory,
     }
 }

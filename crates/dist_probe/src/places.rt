@@ -1,4 +1,4 @@
-//! What is told of a place that was not reached: what happened, and what can be done.
+//! What is reported of a place that was not reached: what happened, and what can be done.
 
 ghost use Rattle.std.specs.Prelude.{◌≡◌};
 ghost use Rattle.dist_probe.specs.Places.{mapper_cause, mapper_remedy, port_cause, port_remedy};

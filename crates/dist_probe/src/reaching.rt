@@ -5,7 +5,7 @@ ghost use Rattle.std.specs.List.{IsFirstBest};
 ghost use Rattle.dist_probe.specs.Reaching.{awaited_reach, is_found, is_further, reach, unreached_reach};
 
 use crate::unreached::Unreached;
-use crate::verdict::{Awaited, Party, Verdict};
+use crate::verdict::{AwaitedMessage, Party, ProbeVerdict};
 
 // How far a connect got that made no connection: what no system on the way answered is less.
 fn unreached_reach(unreached: Unreached) -> u8
@@ -19,63 +19,65 @@ fn unreached_reach(unreached: Unreached) -> u8
 }
 
 // How far a talk got that ended where this was awaited.
-fn awaited_reach(awaited: Awaited) -> u8
+fn awaited_reach(awaited: AwaitedMessage) -> u8
     ensures { result ≡ awaited_reach awaited }
 {
     match awaited {
-        Awaited::Status => 0,
-        Awaited::Challenge => 2,
-        Awaited::Ack => 3,
+        AwaitedMessage::Status => 0,
+        AwaitedMessage::Challenge => 2,
+        AwaitedMessage::Ack => 3,
     }
 }
 
 /// How far a probe got, by its verdict, in the order of the way: the host's name, the port mapper, the registration, the node's
 /// port, its status, its challenge, its acknowledgement. A fault of this machine ends the way.
-pub fn reach(verdict: Verdict) -> u8
+pub fn reach(verdict: ProbeVerdict) -> u8
     ensures { result ≡ reach verdict }
 {
     match verdict {
-        Verdict::NoHost(_) | Verdict::ResolverSilent => 0,
-        Verdict::MapperUnreachable(unreached) => 1 + unreached_reach(unreached),
-        Verdict::MapperRefused => 3,
-        Verdict::MapperFault(_) => 4,
-        Verdict::NotRegistered => 5,
-        Verdict::PortUnreachable(unreached) => 6 + unreached_reach(unreached),
-        Verdict::PortRefused => 8,
-        Verdict::Foreign(_) => 9,
-        Verdict::Silent(awaited, _)
-        | Verdict::Gone(awaited)
-        | Verdict::Reset(awaited)
-        | Verdict::Unexpected(awaited) => 9 + awaited_reach(awaited),
-        Verdict::OwnName
-        | Verdict::Busy
-        | Verdict::LacksFlags(Party::Probe, _)
-        | Verdict::NotOnList
-        | Verdict::AlreadyUp => 10,
-        Verdict::OtherName(_) | Verdict::Version5 => 11,
-        Verdict::LacksFlags(Party::Node, _) | Verdict::WrongCookie | Verdict::WrongAck => 12,
-        Verdict::Reached | Verdict::Up => 13,
-        Verdict::NoMemory | Verdict::NoDescriptors => 14,
+        ProbeVerdict::NoHost(_) | ProbeVerdict::ResolverSilent => 0,
+        ProbeVerdict::MapperUnreachable(unreached) => 1 + unreached_reach(unreached),
+        ProbeVerdict::MapperRefused => 3,
+        ProbeVerdict::MapperFault(_) => 4,
+        ProbeVerdict::NotRegistered => 5,
+        ProbeVerdict::PortUnreachable(unreached) => 6 + unreached_reach(unreached),
+        ProbeVerdict::PortRefused => 8,
+        ProbeVerdict::Foreign(_) => 9,
+        ProbeVerdict::Silent(awaited, _)
+        | ProbeVerdict::Gone(awaited)
+        | ProbeVerdict::Reset(awaited)
+        | ProbeVerdict::Unexpected(awaited) => 9 + awaited_reach(awaited),
+        ProbeVerdict::OwnName
+        | ProbeVerdict::Busy
+        | ProbeVerdict::LacksFlags(Party::Probe, _)
+        | ProbeVerdict::NotOnList
+        | ProbeVerdict::AlreadyUp => 10,
+        ProbeVerdict::OtherName(_) | ProbeVerdict::Version5 => 11,
+        ProbeVerdict::LacksFlags(Party::Node, _)
+        | ProbeVerdict::WrongCookie
+        | ProbeVerdict::WrongAck => 12,
+        ProbeVerdict::Reached | ProbeVerdict::Up => 13,
+        ProbeVerdict::NoMemory | ProbeVerdict::NoDescriptors => 14,
     }
 }
 
 /// Whether the node itself was found, under its name, so that no further address of its host is tried: or a fault of this machine
 /// ended the way.
-pub fn is_found(verdict: Verdict) -> bool
+pub fn is_found(verdict: ProbeVerdict) -> bool
     ensures { result ≡ is_found verdict }
 {
     12 <= reach(verdict)
 }
 
 // Whether the first of two got further.
-fn is_further(first: Verdict, second: Verdict) -> bool
+fn is_further(first: ProbeVerdict, second: ProbeVerdict) -> bool
     ensures { result ≡ is_further first second }
 {
     reach(second) < reach(first)
 }
 
 /// Where in these verdicts, one at least, the first stands of those that got furthest.
-pub fn furthest(verdicts: &[Verdict]) -> usize
+pub fn furthest(verdicts: &[ProbeVerdict]) -> usize
     // A list of one at least has one that got furthest.
     requires { 0 < length verdicts.now }
     ensures { IsFirstBest is_further verdicts.now (length verdicts.now) result }

@@ -3,7 +3,7 @@
 ghost use Rattle.std.specs.Prelude.{◌≡◌};
 ghost use Rattle.dist_probe.specs.Unreached.{mapper_verdict, port_verdict, unreached_by_number, unreached_of, unreached_text, unreached_word};
 
-use crate::verdict::Verdict;
+use crate::verdict::ProbeVerdict;
 use std::io::ErrorKind;
 
 /// How a connect ended that made no connection, by what the system answered.
@@ -105,25 +105,25 @@ impl Unreached {
 }
 
 /// What it means that a connect to the port mapper's port ended so.
-pub fn mapper_verdict(unreached: Unreached) -> Verdict
+pub fn mapper_verdict(unreached: Unreached) -> ProbeVerdict
     ensures { result ≡ mapper_verdict unreached }
 {
     match unreached {
-        Unreached::Refused => Verdict::MapperRefused,
-        Unreached::NoMemory => Verdict::NoMemory,
-        Unreached::NoDescriptors => Verdict::NoDescriptors,
-        other => Verdict::MapperUnreachable(other),
+        Unreached::Refused => ProbeVerdict::MapperRefused,
+        Unreached::NoMemory => ProbeVerdict::NoMemory,
+        Unreached::NoDescriptors => ProbeVerdict::NoDescriptors,
+        other => ProbeVerdict::MapperUnreachable(other),
     }
 }
 
 /// What it means that a connect to the node's port ended so.
-pub fn port_verdict(unreached: Unreached) -> Verdict
+pub fn port_verdict(unreached: Unreached) -> ProbeVerdict
     ensures { result ≡ port_verdict unreached }
 {
     match unreached {
-        Unreached::Refused => Verdict::PortRefused,
-        Unreached::NoMemory => Verdict::NoMemory,
-        Unreached::NoDescriptors => Verdict::NoDescriptors,
-        other => Verdict::PortUnreachable(other),
+        Unreached::Refused => ProbeVerdict::PortRefused,
+        Unreached::NoMemory => ProbeVerdict::NoMemory,
+        Unreached::NoDescriptors => ProbeVerdict::NoDescriptors,
+        other => ProbeVerdict::PortUnreachable(other),
     }
 }

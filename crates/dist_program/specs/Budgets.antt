@@ -3,11 +3,11 @@ use Rattle.std.specs.Prelude.{ℕ, ◌/◌, ◌-◌, ◌==◌, if◌then◌else�
 use Rattle.std.specs.declared.time.Duration.{Duration}
 use Rattle.std.specs.Duration.{as_nanos}
 use Rattle.dist_program.specs.declared.budget.Budget.{Budget}
-use Rattle.dist_program.specs.declared.budget.Step.{Step}
-use Rattle.dist_program.specs.declared.budget.Step.TheVariants as step
+use Rattle.dist_program.specs.declared.budget.TimedStep.{TimedStep}
+use Rattle.dist_program.specs.declared.budget.TimedStep.TheVariants as step
 
 -- what is left of the time of a step
-abbrev pub left_of : Budget → Step → Duration
+abbrev pub left_of : Budget → TimedStep → Duration
 left_of b step.Mapper = b.mapper
 left_of b step.Lookup = b.lookup
 left_of b step.Port = b.port
@@ -18,5 +18,5 @@ abbrev pub share_of : ℕ → ℕ → ℕ
 share_of left addresses = if addresses == 0 then 0 else left / addresses
 
 -- what a step took of its share, in nanoseconds, where so many were unused
-abbrev pub spent_of : Budget → Step → ℕ → ℕ
+abbrev pub spent_of : Budget → TimedStep → ℕ → ℕ
 spent_of b step unused = share_of (as_nanos (left_of b step)) b.addresses - unused

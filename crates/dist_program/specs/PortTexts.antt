@@ -13,7 +13,7 @@ NamesPort text = IsNumeral 10 text × (0 < digits_value 10 text) × (digits_valu
 abbrev pub refusal_of : List ℕ → List ℕ
 refusal_of text = codes "ERL_EPMD_PORT is no port number from 1 to 65535: " ++ in_double_quotes text
 
--- what is told of a text that names none: that sentence, unless memory runs out
+-- what is printed of a text that names none: that sentence, unless memory runs out
 abbrev pub Refuses : List ℕ → PortError → Type 0
 Refuses text (error.Bad sentence) = string_bytes sentence ≡ refusal_of text
 Refuses text error.NoText = ⊥
@@ -24,7 +24,7 @@ abbrev pub GivesPort : List ℕ → Result ℕ PortError → Type 0
 GivesPort text (Ok port) = NamesPort text × (port ≡ digits_value 10 text)
 GivesPort text (Err e) = (NamesPort text → ⊥) × Refuses text e
 
--- what is told of it
+-- what is printed of it
 abbrev pub port_error_text : PortError → List ℕ
 port_error_text (error.Bad sentence) = string_bytes sentence
 port_error_text error.NoText = codes "ERL_EPMD_PORT is no port number from 1 to 65535: it is no UTF-8"

@@ -9,7 +9,7 @@ use std::time::Duration;
 
 /// A step that has a limit of its own.
 #[derive(Clone, Copy)]
-pub enum Step {
+pub enum TimedStep {
     /// The connect to the port mapper's port.
     Mapper,
     /// The lookup.
@@ -58,19 +58,19 @@ impl Budget {
     }
 
     // What is left of the time of this step.
-    fn left(&self, step: Step) -> Duration
+    fn left(&self, step: TimedStep) -> Duration
         ensures { result ≡ left_of self.now step }
     {
         match step {
-            Step::Mapper => self.mapper,
-            Step::Lookup => self.lookup,
-            Step::Port => self.port,
-            Step::Talk => self.talk,
+            TimedStep::Mapper => self.mapper,
+            TimedStep::Lookup => self.lookup,
+            TimedStep::Port => self.port,
+            TimedStep::Talk => self.talk,
         }
     }
 
     /// How long this step may take at the address of now: an equal part of what is left, for each address that is still to be tried.
-    pub fn share(&self, step: Step) -> Duration
+    pub fn share(&self, step: TimedStep) -> Duration
         ensures share { as_nanos result ≡ share_of (as_nanos (left_of self.now step)) self.now.addresses }
     {
         if self.addresses == 0 {
@@ -83,20 +83,20 @@ impl Budget {
     }
 
     // So much of the time of this step is spent.
-    fn spend(&mut self, step: Step, spent: Duration)
+    fn spend(&mut self, step: TimedStep, spent: Duration)
         ensures spent { as_nanos (left_of self.new step) ≡ as_nanos (left_of self.old step) - as_nanos spent }
         ensures count { self.new.addresses ≡ self.old.addresses }
     {
         match step {
-            Step::Mapper => self.mapper = less(self.mapper, spent),
-            Step::Lookup => self.lookup = less(self.lookup, spent),
-            Step::Port => self.port = less(self.port, spent),
-            Step::Talk => self.talk = less(self.talk, spent),
+            TimedStep::Mapper => self.mapper = less(self.mapper, spent),
+            TimedStep::Lookup => self.lookup = less(self.lookup, spent),
+            TimedStep::Port => self.port = less(self.port, spent),
+            TimedStep::Talk => self.talk = less(self.talk, spent),
         }
     }
 
     /// This step has ended where so much of its share was unused: the rest of the share is spent.
-    pub fn settle(&mut self, step: Step, unused: Duration)
+    pub fn settle(&mut self, step: TimedStep, unused: Duration)
         ensures left { as_nanos (left_of self.new step) ≡ as_nanos (left_of self.old step) - spent_of self.old step (as_nanos unused) }
         ensures count { self.new.addresses ≡ self.old.addresses }
     {

@@ -24,7 +24,7 @@ pub fn is_private(mode: u32) -> bool
     mode & OTHERS == 0
 }
 
-// Whether nobody but its owner may use an open file: not one whose mode the system does not tell.
+// Whether nobody but its owner may use an open file: not one whose mode the system does not give.
 fn is_private_file(file: &File) -> bool {
     match file.metadata() {
         Ok(metadata) => is_private(metadata.permissions().mode()),

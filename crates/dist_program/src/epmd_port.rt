@@ -29,7 +29,7 @@ fn number_named(text: &[u8]) -> Option<u16>
 }
 
 // The sentence that refuses this text.
-fn refusal(alloc: Global, text: &str) -> Result<String, AllocError>
+fn bad_port_text(alloc: Global, text: &str) -> Result<String, AllocError>
     ensures { IfOk result (λ sentence. string_bytes sentence ≡ refusal_of text.now) }
 {
     let quoted = quote(alloc, text.as_bytes())?;
@@ -40,7 +40,7 @@ fn refusal(alloc: Global, text: &str) -> Result<String, AllocError>
 fn bad_port(alloc: Global, text: &str) -> PortError
     ensures { Refuses text.now result }
 {
-    match refusal(alloc, text) {
+    match bad_port_text(alloc, text) {
         Ok(sentence) => PortError::Bad(sentence),
         Err(AllocError) => PortError::NoMemory,
     }

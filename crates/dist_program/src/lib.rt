@@ -20,7 +20,7 @@ mod sentences;
 mod text_error;
 mod variables;
 
-pub use budget::{Budget, Step};
+pub use budget::{Budget, TimedStep};
 pub use connecting::{
     ANSWER_SECONDS, CONNECT_SECONDS, at_port, connect, connect_here, deadline_in, one_turn,
     talk_here, talk_over, this_host,

@@ -23,7 +23,7 @@ pub type Addresses = Result<Vec<SocketAddr>, HostError>;
 
 // Where the thread leaves the answer, and who waits for it sleeps.
 #[derive(Drop)]
-struct Desk {
+struct Handover {
     answer: OnceLock<Addresses>,
     parker: Parker,
 }
@@ -89,7 +89,7 @@ fn ask_resolver<R: Net>(rt: &R, alloc: Global, host: &str) -> Addresses {
 }
 
 // Leaves the answer where it is waited for.
-fn leave_answer(desk: &Desk, answer: Addresses) {
+fn leave_answer(desk: &Handover, answer: Addresses) {
     let _ = desk.answer.try_set(answer);
     desk.parker.unpark();
 }
@@ -103,7 +103,12 @@ fn copy_of(alloc: Global, answer: &Addresses) -> Addresses {
 }
 
 // Waits for the answer, so long at most.
-fn await_answer<R: Resolving>(rt: &R, alloc: Global, desk: &Desk, limit: Duration) -> Addresses {
+fn await_answer<R: Resolving>(
+    rt: &R,
+    alloc: Global,
+    desk: &Handover,
+    limit: Duration,
+) -> Addresses {
     let Ok(until) = deadline_after(rt, limit) else {
         return Err(HostError::Failed);
     };
@@ -124,7 +129,7 @@ fn await_answer<R: Resolving>(rt: &R, alloc: Global, desk: &Desk, limit: Duratio
 fn start_asking<R: Resolving>(
     rt: &R,
     own: HostRuntime,
-    theirs: Arc<Desk, Global>,
+    theirs: Arc<Handover, Global>,
     host: String,
 ) -> Result<(), HostError> {
     let asking = thread::spawn(rt, move || {
@@ -146,7 +151,7 @@ fn ask_in_thread<R: Resolving>(
     let alloc = own.alloc();
     let desk = Arc::new(
         alloc,
-        Desk {
+        Handover {
             answer: OnceLock::new(),
             parker: Parker::new(),
         },

@@ -17,12 +17,12 @@ pub enum PortError {
     Bad(String),
     /// Its text is no UTF-8.
     NoText,
-    /// No memory was left to read it, or to tell that it is bad.
+    /// No memory was left to read it, or to report that it is bad.
     NoMemory,
 }
 
 impl PortError {
-    /// The sentence that tells it.
+    /// The sentence that is printed.
     pub fn text(&self) -> &str
         ensures { result.now ≡ port_error_text self.now }
     {
@@ -43,8 +43,8 @@ impl PortError {
         }
     }
 
-    /// Tells it on standard error behind the program's name, and answers the exit status.
-    pub fn tell<E: Write>(&self, program: &str, err: &mut E) -> u8
+    /// Prints it on standard error after the program's name, and returns the exit status.
+    pub fn report_to<E: Write>(&self, program: &str, err: &mut E) -> u8
         ensures { result ≡ port_error_status self.now }
     {
         report(err, program, self, self.status())

@@ -5,7 +5,7 @@ ghost use Rattle.std.specs.Prelude.{◌≡◌};
 use std::fmt::Display;
 use std::io::Write;
 
-/// Tells what ended a program, in a line of its own behind the program's name, and answers the exit status. Where it cannot be told
+/// Prints what ended a program, in a line after the program's name, and returns the exit status. If it cannot be printed
 /// nothing is lost but the text.
 pub fn report<E: Write, D: Display>(err: &mut E, program: &str, fault: &D, status: u8) -> u8
     ensures { result ≡ status }

@@ -4,7 +4,7 @@ use crate::connection::Carrier;
 use crate::crew::{Crew, Post, Rest};
 use crate::site::Site;
 use dist_core::Event;
-use dist_run_hosts::{Challenges, Connection, Host, Pool, accept, link_of, wait_for_connection};
+use dist_run_hosts::{Challenges, Host, LinkStream, Pool, accept, link_of, wait_for_connection};
 use std::sync::Wait;
 use std::thread::{Scope, Threads};
 use std::time::Clock;
@@ -13,7 +13,7 @@ use std::time::Clock;
 fn take_in<'s, E, R: Threads + Wait + Clock + Sync, G>(
     crew: &mut Crew<'s, E, R, G>,
     number: usize,
-    connection: Connection,
+    connection: LinkStream,
 ) {
     let link = link_of(connection.dialler_port, crew.host().listener.port);
     let stream = connection.stream;

@@ -12,7 +12,7 @@ use dist_locked::{Gate, LAST_ORDER, Moment, Orders, TakePass};
 use dist_names::{ByteString, NodeName};
 use dist_peers::EndId;
 use dist_run_hosts::{
-    Challenges, Connection, Host, OrderFault, OrderRefusal, Pool, RunError, connect_to_port,
+    Challenges, Host, LinkStream, OrderFault, OrderRefusal, Pool, RunError, connect_to_port,
     link_of,
 };
 use std::sync::Wait;
@@ -40,27 +40,30 @@ pub struct Worked {
 
 // An order, and the worker that took it.
 #[derive(Clone, Copy)]
-struct Task {
+struct TakenOrder {
     worker: u32,
     number: u32,
 }
 
 // Where a peer listens, and how it is spoken to.
 #[derive(Clone, Copy)]
-struct Peer {
+struct PeerAddress {
     port: u16,
     opening: Opening,
 }
 
 // Asks the port mapper where a peer listens.
-fn find_peer<R: Machine, G>(site: &Site<'_, R, G>, to: &NodeName) -> Result<Peer, OrderRefusal> {
+fn find_peer<R: Machine, G>(
+    site: &Site<'_, R, G>,
+    to: &NodeName,
+) -> Result<PeerAddress, OrderRefusal> {
     let connection = match connect_to_port(site.rt, site.mapper_port) {
         Ok(connection) => connection,
         Err(error) => return Err(OrderRefusal::of_connect(&error)),
     };
     let mut stream = connection.stream;
     match lookup(site.alloc, &mut stream, to.short(), site.turns) {
-        Ok(peer) => Ok(Peer {
+        Ok(peer) => Ok(PeerAddress {
             port: peer.port,
             opening: opening_for(&peer),
         }),
@@ -84,7 +87,7 @@ fn begin<'s, E, R: Threads + Wait + Clock + Sync, G>(
 }
 
 // Gives the node a connection, between the two moments of the gate: what its end sends, or why it is to be lost.
-fn open_end<'s, E, R: Threads + Wait + Clock + Sync, G: Gate>(
+fn open_dialled<'s, E, R: Threads + Wait + Clock + Sync, G: Gate>(
     crew: &mut Crew<'s, E, R, G>,
     worker: u32,
     end_: EndId,
@@ -107,16 +110,16 @@ fn open_end<'s, E, R: Threads + Wait + Clock + Sync, G: Gate>(
 // Opens the end of a connection, and starts a thread for it.
 fn open_connection<'s, E, R: Threads + Wait + Clock + Sync, G: Gate>(
     crew: &mut Crew<'s, E, R, G>,
-    task: Task,
+    task: TakenOrder,
     end_: EndId,
     port: u16,
-    connection: Connection,
+    connection: LinkStream,
 ) {
     let link = link_of(connection.dialler_port, port);
     crew.site().note_link(task.number, link);
     let stream = connection.stream;
     let carrier = Carrier { link, stream };
-    match open_end(crew, task.worker, end_, link) {
+    match open_dialled(crew, task.worker, end_, link) {
         Ok(first) => crew.start(task.number as usize, end_, first, carrier),
         Err(why) => crew.give_up(end_, why, carrier),
     }
@@ -125,7 +128,7 @@ fn open_connection<'s, E, R: Threads + Wait + Clock + Sync, G: Gate>(
 // Does what an order says.
 fn make_dial<'s, E, R, G: Gate>(
     crew: &mut Crew<'s, E, R, G>,
-    task: Task,
+    task: TakenOrder,
     to: &NodeName,
 ) -> Result<(), OrderRefusal>
 where
@@ -145,7 +148,7 @@ where
 fn obey<'s, E, R, G: Gate>(
     site: &Site<'_, R, G>,
     crews: &mut [Crew<'s, E, R, G>],
-    task: Task,
+    task: TakenOrder,
 ) -> Result<(), OrderRefusal>
 where
     R: Machine,
@@ -180,7 +183,7 @@ where
                     break;
                 }
                 let number = order.0;
-                if let Err(refusal) = obey(site, crews, Task { worker, number }) {
+                if let Err(refusal) = obey(site, crews, TakenOrder { worker, number }) {
                     site.keep(&mut faults, OrderFault { number, refusal });
                 }
             }

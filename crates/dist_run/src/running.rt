@@ -7,7 +7,7 @@ ghost use Rattle.dist_run.specs.Runs.{AreInOrder};
 
 use crate::crew::Rest;
 use crate::machine::Machine;
-use crate::site::{Dial, Site};
+use crate::site::{PlannedDial, Site};
 use crate::threads::{Ended, Pools, run_threads};
 use dist_locked::{Book, Closed, Gate, Seat, Tickets, close};
 use dist_run_hosts::{
@@ -77,12 +77,16 @@ fn node_index(nodes: &[NodePlan], dial: &DialPlan) -> usize {
 }
 
 // The dials, with the places of their nodes.
-fn dials_of(alloc: Global, nodes: &[NodePlan], plans: &[DialPlan]) -> Result<Vec<Dial>, RunError> {
+fn dials_of(
+    alloc: Global,
+    nodes: &[NodePlan],
+    plans: &[DialPlan],
+) -> Result<Vec<PlannedDial>, RunError> {
     let mut dials = Vec::new(alloc);
     for plan in plans {
         let from = node_index(nodes, plan);
         let to = plan.to.try_clone(alloc)?;
-        dials.push(Dial::new(from, to))?;
+        dials.push(PlannedDial::new(from, to))?;
     }
     Ok(dials)
 }

@@ -7,7 +7,7 @@ use std::sync::atomic::{AtomicBool, AtomicU64, Ordering};
 
 /// A dial that is ordered: which node makes it, and to whom.
 #[derive(Drop)]
-pub struct Dial {
+pub struct PlannedDial {
     /// The place of the node among the nodes of the plan.
     pub from: usize,
     /// The name of the peer.
@@ -19,10 +19,10 @@ pub struct Dial {
 // No connection has this link, since none leads to port 0.
 const NO_LINK: u64 = 0;
 
-impl Dial {
+impl PlannedDial {
     /// A dial that has no connection yet.
-    pub fn new(from: usize, to: NodeName) -> Dial {
-        Dial {
+    pub fn new(from: usize, to: NodeName) -> PlannedDial {
+        PlannedDial {
             from,
             to,
             link: AtomicU64::new(NO_LINK),
@@ -40,7 +40,7 @@ pub struct Site<'a, R, G> {
     /// The nodes, in the order of the plan.
     pub hosts: &'a [Host],
     /// The dials, in the order of the plan.
-    pub dials: &'a [Dial],
+    pub dials: &'a [PlannedDial],
     /// The port of the port mapper.
     pub mapper_port: u16,
     /// How the descriptors of the process are shared out.

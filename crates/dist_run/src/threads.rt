@@ -6,7 +6,7 @@ use crate::accepting::accept_all;
 use crate::crew::Rest;
 use crate::dialling::{Shift, Worked, work};
 use crate::machine::Machine;
-use crate::site::{Dial, Site};
+use crate::site::{PlannedDial, Site};
 use dist_locked::{CAPACITY, Gate, MOST_ORDERS, Orders, dispatch};
 use dist_run_hosts::{Challenges, Pool, RunError, Shares};
 use std::alloc::Global;
@@ -59,7 +59,7 @@ pub struct Ended {
 }
 
 // The number of the orders. A nodes file has no more than 64 of them.
-fn order_count(dials: &[Dial]) -> u32
+fn order_count(dials: &[PlannedDial]) -> u32
     ensures { result ≤ 64 }
 {
     match u32::try_from(dials.len()) {

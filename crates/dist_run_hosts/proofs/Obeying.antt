@@ -78,9 +78,9 @@ unnamed orders faults closed to none undialled =
     let from = name_of closed in
     let unordered = no-order from to orders none in
     let dials : count_dials to (lines_in closed) ≡ 0 = count-none (λ (l : Line). is_dial_of to l.event) (lines_in closed) undialled in
-    let told : count_by (is_fault_of orders from to) faults ≡ 0 = count-none (is_fault_of orders from to) faults (no-fault from to orders unordered faults) in
+    let answered : count_by (is_fault_of orders from to) faults ≡ 0 = count-none (is_fault_of orders from to) faults (no-fault from to orders unordered faults) in
     let ordered : count_by (is_order from to) orders ≡ 0 = count-none (is_order from to) orders unordered in
-    record { count = (λ i. dials i + told i) ∙ sym ordered }
+    record { count = (λ i. dials i + answered i) ∙ sym ordered }
 
 -- where the peers of all orders and of all dials are obeyed, each peer is
 pub all-peers : (orders : List DialPlan) (faults : List OrderFault) (closed : Closed) → AllByRecursion (OrderIsObeyed orders faults closed) orders → All (LineIsObeyed orders faults closed) (lines_in closed) → (to : Name) → IsObeyed orders faults closed to
@@ -120,9 +120,9 @@ each-line orders faults closed h lines = λ k d few. record { peer = peer-of ord
 pub counts-decide : (orders : List DialPlan) (faults : List OrderFault) (closed : Closed) (to from : Name) (lines : List Line) (ordered reported dialled : ℕ) (answer : Bool) → from ≡ name_of closed → lines ≡ lines_in closed → ordered ≡ count_by (is_order from to) orders → reported ≡ count_by (is_fault_of orders from to) faults → dialled ≡ count_dials to lines → (IsTrue answer ↔ (dialled + reported ≡ ordered)) → IsTrue answer ↔ IsObeyed orders faults closed to
 counts-decide orders faults closed to from lines ordered reported dialled answer name history o r d says =
     let dials : dialled ≡ count_dials to (lines_in closed) = d ∙ ap (count_dials to) history in
-    let told : reported ≡ count_by (is_fault_of orders (name_of closed) to) faults = r ∙ ap (λ n. count_by (is_fault_of orders n to) faults) name in
+    let answered : reported ≡ count_by (is_fault_of orders (name_of closed) to) faults = r ∙ ap (λ n. count_by (is_fault_of orders n to) faults) name in
     let wanted : ordered ≡ count_by (is_order (name_of closed) to) orders = o ∙ ap (λ n. count_by (is_order n to) orders) name in
-    (λ t. record { count = (λ i. sym dials i + sym told i) ∙ (says.0 t ∙ wanted) }, λ h. says.1 ((λ i. dials i + told i) ∙ (h.count ∙ sym wanted)))
+    (λ t. record { count = (λ i. sym dials i + sym answered i) ∙ (says.0 t ∙ wanted) }, λ h. says.1 ((λ i. dials i + answered i) ∙ (h.count ∙ sym wanted)))
 
 -- the first is so, and the others decide
 pub others-decide : {X : Type 0} (P : X → Type 0) (xs : List X) (x : X) (a b : Bool) → 1 ≤ length xs → x ≡ get_or xs 0 x → (IsTrue a ↔ P x) → (IsTrue b ↔ AllByRecursion P (take (length xs - 1) (drop 1 xs))) → a ≡ true → IsTrue b ↔ AllByRecursion P xs

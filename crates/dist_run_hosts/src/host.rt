@@ -1,6 +1,6 @@
 //! A node that listens and is registered.
 
-ghost use Rattle.std.specs.Prelude.{◌≡◌, [], IfOk};
+ghost use Rattle.std.specs.Prelude.{◌≡◌, ◌≢◌, [], IfOk};
 ghost use Rattle.dist_names.specs.NodeName.{short_of};
 ghost use Rattle.dist_run_hosts.specs.Setups as setups;
 
@@ -149,7 +149,11 @@ pub fn start<R: Net<Listener = TcpListener, Stream = TcpStream>>(
     plan: &NodePlan,
     mapper: MapperAccess,
     tickets: &Arc<Tickets, Global>,
-) -> Result<(Host, Shares), RunError> {
+) -> Result<(Host, Shares), RunError>
+    ensures name { IfOk result (λ started. started.0.name ≡ plan.now.name) }
+    // At 0 the system chooses a port.
+    ensures port { IfOk result (λ started. plan.now.listen ≢ 0 → started.0.listener.port ≡ plan.now.listen) }
+{
     let Ok(listener) = listen(rt, plan.listen) else {
         return Err(RunError::ListenFailed);
     };

@@ -30,6 +30,6 @@ pub use run_error::RunError;
 pub use seats::{Pool, Shares};
 pub use setups::are_of_plans;
 pub use sockets::{
-    Connection, LocalListener, accept, connect_to_port, end_reads, link_of, listen, say_goodbye,
+    LinkStream, LocalListener, accept, connect_to_port, end_reads, link_of, listen, say_goodbye,
     socket_of, wait_for_connection,
 };

@@ -6,7 +6,7 @@ ghost use Rattle.dist_run_hosts.specs.declared.run_error.RunError.TheVariants.{L
 
 use crate::run_error::RunError;
 use crate::sockets::LocalListener;
-use dist_epmd_server::{Limits, Server, serve};
+use dist_epmd_server::{MapperLimits, Server, serve};
 use std::alloc::Global;
 use std::io::{self, ErrorKind};
 use std::net::Net;
@@ -44,12 +44,12 @@ fn fault_of(error: io::Error) -> RunError
 
 /// What the port mapper of a run allows: this many clients at once, and this many turns until a client is closed that has not
 /// asked.
-pub fn mapper_limits(clients: usize, turns: usize) -> Limits
+pub fn mapper_limits(clients: usize, turns: usize) -> MapperLimits
     ensures clients { result.clients ≡ clients }
     ensures enough { turns + 100 ≤ result.seconds * 100 }
     ensures no_more { result.seconds * 100 ≤ turns + 200 }
 {
-    Limits {
+    MapperLimits {
         clients,
         seconds: seconds_for(turns),
     }
@@ -59,7 +59,7 @@ fn run_server<R: Net + Wait + Clock>(
     rt: &R,
     alloc: Global,
     listener: LocalListener,
-    limits: Limits,
+    limits: MapperLimits,
     stop: &AtomicBool,
 ) -> io::Result<()> {
     let mut server = Server::new(rt, alloc, listener.port, FIRST_CREATION, limits)?;
@@ -81,7 +81,7 @@ pub fn serve_mapper<R: Net + Wait + Clock>(
     rt: &R,
     alloc: Global,
     listener: LocalListener,
-    limits: Limits,
+    limits: MapperLimits,
     stop: &AtomicBool,
 ) -> Result<(), RunError> {
     match run_server(rt, alloc, listener, limits, stop) {

@@ -1,6 +1,6 @@
 //! The sockets of a run.
 
-ghost use Rattle.std.specs.Prelude.{◌≡◌, ◌≤◌, ◌+◌, ◌*◌};
+ghost use Rattle.std.specs.Prelude.{◌≡◌, ◌≢◌, ◌≤◌, ◌+◌, ◌*◌, IfOk};
 
 use crate::waiting::{TURNS_AT_ONCE, wait_for_input};
 use dist_program::{connect_here, one_turn};
@@ -13,7 +13,7 @@ use std::{io, thread};
 
 /// A connection, and the port at its dialling end.
 #[derive(Drop)]
-pub struct Connection {
+pub struct LinkStream {
     pub stream: SocketStream,
     pub dialler_port: u16,
 }
@@ -38,29 +38,42 @@ fn port_of(address: SocketAddr) -> u16 {
 pub fn connect_to_port<R: Net<Listener = TcpListener, Stream = TcpStream>>(
     rt: &R,
     port: u16,
-) -> io::Result<Connection> {
+) -> io::Result<LinkStream> {
     let stream = connect_here(rt, port)?;
     let dialler_port = port_of(stream.get_ref().local_addr()?);
-    Ok(Connection {
+    Ok(LinkStream {
         stream,
         dialler_port,
     })
+}
+
+// The port that the system reports, where it is the one that was asked for: at 0 the system chooses.
+fn port_asked_for(asked: u16, reported: u16) -> io::Result<u16>
+    ensures { IfOk result (λ port. asked ≢ 0 → port ≡ asked) }
+{
+    if asked == 0 || reported == asked {
+        Ok(reported)
+    } else {
+        Err(io::Error::from(ErrorKind::AddrNotAvailable))
+    }
 }
 
 /// Listens at a port of this host. For port 0 the system chooses one.
 pub fn listen<R: Net<Listener = TcpListener, Stream = TcpStream>>(
     rt: &R,
     port: u16,
-) -> io::Result<LocalListener> {
+) -> io::Result<LocalListener>
+    ensures { IfOk result (λ listener. port ≢ 0 → listener.port ≡ port) }
+{
     let socket = TcpListener::bind(rt, (Ipv4Addr::LOCALHOST, port))?;
     socket.set_nonblocking(true)?;
-    let port = port_of(socket.local_addr()?);
+    let port = port_asked_for(port, port_of(socket.local_addr()?))?;
     Ok(LocalListener { socket, port })
 }
 
-fn take_connection(listener: &TcpListener) -> io::Result<Connection> {
+fn take_connection(listener: &TcpListener) -> io::Result<LinkStream> {
     let (socket, from) = listener.accept()?;
-    Ok(Connection {
+    Ok(LinkStream {
         stream: SocketStream::with_turn(socket, one_turn())?,
         dialler_port: port_of(from),
     })
@@ -74,7 +87,7 @@ pub fn wait_for_connection<R: Clock>(rt: &R, listener: &TcpListener, turns: usiz
 }
 
 /// The next connection, where one has come. Where the system refuses to give one out, for lack of descriptors say, a turn passes.
-pub fn accept<R: Clock>(rt: &R, listener: &TcpListener) -> Option<Connection> {
+pub fn accept<R: Clock>(rt: &R, listener: &TcpListener) -> Option<LinkStream> {
     match take_connection(listener) {
         Ok(connection) => Some(connection),
         Err(error) => {

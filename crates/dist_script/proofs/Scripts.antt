@@ -8,32 +8,32 @@ use Rattle.dist_script.specs.declared.fault.ScriptFault.TheVariants.{BadLine, No
 use Rattle.dist_script.specs.declared.words.LineFault.{LineFault}
 use Rattle.dist_script.specs.declared.words.LineFault.TheVariants.{Bad}
 use Rattle.dist_world_model.specs.declared.happening.Happening.{Happening}
-use Rattle.dist_script.specs.declared.script.Line.{Line}
-use Rattle.dist_script.specs.Scripts.{SoFar, nothing, with_node, with_event, with_happening, is_either, with_told, with_words, with_line, unless_bad, with_lines, Events, Happenings, whole, all_good, script_in}
+use Rattle.dist_script.specs.declared.script.ScriptLine.{ScriptLine}
+use Rattle.dist_script.specs.Scripts.{SoFar, nothing, with_node, with_event, with_happening, is_either, with_reported, with_words, with_line, unless_bad, with_lines, Events, Happenings, whole, all_good, script_in}
 use Rattle.dist_script.proofs.Reading.{begun, not_begun}
 
 -- ---- one line
 
 -- what a line does, by whether it sets a node up
 abbrev by_node : Bool → SoFar → List (List ℕ) → Option SoFar
-by_node b s words = cond b (with_node s (drop 1 words)) (with_told s.nodes (record s { has_lines = true }) words)
+by_node b s words = cond b (with_node s (drop 1 words)) (with_reported s.nodes (record s { has_lines = true }) words)
 
 pub a_node : (s : SoFar) (words rest : List (List ℕ)) → words ≡ codes "node" ∷ rest → with_words s words ≡ with_node s rest
 a_node s words rest e = ap (λ b. by_node b s words) (begun (codes "node") words rest e) ∙ ap (λ ws. with_node s (drop 1 ws)) e
 
-no_node : (s : SoFar) (words : List (List ℕ)) → ((rest : List (List ℕ)) → words ≡ codes "node" ∷ rest → ⊥) → with_words s words ≡ with_told s.nodes (record s { has_lines = true }) words
+no_node : (s : SoFar) (words : List (List ℕ)) → ((rest : List (List ℕ)) → words ≡ codes "node" ∷ rest → ⊥) → with_words s words ≡ with_reported s.nodes (record s { has_lines = true }) words
 no_node s words h = ap (λ b. by_node b s words) (not_begun (codes "node") words h)
 
-none_there : (nodes : List Setup) (s : SoFar) (words : List (List ℕ)) → length nodes ≡ 0 → with_told nodes s words ≡ cond (is_either words) (Some s) None
+none_there : (nodes : List Setup) (s : SoFar) (words : List (List ℕ)) → length nodes ≡ 0 → with_reported nodes s words ≡ cond (is_either words) (Some s) None
 none_there [] s words e = refl
 none_there (node ∷ nodes) s words e = absurd (omega arith)
 
-one_there : (nodes : List Setup) (s : SoFar) (words : List (List ℕ)) → length nodes ≡ 1 → with_told nodes s words ≡ with_event s words
+one_there : (nodes : List Setup) (s : SoFar) (words : List (List ℕ)) → length nodes ≡ 1 → with_reported nodes s words ≡ with_event s words
 one_there [] s words e = absurd (omega arith)
 one_there (node ∷ []) s words e = refl
 one_there (node ∷ other ∷ nodes) s words e = absurd (omega arith)
 
-more_there : (nodes : List Setup) (s : SoFar) (words : List (List ℕ)) → 1 < length nodes → with_told nodes s words ≡ with_happening s words
+more_there : (nodes : List Setup) (s : SoFar) (words : List (List ℕ)) → 1 < length nodes → with_reported nodes s words ≡ with_happening s words
 more_there [] s words lt = absurd (omega arith)
 more_there (node ∷ []) s words lt = absurd (omega arith)
 more_there (node ∷ other ∷ nodes) s words lt = refl
@@ -95,18 +95,18 @@ of_none : (nodes : List Setup) (s : SoFar) → length nodes ≡ 0 → whole node
 of_none [] s e = refl
 of_none (node ∷ nodes) s e = absurd (omega arith)
 
-module _ (text : List ℕ) (nodes : List Setup) (has : Bool) (told : List Line) (done : List Happening) (s : SoFar) (so : with_lines nothing 1 (lines_of text) ≡ Ok s) (is : record { nodes = nodes; has_lines = has; events = told; happenings = done } ≡ s) where
-  read : script_in text ≡ whole nodes (record { nodes = nodes; has_lines = has; events = told; happenings = done })
+module _ (text : List ℕ) (nodes : List Setup) (has : Bool) (reported : List ScriptLine) (done : List Happening) (s : SoFar) (so : with_lines nothing 1 (lines_of text) ≡ Ok s) (is : record { nodes = nodes; has_lines = has; events = reported; happenings = done } ≡ s) where
+  read : script_in text ≡ whole nodes (record { nodes = nodes; has_lines = has; events = reported; happenings = done })
   read = ap all_good (so ∙ ap Ok (sym is))
 
   pub several : 1 < length nodes → script_in text ≡ Ok (Happenings nodes done)
-  several lt = read ∙ of_several nodes (record { nodes = nodes; has_lines = has; events = told; happenings = done }) lt
+  several lt = read ∙ of_several nodes (record { nodes = nodes; has_lines = has; events = reported; happenings = done }) lt
 
-  pub one_node : (node : Setup) (before : List Setup) → nodes ≡ before ++ node ∷ [] → length nodes ≤ 1 → script_in text ≡ Ok (Events node told)
-  one_node node before e le = read ∙ ap (λ ns. whole ns (record { nodes = nodes; has_lines = has; events = told; happenings = done })) (last_alone nodes before node e le)
+  pub one_node : (node : Setup) (before : List Setup) → nodes ≡ before ++ node ∷ [] → length nodes ≤ 1 → script_in text ≡ Ok (Events node reported)
+  one_node node before e le = read ∙ ap (λ ns. whole ns (record { nodes = nodes; has_lines = has; events = reported; happenings = done })) (last_alone nodes before node e le)
 
   pub no_nodes : length nodes ≡ 0 → script_in text ≡ Err NoNode
-  no_nodes e = read ∙ of_none nodes (record { nodes = nodes; has_lines = has; events = told; happenings = done }) e
+  no_nodes e = read ∙ of_none nodes (record { nodes = nodes; has_lines = has; events = reported; happenings = done }) e
 
 pub not_read : (text : List ℕ) (fault : ScriptFault) → (fault ≡ NoMemory) ⊎ (with_lines nothing 1 (lines_of text) ≡ Err fault) → (fault ≡ NoMemory) ⊎ (script_in text ≡ Err fault)
 not_read text fault (inl e) = inl e

@@ -12,7 +12,7 @@ use Rattle.dist_core_setup.specs.declared.setup.Setup.{Setup}
 use Rattle.dist_core_setup.specs.Limits.{usual_limits}
 use Rattle.dist_core_setup.specs.declared.version.Version.{Version}
 use Rattle.dist_core_setup.specs.declared.version.Version.TheVariants as version
-use Rattle.dist_script.specs.declared.node_line.Terms.{Terms}
+use Rattle.dist_script.specs.declared.node_line.NodeTerms.{NodeTerms}
 use Rattle.dist_script.specs.Fields.{◌>>=◌, behind, first_in, creation_in, name_in}
 
 -- ---- words that may stand there
@@ -94,7 +94,7 @@ allowed_in (word ∷ words) = option_map Some (names_in (word ∷ words))
 -- ---- the whole line
 
 -- how the node is met
-abbrev pub terms_in : List (List ℕ) → Option Terms
+abbrev pub terms_in : List (List ℕ) → Option NodeTerms
 terms_in words =
     first_in flags_in words >>= (λ flags.
     first_in creation_in (drop 1 words) >>= (λ creation.
@@ -107,7 +107,7 @@ abbrev pub behind_terms : List (List ℕ) → List (List ℕ)
 behind_terms words = behind_required (behind_version (behind 2 words))
 
 -- what the words behind the cookies say, and the name, with what stands before them
-abbrev pub behind_cookies : List ℕ → Terms → CookieTable → List (List ℕ) → Option Setup
+abbrev pub behind_cookies : List ℕ → NodeTerms → CookieTable → List (List ℕ) → Option Setup
 behind_cookies name terms cookies words =
     allowed_in words >>= (λ allow.
     name_in name >>= (λ named.

@@ -1,4 +1,4 @@
--- THE SCRIPT OF A TEXT. Its language is in docs/PROTOCOL.md, section 8.
+-- THE SCRIPT OF A TEXT. Its language is in docs/RUNNING.md.
 use Rattle.std.specs.Prelude.{ℕ, ◌+◌, Bool, false, true, ◌||◌, ◌==◌, if◌then◌else◌, List, [], ◌∷◌, ◌++◌}
 use Rattle.std.specs.Prelude.{drop, codes, is_some, Option, Some, None, Result, Ok, Err}
 use Rattle.dist_core_setup.specs.declared.setup.Setup.{Setup}
@@ -6,7 +6,7 @@ use Rattle.dist_world_model.specs.declared.happening.Happening.{Happening}
 use Rattle.dist_script.specs.Words.{words_of, lines_of, is_skipped}
 use Rattle.dist_script.specs.declared.fault.ScriptFault.{ScriptFault}
 use Rattle.dist_script.specs.declared.fault.ScriptFault.TheVariants.{BadLine, NoNode}
-use Rattle.dist_script.specs.declared.script.Line.{Line}
+use Rattle.dist_script.specs.declared.script.ScriptLine.{ScriptLine}
 use Rattle.dist_script.specs.declared.script.Script.{Script}
 use Rattle.dist_script.specs.declared.script.Script.TheVariants as script
 use Rattle.dist_script.specs.Fields.{◌>>=◌}
@@ -21,7 +21,7 @@ pub record SoFar : Type 0 where
   -- whether one of them sets no node up
   pub has_lines : Bool
   -- what they give one node
-  pub events : List Line
+  pub events : List ScriptLine
   -- what they let happen to several
   pub happenings : List Happening
 
@@ -41,21 +41,21 @@ with_event s words = events.line_in words >>= (λ line. Some (record s { events 
 
 -- the line of a happening
 abbrev pub with_happening : SoFar → List (List ℕ) → Option SoFar
-with_happening s words = happenings.happening_line words >>= (λ told. Some (record s { happenings = s.happenings ++ told ∷ [] }))
+with_happening s words = happenings.happening_line words >>= (λ reported. Some (record s { happenings = s.happenings ++ reported ∷ [] }))
 
 -- whether a line is one of these two
 abbrev pub is_either : List (List ℕ) → Bool
 is_either words = is_some (events.line_in words) || is_some (happenings.happening_line words)
 
 -- a line that sets no node up, behind these nodes. Behind none it may be of either form, and nothing is kept of it
-abbrev pub with_told : List Setup → SoFar → List (List ℕ) → Option SoFar
-with_told [] s words = if is_either words then Some s else None
-with_told (node ∷ []) s words = with_event s words
-with_told (node ∷ other ∷ nodes) s words = with_happening s words
+abbrev pub with_reported : List Setup → SoFar → List (List ℕ) → Option SoFar
+with_reported [] s words = if is_either words then Some s else None
+with_reported (node ∷ []) s words = with_event s words
+with_reported (node ∷ other ∷ nodes) s words = with_happening s words
 
 -- a line of these words
 abbrev pub with_words : SoFar → List (List ℕ) → Option SoFar
-with_words s words = if begins (codes "node") words then with_node s (drop 1 words) else with_told s.nodes (record s { has_lines = true }) words
+with_words s words = if begins (codes "node") words then with_node s (drop 1 words) else with_reported s.nodes (record s { has_lines = true }) words
 
 -- A LINE: one that is empty or a comment says nothing
 abbrev pub with_line : SoFar → List ℕ → Option SoFar
@@ -75,7 +75,7 @@ with_lines s number (line ∷ lines) = unless_bad number (with_line s line) (λ 
 
 -- WHAT A SCRIPT SAYS: one node and what it is given, or several and what happens in their world
 pub data Says : Type 0 where
-  Events : Setup → List Line → Says
+  Events : Setup → List ScriptLine → Says
   Happenings : List Setup → List Happening → Says
 
 -- a script has a node

@@ -8,7 +8,7 @@ use crate::fields::{
     bytes_of, end_word, line_end, link_word, meaning_word, name_of, number_word, opening_word,
     why_word,
 };
-use crate::script::Line;
+use crate::script::ScriptLine;
 use crate::words::{LineFault, Words};
 use dist_core::Event;
 use dist_peers::EndId;
@@ -16,7 +16,7 @@ use std::alloc::Global;
 
 // What a line gives the node.
 #[derive(Clone, Copy)]
-enum Kind {
+enum EventWord {
     Incoming,
     Dial,
     Opened,
@@ -26,28 +26,28 @@ enum Kind {
 }
 
 // The first word of each kind of line.
-const KINDS: [(&str, Kind); 6] = [
-    ("incoming", Kind::Incoming),
-    ("dial", Kind::Dial),
-    ("opened", Kind::Opened),
-    ("bytes", Kind::Bytes),
-    ("lost", Kind::Lost),
-    ("tick", Kind::Tick),
+const KINDS: [(&str, EventWord); 6] = [
+    ("incoming", EventWord::Incoming),
+    ("dial", EventWord::Dial),
+    ("opened", EventWord::Opened),
+    ("bytes", EventWord::Bytes),
+    ("lost", EventWord::Lost),
+    ("tick", EventWord::Tick),
 ];
 
 // A peer, and the form in which it is spoken to.
-fn dial(alloc: Global, words: &mut Words<'_>) -> Result<Line, LineFault>
+fn dial(alloc: Global, words: &mut Words<'_>) -> Result<ScriptLine, LineFault>
     ensures reads { Reads result (dial_in words.old) }
     ensures rest { OnOk result (words.new ≡ behind 2 words.old) }
 {
     let peer = words.word()?;
     let opening = opening_word(words)?;
     let peer = name_of(alloc, peer)?;
-    Ok(Line::Event(Event::Dial { peer, opening }))
+    Ok(ScriptLine::Event(Event::Dial { peer, opening }))
 }
 
 // What came for an end: its number, the digits of the bytes, and a fresh number.
-fn bytes(alloc: Global, words: &mut Words<'_>) -> Result<Line, LineFault>
+fn bytes(alloc: Global, words: &mut Words<'_>) -> Result<ScriptLine, LineFault>
     ensures reads { Reads result (came_in words.old) }
     ensures rest { OnOk result (words.new ≡ behind 3 words.old) }
 {
@@ -55,29 +55,33 @@ fn bytes(alloc: Global, words: &mut Words<'_>) -> Result<Line, LineFault>
     let digits = words.word()?;
     let fresh = number_word(words)?;
     let bytes = bytes_of(alloc, digits)?;
-    Ok(Line::Bytes { end_, bytes, fresh })
+    Ok(ScriptLine::Bytes { end_, bytes, fresh })
 }
 
 // What is given, in the words behind the first.
-fn line_behind(alloc: Global, kind: Kind, words: &mut Words<'_>) -> Result<Line, LineFault>
+fn line_behind(
+    alloc: Global,
+    kind: EventWord,
+    words: &mut Words<'_>,
+) -> Result<ScriptLine, LineFault>
     ensures reads { Reads result (event_in kind words.old) }
     ensures rest { OnOk result (words.new ≡ behind (words_behind kind) words.old) }
 {
-    Ok(Line::Event(match kind {
-        Kind::Bytes => return bytes(alloc, words),
-        Kind::Dial => return dial(alloc, words),
-        Kind::Incoming => Event::Incoming {
+    Ok(ScriptLine::Event(match kind {
+        EventWord::Bytes => return bytes(alloc, words),
+        EventWord::Dial => return dial(alloc, words),
+        EventWord::Incoming => Event::Incoming {
             link: link_word(words)?,
         },
-        Kind::Opened => Event::Opened {
+        EventWord::Opened => Event::Opened {
             end_: end_word(words)?,
             link: link_word(words)?,
         },
-        Kind::Lost => Event::Lost {
+        EventWord::Lost => Event::Lost {
             end_: end_word(words)?,
             why: why_word(words)?,
         },
-        Kind::Tick => Event::Tick {
+        EventWord::Tick => Event::Tick {
             end_: end_word(words)?,
         },
     }))
@@ -85,11 +89,11 @@ fn line_behind(alloc: Global, kind: Kind, words: &mut Words<'_>) -> Result<Line,
 
 /// What a line gives the node.
 #[tactic(auto, using(crate::proofs::Reading::not_done))]
-pub fn line_of(alloc: Global, words: &mut Words<'_>) -> Result<Line, LineFault>
+pub fn line_of(alloc: Global, words: &mut Words<'_>) -> Result<ScriptLine, LineFault>
     ensures { Reads result (line_in words.old) }
 {
     let kind = meaning_word(&KINDS, words)?;
-    let told = line_behind(alloc, kind, words)?;
+    let reported = line_behind(alloc, kind, words)?;
     line_end(words)?;
-    Ok(told)
+    Ok(reported)
 }

@@ -11,19 +11,19 @@ use std::alloc::AllocError;
 use std::io::{self, Write};
 use thiserror::Error;
 
-/// What stops the playing of a script. Its `Display` is what stands after `distnode: ` on standard error.
+/// What stops the playing of a script. Its `Display` comes after `distnode: ` on standard error.
 #[derive(Clone, Copy, Debug, Error)]
 pub enum ScriptFault {
     /// The script has more than 1,048,576 bytes.
     #[error("script too long")]
     TooLong,
-    /// The line of this number, counted from 1 over all lines, is no line of a script.
+    /// This line, counted from 1 over all lines, is not a line of a script.
     #[error("bad line {0}")]
     BadLine(usize),
-    /// The script has no line that sets a node up.
+    /// No line of the script sets up a node.
     #[error("no node")]
     NoNode,
-    /// Two lines of the script set up nodes of one name.
+    /// Two lines of the script set up nodes with one name.
     #[error("same name")]
     SameName,
     /// The input could not be read.
@@ -32,12 +32,12 @@ pub enum ScriptFault {
     /// The output could not be written.
     #[error("WriteFailed")]
     WriteFailed,
-    /// No memory was left.
+    /// Out of memory.
     #[error("NoMemory")]
     NoMemory,
 }
 
-// The words for a fault; behind those of a bad line its number.
+// The words for a fault; those of a bad line have its number after them.
 fn message(fault: ScriptFault) -> (Piece<'static>, Piece<'static>)
     ensures { text_of result.0 ++ text_of result.1 ≡ fault_text fault }
 {
@@ -53,7 +53,7 @@ fn message(fault: ScriptFault) -> (Piece<'static>, Piece<'static>)
 }
 
 impl ScriptFault {
-    /// The exit status: 2 where the script is at fault, else 1.
+    /// The exit status: 2 if the script is at fault, else 1.
     pub fn status(self) -> u8
         ensures { result ≡ status_of self }
     {
@@ -66,7 +66,7 @@ impl ScriptFault {
         }
     }
 
-    /// Writes the line of the fault. Where a write fails, what was written is a beginning of it.
+    /// Writes the line of the fault. If a write fails, a prefix of it was written.
     pub fn report<E: Write>(self, err: &mut E) -> io::Result<()>
         ensures line { OnOk result (Appends (E.contents err.old) (E.contents err.new) (fault_line self)) }
         ensures cut { OnErr result (PutsFront (fault_line self) (E.contents err.old) (E.contents err.new)) }
@@ -83,10 +83,9 @@ impl ScriptFault {
         )
     }
 
-    /// Reports the fault on standard error and returns the exit status. Where it cannot be reported, nothing is lost but the
-    /// rest of its line.
+    /// Reports the fault on standard error and returns the exit status. If it can't be reported, only the rest of its line is lost.
     #[tactic(auto, using(crate::proofs::Fronts::front_either))]
-    pub fn tell<E: Write>(self, err: &mut E) -> u8
+    pub fn report_to<E: Write>(self, err: &mut E) -> u8
         ensures status { result ≡ status_of self }
         ensures line { PutsFront (fault_line self) (E.contents err.old) (E.contents err.new) }
     {
@@ -103,7 +102,7 @@ impl From<AllocError> for ScriptFault {
     }
 }
 
-/// A write that failed, as a fault.
+/// The outcome of a write; one that failed becomes a fault.
 pub fn or_write_failed(outcome: io::Result<()>) -> Result<(), ScriptFault>
     ensures ok { OnOk result (IsOk outcome) }
     ensures fault { IfErr result (λ fault. fault ≡ WriteFailed) }

@@ -14,7 +14,7 @@ use dist_world_model::Happening;
 use std::alloc::Global;
 
 #[derive(Clone, Copy)]
-enum Kind {
+enum HappeningWord {
     Begin,
     Halt,
     Dial,
@@ -28,17 +28,17 @@ enum Kind {
 }
 
 // The first word of each kind of line.
-const KINDS: [(&str, Kind); 10] = [
-    ("begin", Kind::Begin),
-    ("halt", Kind::Halt),
-    ("dial", Kind::Dial),
-    ("reach", Kind::Reach),
-    ("opened", Kind::Opened),
-    ("accept", Kind::Accept),
-    ("deliver", Kind::Deliver),
-    ("take", Kind::Take),
-    ("lose", Kind::Lose),
-    ("tick", Kind::Tick),
+const KINDS: [(&str, HappeningWord); 10] = [
+    ("begin", HappeningWord::Begin),
+    ("halt", HappeningWord::Halt),
+    ("dial", HappeningWord::Dial),
+    ("reach", HappeningWord::Reach),
+    ("opened", HappeningWord::Opened),
+    ("accept", HappeningWord::Accept),
+    ("deliver", HappeningWord::Deliver),
+    ("take", HappeningWord::Take),
+    ("lose", HappeningWord::Lose),
+    ("tick", HappeningWord::Tick),
 ];
 
 // The creation with which a node begins.
@@ -66,42 +66,43 @@ fn dial(alloc: Global, node: usize, words: &mut Words<'_>) -> Result<Happening, 
 }
 
 // What happens at an end of a node, in the words behind the node. The other kinds happen at no end.
-fn at_end(kind: Kind, node: usize, words: &mut Words<'_>) -> Result<Happening, LineFault>
+fn at_end(kind: HappeningWord, node: usize, words: &mut Words<'_>) -> Result<Happening, LineFault>
     ensures reads { Reads result (at_end_behind kind node words.old) }
     ensures rest { OnOk result (words.new ≡ behind (pred (happening_words kind)) words.old) }
 {
     let end_ = end_word(words)?;
     Ok(match kind {
-        Kind::Opened => Happening::Opened { node, end_ },
-        Kind::Tick => Happening::Tick { node, end_ },
-        Kind::Reach => Happening::Reach {
+        HappeningWord::Opened => Happening::Opened { node, end_ },
+        HappeningWord::Tick => Happening::Tick { node, end_ },
+        HappeningWord::Reach => Happening::Reach {
             node,
             end_,
             target: count_word(words)?,
         },
-        Kind::Deliver => Happening::Deliver {
+        HappeningWord::Deliver => Happening::Deliver {
             node,
             end_,
             bytes: count_word(words)?,
         },
-        Kind::Take => Happening::Take {
+        HappeningWord::Take => Happening::Take {
             node,
             end_,
             fresh: number_word(words)?,
         },
-        Kind::Lose => Happening::Lose {
+        HappeningWord::Lose => Happening::Lose {
             node,
             end_,
             why: why_word(words)?,
         },
-        Kind::Begin | Kind::Halt | Kind::Dial | Kind::Accept => return Err(LineFault::Bad),
+        HappeningWord::Begin | HappeningWord::Halt | HappeningWord::Dial | HappeningWord::Accept =>
+            return Err(LineFault::Bad),
     })
 }
 
 // What happens, in the words behind the first. The first of them is the node, or the connection that is accepted.
 fn happening_behind(
     alloc: Global,
-    kind: Kind,
+    kind: HappeningWord,
     words: &mut Words<'_>,
 ) -> Result<Happening, LineFault>
     ensures reads { Reads result (happening_in kind words.old) }
@@ -109,10 +110,10 @@ fn happening_behind(
 {
     let node = count_word(words)?;
     match kind {
-        Kind::Begin => begin(node, words),
-        Kind::Halt => Ok(Happening::Halt { node }),
-        Kind::Dial => dial(alloc, node, words),
-        Kind::Accept => Ok(Happening::Accept { conn: node }),
+        HappeningWord::Begin => begin(node, words),
+        HappeningWord::Halt => Ok(Happening::Halt { node }),
+        HappeningWord::Dial => dial(alloc, node, words),
+        HappeningWord::Accept => Ok(Happening::Accept { conn: node }),
         _ => at_end(kind, node, words),
     }
 }
@@ -123,7 +124,7 @@ pub fn happening_of(alloc: Global, words: &mut Words<'_>) -> Result<Happening, L
     ensures { Reads result (happening_line words.old) }
 {
     let kind = meaning_word(&KINDS, words)?;
-    let told = happening_behind(alloc, kind, words)?;
+    let reported = happening_behind(alloc, kind, words)?;
     line_end(words)?;
-    Ok(told)
+    Ok(reported)
 }

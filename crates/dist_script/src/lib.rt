@@ -2,7 +2,7 @@
 //! fault with them; and the pieces of a line that is printed.
 //!
 //! Nothing is played here, and no file is opened: the text comes from any reader, and pieces go to any writer. The language is in
-//! docs/PROTOCOL.md, section 8.
+//! docs/RUNNING.md.
 #![tactic(auto)]
 
 mod events;
@@ -18,4 +18,4 @@ mod words;
 pub use fault::{ScriptFault, or_write_failed};
 pub use input::read_text;
 pub use pieces::{Piece, put, put_bytes, put_digits, put_flags, put_number};
-pub use script::{Line, Script, script_of};
+pub use script::{Script, ScriptLine, script_of};

@@ -138,18 +138,18 @@ fn required_flags(words: &mut Words<'_>) -> Result<Flags, LineFault>
 
 // How a node is met.
 #[derive(Clone, Copy)]
-struct Terms {
+struct NodeTerms {
     flags: Flags,
     creation: Creation,
     version: Version,
     required: Flags,
 }
 
-fn terms_of(words: &mut Words<'_>) -> Result<Terms, LineFault>
+fn terms_of(words: &mut Words<'_>) -> Result<NodeTerms, LineFault>
     ensures reads { ReadsPlainly result (terms_in words.old) }
     ensures rest { OnOk result (words.new ≡ behind_terms words.old) }
 {
-    Ok(Terms {
+    Ok(NodeTerms {
         flags: flags_word(words)?,
         creation: creation_word(words)?,
         version: version(words)?,
@@ -161,7 +161,7 @@ fn terms_of(words: &mut Words<'_>) -> Result<Terms, LineFault>
 fn setup_behind(
     alloc: Global,
     name: &[u8],
-    terms: Terms,
+    terms: NodeTerms,
     cookies: Cookies,
     words: &mut Words<'_>,
 ) -> Result<Setup, LineFault>

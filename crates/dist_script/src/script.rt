@@ -22,7 +22,7 @@ use std::marker::Model;
 
 /// What a line gives the one node of a script.
 #[derive(Drop)]
-pub enum Line {
+pub enum ScriptLine {
     /// An event as it stands.
     Event(Event),
     /// Bytes that came for an end. They make an event for each frame that they end, each with this fresh number.
@@ -39,7 +39,7 @@ pub enum Script {
     /// One node, and what it is given.
     Events {
         node: Setup,
-        lines: Vec<Line>,
+        lines: Vec<ScriptLine>,
     },
     /// Two nodes or more, and what happens in their world.
     Happenings {
@@ -53,7 +53,7 @@ pub enum Script {
 struct Draft {
     nodes: Vec<Setup>,
     has_lines: bool,
-    events: Vec<Line>,
+    events: Vec<ScriptLine>,
     happenings: Vec<Happening>,
 }
 
@@ -89,7 +89,7 @@ impl Draft {
         self.has_lines = true;
         match self.nodes.len() {
             0 => is_line(alloc, text),
-            1 => self.tell(alloc, &mut words),
+            1 => self.take_event(alloc, &mut words),
             _ => self.happen(alloc, &mut words),
         }
     }
@@ -104,7 +104,7 @@ impl Draft {
         Ok(())
     }
 
-    fn tell(&mut self, alloc: Global, words: &mut Words<'_>) -> Result<(), LineFault>
+    fn take_event(&mut self, alloc: Global, words: &mut Words<'_>) -> Result<(), LineFault>
         ensures { MatchResult result (λ _. with_event self.old words.old ≡ Some self.new) (λ fault. fault ≡ Bad → with_event self.old words.old ≡ None) }
     {
         self.events.push(line_of(alloc, words)?)?;

@@ -8,22 +8,22 @@ use Rattle.std.proofs.lemmas.Bool.Decides.{nat_tests}
 use Rattle.dist_world_model.specs.World.{World}
 use Rattle.dist_world_model.specs.Agreement.{Counts}
 use Rattle.dist_world.specs.declared.agreement.Agreement.{Agreement}
-use Rattle.dist_script_lines.specs.Worlds.{IsTold, told_line, AreLinesOf, places_from, with_each, pairs, PutsAgreements}
+use Rattle.dist_script_lines.specs.Worlds.{IsReported, reported_line, AreLinesOf, places_from, with_each, pairs, PutsAgreements}
 use Rattle.dist_script_lines.specs.Later.{HasAllFrom, IsRowFrom}
 use Rattle.dist_script_lines.proofs.Finding.{none_in}
 use Rattle.dist_world.specs.Ups as Ups
 
 lines_behind : (w : World) (ps qs : List (ℕ × ℕ)) (s t : List ℕ) → AreLinesOf w ps s → AreLinesOf w qs t → AreLinesOf w (ps ++ qs) (s ++ t)
 lines_behind w [] qs s t e k = subst (λ x. AreLinesOf w qs (x ++ t)) (sym e) k
-lines_behind w (p ∷ ps) qs s t h k = (h.0, h.1 ++ t, h.2, lines_behind w ps qs h.1 t h.3 k, ap (λ x. x ++ t) h.4 ∙ append_assoc (told_line w p.0 p.1 h.0) h.1 t)
+lines_behind w (p ∷ ps) qs s t h k = (h.0, h.1 ++ t, h.2, lines_behind w ps qs h.1 t h.3 k, ap (λ x. x ++ t) h.4 ∙ append_assoc (reported_line w p.0 p.1 h.0) h.1 t)
 
 no_keys : (ks : List ℕ) → length ks ≡ 0 → ks ≡ []
 no_keys [] none = refl
 no_keys (k ∷ ks) none = absurd (omega arith)
 
 -- where nothing is found of two, they do not both count each other as up
-pub none_both : (w : World) (a b : ℕ) → a < b → ((x : Counts w a b) (y : Counts w b a) → a ≢ b → Ups.IsTold None x.kept y.kept) → Counts w a b → Counts w b a → ⊥
-none_both w a b l counted x y = let told = counted x y (λ e. (let same : a ≡ b = e in absurd (omega arith))) in let is = told.1 in cc
+pub none_both : (w : World) (a b : ℕ) → a < b → ((x : Counts w a b) (y : Counts w b a) → a ≢ b → Ups.IsReported None x.kept y.kept) → Counts w a b → Counts w b a → ⊥
+none_both w a b l counted x y = let noted = counted x y (λ e. (let same : a ≡ b = e in absurd (omega arith))) in let is = noted.1 in cc
 
 pub none_left : (r : Option ℕ) (n : ℕ) → r ≡ None → (IsSome r ↔ (0 < n)) → n ≡ 0
 none_left None n e h = none_more n (λ l. let some = h.1 l in absurd cc)
@@ -36,14 +36,14 @@ none_left (Some x) n e h = absurd cc
 -- ---- a node with each one behind it
 
 module _ (w : World) (a : ℕ) where
-  tell_one : (k : ℕ) (t : List ℕ) (told : Option Agreement) → IsTold w a k told → IsRowFrom w a (suc k) t → IsRowFrom w a k (told_line w a k told ++ t)
-  tell_one k t told is r = let count = r.0 in let sum = r.1 in (suc count, omega arith, (told, t, is, r.2, refl))
+  report_one : (k : ℕ) (t : List ℕ) (noted : Option Agreement) → IsReported w a k noted → IsRowFrom w a (suc k) t → IsRowFrom w a k (reported_line w a k noted ++ t)
+  report_one k t noted is r = let count = r.0 in let sum = r.1 in (suc count, omega arith, (noted, t, is, r.2, refl))
 
   skip : (d k to : ℕ) (t : List ℕ) → k + d ≡ to → ((b : ℕ) → k < suc b → b < to → Counts w a b → ⊥) → IsRowFrom w a to t → IsRowFrom w a k t
   skip zero k to t e none r = let same : to ≡ k = omega arith in subst (λ x. IsRowFrom w a x t) same r
   skip (suc d) k to t e none r =
       let rest = skip d (suc k) to t (omega arith) (λ b l m. none b (omega arith) m) r in
-      tell_one k t None (λ x y. none k (omega arith) (omega arith) x) rest
+      report_one k t None (λ x y. none k (omega arith) (omega arith) x) rest
 
   -- those before the next one are printed
   pub record RowSoFar (later : BTreeSet ℕ) (old new : Option (List ℕ)) : Type 0 where
@@ -67,9 +67,9 @@ module _ (w : World) (a : ℕ) where
   above : (b c : ℕ) → is_gt (nat_cmp b c) ≡ false → is_eq (nat_cmp b c) ≡ false → b < c
   above b c e f = grind (arith, nat_tests)
 
-  pub row_goes_on : (later left : BTreeSet ℕ) (o m n : Option (List ℕ)) (b : ℕ) (told : Option Agreement) → RowSoFar later o m → contains nat_cmp later b ≡ true → IsLowerBound nat_cmp later b → Updates nat_cmp later left b false → IsTold w a b told → Appends m n (told_line w a b told) → RowSoFar left o n
-  row_goes_on later left o m n b told so here least less is put =
-      let line = told_line w a b told in
+  pub row_goes_on : (later left : BTreeSet ℕ) (o m n : Option (List ℕ)) (b : ℕ) (noted : Option Agreement) → RowSoFar later o m → contains nat_cmp later b ≡ true → IsLowerBound nat_cmp later b → Updates nat_cmp later left b false → IsReported w a b noted → Appends m n (reported_line w a b noted) → RowSoFar left o n
+  row_goes_on later left o m n b noted so here least less is put =
+      let line = reported_line w a b noted in
       let in_place = so.left.within b here in
       let from_next : so.next < suc b = in_place.0 in
       let few : b < length w.setups = in_place.1 in
@@ -88,7 +88,7 @@ module _ (w : World) (a : ℕ) where
           ] refl (less.0 c);
         };
         put = Appends-trans o m n so.done line so.put put;
-        rest = λ t r. subst (λ x. IsRowFrom w a (suc a) x) (sym (append_assoc so.done line t)) (so.rest (line ++ t) (skip (b - so.next) so.next b (line ++ t) distance (λ c l k u. let low = not_above b c (least c (so.left.all c l u)) in absurd (omega arith)) (tell_one b t told is r)));
+        rest = λ t r. subst (λ x. IsRowFrom w a (suc a) x) (sym (append_assoc so.done line t)) (so.rest (line ++ t) (skip (b - so.next) so.next b (line ++ t) distance (λ c l k u. let low = not_above b c (least c (so.left.all c l u)) in absurd (omega arith)) (report_one b t noted is r)));
       }
 
   pub row_ends : (later : BTreeSet ℕ) (o n : Option (List ℕ)) → RowSoFar later o n → length later.keys ≡ 0 → (text : List ℕ) × IsRowFrom w a (suc a) text × Appends o n text

@@ -1,4 +1,4 @@
--- THE LINES THAT ARE PRINTED. Their forms stand in docs/PROTOCOL.md, section 8.
+-- THE LINES THAT ARE PRINTED. Their forms stand in docs/RUNNING.md.
 use Rattle.std.specs.Prelude.{ℕ, List, [], ◌∷◌, ◌++◌, codes, decimal, Option, Some, None, slice_get}
 use Rattle.std.specs.Option.{option_map}
 use Rattle.std.specs.List.{concat}

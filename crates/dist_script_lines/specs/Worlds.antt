@@ -23,9 +23,9 @@ nodes_text w = nodes_from w 0 w.setups
 -- ---- what each two nodes have in common
 
 -- WHAT IS RETURNED OF TWO NODES: what they agree on, where each counts the other as up, and nothing where not
-abbrev pub IsTold : World → ℕ → ℕ → Option Agreement → Type 0
-IsTold w a b None = Counts w a b → Counts w b a → ⊥
-IsTold w a b (Some g) = FindsAgreed w a b (Some g)
+abbrev pub IsReported : World → ℕ → ℕ → Option Agreement → Type 0
+IsReported w a b None = Counts w a b → Counts w b a → ⊥
+IsReported w a b (Some g) = FindsAgreed w a b (Some g)
 
 -- the line of what two nodes agree on, if they do
 abbrev pub pair_line : Option Agreement → Option Setup → Option Setup → List ℕ
@@ -35,15 +35,15 @@ pair_line (Some g) (Some a) None = []
 pair_line (Some g) (Some a) (Some b) = agree_line a.name b.name g
 
 -- the line of what is returned of the nodes at two places
-abbrev pub told_line : World → ℕ → ℕ → Option Agreement → List ℕ
-told_line w a b told = pair_line told (slice_get w.setups a) (slice_get w.setups b)
+abbrev pub reported_line : World → ℕ → ℕ → Option Agreement → List ℕ
+reported_line w a b noted = pair_line noted (slice_get w.setups a) (slice_get w.setups b)
 
 -- these are the lines of what is returned of each of these pairs, one behind the other
 abbrev pub AreLinesOf : World → List (ℕ × ℕ) → List ℕ → Type 0
 AreLinesOf w [] text = text ≡ []
 AreLinesOf w (p ∷ ps) text =
-    (told : Option Agreement) × (rest : List ℕ) × IsTold w p.0 p.1 told × AreLinesOf w ps rest
-    × (text ≡ told_line w p.0 p.1 told ++ rest)
+    (noted : Option Agreement) × (rest : List ℕ) × IsReported w p.0 p.1 noted × AreLinesOf w ps rest
+    × (text ≡ reported_line w p.0 p.1 noted ++ rest)
 
 -- the places from a on, this many of them
 abbrev pub places_from : ℕ → ℕ → List ℕ

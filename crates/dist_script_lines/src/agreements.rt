@@ -9,7 +9,7 @@ ghost use Rattle.std.specs.BTreeSet.{contains};
 ghost use Rattle.dist_names.specs.Order.{Name, name_cmp, same_name};
 ghost use Rattle.dist_core_ends.specs.Ends.{table_of};
 ghost use Rattle.dist_world.specs.declared.agreement.Agreement.{Agreement as Found};
-ghost use Rattle.dist_script_lines.specs.Worlds.{IsTold, told_line, pair_line, PutsAgreements};
+ghost use Rattle.dist_script_lines.specs.Worlds.{IsReported, reported_line, pair_line, PutsAgreements};
 ghost use Rattle.dist_script_lines.specs.Later.{ArePlaces, later_at, is_this, AreLater, HasAllFrom, IsRowFrom};
 
 use crate::print;
@@ -124,8 +124,8 @@ fn print_found<W: Write>(
 // What two nodes have in common, where they are up with one another.
 fn print_agreement<W: Write>(world: &World, a: usize, b: usize, out: &mut W) -> io::Result<()>
     requires { a < b }
-    ensures { OnOk result ((told : Option Found) × IsTold world.now a b told
-        × Appends (W.contents out.old) (W.contents out.new) (told_line world.now a b told)) }
+    ensures { OnOk result ((noted : Option Found) × IsReported world.now a b noted
+        × Appends (W.contents out.old) (W.contents out.new) (reported_line world.now a b noted)) }
 {
     let setups = world.setups();
     match world.both_up(a, b) {

@@ -13,7 +13,7 @@ use Rattle.dist_script.specs.Words.{lines_of}
 use Rattle.dist_script.specs.Scripts.{SoFar, nothing, with_line, unless_bad, with_lines, whole, all_good, script_in}
 use Rattle.dist_script.specs.Scripts.Says.{Events, Happenings}
 use Rattle.dist_world_model.specs.declared.happening.Happening.{Happening}
-use Rattle.dist_script.specs.declared.script.Line.{Line}
+use Rattle.dist_script.specs.declared.script.ScriptLine.{ScriptLine}
 use Rattle.dist_world_model.specs.World.{World, empty}
 use Rattle.dist_script_play.specs.Played.{at_first, lines_text, IsFront, fault_said, fault_in}
 use Rattle.dist_script_play.specs.Pages.{IsOfSystem, BreaksOff}
@@ -88,10 +88,10 @@ of_system : (fault : ScriptFault) → IsOfSystem fault → status_of fault ≡ 1
 of_system fault cause = ⊎_elim (λ e. ap status_of e) (λ e. ap status_of e) cause
 
 -- a script of one node was played in part
-pub cut_node : (before after a b : Option (List ℕ)) (text read : List ℕ) (node : Setup) (lines told : List Line) (fault : ScriptFault)
-    → Consumes before after text → IsAtEnd after → length text ≤ 1048576 → read ≡ text → script_in read ≡ Ok (Events node lines) → told ≡ lines → BreaksOff (lines_text (at_first node) told) a b fault
+pub cut_node : (before after a b : Option (List ℕ)) (text read : List ℕ) (node : Setup) (lines reported : List ScriptLine) (fault : ScriptFault)
+    → Consumes before after text → IsAtEnd after → length text ≤ 1048576 → read ≡ text → script_in read ≡ Ok (Events node lines) → reported ≡ lines → BreaksOff (lines_text (at_first node) reported) a b fault
     → Stops before after a b fault
-cut_node before after a b text read node lines told fault taken end few is says same breaks =
+cut_node before after a b text read node lines reported fault taken end few is says same breaks =
     let said : script_in text ≡ Ok (Events node lines) = subst (λ t. script_in t ≡ Ok (Events node lines)) is says in
     let here : BreaksOff (lines_text (at_first node) lines) a b fault = subst (λ ls. BreaksOff (lines_text (at_first node) ls) a b fault) same breaks in
     inl (
@@ -131,10 +131,10 @@ front_of setups hs a b fault breaks =
     (λ x. let y = x.2 in record { front = y.front.front; is = inr (x.0, x.1, y.front.begins); put = y.front.put; cause = y.cause }) breaks
 
 -- a script of several was stopped
-pub stopped_world : (before after a b : Option (List ℕ)) (text read : List ℕ) (setups : List Setup) (happenings told : List Happening) (fault : ScriptFault)
-    → Consumes before after text → IsAtEnd after → length text ≤ 1048576 → read ≡ text → script_in read ≡ Ok (Happenings setups happenings) → told ≡ happenings → StopsWorld setups told a b fault
+pub stopped_world : (before after a b : Option (List ℕ)) (text read : List ℕ) (setups : List Setup) (happenings reported : List Happening) (fault : ScriptFault)
+    → Consumes before after text → IsAtEnd after → length text ≤ 1048576 → read ≡ text → script_in read ≡ Ok (Happenings setups happenings) → reported ≡ happenings → StopsWorld setups reported a b fault
     → Stops before after a b fault
-stopped_world before after a b text read setups happenings told fault taken end few is says same cause =
+stopped_world before after a b text read setups happenings reported fault taken end few is says same cause =
     let said : script_in text ≡ Ok (Happenings setups happenings) = subst (λ t. script_in t ≡ Ok (Happenings setups happenings)) is says in
     let faultless : fault_in text ≡ cond (names_repeat setups) (Some SameName) None = not_long text few ∙ ap fault_said said in
     let here : StopsWorld setups happenings a b fault = subst (λ hs. StopsWorld setups hs a b fault) same cause in

@@ -2,7 +2,7 @@
 use Rattle.std.proofs.Common.{◌≡◌, ◌∙◌, ◌⊎◌, ℕ, zero, suc, ◌+◌, ◌<◌, ◌≤◌, cond, List, [], ◌∷◌, ◌++◌, length, drop, get_or, Option, Some, None, Result, Ok, Err, OnOk, IfErr, false, refl, sym, ap, subst, arith, append_assoc, append-nil}
 use Rattle.std.specs.Io.KnownBytes.{Appends, Consumes, IsAtEnd}
 use Rattle.std.proofs.lemmas.Bool.{le-ltb}
-use Rattle.dist_script.specs.declared.script.Line.{Line}
+use Rattle.dist_script.specs.declared.script.ScriptLine.{ScriptLine}
 use Rattle.dist_script_lines.specs.Lines.{table_text}
 use Rattle.dist_script.specs.Scripts.Says.{Events, Happenings}
 use Rattle.dist_core_setup.specs.declared.setup.Setup.{Setup}
@@ -24,21 +24,21 @@ pub not_long : (script : List ℕ) → length script ≤ 1048576 → fault_in sc
 not_long script few = ap (λ b. cond b (Some TooLong) (fault_said (script_in script))) (le-ltb 1048576 (length script) few)
 
 -- the lines so far, and those of what is left, are those of all
-pub record PlayedSoFar (s0 : Standing) (all : List Line) (old now : Option (List ℕ)) (page left : List ℕ) (s : Standing) (place : ℕ) : Type 0 where
+pub record PlayedSoFar (s0 : Standing) (all : List ScriptLine) (old now : Option (List ℕ)) (page left : List ℕ) (s : Standing) (place : ℕ) : Type 0 where
   pub done : List ℕ
   pub put : Puts done old now page left
   pub text : done ++ lines_text s (drop place all) ≡ lines_text s0 all
 
-pub none_played : (s0 : Standing) (all : List Line) (old : Option (List ℕ)) (page : List ℕ) → PlayedSoFar s0 all old old page page s0 0
+pub none_played : (s0 : Standing) (all : List ScriptLine) (old : Option (List ℕ)) (page : List ℕ) → PlayedSoFar s0 all old old page page s0 0
 none_played s0 all old page = record { done = []; put = puts_none old page; text = refl }
 
-one_line : (s : Standing) (all : List Line) (place : ℕ) (d : Line) → place < length all → lines_text s (drop place all) ≡ line_text s (get_or all place d) ++ lines_text (after_line s (get_or all place d)) (drop (suc place) all)
+one_line : (s : Standing) (all : List ScriptLine) (place : ℕ) (d : ScriptLine) → place < length all → lines_text s (drop place all) ≡ line_text s (get_or all place d) ++ lines_text (after_line s (get_or all place d)) (drop (suc place) all)
 one_line s [] place d lt = absurd (omega arith)
 one_line s (l ∷ ls) zero d lt = refl
 one_line s (l ∷ ls) (suc place) d lt = one_line s ls place d (omega arith)
 
 -- one more
-pub one_played : (s0 : Standing) (all : List Line) (old mid new : Option (List ℕ)) (page p q : List ℕ) (s : Standing) (place : ℕ) (d : Line) (s2 : Standing)
+pub one_played : (s0 : Standing) (all : List ScriptLine) (old mid new : Option (List ℕ)) (page p q : List ℕ) (s : Standing) (place : ℕ) (d : ScriptLine) (s2 : Standing)
     → PlayedSoFar s0 all old mid page p s place → place < length all → Puts (line_text s (get_or all place d)) mid new p q → s2 ≡ after_line s (get_or all place d)
     → PlayedSoFar s0 all old new page q s2 (place + 1)
 one_played s0 all old mid new page p q s place d s2 so lt put is_after =
@@ -55,34 +55,34 @@ one_played s0 all old mid new page p q s place d s2 so lt put is_after =
     }
 
 -- or a beginning of one more
-pub cut_played : (s0 : Standing) (all : List Line) (old mid new : Option (List ℕ)) (page p q : List ℕ) (s : Standing) (place : ℕ) (d : Line) (fault : ScriptFault)
+pub cut_played : (s0 : Standing) (all : List ScriptLine) (old mid new : Option (List ℕ)) (page p q : List ℕ) (s : Standing) (place : ℕ) (d : ScriptLine) (fault : ScriptFault)
     → PlayedSoFar s0 all old mid page p s place → place < length all → PutsPart (line_text s (get_or all place d)) mid new p q fault → PutsPart (lines_text s0 all) old new page q fault
 cut_played s0 all old mid new page p q s place d fault so lt part =
     let l = get_or all place d in
     part_more old mid new page p q so.done (line_text s l) (lines_text (after_line s l) (drop (suc place) all)) (lines_text s0 all) fault so.put part (ap (λ t. so.done ++ t) (sym (one_line s all place d lt)) ∙ so.text)
 
-no_line : (s : Standing) (all : List Line) (place : ℕ) → length all ≤ place → lines_text s (drop place all) ≡ table_text s.node
+no_line : (s : Standing) (all : List ScriptLine) (place : ℕ) → length all ≤ place → lines_text s (drop place all) ≡ table_text s.node
 no_line s [] zero le = refl
 no_line s [] (suc place) le = refl
 no_line s (l ∷ ls) zero le = absurd (omega arith)
 no_line s (l ∷ ls) (suc place) le = no_line s ls place (omega arith)
 
 -- the table behind all of them
-pub all_played : (s0 : Standing) (all : List Line) (old mid new : Option (List ℕ)) (page p q : List ℕ) (s : Standing) (place : ℕ)
+pub all_played : (s0 : Standing) (all : List ScriptLine) (old mid new : Option (List ℕ)) (page p q : List ℕ) (s : Standing) (place : ℕ)
     → PlayedSoFar s0 all old mid page p s place → length all ≤ place → Puts (table_text s.node) mid new p q → Puts (lines_text s0 all) old new page q
 all_played s0 all old mid new page p q s place so le put =
     subst (λ t. Puts t old new page q) (ap (λ t. so.done ++ t) (sym (no_line s all place le)) ∙ so.text) (puts_more old mid new page p q so.done (table_text s.node) so.put put)
 
 -- or a beginning of it
-pub cut_table : (s0 : Standing) (all : List Line) (old mid new : Option (List ℕ)) (page p q : List ℕ) (s : Standing) (place : ℕ) (fault : ScriptFault)
+pub cut_table : (s0 : Standing) (all : List ScriptLine) (old mid new : Option (List ℕ)) (page p q : List ℕ) (s : Standing) (place : ℕ) (fault : ScriptFault)
     → PlayedSoFar s0 all old mid page p s place → length all ≤ place → PutsPart (table_text s.node) mid new p q fault → PutsPart (lines_text s0 all) old new page q fault
 cut_table s0 all old mid new page p q s place fault so le part =
     part_more old mid new page p q so.done (table_text s.node) [] (lines_text s0 all) fault so.put part (ap (λ t. so.done ++ t) (append-nil (table_text s.node) ∙ sym (no_line s all place le)) ∙ so.text)
 
 -- a script of one node was played
-pub of_events : (script read : List ℕ) (node : Setup) (lines told : List Line) (before after a b : Option (List ℕ))
-    → Consumes before after script → IsAtEnd after → length script ≤ 1048576 → read ≡ script → script_in read ≡ Ok (Events node lines) → told ≡ lines → Appends a b (lines_text (at_first node) told) → Plays before after a b
-of_events script read node lines told before after a b taken end few is says same put =
+pub of_events : (script read : List ℕ) (node : Setup) (lines reported : List ScriptLine) (before after a b : Option (List ℕ))
+    → Consumes before after script → IsAtEnd after → length script ≤ 1048576 → read ≡ script → script_in read ≡ Ok (Events node lines) → reported ≡ lines → Appends a b (lines_text (at_first node) reported) → Plays before after a b
+of_events script read node lines reported before after a b taken end few is says same put =
     let said : script_in script ≡ Ok (Events node lines) = subst (λ t. script_in t ≡ Ok (Events node lines)) is says in
     record {
       script = script;
@@ -94,9 +94,9 @@ of_events script read node lines told before after a b taken end few is says sam
     }
 
 -- a script of several was played
-pub of_happenings : (script read : List ℕ) (nodes : List Setup) (happenings told : List Happening) (before after a b : Option (List ℕ))
-    → Consumes before after script → IsAtEnd after → length script ≤ 1048576 → read ≡ script → script_in read ≡ Ok (Happenings nodes happenings) → told ≡ happenings → names_repeat nodes ≡ false → PutsWorld nodes told a b → Plays before after a b
-of_happenings script read nodes happenings told before after a b taken end few is says same names puts =
+pub of_happenings : (script read : List ℕ) (nodes : List Setup) (happenings reported : List Happening) (before after a b : Option (List ℕ))
+    → Consumes before after script → IsAtEnd after → length script ≤ 1048576 → read ≡ script → script_in read ≡ Ok (Happenings nodes happenings) → reported ≡ happenings → names_repeat nodes ≡ false → PutsWorld nodes reported a b → Plays before after a b
+of_happenings script read nodes happenings reported before after a b taken end few is says same names puts =
     let said : script_in script ≡ Ok (Happenings nodes happenings) = subst (λ t. script_in t ≡ Ok (Happenings nodes happenings)) is says in
     let here : PutsWorld nodes happenings a b = subst (λ hs. PutsWorld nodes hs a b) same puts in
     record {
@@ -119,13 +119,13 @@ never_zero fault.WriteFailed e = cc
 never_zero fault.NoMemory e = cc
 
 -- the same of a line that was read off
-pub cut_item : (s0 : Standing) (all : List Line) (old mid new : Option (List ℕ)) (page p q : List ℕ) (s : Standing) (place : ℕ) (x : Line) (fault : ScriptFault)
+pub cut_item : (s0 : Standing) (all : List ScriptLine) (old mid new : Option (List ℕ)) (page p q : List ℕ) (s : Standing) (place : ℕ) (x : ScriptLine) (fault : ScriptFault)
     → PlayedSoFar s0 all old mid page p s place → place < length all → x ≡ get_or all place x → PutsPart (line_text s x) mid new p q fault → PutsPart (lines_text s0 all) old new page q fault
 cut_item s0 all old mid new page p q s place x fault so lt is part =
     cut_played s0 all old mid new page p q s place x fault so lt (subst (λ l. PutsPart (line_text s l) mid new p q fault) is part)
 
 -- all of them were played from the beginning of a node and of a page, and that broke off
-pub node_breaks : {X : Type 0} (played : Result X ScriptFault) (setup : Setup) (lines : List Line) (s : Standing) (a b c : Option (List ℕ)) (p q : List ℕ) (fault : ScriptFault)
+pub node_breaks : {X : Type 0} (played : Result X ScriptFault) (setup : Setup) (lines : List ScriptLine) (s : Standing) (a b c : Option (List ℕ)) (p q : List ℕ) (fault : ScriptFault)
     → s ≡ at_first setup → p ≡ [] → OnOk played (Puts (lines_text s lines) a b p q) → IfErr played (λ f. PutsPart (lines_text s lines) a b p q f) → PutsFront q b c → (fault ≡ WriteFailed) ⊎ (played ≡ Err fault)
     → BreaksOff (lines_text (at_first setup) lines) a c fault
 node_breaks played setup lines s a b c p q fault first none puts part front cause =

@@ -3,7 +3,7 @@ use Rattle.std.proofs.Common.{◌≡◌, ◌∙◌, ℕ, Bool, true, false, cond
 use Rattle.std.specs.Int.{w16}
 use Rattle.std.specs.Io.KnownBytes.{Appends}
 use Rattle.std.proofs.KnownBytes.{Appends-nil, Appends-trans}
-use Rattle.dist_frames.specs.Reader.{Reader, next_body, to_come, without_next, untold, without_count}
+use Rattle.dist_frames.specs.Reader.{Reader, next_body, to_come, without_next, unreported, without_count}
 use Rattle.dist_frames.specs.Reader.Reader.{Short, Linked}
 use Rattle.dist_frames.specs.Stream.{has_first, front, behind, bodies_up_to}
 use Rattle.dist_peers.specs.declared.entry.EndId.{EndId}
@@ -97,11 +97,11 @@ module _ (x : EndId) (fresh : ℕ) (s0 : Standing) (r0 r1 : Reader) (any : Bool)
   abbrev h : Received
   h = received_frames x fresh (to_come r1) s0 r1
 
-  pub put_behind : (c : Option (List ℕ)) (k : ℕ) → k ≡ untold r → Appends b c (packets_text any k) → Appends a c (received_text (received_frames x fresh (to_come r0) s0 r0))
+  pub put_behind : (c : Option (List ℕ)) (k : ℕ) → k ≡ unreported r → Appends b c (packets_text any k) → Appends a c (received_text (received_frames x fresh (to_come r0) s0 r0))
   put_behind c k count put =
-      let line : Appends b c (packets_text (is_said h.text) (untold h.reader)) =
-      subst (λ q. Appends b c (packets_text (is_said h.text) q)) (count ∙ ap untold receives.reader) (subst (λ q. Appends b c (packets_text q k)) receives.any put) in
-      subst (λ q. Appends a c (received_text (received_frames x fresh (to_come q) s0 q))) same (Appends-trans a b c h.text (packets_text (is_said h.text) (untold h.reader)) receives.text line)
+      let line : Appends b c (packets_text (is_said h.text) (unreported h.reader)) =
+      subst (λ q. Appends b c (packets_text (is_said h.text) q)) (count ∙ ap unreported receives.reader) (subst (λ q. Appends b c (packets_text q k)) receives.any put) in
+      subst (λ q. Appends a c (received_text (received_frames x fresh (to_come q) s0 q))) same (Appends-trans a b c h.text (packets_text (is_said h.text) (unreported h.reader)) receives.text line)
 
   pub stand_after : (new : Standing) (r2 : Reader) → r2 ≡ without_count r → new ≡ record { node = s.node; readers = with_reader s.readers x r2 } → new ≡ after_received x (received_frames x fresh (to_come r0) s0 r0)
   stand_after new r2 count is =

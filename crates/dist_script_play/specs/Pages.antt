@@ -1,4 +1,4 @@
--- What is put on a page, and what is written of it.
+-- What is put on a page, and what of it is written.
 use Rattle.std.specs.Prelude.{◌≡◌, ◌⊎◌, ℕ, List, ◌++◌, Option}
 use Rattle.std.specs.Io.{StartsWith}
 use Rattle.std.specs.Io.KnownBytes.{Appends}
@@ -6,7 +6,7 @@ use Rattle.dist_script.specs.Texts.{PutsFront}
 use Rattle.dist_script.specs.declared.fault.ScriptFault.{ScriptFault}
 use Rattle.dist_script.specs.declared.fault.ScriptFault.TheVariants.{WriteFailed, NoMemory}
 
--- A TEXT WAS PUT ON A PAGE: what stood there and the text was written, but for what stands there now
+-- A TEXT WAS PUT ON A PAGE: what is written and what is still on the page are what was on it, and the text
 pub record Puts (text : List ℕ) (old new : Option (List ℕ)) (page left : List ℕ) : Type 0 where
   pub written : List ℕ
   pub put : Appends old new written
@@ -16,15 +16,15 @@ pub record Puts (text : List ℕ) (old new : Option (List ℕ)) (page left : Lis
 abbrev pub IsOfSystem : ScriptFault → Type 0
 IsOfSystem fault = (fault ≡ WriteFailed) ⊎ (fault ≡ NoMemory)
 
--- A BEGINNING OF A TEXT WAS PUT ON A PAGE, until a write failed or memory ran out: what was written and what stands there now
--- begin what stood there and the text
+-- A PREFIX OF A TEXT WAS PUT ON A PAGE, until a write failed or memory ran out: what is written and what is still on the page begin
+-- what was on it and the text
 pub record PutsPart (text : List ℕ) (old new : Option (List ℕ)) (page left : List ℕ) (fault : ScriptFault) : Type 0 where
   pub written : List ℕ
   pub put : Appends old new written
   pub begins : StartsWith (page ++ text) (written ++ left)
   pub cause : IsOfSystem fault
 
--- A BEGINNING OF A TEXT WAS WRITTEN, until a write failed or memory ran out
+-- A PREFIX OF A TEXT WAS WRITTEN, until a write failed or memory ran out
 pub record BreaksOff (text : List ℕ) (old new : Option (List ℕ)) (fault : ScriptFault) : Type 0 where
   pub front : PutsFront text old new
   pub cause : IsOfSystem fault

@@ -1,4 +1,4 @@
--- What the calls of a scene do, by the words of Played.antt.
+-- What the calls of a scene do, in the words of Played.antt.
 use Rattle.std.specs.Prelude.{◌≡◌, ◌⊎◌, ℕ, Bool, true, false, nat_lt, if◌then◌else◌, List, [], ◌++◌, length, Option, Some}
 use Rattle.std.specs.Io.KnownBytes.{Appends, Keeps, Consumes, IsAtEnd}
 use Rattle.dist_frames.specs.Reader.{Reader, without_count}
@@ -16,14 +16,14 @@ use Rattle.dist_script_play.specs.Played.{Standing, Received, received_text, is_
 use Rattle.dist_script_play.specs.Played.{fault_in, happenings_text, closed_now}
 use Rattle.dist_script_play.specs.Pages.{IsOfSystem, Puts, PutsPart, BreaksOff}
 
--- the lines of frames stand behind what stood, whether there is one was returned, and things stand as they do after them
+-- the lines of frames were written, it was returned whether there is one, and the state is that after them
 pub record Receives (h : Received) (some : Bool) (old new : Option (List ℕ)) (s : Standing) (r : Reader) : Type 0 where
   pub text : Appends old new h.text
   pub any : some ≡ is_said h.text
   pub after : s ≡ h.after
   pub reader : r ≡ h.reader
 
--- what stands at the end of a world was put there
+-- the end of a world was written
 abbrev pub PutsEnd : World → ℕ → ℕ → Option (List ℕ) → Option (List ℕ) → Type 0
 PutsEnd w applied all old new = (text : List ℕ) × IsEnd w applied all text × Appends old new text
 
@@ -31,36 +31,36 @@ PutsEnd w applied all old new = (text : List ℕ) × IsEnd w applied all text ×
 abbrev pub PutsEndOn : World → ℕ → ℕ → Option (List ℕ) → Option (List ℕ) → List ℕ → List ℕ → Type 0
 PutsEndOn w applied all old new page left = (text : List ℕ) × IsEnd w applied all text × Puts text old new page left
 
--- nothing of it was, or a beginning
+-- nothing of it was put on a page, or a prefix of it
 abbrev pub PutsEndPart : World → ℕ → ℕ → Option (List ℕ) → Option (List ℕ) → List ℕ → List ℕ → ScriptFault → Type 0
 PutsEndPart w applied all old new page left fault =
     PutsPart [] old new page left fault ⊎ ((text : List ℕ) × IsEnd w applied all text × PutsPart text old new page left fault)
 
--- what stands at the end of a world once this happened there
+-- the end of a world, after these happenings
 abbrev pub IsEndAfter : World → List Happening → List ℕ → Type 0
 IsEndAfter w happenings text = IsEnd (run happenings w) (count_applied happenings w) (length happenings) text
 
--- what happenings print from this world on, and what stands at the end, was put on a page
+-- what happenings print, from this world on, and the end were put on a page
 abbrev pub PutsFrom : World → List Happening → Option (List ℕ) → Option (List ℕ) → List ℕ → List ℕ → Type 0
 PutsFrom w happenings old new page left = (end : List ℕ) × IsEndAfter w happenings end × Puts (happenings_text w happenings ++ end) old new page left
 
--- a beginning of what they print was, or one of all
+-- a prefix of what they print, or of all of it, was put there
 abbrev pub PutsFromPart : World → List Happening → Option (List ℕ) → Option (List ℕ) → List ℕ → List ℕ → ScriptFault → Type 0
 PutsFromPart w happenings old new page left fault =
     PutsPart (happenings_text w happenings) old new page left fault
     ⊎ ((end : List ℕ) × IsEndAfter w happenings end × PutsPart (happenings_text w happenings ++ end) old new page left fault)
 
--- what happenings between nodes of these setups print was put there
+-- what happenings print, between nodes of these setups, was written
 abbrev pub PutsWorld : List Setup → List Happening → Option (List ℕ) → Option (List ℕ) → Type 0
 PutsWorld setups happenings old new = (text : List ℕ) × IsOfWorld setups happenings text × Appends old new text
 
--- a beginning of it was
+-- a prefix of it was written
 abbrev pub BreaksWorld : List Setup → List Happening → Option (List ℕ) → Option (List ℕ) → ScriptFault → Type 0
 BreaksWorld setups happenings old new fault =
     BreaksOff (happenings_text (empty setups) happenings) old new fault
     ⊎ ((text : List ℕ) × IsOfWorld setups happenings text × BreaksOff text old new fault)
 
--- A SCRIPT WAS PLAYED: it was read to the end of the input, it has no fault, and what it prints was put there
+-- A SCRIPT WAS PLAYED: it was read to the end of the input, has no fault, and what it prints was written
 pub record Plays (before after old new : Option (List ℕ)) : Type 0 where
   pub script : List ℕ
   pub text : List ℕ
@@ -69,8 +69,8 @@ pub record Plays (before after old new : Option (List ℕ)) : Type 0 where
   pub printed : IsPlayed script text
   pub put : Appends old new text
 
--- A SCRIPT IS AT FAULT: what was read has this fault, the end of the input was reached unless it is too long, and nothing was put
--- there
+-- A SCRIPT IS AT FAULT: what was read has this fault, the end of the input was reached unless the script is too long, and nothing was
+-- written
 pub record IsBad (before after old new : Option (List ℕ)) (fault : ScriptFault) : Type 0 where
   pub script : List ℕ
   pub taken : Consumes before after script
@@ -78,15 +78,15 @@ pub record IsBad (before after old new : Option (List ℕ)) (fault : ScriptFault
   pub fault_is : fault_in script ≡ Some fault
   pub kept : Keeps old new
 
--- A SCRIPT WAS NOT PLAYED: this was read, a read failed or memory ran out, and nothing was put there
+-- A SCRIPT WAS NOT PLAYED: this was read, a read failed or memory ran out, and nothing was written
 pub record IsUnplayed (before after old new : Option (List ℕ)) (fault : ScriptFault) : Type 0 where
   pub read : List ℕ
   pub taken : Consumes before after read
   pub cause : (fault ≡ ReadFailed) ⊎ (fault ≡ NoMemory)
   pub kept : Keeps old new
 
--- A SCRIPT WAS PLAYED IN PART: it was read to the end of the input, it has no fault, and a beginning of what it prints was put
--- there, until a write failed or memory ran out
+-- A SCRIPT WAS PLAYED IN PART: it was read to the end of the input, has no fault, and a prefix of what it prints was written, until a
+-- write failed or memory ran out
 pub record PlaysPart (before after old new : Option (List ℕ)) (fault : ScriptFault) : Type 0 where
   pub script : List ℕ
   pub front : List ℕ
@@ -96,22 +96,22 @@ pub record PlaysPart (before after old new : Option (List ℕ)) (fault : ScriptF
   pub printed : IsPlayedPart script front
   pub put : Appends old new front
 
--- THE PLAYING OF A SCRIPT IS CUT: before it began, or later
+-- THE PLAYING OF A SCRIPT IS CUT SHORT: before it began, or later
 abbrev pub IsCut : Option (List ℕ) → Option (List ℕ) → Option (List ℕ) → Option (List ℕ) → ScriptFault → Type 0
 IsCut before after old new fault = IsUnplayed before after old new fault ⊎ PlaysPart before after old new fault
 
--- a fault that stops the playing of a script: it is cut, with status 1, or at fault
+-- a fault that stops the playing of a script: it is cut short, with status 1, or the script is at fault, with status 2
 abbrev pub Stops : Option (List ℕ) → Option (List ℕ) → Option (List ℕ) → Option (List ℕ) → ScriptFault → Type 0
 Stops before after old new fault =
     ((status_of fault ≡ 1) × IsCut before after old new fault) ⊎ ((status_of fault ≡ 2) × IsBad before after old new fault)
 
--- a fault that stops the playing of several nodes: two of them have one name, and nothing was put there; or no two have, and what
--- they print breaks off
+-- a fault that stops the playing of several nodes: two of them have one name, and nothing was written; or no two have, and just a part
+-- of what they print was written
 abbrev pub StopsWorld : List Setup → List Happening → Option (List ℕ) → Option (List ℕ) → ScriptFault → Type 0
 StopsWorld setups happenings old new fault =
     ((fault ≡ SameName) × (names_repeat setups ≡ true) × Keeps old new)
     ⊎ ((names_repeat setups ≡ false) × BreaksWorld setups happenings old new fault)
 
--- the line of the end that the last happening closed, where one applied
+-- the line of the end that the last happening closed, if one applied
 abbrev pub closed_after : ℕ → Option (ℕ × (EndId × Why)) → List ℕ
 closed_after applied closed = if nat_lt 0 applied then closed_now closed else []

@@ -1,7 +1,7 @@
-//! The command `enact`: plays a script to one node or to a world of several, and prints what comes of it.
+//! The command `enact`: plays a script with one node, or with a world of several, and prints the result.
 //!
-//! Nothing here opens a file or a socket, or reads a clock: the script comes from any reader, and what it prints goes to any
-//! writer. What is printed is in docs/PROTOCOL.md, section 8; its lines are those of `dist_script_lines`.
+//! It opens no file and no socket, and reads no clock: it reads the script from any reader, and prints to any writer. docs/RUNNING.md
+//! has what is printed; the lines are those of `dist_script_lines`.
 #![tactic(auto)]
 
 mod page;
@@ -11,4 +11,4 @@ mod scene;
 mod stage;
 
 pub use playing::enact;
-pub use scene::Scene;
+pub use scene::NodeScene;

@@ -1,4 +1,4 @@
-//! The page on which stands what is printed, until it is long or whole.
+//! A page collects what is printed, until it is long or complete.
 
 ghost use Rattle.std.specs.Prelude.{◌≡◌, ◌⊎◌, [], IsOk, OnOk, IfErr, Err};
 ghost use Rattle.std.specs.Io.KnownBytes.{Appends};
@@ -10,10 +10,10 @@ use dist_script::{ScriptFault, or_write_failed, put_bytes};
 use std::alloc::Global;
 use std::io::Write;
 
-/// From this many bytes on a page is written out.
+/// A page of this many bytes is written out.
 const LONG: usize = 8192;
 
-/// What was put on a page: that fails only where memory runs out.
+/// The result of putting a text on a page: the only fault is out of memory.
 pub fn on_page(put: Result<(), ScriptFault>) -> Result<(), ScriptFault>
     ensures ok { OnOk result (IsOk put) }
     ensures fault { IfErr result (λ fault. fault ≡ NoMemory) }
@@ -24,28 +24,27 @@ pub fn on_page(put: Result<(), ScriptFault>) -> Result<(), ScriptFault>
     }
 }
 
-/// What is printed and was not written out yet, and the line that is put together. A line goes onto the page whole, or not at
-/// all where memory runs out.
+/// What is printed but not yet written, and the line being made. A line is put on the page whole, or not at all if memory runs out.
 #[derive(Drop)]
-pub struct Page {
-    /// What was printed.
+pub struct Printout {
+    /// What is printed.
     pub text: Vec<u8>,
-    /// The line that comes next.
+    /// The next line.
     pub line: Vec<u8>,
 }
 
-impl Page {
-    /// A page on which nothing stands. It takes no memory.
-    pub fn new(alloc: Global) -> Page
+impl Printout {
+    /// An empty page. It takes no memory.
+    pub fn new(alloc: Global) -> Printout
         ensures { result.text.items ≡ [] }
     {
-        Page {
+        Printout {
             text: Vec::new(alloc),
             line: Vec::new(alloc),
         }
     }
 
-    // Writes the page out, which is empty then, also where that failed: what was written of it is not written again.
+    // Writes the page out, and empties it even if that fails: nothing is written twice.
     #[tactic(auto, using(crate::proofs::Pages::there, dist_script::proofs::Fronts::front_either))]
     fn write_out<W: Write>(&mut self, out: &mut W) -> Result<(), ScriptFault>
         ensures text { OnOk result (Appends (W.contents out.old) (W.contents out.new) self.old.text.items) }
@@ -59,7 +58,7 @@ impl Page {
         Ok(())
     }
 
-    /// Puts the line behind what stands on the page, and writes a long page out.
+    /// Puts the line on the page, and writes the page out if it is long.
     #[tactic(auto, using(crate::proofs::Pages::line_put))]
     pub fn put_line<W: Write>(&mut self, out: &mut W) -> Result<(), ScriptFault>
         ensures text { OnOk result (Puts self.old.line.items (W.contents out.old) (W.contents out.new) self.old.text.items self.new.text.items) }
@@ -74,7 +73,7 @@ impl Page {
         Ok(())
     }
 
-    /// Writes out what stands on the page at the end, also where the playing stopped. Returns the first fault.
+    /// Writes out the page at the end, even if the playing stopped early. Returns the first fault.
     #[tactic(auto, using(crate::proofs::Pages::there, crate::proofs::Pages::flushed, crate::proofs::Pages::front_flushed))]
     pub fn finish<W: Write>(
         &mut self,

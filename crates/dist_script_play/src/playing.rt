@@ -1,4 +1,4 @@
-//! The command `enact`: a script from the input, what comes of it on the output.
+//! The command `enact`: reads a script from the input, and prints the result.
 
 ghost use Rattle.std.specs.Prelude.{◌≡◌, ◌≤◌, false, OnOk, IfErr};
 ghost use Rattle.std.specs.Io.KnownBytes.{Appends, Keeps};
@@ -11,22 +11,22 @@ ghost use Rattle.dist_script_play.specs.Played.{at_first, line_text, after_line,
 ghost use Rattle.dist_script_play.specs.Pages.{Puts, PutsPart, BreaksOff};
 ghost use Rattle.dist_script_play.specs.Scenes.{PutsWorld, Plays, IsBad, IsCut, Stops, StopsWorld};
 
-use crate::page::{Page, on_page};
-use crate::scene::Scene;
+use crate::page::{Printout, on_page};
+use crate::scene::NodeScene;
 use crate::stage;
 use dist_core::Setup;
-use dist_script::{Line, Script, ScriptFault, read_text, script_of};
+use dist_script::{Script, ScriptFault, ScriptLine, read_text, script_of};
 use dist_world::Happening;
 use std::alloc::Global;
 use std::io::{Read, Write};
 
-// What comes of a line.
+// Plays a line.
 #[tactic(auto, using(crate::proofs::Pages::text_put))]
 fn play_line<W: Write>(
     alloc: Global,
-    scene: &mut Scene,
-    line: &Line,
-    page: &mut Page,
+    scene: &mut NodeScene,
+    line: &ScriptLine,
+    page: &mut Printout,
     out: &mut W,
 ) -> Result<(), ScriptFault>
     ensures text { OnOk result (Puts (line_text scene.old line.now)
@@ -41,9 +41,13 @@ fn play_line<W: Write>(
     Ok(())
 }
 
-// The table of the node.
+// Prints the table of the node.
 #[tactic(auto, using(crate::proofs::Pages::text_put))]
-fn print_table<W: Write>(scene: &Scene, page: &mut Page, out: &mut W) -> Result<(), ScriptFault>
+fn print_table<W: Write>(
+    scene: &NodeScene,
+    page: &mut Printout,
+    out: &mut W,
+) -> Result<(), ScriptFault>
     ensures text { OnOk result (Puts (table_text scene.now.node) (W.contents out.old) (W.contents out.new) page.old.text.items page.new.text.items) }
     ensures cut { IfErr result (λ fault. PutsPart (table_text scene.now.node)
         (W.contents out.old) (W.contents out.new) page.old.text.items page.new.text.items fault) }
@@ -54,13 +58,13 @@ fn print_table<W: Write>(scene: &Scene, page: &mut Page, out: &mut W) -> Result<
     Ok(())
 }
 
-// What one node is given, and its table at the end.
+// Plays all lines of one node, and prints its table.
 #[tactic(auto, using(crate::proofs::Lines::lines_in_turn))]
 fn play_lines<W: Write>(
     alloc: Global,
-    scene: &mut Scene,
-    lines: &[Line],
-    page: &mut Page,
+    scene: &mut NodeScene,
+    lines: &[ScriptLine],
+    page: &mut Printout,
     out: &mut W,
 ) -> Result<(), ScriptFault>
     ensures text { OnOk result (Puts (lines_text scene.old lines.now)
@@ -75,24 +79,30 @@ fn play_lines<W: Write>(
     Ok(())
 }
 
-// Plays a script of one node. What was printed until a fault is written out.
+// Plays a script of one node. If a fault stops it, what was printed before is written out.
 #[tactic(auto, using(crate::proofs::Pages::there, crate::proofs::Pages::whole, crate::proofs::Pages::breaks_off))]
 fn play_node<W: Write>(
     alloc: Global,
     node: Setup,
-    lines: &[Line],
+    lines: &[ScriptLine],
     out: &mut W,
 ) -> Result<(), ScriptFault>
     ensures text { OnOk result (Appends (W.contents out.old) (W.contents out.new) (lines_text (at_first node) lines.now)) }
     ensures cut { IfErr result (BreaksOff (lines_text (at_first node) lines.now) (W.contents out.old) (W.contents out.new)) }
 {
-    let mut page = Page::new(alloc);
-    let played = play_lines(alloc, &mut Scene::new(alloc, node), lines, &mut page, out);
+    let mut page = Printout::new(alloc);
+    let played = play_lines(
+        alloc,
+        &mut NodeScene::new(alloc, node),
+        lines,
+        &mut page,
+        out,
+    );
     page.finish(played, out)?;
     Ok(())
 }
 
-// Plays a script of several nodes. What was printed until a fault is written out.
+// Plays a script of several nodes. If a fault stops it, what was printed before is written out.
 #[tactic(auto, using(crate::proofs::Faults::same_name, crate::proofs::Faults::of_world))]
 fn play_nodes<W: Write>(
     alloc: Global,
@@ -105,7 +115,7 @@ fn play_nodes<W: Write>(
     ensures fault { IfErr result (StopsWorld nodes.items happenings.now (W.contents out.old) (W.contents out.new)) }
 {
     let mut world = stage::world_of(alloc, nodes)?;
-    let mut page = Page::new(alloc);
+    let mut page = Printout::new(alloc);
     let played = stage::play(alloc, &mut world, happenings, &mut page, out);
     page.finish(played, out)?;
     Ok(())
@@ -130,13 +140,13 @@ fn perform<R: Read, W: Write>(alloc: Global, input: &mut R, out: &mut W) -> Resu
     }
 }
 
-/// Reads a script, checks it whole, and plays it. With one node it prints for each line what the node answers, and the table
-/// at the end; with several it prints which ends the happenings close, and at the end how the world stands. Returns the
-/// exit status: 0, 2 for a script that is no script, 1 for another fault. A fault is reported on `err`.
+/// Reads a script, checks all of it, and plays it. With one node it prints what the node answers to each line, and the table at the
+/// end; with several it prints which ends the happenings close, and the state of the world at the end. Returns the exit status: 0, 2
+/// for a text that is not a script, 1 for another fault. A fault is reported on `err`.
 ///
-/// The first fault is reported: a read that failed, a script above 1,048,576 bytes, its first bad line, no node, two nodes of
-/// one name. Until then nothing is written. A write that fails, or memory that runs out, stops the run, and what was written
-/// until then is the beginning of the whole output. What is printed is written out once 8,192 bytes of it are there.
+/// The first fault is reported: a read that failed, a script above 1,048,576 bytes, its first bad line, no node, two nodes with one
+/// name. Until then nothing is written. If a write fails, or memory runs out, the run stops, and a prefix of the whole output was
+/// written. Output is written once there are 8,192 bytes of it.
 #[tactic(auto, using(crate::proofs::Lines::never_zero, crate::proofs::Pages::kept, crate::proofs::Faults::is_bad, crate::proofs::Faults::is_cut))]
 pub fn enact<R: Read, W: Write, E: Write>(
     alloc: Global,
@@ -146,23 +156,22 @@ pub fn enact<R: Read, W: Write, E: Write>(
 ) -> u8
     ensures status { result ≤ 2 }
 
-    // With status 0 the input was read to its end, what was read is a script without a fault, and what was printed is what
-    // that script prints.
+    // With status 0 the input was read to its end and is a script without a fault, and just what that script prints was printed.
     ensures played { result ≡ 0 → Plays (R.remaining input.old) (R.remaining input.new) (W.contents out.old) (W.contents out.new) }
     ensures silent { result ≡ 0 → Keeps (E.contents err.old) (E.contents err.new) }
 
-    // With status 2 what was read has a fault, whose line is reported, and nothing was printed. Where `err` fails, a beginning of
-    // the line stands there.
+    // With status 2 what was read has a fault, whose line is reported, and nothing was printed. If `err` fails, a prefix of the line
+    // was written.
     ensures bad { result ≡ 2 → (fault : Fault) × IsBad (R.remaining input.old) (R.remaining input.new) (W.contents out.old) (W.contents out.new) fault
         × PutsFront (fault_line fault) (E.contents err.old) (E.contents err.new) }
 
-    // With status 1 a read or a write failed, or memory ran out, which is reported. Either nothing was printed; or what was read
-    // is a script without a fault, and a beginning of what that script prints was.
+    // With status 1 a read or a write failed, or memory ran out, which is reported. Either nothing was printed; or what was read is a
+    // script without a fault, and a prefix of what it prints was.
     ensures cut { result ≡ 1 → (fault : Fault) × IsCut (R.remaining input.old) (R.remaining input.new) (W.contents out.old) (W.contents out.new) fault
         × (status_of fault ≡ 1) × PutsFront (fault_line fault) (E.contents err.old) (E.contents err.new) }
 {
     match perform(alloc, input, out) {
         Ok(()) => 0,
-        Err(fault) => fault.tell(err),
+        Err(fault) => fault.report_to(err),
     }
 }

@@ -13,11 +13,10 @@ use std::alloc::{AllocError, Global};
 use std::collections::BTreeMap;
 use std::marker::Model;
 
-/// A reader for each end to which bytes came. Contracts see a finite map from the ends' numbers to readers, by its rows in
-/// order.
+/// A reader for each end that has received bytes. Contracts see a finite map from the ends' numbers to readers, as rows in order.
 #[derive(Drop)]
 pub struct Readers {
-    // The reader that was used last, and its end's number. What comes next is mostly for the same end.
+    // The reader used last, and its end's number. The next bytes are mostly for the same end.
     last: Option<(u32, Frames)>,
     // The others.
     kept: BTreeMap<u32, Frames>,
@@ -33,7 +32,7 @@ impl Model for Readers {
     ghost view = { λ r. with_last r.kept.entries r.last };
 }
 
-// Takes the reader that was used last out, where it is that of this end.
+// Takes out the reader used last, if it is this end's.
 fn take_last(last: &mut Option<(u32, Frames)>, end_: EndId) -> Option<Frames>
     ensures { MatchOption result ((last.new ≡ last.old) × IsOfOther last.old end_.0)
         (λ reader. (last.new ≡ None) × (last.old ≡ Some (end_.0, reader))) }
@@ -49,7 +48,7 @@ fn take_last(last: &mut Option<(u32, Frames)>, end_: EndId) -> Option<Frames>
 }
 
 impl Readers {
-    /// No bytes came. It takes no memory.
+    /// No bytes yet. It takes no memory.
     pub fn new(alloc: Global) -> Readers
         ensures { result ≡ [] }
     {
@@ -59,7 +58,7 @@ impl Readers {
         }
     }
 
-    // Takes the reader of this end out, where one is kept.
+    // Takes out the reader of this end, if one is kept.
     #[tactic(auto, using(crate::proofs::Kept::removed))]
     fn remove(&mut self, end_: EndId) -> Option<Frames>
         ensures reader { result ≡ lookup (is_at (nat_cmp end_.0)) self.old }
@@ -73,7 +72,7 @@ impl Readers {
         }
     }
 
-    /// Takes the reader of this end out; a new one where none is kept.
+    /// Takes out the reader of this end, or makes a new one if none is kept.
     pub fn take(&mut self, alloc: Global, end_: EndId) -> Frames
         ensures reader { result ≡ reader_of self.old end_ }
         ensures rest { self.new ≡ without_reader self.old end_ }

@@ -15,20 +15,20 @@ use dist_core::{Event, Node, Reply, Setup, StepError, Still, Why};
 use dist_frames::{Frames, tick};
 use dist_names::ByteString;
 use dist_peers::EndId;
-use dist_script::{Line, ScriptFault, or_write_failed};
+use dist_script::{ScriptFault, ScriptLine, or_write_failed};
 use dist_script_lines::print;
 use std::alloc::Global;
 use std::io::Write;
 use std::marker::Model;
 
-/// The node, and a reader for each end to which bytes came.
+/// The node, and a reader for each end that has received bytes.
 #[derive(Drop)]
-pub struct Scene {
+pub struct NodeScene {
     node: Node,
     readers: Readers,
 }
 
-impl Model for Scene {
+impl Model for NodeScene {
     ghost use Rattle.dist_script_play.specs.Played.{Standing};
 
     ghost Value = { Standing };
@@ -57,7 +57,7 @@ fn is_end(end_: EndId, closed: Option<(EndId, Why)>) -> bool
     }
 }
 
-// What follows a frame of this end, by the reply to it, if it was not refused.
+// What follows a frame of this end, by the reply to it, which is `None` if the frame was refused.
 fn then_after(end_: EndId, reply: &Option<Reply>) -> Then
     ensures { result ≡ then_on end_ reply.now }
 {
@@ -84,7 +84,7 @@ fn print_refusal<W: Write>(error: StepError, out: &mut W) -> Result<(), ScriptFa
     }
 }
 
-// Prints what a step returned by which nothing came up.
+// Prints the reply of a step that brought no end up.
 #[inline(never)]
 fn print_brief<W: Write>(
     out: &mut W,
@@ -98,7 +98,7 @@ fn print_brief<W: Write>(
     or_write_failed(print::brief_reply(out, id, say, closed))
 }
 
-// What a reader does once a frame of its end was given to the node.
+// Prepares a reader for what follows, after a frame of its end was given to the node.
 fn go_on(alloc: Global, reader: &mut Frames, then: Then)
     ensures reader { reader.new ≡ reader_on then reader.old }
     ensures fewer { length (to_come reader.new) ≤ length (to_come reader.old) }
@@ -110,7 +110,7 @@ fn go_on(alloc: Global, reader: &mut Frames, then: Then)
     }
 }
 
-// Prints what stands behind the lines of the frames.
+// Prints what follows the lines of the frames.
 fn print_packets<W: Write>(any: bool, skipped: usize, out: &mut W) -> Result<(), ScriptFault>
     ensures { OnOk result (Appends (W.contents out.old) (W.contents out.new) (packets_text any skipped)) }
 {
@@ -123,36 +123,36 @@ fn print_packets<W: Write>(any: bool, skipped: usize, out: &mut W) -> Result<(),
     }
 }
 
-impl Scene {
-    /// A node that was given nothing yet.
-    pub fn new(alloc: Global, setup: Setup) -> Scene
+impl NodeScene {
+    /// A new node.
+    pub fn new(alloc: Global, setup: Setup) -> NodeScene
         ensures { result ≡ at_first setup }
     {
-        Scene {
+        NodeScene {
             node: Node::new(alloc, setup),
             readers: Readers::new(alloc),
         }
     }
 
-    /// Gives the node what a line says, and prints what comes of it.
+    /// Gives the node what a line says, and prints the result.
     pub fn play<W: Write>(
         &mut self,
         alloc: Global,
-        line: &Line,
+        line: &ScriptLine,
         out: &mut W,
     ) -> Result<(), ScriptFault>
         ensures text { OnOk result (Appends (W.contents out.old) (W.contents out.new) (line_text self.old line.now)) }
         ensures after { OnOk result (self.new ≡ after_line self.old line.now) }
     {
         match line {
-            Line::Event(Event::Incoming { link }) => self.accept(*link, out),
-            Line::Event(Event::Lost { end_, why }) => self.lose(*end_, *why, out),
-            Line::Event(Event::Tick { end_ }) => self.tick(*end_, out),
-            Line::Event(event) => {
+            ScriptLine::Event(Event::Incoming { link }) => self.accept(*link, out),
+            ScriptLine::Event(Event::Lost { end_, why }) => self.lose(*end_, *why, out),
+            ScriptLine::Event(Event::Tick { end_ }) => self.tick(*end_, out),
+            ScriptLine::Event(event) => {
                 self.step(alloc, event, 0, out)?;
                 Ok(())
             }
-            Line::Bytes { end_, bytes, fresh } => match self.node.still(*end_) {
+            ScriptLine::Bytes { end_, bytes, fresh } => match self.node.still(*end_) {
                 Still::NoSuchEnd => print_refusal(StepError::NoSuchEnd, out),
                 Still::Gone(why) => print_refusal(StepError::Gone(why), out),
                 Still::Pending | Still::Up => self.receive(alloc, *end_, bytes, *fresh, out),
@@ -167,7 +167,7 @@ impl Scene {
         or_write_failed(print::table(out, &self.node))
     }
 
-    // A connection that came.
+    // Reports a connection to the node.
     #[tactic(auto, using(crate::proofs::Steps::returned_or_refused))]
     fn accept<W: Write>(&mut self, _link: u64, out: &mut W) -> Result<(), ScriptFault>
         ensures text { OnOk result (Appends (W.contents out.old) (W.contents out.new) (step_text (step self.old.node (Event.Incoming _link) 0))) }
@@ -179,7 +179,7 @@ impl Scene {
         }
     }
 
-    // The loss of an end, whose reader is dropped.
+    // Reports the loss of an end, and drops its reader.
     #[tactic(auto, using(crate::proofs::Steps::returned_or_denied))]
     fn lose<W: Write>(&mut self, end_: EndId, why: Why, out: &mut W) -> Result<(), ScriptFault>
         ensures text { OnOk result (Appends (W.contents out.old) (W.contents out.new) (step_text (step self.old.node (Event.Lost end_ why) 0))) }
@@ -195,7 +195,7 @@ impl Scene {
         }
     }
 
-    // A tick of an end.
+    // Reports that a tick is due on an end.
     #[tactic(auto, using(crate::proofs::Steps::returned_or_denied))]
     fn tick<W: Write>(&mut self, end_: EndId, out: &mut W) -> Result<(), ScriptFault>
         ensures text { OnOk result (Appends (W.contents out.old) (W.contents out.new) (step_text (step self.old.node (Event.Tick end_) 0))) }
@@ -207,7 +207,7 @@ impl Scene {
         }
     }
 
-    // Makes a step and prints what comes of it. Returns the reply, if the step was not refused.
+    // Makes a step and prints the result. Returns the reply, if the step was not refused.
     #[tactic(auto, using(crate::proofs::Steps::refused_text, crate::proofs::Steps::refused_after, crate::proofs::Steps::refused_reply))]
     fn step<W: Write>(
         &mut self,
@@ -245,7 +245,7 @@ impl Scene {
         Ok(())
     }
 
-    // Bytes for an open end.
+    // Gives bytes to an open end.
     #[tactic(auto, using(crate::proofs::Receiving::put_behind, crate::proofs::Receiving::stand_after))]
     fn receive<W: Write>(
         &mut self,
@@ -266,7 +266,7 @@ impl Scene {
         Ok(())
     }
 
-    // Gives the node a frame, and prints what comes of it. Returns what the reader does next.
+    // Gives the node a frame, and prints the result. Returns what follows.
     fn play_frame<W: Write>(
         &mut self,
         alloc: Global,

@@ -1,4 +1,4 @@
-//! A world of nodes in which a script says what happens.
+//! A world of nodes in which the happenings of a script happen.
 
 ghost use Rattle.std.specs.Prelude.{◌≡◌, true, false, length, IfOk, IfErr, OnOk};
 ghost use Rattle.std.specs.Io.KnownBytes.{Appends};
@@ -9,7 +9,7 @@ ghost use Rattle.dist_script_play.specs.Played.{closed_now, happenings_text};
 ghost use Rattle.dist_script_play.specs.Pages.{Puts, PutsPart};
 ghost use Rattle.dist_script_play.specs.Scenes.{closed_after, PutsEnd, PutsEndOn, PutsEndPart, PutsFrom, PutsFromPart};
 
-use crate::page::{Page, on_page};
+use crate::page::{Printout, on_page};
 use dist_core::Setup;
 use dist_script::{ScriptFault, or_write_failed};
 use dist_script_lines::{print, print_agreements, print_nodes};
@@ -17,7 +17,7 @@ use dist_world::{Happening, World, WorldError};
 use std::alloc::Global;
 use std::io::Write;
 
-/// A world of these nodes, none of which runs yet. No two have one name.
+/// A world of these nodes, none of which runs yet. No two may have one name.
 pub fn world_of(alloc: Global, nodes: Vec<Setup>) -> Result<World, ScriptFault>
     ensures ok { IfOk result (λ w. w ≡ empty nodes.items) }
     ensures names { OnOk result (names_repeat nodes.items ≡ false) }
@@ -30,9 +30,9 @@ pub fn world_of(alloc: Global, nodes: Vec<Setup>) -> Result<World, ScriptFault>
     }
 }
 
-// Puts the end that the last happening closed on the page, where it closed one.
+// Puts the line of the end that the last happening closed on the page, if it closed one.
 #[tactic(auto, using(crate::proofs::Pages::text_put, crate::proofs::Pages::puts_none))]
-fn put_last<W: Write>(world: &World, page: &mut Page, out: &mut W) -> Result<(), ScriptFault>
+fn put_last<W: Write>(world: &World, page: &mut Printout, out: &mut W) -> Result<(), ScriptFault>
     ensures text { OnOk result (Puts (closed_now world.now.last_closed)
         (W.contents out.old) (W.contents out.new) page.old.text.items page.new.text.items) }
     ensures cut { IfErr result (λ fault. PutsPart (closed_now world.now.last_closed)
@@ -47,12 +47,12 @@ fn put_last<W: Write>(world: &World, page: &mut Page, out: &mut W) -> Result<(),
     Ok(())
 }
 
-// The same of a happening of which this many applied.
+// The same, if a happening applied.
 #[tactic(auto, using(crate::proofs::Pages::puts_none))]
 fn put_closed<W: Write>(
     world: &World,
     applied: usize,
-    page: &mut Page,
+    page: &mut Printout,
     out: &mut W,
 ) -> Result<(), ScriptFault>
     ensures text { OnOk result (Puts (closed_after applied world.now.last_closed)
@@ -67,13 +67,13 @@ fn put_closed<W: Write>(
     }
 }
 
-// Lets one thing happen, and puts the end that its step closed on the page. Returns how many applied.
+// Lets one happening happen, and puts the line of the end that its step closed on the page. Returns how many applied.
 #[tactic(auto, using(crate::proofs::Stages::one_puts, crate::proofs::Stages::one_puts_part, crate::proofs::Pages::line_lost))]
 fn happen<W: Write>(
     alloc: Global,
     world: &mut World,
     happening: &[Happening],
-    page: &mut Page,
+    page: &mut Printout,
     out: &mut W,
 ) -> Result<usize, ScriptFault>
     requires { length happening.now ≡ 1 }
@@ -91,13 +91,13 @@ fn happen<W: Write>(
     Ok(applied)
 }
 
-// Lets all this happen, one after the other. Returns how many applied.
+// Lets all these happenings happen, one after the other. Returns how many applied.
 #[tactic(auto, using(crate::proofs::Stages::happenings_in_turn))]
 fn happen_all<W: Write>(
     alloc: Global,
     world: &mut World,
     happenings: &[Happening],
-    page: &mut Page,
+    page: &mut Printout,
     out: &mut W,
 ) -> Result<usize, ScriptFault>
     ensures text { OnOk result (Puts (happenings_text world.old happenings.now)
@@ -118,7 +118,7 @@ fn happen_all<W: Write>(
     Ok(applied)
 }
 
-// How many happenings applied, and how the world stands.
+// Prints how many happenings applied, and the state of the world.
 #[tactic(auto, using(crate::proofs::Worlds::ends))]
 fn print_end<W: Write>(
     alloc: Global,
@@ -135,14 +135,14 @@ fn print_end<W: Write>(
     Ok(())
 }
 
-// The same, on the page.
+// Puts the same on the page.
 #[tactic(auto, using(crate::proofs::Worlds::end_put, crate::proofs::Worlds::end_cut, crate::proofs::Worlds::end_lost))]
 fn put_end<W: Write>(
     alloc: Global,
     world: &World,
     applied: usize,
     all: usize,
-    page: &mut Page,
+    page: &mut Printout,
     out: &mut W,
 ) -> Result<(), ScriptFault>
     ensures text { OnOk result (PutsEndOn world.now applied all (W.contents out.old) (W.contents out.new) page.old.text.items page.new.text.items) }
@@ -154,16 +154,16 @@ fn put_end<W: Write>(
     Ok(())
 }
 
-/// Lets what a script says happen in a world, and prints at once which end each happening closes; at the end how many
-/// applied, how each node stands, and what each two that are up with one another have in common.
+/// Lets the happenings of a script happen in a world, and prints which end each of them closes; at the end how many applied, the state
+/// of each node, and what each pair that is up has in common.
 ///
-/// One happening is one run of the world, so that nothing of it stands where memory runs out.
+/// Each happening is a separate run of the world, so that it has no effect if memory runs out.
 #[tactic(auto, using(crate::proofs::Worlds::plays, crate::proofs::Worlds::cut_early, crate::proofs::Worlds::cut_at_end))]
 pub fn play<W: Write>(
     alloc: Global,
     world: &mut World,
     happenings: &[Happening],
-    page: &mut Page,
+    page: &mut Printout,
     out: &mut W,
 ) -> Result<(), ScriptFault>
     ensures text { OnOk result (PutsFrom world.old happenings.now (W.contents out.old) (W.contents out.new) page.old.text.items page.new.text.items) }

@@ -7,7 +7,7 @@ use Rattle.dist_world_model.specs.Laws.{AllLives, Decided}
 use Rattle.dist_world_model.specs.Run.{run}
 use Rattle.dist_world_model.specs.World.{World, empty}
 use Rattle.dist_world_model.specs.Agreement.{Agreement as NodesAgree, IsReached, AllFit, IsUp, Counts}
-use Rattle.dist_world.specs.Ups.{FindsBoth, FindsAgreed, IsTold, agreement_on}
+use Rattle.dist_world.specs.Ups.{FindsBoth, FindsAgreed, IsReported, agreement_on}
 use Rattle.dist_world.specs.declared.agreement.Agreement.{Agreement}
 
 pub finds_agreed : (w : World) (a b : ℕ) → NodesAgree w → (o : Option Agreement) → FindsBoth w a b o → FindsAgreed w a b o
@@ -27,9 +27,9 @@ reached_after law (Err s) w v hs k after stopped fit so_far = subst IsReached (s
 pub decided_there : ((setups : List Setup) (hs : List Happening) → AllLives Decided (run hs (empty setups))) → (w : World) → IsReached w → AllLives Decided w
 decided_there law w k = subst (AllLives Decided) (sym k.is) (law k.setups k.happenings)
 
-pub told_counted : (w : World) (a b : ℕ) (o : Option Agreement) → ((e f : ℕ) → (u : Counts w e f) → (c : ℕ) × (x : IsUp w e f c) × (x.kept ≡ u.kept))
-    → ((c d : ℕ) (x : IsUp w a b c) (y : IsUp w b a d) → a ≢ b → o ≡ Some (agreement_on c x.kept y.kept)) → (x : Counts w a b) (y : Counts w b a) → a ≢ b → IsTold o x.kept y.kept
-told_counted w a b o linked only x y apart =
+pub notified_counted : (w : World) (a b : ℕ) (o : Option Agreement) → ((e f : ℕ) → (u : Counts w e f) → (c : ℕ) × (x : IsUp w e f c) × (x.kept ≡ u.kept))
+    → ((c d : ℕ) (x : IsUp w a b c) (y : IsUp w b a d) → a ≢ b → o ≡ Some (agreement_on c x.kept y.kept)) → (x : Counts w a b) (y : Counts w b a) → a ≢ b → IsReported o x.kept y.kept
+notified_counted w a b o linked only x y apart =
     let k = linked a b x in
     let m = linked b a y in
     (k.0, only k.0 m.0 k.1 m.1 apart ∙ (λ i. Some (agreement_on k.0 (k.2 i) (m.2 i))))

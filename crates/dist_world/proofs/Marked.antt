@@ -1,4 +1,4 @@
--- An event that is told while a connection changes too: what is said and what changes there do not meet.
+-- An event that a node gets while a connection changes too: what is said and what changes there do not meet.
 use Rattle.std.proofs.Common.{◌≡◌, ℕ, zero, suc, Bool, true, false, cond, not, List, [], ◌∷◌, Option, Some, None, is_some, is_none, Ok, slice_get, refl, ap, sym, ◌∙◌}
 use Rattle.std.specs.Option.{option_map}
 use Rattle.std.specs.Int.{w16}
@@ -15,36 +15,36 @@ use Rattle.dist_world_model.specs.Lists.{at_place}
 use Rattle.dist_world_model.specs.Rows.{EndRow, rows_after}
 use Rattle.dist_world_model.specs.World.{World, Life, Conn, runs, running, row_of_life}
 use Rattle.dist_world_model.specs.Delivery.{says, conns_after_saying, text_to, change_to, body_taken}
-use Rattle.dist_world_model.specs.Happenings.{life_after, tell, without_closing, accept, accepted_by, next_end, take_frame}
+use Rattle.dist_world_model.specs.Happenings.{life_after, notify, without_closing, accept, accepted_by, next_end, take_frame}
 use Rattle.dist_world_model.proofs.Conditions.{there, holds, succeeds}
 use Rattle.dist_world_lives.specs.Stepping.{wire_of, conns_after}
-use Rattle.dist_world_lives.specs.Telling.{event_wire, HasTold}
+use Rattle.dist_world_lives.specs.Notifying.{event_wire, HasNotified}
 use Rattle.dist_world_lives.specs.Wires.{unaccepted_target, front_at}
 use Rattle.dist_world_lives.specs.declared.stepping.LifeStep.{LifeStep}
 use Rattle.dist_world_lives.proofs.Wired.{AreOwn, as_wired}
 
-told_is : (w : World) (i : ℕ) (v : Event) (fresh : ℕ) (l : Life) (r : Reply) (n : NodeState) → slice_get w.lives i ≡ Some l → runs l ≡ true → step l.node v fresh ≡ Ok (r, n)
-    → tell w i v fresh ≡ Some (record w { lives = at_place i (λ old. life_after w.clock v r n l) w.lives; conns = conns_after_saying w.conns (slice_get (rows_after w.clock v r l.rows) r.end_.0) r.say; last_closed = option_map (λ y. (l.who, y)) r.closed })
-told_is w i v fresh l r n at run stepped = there (slice_get w.lives i) l _ at ∙ (holds (runs l) _ run ∙ succeeds (step l.node v fresh) (r, n) _ stepped)
+notified_is : (w : World) (i : ℕ) (v : Event) (fresh : ℕ) (l : Life) (r : Reply) (n : NodeState) → slice_get w.lives i ≡ Some l → runs l ≡ true → step l.node v fresh ≡ Ok (r, n)
+    → notify w i v fresh ≡ Some (record w { lives = at_place i (λ old. life_after w.clock v r n l) w.lives; conns = conns_after_saying w.conns (slice_get (rows_after w.clock v r l.rows) r.end_.0) r.say; last_closed = option_map (λ y. (l.who, y)) r.closed })
+notified_is w i v fresh l r n at run stepped = there (slice_get w.lives i) l _ at ∙ (holds (runs l) _ run ∙ succeeds (step l.node v fresh) (r, n) _ stepped)
 
 swap : (f g : Conn → Conn) → ((x : Conn) → f (g x) ≡ g (f x)) → (cs : List Conn) (i : ℕ) → at_place i f (at_place i g cs) ≡ at_place i g (at_place i f cs)
 swap f g h [] i = refl
 swap f g h (x ∷ cs) zero = ap (λ y. y ∷ cs) (h x)
 swap f g h (x ∷ cs) (suc i) = ap (λ ys. x ∷ ys) (swap f g h cs i)
 
-module _ (are : AreOwn) (w : World) (c i fresh : ℕ) (side : Side) (v : Event) (who : ℕ) (h : LifeStep) (new : List Life) (said : List Conn) (k : HasTold who h i w.clock v fresh w.lives new w.conns said) (wired : event_wire k.life.rows v ≡ Some (side, c)) where
+module _ (are : AreOwn) (w : World) (c i fresh : ℕ) (side : Side) (v : Event) (who : ℕ) (h : LifeStep) (new : List Life) (said : List Conn) (k : HasNotified who h i w.clock v fresh w.lives new w.conns said) (wired : event_wire k.life.rows v ≡ Some (side, c)) where
   said_there : said ≡ at_place c (says side k.reply.say) w.conns
   said_there = k.spoken_ ∙ (as_wired w.clock k.reply k.life.rows w.conns are k.life.node v fresh k.node k.stepped ∙ ap (λ o. conns_after w.conns o k.reply.say) wired)
 
-  pub told_marked : (g : Conn → Conn) → ((s : List ℕ) (x : Conn) → says side s (g x) ≡ g (says side s x)) → tell (record (without_closing w) { conns = at_place c g w.conns }) i v fresh ≡ Some (record { setups = w.setups; lives = new; conns = at_place c g said; clock = w.clock; last_closed = option_map (λ y. (who, y)) h.closed })
-  told_marked g apart =
+  pub notified_marked : (g : Conn → Conn) → ((s : List ℕ) (x : Conn) → says side s (g x) ≡ g (says side s x)) → notify (record (without_closing w) { conns = at_place c g w.conns }) i v fresh ≡ Some (record { setups = w.setups; lives = new; conns = at_place c g said; clock = w.clock; last_closed = option_map (λ y. (who, y)) h.closed })
+  notified_marked g apart =
       let r = k.reply in
       let there : conns_after_saying (at_place c g w.conns) (slice_get (rows_after w.clock v r k.life.rows) r.end_.0) r.say ≡ at_place c g said =
       as_wired w.clock r k.life.rows (at_place c g w.conns) are k.life.node v fresh k.node k.stepped
       ∙ (ap (λ o. conns_after (at_place c g w.conns) o r.say) wired
       ∙ (swap (says side r.say) g (apart r.say) w.conns c ∙ ap (at_place c g) (sym said_there))) in
       let shut : option_map (λ y. (let l = k.life in l.who, y)) r.closed ≡ option_map (λ y. (who, y)) h.closed = λ j. option_map (λ y. (sym k.whose j, y)) (let x : LifeStep = sym k.made j in x.closed) in
-      told_is (record (without_closing w) { conns = at_place c g w.conns }) i v fresh k.life r k.node k.there k.running k.stepped
+      notified_is (record (without_closing w) { conns = at_place c g w.conns }) i v fresh k.life r k.node k.there k.running k.stepped
       ∙ (λ j. Some (record { setups = w.setups; lives = sym k.lived_ j; conns = there j; clock = w.clock; last_closed = shut j }))
 
 -- ---- a connection that is accepted
@@ -65,25 +65,25 @@ leads_to (Some x) target e = by (is_some x.accepted) refl e
     by false is e = record { conn = x; there_ = refl; free = ap not is; leads = cc }
 
 accepting : (w : World) (c target : ℕ) → unaccepted_target (slice_get w.conns c) ≡ Some target
-    → accept (without_closing w) c ≡ tell (record (without_closing w) { conns = at_place c (accepted_by (next_end (slice_get w.lives target))) w.conns }) target (event.Incoming c) 0
+    → accept (without_closing w) c ≡ notify (record (without_closing w) { conns = at_place c (accepted_by (next_end (slice_get w.lives target))) w.conns }) target (event.Incoming c) 0
 accepting w c target e =
     let k = leads_to (slice_get w.conns c) target e in
     let x = k.conn in
     there (slice_get w.conns c) x _ k.there_
     ∙ (holds (is_none x.accepted) _ k.free
-    ∙ ap (λ j. tell (record (without_closing w) { conns = at_place c (accepted_by (next_end (slice_get w.lives j))) w.conns }) j (event.Incoming c) 0) k.leads)
+    ∙ ap (λ j. notify (record (without_closing w) { conns = at_place c (accepted_by (next_end (slice_get w.lives j))) w.conns }) j (event.Incoming c) 0) k.leads)
 
 accepts_apart : (y : ℕ) (s : List ℕ) (x : Conn) → says Acceptor s (accepted_by y x) ≡ accepted_by y (says Acceptor s x)
 accepts_apart y s x = refl
 
-pub accepted_is : AreOwn → (w : World) (c target who : ℕ) (h : LifeStep) (new : List Life) (said : List Conn) → unaccepted_target (slice_get w.conns c) ≡ Some target → HasTold who h target w.clock (event.Incoming c) 0 w.lives new w.conns said
+pub accepted_is : AreOwn → (w : World) (c target who : ℕ) (h : LifeStep) (new : List Life) (said : List Conn) → unaccepted_target (slice_get w.conns c) ≡ Some target → HasNotified who h target w.clock (event.Incoming c) 0 w.lives new w.conns said
     → accept (without_closing w) c ≡ Some (record { setups = w.setups; lives = new; conns = at_place c (accepted_by h.end_.0) said; clock = w.clock; last_closed = option_map (λ y. (who, y)) h.closed })
 accepted_is are w c target who h new said free k =
     let given = are k.life.node (event.Incoming c) 0 k.reply k.node k.stepped in
     let next : next_end (slice_get w.lives target) ≡ h.end_.0 = ap next_end k.there ∙ (ap (λ (x : EndId). x.0) (sym given.0) ∙ ap (λ (x : LifeStep). x.end_.0) (sym k.made)) in
     accepting w c target free
-    ∙ (ap (λ y. tell (record (without_closing w) { conns = at_place c (accepted_by y) w.conns }) target (event.Incoming c) 0) next
-    ∙ told_marked are w c target 0 Acceptor (event.Incoming c) who h new said k refl (accepted_by h.end_.0) (accepts_apart h.end_.0))
+    ∙ (ap (λ y. notify (record (without_closing w) { conns = at_place c (accepted_by y) w.conns }) target (event.Incoming c) 0) next
+    ∙ notified_marked are w c target 0 Acceptor (event.Incoming c) who h new said k refl (accepted_by h.end_.0) (accepts_apart h.end_.0))
 
 -- ---- a body that is taken
 
@@ -115,7 +115,7 @@ has_front None side body e = absurd cc
 has_front (Some x) side body e = record { conn = x; there_ = refl; first = e }
 
 taking : (w : World) (node place c fresh : ℕ) (id : EndId) (side : Side) (body : List ℕ) → running w node ≡ Some place → wire_of (row_of_life (slice_get w.lives place) id.0) ≡ Some (side, c) → front_at (slice_get w.conns c) side ≡ Some body
-    → take_frame (without_closing w) node id fresh ≡ tell (record (without_closing w) { conns = at_place c (change_to side body_taken) w.conns }) place (event.Frame id body) fresh
+    → take_frame (without_closing w) node id fresh ≡ notify (record (without_closing w) { conns = at_place c (change_to side body_taken) w.conns }) place (event.Frame id body) fresh
 taking w node place c fresh id side body run placed first =
     let r = is_wired (row_of_life (slice_get w.lives place) id.0) side c placed in
     let row = r.row in
@@ -126,15 +126,15 @@ taking w node place c fresh id side body run placed first =
     ∙ (there row.conn c _ r.on
     ∙ (there (slice_get w.conns c) x _ k.there_
     ∙ (there (let t = text_to row.side x in first_body w16 t.come) body _ (ap (λ s. (let t = text_to s x in first_body w16 t.come)) r.by_side ∙ k.first)
-    ∙ ap (λ s. tell (record (without_closing w) { conns = at_place c (change_to s body_taken) w.conns }) place (event.Frame id body) fresh) r.by_side))))
+    ∙ ap (λ s. notify (record (without_closing w) { conns = at_place c (change_to s body_taken) w.conns }) place (event.Frame id body) fresh) r.by_side))))
 
 takes_apart : (side : Side) (s : List ℕ) (x : Conn) → says side s (change_to side body_taken x) ≡ change_to side body_taken (says side s x)
 takes_apart Dialler s x = refl
 takes_apart Acceptor s x = refl
 
-module _ (are : AreOwn) (w : World) (node place c fresh : ℕ) (id : EndId) (side : Side) (body : List ℕ) (who : ℕ) (h : LifeStep) (new : List Life) (said : List Conn) (run : running w node ≡ Some place) (placed : wire_of (row_of_life (slice_get w.lives place) id.0) ≡ Some (side, c)) (first : front_at (slice_get w.conns c) side ≡ Some body) (k : HasTold who h place w.clock (event.Frame id body) fresh w.lives new w.conns said) where
+module _ (are : AreOwn) (w : World) (node place c fresh : ℕ) (id : EndId) (side : Side) (body : List ℕ) (who : ℕ) (h : LifeStep) (new : List Life) (said : List Conn) (run : running w node ≡ Some place) (placed : wire_of (row_of_life (slice_get w.lives place) id.0) ≡ Some (side, c)) (first : front_at (slice_get w.conns c) side ≡ Some body) (k : HasNotified who h place w.clock (event.Frame id body) fresh w.lives new w.conns said) where
   wired : event_wire k.life.rows (event.Frame id body) ≡ Some (side, c)
   wired = sym (ap (λ o. wire_of (row_of_life o id.0)) k.there) ∙ placed
 
   pub taken_is : take_frame (without_closing w) node id fresh ≡ Some (record { setups = w.setups; lives = new; conns = at_place c (change_to side body_taken) said; clock = w.clock; last_closed = option_map (λ y. (who, y)) h.closed })
-  taken_is = taking w node place c fresh id side body run placed first ∙ told_marked are w c place fresh side (event.Frame id body) who h new said k wired (change_to side body_taken) (takes_apart side)
+  taken_is = taking w node place c fresh id side body run placed first ∙ notified_marked are w c place fresh side (event.Frame id body) who h new said k wired (change_to side body_taken) (takes_apart side)

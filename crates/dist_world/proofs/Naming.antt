@@ -4,7 +4,7 @@ use Rattle.dist_names.specs.Order.{Name, same_name}
 use Rattle.dist_core_setup.specs.declared.setup.Setup.{Setup}
 use Rattle.dist_world_model.specs.Agreement.{IsSetup}
 use Rattle.dist_world.specs.Setups.{is_named, names_repeat}
-use Rattle.dist_world_lives.proofs.Told.{get_some}
+use Rattle.dist_world_lives.proofs.Notified.{get_some}
 
 pub within : {A : Type 0} (xs : List A) (i : ℕ) (x : A) → slice_get xs i ≡ Some x → i < length xs
 within [] i x e = absurd cc

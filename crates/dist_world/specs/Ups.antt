@@ -46,5 +46,5 @@ FindsAgreed w a b (Some g) = (d : ℕ) × (x : IsUp w a b g.conn) × (y : IsUp w
     × (g.creation_a ≡ known_creation (setup_of y) (setup_of x)) × (g.creation_b ≡ known_creation (setup_of x) (setup_of y))
 
 -- these two records were returned, on whatever connection
-abbrev pub IsTold : Option Agreement → UpRecord → UpRecord → Type 0
-IsTold o here there = (c : ℕ) × (o ≡ Some (agreement_on c here there))
+abbrev pub IsReported : Option Agreement → UpRecord → UpRecord → Type 0
+IsReported o here there = (c : ℕ) × (o ≡ Some (agreement_on c here there))

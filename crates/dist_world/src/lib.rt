@@ -1,7 +1,7 @@
-//! Worlds: several nodes, their incarnations, and the connections between them, as a machine that is given happenings.
+//! Plays worlds: several nodes, their incarnations, and the connections between them. Scripts, the audit and `distnode` use it.
 //!
-//! No sockets, no clock, no threads: a list of happenings says what connects, what is delivered, what is lost, which node is
-//! restarted and which changes its cookies, and the world says what comes of it.
+//! It has no sockets, no clock and no threads: a list of happenings says what connects, what is delivered, what is lost, which node
+//! restarts and which changes its cookies, and the world computes the result.
 #![tactic(auto)]
 
 mod agreement;

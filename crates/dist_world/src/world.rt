@@ -7,7 +7,7 @@ ghost use Rattle.dist_world.specs.Setups.{names_repeat};
 ghost use Rattle.dist_world.specs.Asking.{node_of, said_to, SaidNext, flat_closed};
 ghost use Rattle.dist_world_model.specs.Laws.{AllLives, Decided};
 ghost use Rattle.dist_world_model.specs.Agreement.{Agreement as NodesAgree, Counts, IsUp};
-ghost use Rattle.dist_world.specs.Ups.{agreement_on, FindsBoth, FindsAgreed, IsTold};
+ghost use Rattle.dist_world.specs.Ups.{agreement_on, FindsBoth, FindsAgreed, IsReported};
 
 use crate::agreement::Agreement;
 use crate::run::Stopped;
@@ -86,7 +86,7 @@ impl World {
     pub fn both_up(&self, a: usize, b: usize) -> Option<Agreement>
         ensures found { FindsBoth self.now a b result }
         ensures only { (c d : ℕ) (x : IsUp self.now a b c) (y : IsUp self.now b a d) → a ≢ b → result ≡ Some (agreement_on c x.kept y.kept) }
-        ensures counted { (x : Counts self.now a b) (y : Counts self.now b a) → a ≢ b → IsTold result x.kept y.kept }
+        ensures counted { (x : Counts self.now a b) (y : Counts self.now b a) → a ≢ b → IsReported result x.kept y.kept }
 
         // What is returned is what they agree on.
         ensures agree { FindsAgreed self.now a b result }

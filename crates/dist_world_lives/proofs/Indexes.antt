@@ -5,7 +5,7 @@ use Rattle.std.specs.declared.alloc.AllocError.{AllocError}
 use Rattle.std.proofs.lemmas.Bool.{eqb-true}
 use Rattle.dist_core.specs.declared.event.Event.{Event}
 use Rattle.dist_world_lives.specs.declared.stepping.LifeStep.{LifeStep}
-use Rattle.dist_world_lives.specs.Telling.{HasTold, Declines}
+use Rattle.dist_world_lives.specs.Notifying.{HasNotified, Declines}
 use Rattle.std.specs.Option.{option_map}
 use Rattle.dist_world_model.specs.Lists.{at_place, first_where}
 use Rattle.dist_world_model.specs.World.{Life, Conn, runs_for}
@@ -222,11 +222,11 @@ one_wider (x ∷ index) (suc i) = one_wider index i
 pub as_wide : (lives : List Life) (index wide : List (Option ℕ)) → ((i : ℕ) → index_at wide i ≡ index_at index i) → IsIndexed lives index → IsIndexed lives wide
 as_wide lives index wide same k = record { found = λ i. same i ∙ k.found i; alone = k.alone }
 
-pub tell_keeps : (r : Result (Option (ℕ × LifeStep)) AllocError) (lives new : List Life) (index : List (Option ℕ)) (conns said : List Conn) (place t fresh : ℕ) (v : Event)
-    → IfOk r (λ told. MatchOption told (Declines lives place v fresh × (new ≡ lives) × (said ≡ conns)) (λ x. HasTold x.0 x.1 place t v fresh lives new conns said))
+pub notify_keeps : (r : Result (Option (ℕ × LifeStep)) AllocError) (lives new : List Life) (index : List (Option ℕ)) (conns said : List Conn) (place t fresh : ℕ) (v : Event)
+    → IfOk r (λ notified. MatchOption notified (Declines lives place v fresh × (new ≡ lives) × (said ≡ conns)) (λ x. HasNotified x.0 x.1 place t v fresh lives new conns said))
     → OnErr r ((new ≡ lives) × (said ≡ conns)) → IsIndexed lives index → IsIndexed new index
-tell_keeps (Ok None) lives new index conns said place t fresh v ok err k = let P : List Life → Type 0 = λ ls. IsIndexed ls index in subst P (sym ok.1) k
-tell_keeps (Ok (Some x)) lives new index conns said place t fresh v ok err k =
+notify_keeps (Ok None) lives new index conns said place t fresh v ok err k = let P : List Life → Type 0 = λ ls. IsIndexed ls index in subst P (sym ok.1) k
+notify_keeps (Ok (Some x)) lives new index conns said place t fresh v ok err k =
     let P : List Life → Type 0 = λ ls. IsIndexed ls index in
     subst P (sym ok.lived_) (changed lives index place (λ old. life_after t v ok.reply ok.node ok.life) (λ l at i. (let same : Some ok.life ≡ Some l = sym ok.there ∙ at in let one : ok.life ≡ l = cc in ap (runs_for i) one)) k)
-tell_keeps (Err e) lives new index conns said place t fresh v ok err k = let P : List Life → Type 0 = λ ls. IsIndexed ls index in subst P (sym err.0) k
+notify_keeps (Err e) lives new index conns said place t fresh v ok err k = let P : List Life → Type 0 = λ ls. IsIndexed ls index in subst P (sym err.0) k

@@ -2,7 +2,7 @@ pub mod Texts
 pub mod Places
 pub mod Edits
 pub mod Writing
-pub mod Told
+pub mod Notified
 pub mod Reset
 pub mod Wired
 pub mod Links

@@ -14,7 +14,7 @@ use Rattle.dist_world_lives.specs.Index.{IsIndexed}
 use Rattle.dist_world_lives.specs.Resetting.{Forbids, HasReset, Resets, is_reset_memory_error}
 use Rattle.dist_world_lives.proofs.Edits.{at_set}
 use Rattle.dist_world_lives.proofs.Indexes.{changed}
-use Rattle.dist_world_lives.proofs.Told.{get_none, of_world, put_back, stands}
+use Rattle.dist_world_lives.proofs.Notified.{get_none, of_world, put_back, stands}
 
 -- ---- what a refusal says
 

@@ -16,7 +16,7 @@ use Rattle.dist_world_model.specs.Rows.{EndRow, rows_after, mark}
 use Rattle.dist_world_model.specs.World.{Conn}
 use Rattle.dist_world_model.specs.Delivery.{says, conns_after_saying, spoken_on}
 use Rattle.dist_world_lives.specs.Stepping.{wire_of, conns_after}
-use Rattle.dist_world_lives.specs.Telling.{event_wire}
+use Rattle.dist_world_lives.specs.Notifying.{event_wire}
 use Rattle.dist_world_lives.proofs.Edits.{get_each}
 
 -- each reply is of the end that its event names (a_reply_is_of_its_end)

@@ -13,7 +13,7 @@ use dist_peers::EndId;
 use std::alloc::{AllocError, Global};
 use std::marker::Model;
 
-/// All connections, in the order in which they were made. A place past the last names none, and nothing happens there.
+/// All connections, in the order in which they were made. A place after the last has no connection, and nothing happens there.
 #[derive(Drop)]
 pub struct Connections {
     all: Vec<Connection>,
@@ -45,14 +45,14 @@ impl Connections {
         self.all.len()
     }
 
-    /// There are none.
+    /// Whether there are none.
     pub fn is_empty(&self) -> bool
         ensures { result ≡ (length self.now == 0) }
     {
         self.all.is_empty()
     }
 
-    /// A dialled end of an incarnation is led to another one, or to its own. An `Err` changes nothing.
+    /// Makes a connection from a dialled end of an incarnation to another incarnation, or to its own. An `Err` changes nothing.
     pub fn connect(
         &mut self,
         alloc: Global,
@@ -68,7 +68,7 @@ impl Connections {
         Ok(())
     }
 
-    /// The incarnation that a connection leads to which was not accepted yet.
+    /// The incarnation to which a connection leads that was not accepted yet.
     pub fn unaccepted_target(&self, place: usize) -> Option<usize>
         ensures { result ≡ unaccepted_target (slice_get self.now place) }
     {
@@ -79,7 +79,7 @@ impl Connections {
         Some(conn.target())
     }
 
-    /// What was sent to this side of a connection and is undelivered.
+    /// What was sent to this side of a connection and is not delivered yet.
     pub fn undelivered_text(&self, place: usize, side: Side) -> Option<&[u8]>
         ensures { option_copied result ≡ undelivered_to side (slice_get self.now place) }
     {
@@ -87,7 +87,7 @@ impl Connections {
         Some(conn.text_to(side).undelivered_bytes())
     }
 
-    /// The first body that came to this side of a connection and was not taken.
+    /// The first body that was delivered to this side of a connection and is not taken yet.
     pub fn front(&self, place: usize, side: Side) -> Option<&[u8]>
         ensures { option_copied result ≡ front_at (slice_get self.now place) side }
     {
@@ -95,14 +95,14 @@ impl Connections {
         conn.text_to(side).front()
     }
 
-    /// A connection was accepted by this end.
+    /// Notes that this end accepted a connection.
     pub fn accept(&mut self, place: usize, id: EndId)
         ensures { self.new ≡ at_place place (accepted_by id.0) self.old }
     {
         mark_accepted(&mut self.all, place, id);
     }
 
-    /// What this side of a connection sent and is undelivered; nothing where there is no such connection.
+    /// What this side of a connection sent and is not delivered yet; nothing if there is no such connection.
     pub fn undelivered_by(&self, place: usize, side: Side) -> &[u8]
         ensures { result.now ≡ undelivered_by side (slice_get self.now place) }
     {
@@ -112,14 +112,14 @@ impl Connections {
         }
     }
 
-    /// These bytes are all that this side of a connection sent and is undelivered. It takes no memory.
+    /// Replaces what this side of a connection sent and is not delivered yet by these bytes. It takes no memory.
     pub fn put_undelivered(&mut self, place: usize, side: Side, bytes: ByteString)
         ensures { self.new ≡ at_place place (with_undelivered side bytes) self.old }
     {
         put_bytes(&mut self.all, place, side, bytes);
     }
 
-    /// `count` bytes come to this side of a connection, or what is left: whether there were any. An `Err` changes nothing.
+    /// Delivers `count` bytes to this side of a connection, or all that are left. Returns whether there were any. An `Err` changes nothing.
     pub fn deliver(&mut self, place: usize, side: Side, count: usize) -> Result<bool, AllocError>
         ensures comes { IfOk result (λ came. came ≡ can_come (slice_get self.old place) side count) }
         ensures ok { IfOk result (λ came. self.new ≡ (if came then at_place place (change_to side (after_delivery count)) self.old else self.old)) }
@@ -128,7 +128,7 @@ impl Connections {
         move_bytes(&mut self.all, place, side, count)
     }
 
-    /// This side of a connection takes the first frame that came to it. With none it changes nothing.
+    /// This side of a connection takes the first frame that was delivered to it. If there is none, it changes nothing.
     pub fn take(&mut self, place: usize, side: Side)
         ensures { self.new ≡ at_place place (change_to side body_taken) self.old }
     {

@@ -1,6 +1,6 @@
 //! An event that an incarnation gets, among all incarnations and connections.
 ghost use Rattle.std.specs.Prelude.{◌≡◌, IfOk, OnErr, MatchOption};
-ghost use Rattle.dist_world_lives.specs.Telling.{event_wire, HasTold, Declines, is_out_of_memory};
+ghost use Rattle.dist_world_lives.specs.Notifying.{event_wire, HasNotified, Declines, is_out_of_memory};
 
 use crate::Connections;
 use crate::life::Life;
@@ -35,7 +35,7 @@ fn is_out_of_memory(refusal: StepError) -> bool
 }
 
 /// An incarnation gets an event. `None` where it does not run or refuses the event, which changes nothing.
-pub fn tell(
+pub fn notify(
     lives: &mut Vec<Life>,
     conns: &mut Connections,
     place: usize,
@@ -43,7 +43,7 @@ pub fn tell(
 ) -> Result<Option<(usize, LifeStep)>, AllocError>
     ensures ok { IfOk result (λ made. MatchOption made
         (Declines lives.old.items place occasion.now.event.now occasion.now.fresh × (lives.new.items ≡ lives.old.items) × (conns.new ≡ conns.old))
-        (λ x. HasTold x.0 x.1 place occasion.now.clock occasion.now.event.now occasion.now.fresh lives.old.items lives.new.items conns.old conns.new)) }
+        (λ x. HasNotified x.0 x.1 place occasion.now.clock occasion.now.event.now occasion.now.fresh lives.old.items lives.new.items conns.old conns.new)) }
     ensures err { OnErr result ((lives.new.items ≡ lives.old.items) × (conns.new ≡ conns.old)) }
 {
     a_reply_is_of_its_end();

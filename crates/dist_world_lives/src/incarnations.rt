@@ -7,11 +7,11 @@ ghost use Rattle.dist_world_model.specs.Happenings.{life_after_end, new_life, re
 ghost use Rattle.dist_world_lives.specs.Stepping.{wire_of};
 ghost use Rattle.dist_world_lives.specs.Links.{is_unreached};
 ghost use Rattle.dist_world_lives.specs.Index.{index_at};
-ghost use Rattle.dist_world_lives.specs.Telling.{HasTold, Declines};
+ghost use Rattle.dist_world_lives.specs.Notifying.{HasNotified, Declines};
 ghost use Rattle.dist_world_lives.specs.Resetting.{Resets, is_reset_memory_error};
 
 use crate::Connections;
-use crate::events::tell;
+use crate::events::notify;
 use crate::life::{Life, is_open};
 use crate::stepping::{LifeStep, Occasion};
 use dist_core::{Change, ChangeError, Node, Setup};
@@ -188,7 +188,7 @@ impl Lives {
     }
 
     /// An incarnation gets an event. `None` where it does not run or refuses the event, which changes nothing.
-    pub fn tell(
+    pub fn notify(
         &mut self,
         conns: &mut Connections,
         place: usize,
@@ -196,10 +196,10 @@ impl Lives {
     ) -> Result<Option<(usize, LifeStep)>, AllocError>
         ensures ok { IfOk result (λ made. MatchOption made
             (Declines self.old place occasion.now.event.now occasion.now.fresh × (self.new ≡ self.old) × (conns.new ≡ conns.old))
-            (λ x. HasTold x.0 x.1 place occasion.now.clock occasion.now.event.now occasion.now.fresh self.old self.new conns.old conns.new)) }
+            (λ x. HasNotified x.0 x.1 place occasion.now.clock occasion.now.event.now occasion.now.fresh self.old self.new conns.old conns.new)) }
         ensures err { OnErr result ((self.new ≡ self.old) × (conns.new ≡ conns.old)) }
     {
-        tell(&mut self.lives, conns, place, occasion)
+        notify(&mut self.lives, conns, place, occasion)
     }
 }
 

@@ -19,11 +19,11 @@ use Rattle.dist_world_model.proofs.Lookups.{row_in, end_in, at-other, placed, un
 use Rattle.dist_world_model.proofs.ConnectionRows.{RowOf, ConnOf, Was, WasConn, StaysConn, linked-keeps}
 use Rattle.dist_world_model.proofs.AllWires.{WireAt, Alike, alike-refl, same-conn, ends-refl}
 use Rattle.dist_world_model.specs.NodeLaws.{NodeLaws}
-use Rattle.dist_world_model.proofs.SendingWires.{long, new-row-at, plain-told, take-told}
-use Rattle.dist_world_model.proofs.SilentWires.{Kept, all-stay, deed, get-now, ls', me, now, other-wire, rows', tell-setups, Telling}
+use Rattle.dist_world_model.proofs.SendingWires.{long, new-row-at, plain-notified, take-notified}
+use Rattle.dist_world_model.proofs.SilentWires.{Kept, all-stay, deed, get-now, ls', me, now, other-wire, rows', notify-setups, Notifying}
 
-module _ (laws : NodeLaws) (telling : Telling) where
-  open telling use {w, lives, fit, linked, wires, i, old, v, fresh, f, small, at, live, ok}
+module _ (laws : NodeLaws) (notifying : Notifying) where
+  open notifying use {w, lives, fit, linked, wires, i, old, v, fresh, f, small, at, live, ok}
 
   -- ---- a connection is accepted
 
@@ -31,7 +31,7 @@ module _ (laws : NodeLaws) (telling : Telling) where
   add-was None p m d h = h
   add-was (Some new) p m d h = ap (λ b. cond b (Some new) (slice_get old.rows p)) (sym (eqb-not (length old.rows) p d)) ∙ sym (get-more old.rows new p) ∙ h
 
-  row-was-at : (p : ℕ) → length old.rows ≢ p → Was (slice_get old.rows p) (slice_get (rows' laws telling) p)
+  row-was-at : (p : ℕ) → length old.rows ≢ p → Was (slice_get old.rows p) (slice_get (rows' laws notifying) p)
   row-was-at p d c y e h =
       let g = before-map (mark w.clock f.reply p) (slice_get (add_some old.rows (given_by w.clock v)) p) y (sym (get-row w.clock v f.reply old.rows p) ∙ e) in
       (g.0, add-was (given_by w.clock v) p g.0 d g.1, ap (λ (r : EndRow). r.side) (sym g.2), ap (λ (r : EndRow). r.conn) (sym g.2) ∙ h)
@@ -50,16 +50,16 @@ module _ (laws : NodeLaws) (telling : Telling) where
     new = new_row Acceptor None (Some c) w.clock
 
     next-is : next ≡ length old.rows
-    next-is = ap next_end at ∙ sym (long laws telling)
+    next-is = ap next_end at ∙ sym (long laws notifying)
 
-    me-is : (me laws telling) ≡ length old.rows
-    me-is = (let h = gives old.node v f (deed laws telling) given in h.id) ∙ sym (long laws telling)
+    me-is : (me laws notifying) ≡ length old.rows
+    me-is = (let h = gives old.node v f (deed laws notifying) given in h.id) ∙ sym (long laws notifying)
 
-    row-at : slice_get (rows' laws telling) (me laws telling) ≡ Some (mark w.clock f.reply (me laws telling) new)
-    row-at = (new-row-at laws telling) new given (ap (given_by w.clock) is)
+    row-at : slice_get (rows' laws notifying) (me laws notifying) ≡ Some (mark w.clock f.reply (me laws notifying) new)
+    row-at = (new-row-at laws notifying) new given (ap (given_by w.clock) is)
 
-    row-there : (j p : ℕ) → j ≡ i → p ≡ (me laws telling) → row_in (ls' laws telling) j p ≡ Some (mark w.clock f.reply (me laws telling) new)
-    row-there j p e q = (λ n. row_in (ls' laws telling) (e n) (q n)) ∙ ap (λ o. row_of_life o (me laws telling)) (get-now laws telling) ∙ row-at
+    row-there : (j p : ℕ) → j ≡ i → p ≡ (me laws notifying) → row_in (ls' laws notifying) j p ≡ Some (mark w.clock f.reply (me laws notifying) new)
+    row-there j p e q = (λ n. row_in (ls' laws notifying) (e n) (q n)) ∙ ap (λ o. row_of_life o (me laws notifying)) (get-now laws notifying) ∙ row-at
 
     abbrev cs' : List Conn
     cs' = at_place c take_in w.conns
@@ -79,61 +79,61 @@ module _ (laws : NodeLaws) (telling : Telling) where
         (λ h ah. record { old = h; there = ah; same = record { life = refl; dialler = refl; target = refl } })
         (λ d h n ah. record { old = h; there = ah; same = ends-refl h })
 
-    accs : (d y : ℕ) (h u : Conn) → slice_get w.conns d ≡ Some h → slice_get cs' d ≡ Some u → u.accepted ≡ Some y → (h.accepted ≡ Some y) ⊎ RowOf (ls' laws telling) Acceptor u.target y d
-    accs d y h u ah au e = decide ((h.accepted ≡ Some y) ⊎ RowOf (ls' laws telling) Acceptor u.target y d) c d
+    accs : (d y : ℕ) (h u : Conn) → slice_get w.conns d ≡ Some h → slice_get cs' d ≡ Some u → u.accepted ≡ Some y → (h.accepted ≡ Some y) ⊎ RowOf (ls' laws notifying) Acceptor u.target y d
+    accs d y h u ah au e = decide ((h.accepted ≡ Some y) ⊎ RowOf (ls' laws notifying) Acceptor u.target y d) c d
         (λ q.
         let z : k ≡ h = same-conn w.conns c k h ak (ap (slice_get w.conns) q ∙ ah) in
         let p : Some (take_in k) ≡ Some u = sym (placed c take_in w.conns k ak) ∙ ap (slice_get cs') q ∙ au in
         let r : take_in k ≡ u = cc in
         let n : Some next ≡ Some y = ap (λ (k : Conn). k.accepted) r ∙ e in
         let ny : next ≡ y = cc in
-        inr (record { row = mark w.clock f.reply (me laws telling) new; there = row-there u.target y (ap (λ (k : Conn). k.target) (sym r) ∙ target) (sym ny ∙ next-is ∙ sym me-is); side_is = refl; conn = ap Some q }))
+        inr (record { row = mark w.clock f.reply (me laws notifying) new; there = row-there u.target y (ap (λ (k : Conn). k.target) (sym r) ∙ target) (sym ny ∙ next-is ∙ sym me-is); side_is = refl; conn = ap Some q }))
         (λ n. inl (let p : Some h ≡ Some u = sym ah ∙ sym (unplaced c take_in w.conns d n) ∙ au in let r : h ≡ u = cc in ap (λ (k : Conn). k.accepted) r ∙ e))
 
-    backs : (j p d : ℕ) (x : EndRow) → row_in (ls' laws telling) j p ≡ Some x → x.conn ≡ Some d → RowOf w.lives x.side j p d ⊎ ConnOf cs' x.side j p d
+    backs : (j p d : ℕ) (x : EndRow) → row_in (ls' laws notifying) j p ≡ Some x → x.conn ≡ Some d → RowOf w.lives x.side j p d ⊎ ConnOf cs' x.side j p d
     backs j p d x e on = decide (RowOf w.lives x.side j p d ⊎ ConnOf cs' x.side j p d) i j
         (λ q. decide (RowOf w.lives x.side j p d ⊎ ConnOf cs' x.side j p d) (length old.rows) p
         (λ r. inr (
-        let z : Some (mark w.clock f.reply (me laws telling) new) ≡ Some x = sym (row-there j p (sym q) (sym r ∙ sym me-is)) ∙ e in
-        let s : mark w.clock f.reply (me laws telling) new ≡ x = cc in
+        let z : Some (mark w.clock f.reply (me laws notifying) new) ≡ Some x = sym (row-there j p (sym q) (sym r ∙ sym me-is)) ∙ e in
+        let s : mark w.clock f.reply (me laws notifying) new ≡ x = cc in
         let cd : Some c ≡ Some d = ap (λ (r : EndRow). r.conn) s ∙ on in
         let cd' : c ≡ d = cc in
         let side : Acceptor ≡ x.side = ap (λ (r : EndRow). r.side) s in
         let base : ConnOf cs' Acceptor j p d = record { conn = take_in k; there = ap (slice_get cs') (sym cd') ∙ placed c take_in w.conns k ak; is_end = (sym q ∙ sym target, ap Some (next-is ∙ r)) } in
         subst (λ s. ConnOf cs' s j p d) side base))
         (λ n. inl (
-        let e2 : slice_get (rows' laws telling) p ≡ Some x = sym (ap (λ o. row_of_life o p) (get-now laws telling)) ∙ ap (λ k. row_in (ls' laws telling) k p) q ∙ e in
+        let e2 : slice_get (rows' laws notifying) p ≡ Some x = sym (ap (λ o. row_of_life o p) (get-now laws notifying)) ∙ ap (λ k. row_in (ls' laws notifying) k p) q ∙ e in
         let g = row-was-at p n d x e2 on in
         record { row = g.0; there = ap (λ k. row_in w.lives k p) (sym q) ∙ ap (λ o. row_of_life o p) at ∙ g.1; side_is = g.2; conn = g.3 })))
-        (λ n. inl (record { row = x; there = ap (λ o. row_of_life o p) (sym (unplaced i (λ (l : Life). (now laws telling)) w.lives j n)) ∙ e; side_is = refl; conn = on }))
+        (λ n. inl (record { row = x; there = ap (λ o. row_of_life o p) (sym (unplaced i (λ (l : Life). (now laws notifying)) w.lives j n)) ∙ e; side_is = refl; conn = on }))
 
     no-row : row_in w.lives k.target next ≡ None
     no-row = (λ n. row_in w.lives (target n) (next-is n)) ∙ ap (λ o. row_of_life o (length old.rows)) at ∙ slice_get_past old.rows (length old.rows) (omega arith)
 
     no-end : end_in w.lives k.target next ≡ None
-    no-end = (λ n. end_in w.lives (target n) ((next-is ∙ (long laws telling)) n)) ∙ ap (λ o. end_of_life o (length (let n = old.node in n.ends))) at ∙ slice_get_past (let n = old.node in n.ends) (length (let n = old.node in n.ends)) (omega arith)
+    no-end = (λ n. end_in w.lives (target n) ((next-is ∙ (long laws notifying)) n)) ∙ ap (λ o. end_of_life o (length (let n = old.node in n.ends))) at ∙ slice_get_past (let n = old.node in n.ends) (length (let n = old.node in n.ends)) (omega arith)
 
     alike : Alike w.lives k (take_in k)
     alike = record {
       same = record { life = refl; dialler = refl; target = refl };
       there = refl;
-      back = (let h = gives old.node v f (deed laws telling) given in let b = k.back in ap (λ s. b.come ++ (b.said ++ s)) h.say ∙ ap (λ s. b.come ++ s) (append-nil b.said));
+      back = (let h = gives old.node v f (deed laws notifying) given in let b = k.back in ap (λ s. b.come ++ (b.said ++ s)) h.say ∙ ap (λ s. b.come ++ s) (append-nil b.said));
       accepted = inr (free, next, refl, no-row, no-end);
     }
 
-    accept-kept : (Kept laws telling) cs'
+    accept-kept : (Kept laws notifying) cs'
     accept-kept = (
-      linked-keeps w.lives (ls' laws telling) w.conns cs' (all-stay laws telling) (tell-setups laws telling) stays (λ d h a. inl (were d h a)) accs backs linked,
-      at-other (λ d h. WireAt (ls' laws telling) h) c take_in w.conns
-          (λ h ah. let z : k ≡ h = same-conn w.conns c k h ak ah in let P : Conn → Type 0 = λ h. WireAt (ls' laws telling) (take_in h) in subst P z ((other-wire laws telling) c k (take_in k) ak alike (λ y e. inr given) (λ x a b. given)))
-          (λ d h n ah. (other-wire laws telling) d h h ah (alike-refl w.lives h) (λ y e. inl e) (λ x a b. given)),
+      linked-keeps w.lives (ls' laws notifying) w.conns cs' (all-stay laws notifying) (notify-setups laws notifying) stays (λ d h a. inl (were d h a)) accs backs linked,
+      at-other (λ d h. WireAt (ls' laws notifying) h) c take_in w.conns
+          (λ h ah. let z : k ≡ h = same-conn w.conns c k h ak ah in let P : Conn → Type 0 = λ h. WireAt (ls' laws notifying) (take_in h) in subst P z ((other-wire laws notifying) c k (take_in k) ak alike (λ y e. inr given) (λ x a b. given)))
+          (λ d h n ah. (other-wire laws notifying) d h h ah (alike-refl w.lives h) (λ y e. inl e) (λ x a b. given)),
     )
 
-    accept-told : (ds : List Conn) → ds ≡ at_place c (accepted_by next) w.conns → (Kept laws telling) (conns_after_saying ds (slice_get (rows' laws telling) (me laws telling)) f.reply.say)
-    accept-told ds e = subst (Kept laws telling) (sym ((λ n. conns_after_saying (e n) (row-at n) f.reply.say) ∙ place-twice c (accepted_by next) (says Acceptor f.reply.say) w.conns)) accept-kept
+    accept-notified : (ds : List Conn) → ds ≡ at_place c (accepted_by next) w.conns → (Kept laws notifying) (conns_after_saying ds (slice_get (rows' laws notifying) (me laws notifying)) f.reply.say)
+    accept-notified ds e = subst (Kept laws notifying) (sym ((λ n. conns_after_saying (e n) (row-at n) f.reply.say) ∙ place-twice c (accepted_by next) (says Acceptor f.reply.say) w.conns)) accept-kept
 
   -- ALL CONNECTIONS ARE WIRES STILL
-  pub told-kept : (ds : List Conn) → Ready w i v ds → (Kept laws telling) (conns_after_saying ds (slice_get (rows' laws telling) (me laws telling)) f.reply.say)
-  told-kept ds (Plain plain opens e) = (plain-told laws telling) ds plain e
-  told-kept ds (Accepts c k is ak free target e) = accept-told c k is ak free target ds e
-  told-kept ds (Takes id row c k body is ar on ak first e) = (take-told laws telling) ds id row c k body is ar on ak first e
+  pub notified-kept : (ds : List Conn) → Ready w i v ds → (Kept laws notifying) (conns_after_saying ds (slice_get (rows' laws notifying) (me laws notifying)) f.reply.say)
+  notified-kept ds (Plain plain opens e) = (plain-notified laws notifying) ds plain e
+  notified-kept ds (Accepts c k is ak free target e) = accept-notified c k is ak free target ds e
+  notified-kept ds (Takes id row c k body is ar on ak first e) = (take-notified laws notifying) ds id row c k body is ar on ak first e

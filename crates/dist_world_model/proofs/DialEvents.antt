@@ -121,8 +121,8 @@ module _ (laws : NodeLaws) (turn : Turn) where
       by (Some e) None a b s = absurd s
       by (Some e) (Some x) a b s = ap (λ o. is_claim p k (claim_in t o)) b ∙ ap (is_claim p k) (fits-claim t e x (old.below j x b) s) ∙ ap (is_held p k) (sym a) ∙ free-entry
 
-  pub told-undoomed : AllRows Undoomed rows'
-  told-undoomed i row at = from Undoomed i was made row at
+  pub notified-undoomed : AllRows Undoomed rows'
+  notified-undoomed i row at = from Undoomed i was made row at
     where
       was : (x : EndRow) → slice_get l.rows i ≡ Some x → Undoomed (mark t f.reply i x)
       was x ax n e = by x.rose refl e
@@ -165,8 +165,8 @@ module _ (laws : NodeLaws) (turn : Turn) where
           by (event.Lost id y) is e = absurd cc
           by (event.Tick id) is e = absurd cc
 
-  pub told-idle : DialsIdle rows'
-  told-idle i y p ay sd pe k j = from (λ m. m.side ≡ Dialler → m.peer ≡ Some p → held_before rows' m.given p k j ≡ false) i was made y ay sd pe
+  pub notified-idle : DialsIdle rows'
+  notified-idle i y p ay sd pe k j = from (λ m. m.side ≡ Dialler → m.peer ≡ Some p → held_before rows' m.given p k j ≡ false) i was made y ay sd pe
     where
       was : (x : EndRow) → slice_get l.rows i ≡ Some x → x.side ≡ Dialler → (let m = mark t f.reply i x in m.peer) ≡ Some p → held_before rows' x.given p k j ≡ false
       was x ax sd pe = ap (is_claim p k) (agreed x.given j (let g = given-before i x ax in omega (arith, g))) ∙ h.idle i x p ax sd (sym (dialled-peer i x ax sd) ∙ pe) k j

@@ -23,7 +23,7 @@ use Rattle.dist_world_model.specs.Run.{run}
 use Rattle.dist_world_model.specs.Laws.{AllLives, UpsAreLinked}
 use Rattle.dist_core_ends.specs.Change.{other_view}
 use Rattle.dist_world_model.proofs.Places.{at-one, at-more, get-more, get-place, eqb-self}
-use Rattle.dist_world_model.proofs.HappeningEffects.{Act, Begins, Ends, Reaches, Comes, Tells, Resets, Ready, Plain, Accepts, Takes}
+use Rattle.dist_world_model.proofs.HappeningEffects.{Act, Begins, Ends, Reaches, Comes, Reports, Resets, Ready, Plain, Accepts, Takes}
 use Rattle.dist_world_model.proofs.IncarnationEffects.{kept-by-all, one-step, alike, all-free}
 use Rattle.dist_world_model.proofs.StepEffects.{is_given, deed_of}
 use Rattle.dist_world_model.proofs.UnchangedRows.{get-row, same-length}
@@ -32,7 +32,7 @@ use Rattle.dist_world_model.proofs.IncarnationFacts.{IsLife}
 use Rattle.dist_world_model.proofs.LastingFacts.{life_keeps}
 use Rattle.dist_world_model.proofs.Lookups.{eqb-not}
 use Rattle.dist_world_model.specs.NodeLaws.{NodeLaws}
-use Rattle.dist_world_model.proofs.NeededConnections.{Came, Had, Idle, Joined, Own, Told, needs, needs_at, other-needs, own-of}
+use Rattle.dist_world_model.proofs.NeededConnections.{Came, Had, Idle, Joined, Own, Notified, needs, needs_at, other-needs, own-of}
 
 -- ---- an incarnation that gets an event
 
@@ -68,7 +68,7 @@ module _ (laws : NodeLaws) (t : ℕ) (l : Life) (v : Event) (fresh : ℕ) (f : E
       by : Own l.node v f → (c : ℕ) × (conn_of (slice_get rows' f.reply.end_.0) ≡ Some c)
       by (Idle q) = absurd (false≢true (sym q ∙ e))
       by (Had q) = from-old f.reply.end_.0 q
-      by (Told id link is own) = (link, conn-stays f.reply.end_.0 link (ap (λ (y : EndId). conn_of (slice_get l.rows y.0)) own ∙ opens id link is))
+      by (Notified id link is own) = (link, conn-stays f.reply.end_.0 link (ap (λ (y : EndId). conn_of (slice_get l.rows y.0)) own ∙ opens id link is))
       by (Came link is) =
           let new : EndRow = new_row Acceptor None (Some link) t in
           let g = gives l.node v f (deed_of laws l.node h.legal v fresh f ok) (ap is_given is) in
@@ -78,8 +78,8 @@ module _ (laws : NodeLaws) (t : ℕ) (l : Life) (v : Event) (fresh : ℕ) (f : E
                 ∙ ap (option_map (mark t f.reply f.reply.end_.0)) (get-more l.rows new f.reply.end_.0 ∙ ap (λ k. cond (eqb k f.reply.end_.0) (Some new) (slice_get l.rows f.reply.end_.0)) long ∙ ap (λ b. cond b (Some new) (slice_get l.rows f.reply.end_.0)) (eqb-self f.reply.end_.0))),
           )
 
-  told-joined : Joined (ends_after l.node.ends f) rows'
-  told-joined p e = by f.other refl (ap needs_at (sym (end-after laws l.node h.legal l.rows (h.beside live) t v fresh f ok p)) ∙ e)
+  notified-joined : Joined (ends_after l.node.ends f) rows'
+  notified-joined p e = by f.other refl (ap needs_at (sym (end-after laws l.node h.legal l.rows (h.beside live) t v fresh f ok p)) ∙ e)
     where
       own : needs_at (cond (eqb f.reply.end_.0 p) (Some f.this) (slice_get l.node.ends p)) ≡ true → (c : ℕ) × (conn_of (slice_get rows' p) ≡ Some c)
       own = elim (eqb f.reply.end_.0 p) as (λ b. eqb f.reply.end_.0 p ≡ b → needs_at (cond b (Some f.this) (slice_get l.node.ends p)) ≡ true → (c : ℕ) × (conn_of (slice_get rows' p) ≡ Some c)) [
@@ -132,8 +132,8 @@ module _ (laws : NodeLaws) where
     by-act (Ends j old at live is k) i l al = at-one (λ i l. JoinedLife l) j _ w.lives (λ y ay live p e. absurd (false≢true live)) h.joined i l (ap (λ ls. slice_get ls i) (sym is) ∙ al)
     by-act (Reaches j id k old away at live ata livea d n is ks) i l al = at-one (λ i l. JoinedLife l) j _ w.lives (λ y ay. reach-joined id _ y (h.joined j y ay)) h.joined i l (ap (λ ls. slice_get ls i) (sym is) ∙ al)
     by-act (Comes side c n is k) i l al = h.joined i l (ap (λ ls. slice_get ls i) (sym is) ∙ al)
-    by-act (Tells j old v fresh f ds fits at live ok ready is k) i l al =
-        at-one (λ i l. JoinedLife l) j _ w.lives (λ y ay run-it. (told-joined laws) w.clock old v fresh f live ok (h.lives j old at) (h.joined j old at live) (opens ready)) h.joined i l (ap (λ ls. slice_get ls i) (sym is) ∙ al)
+    by-act (Reports j old v fresh f ds fits at live ok ready is k) i l al =
+        at-one (λ i l. JoinedLife l) j _ w.lives (λ y ay run-it. (notified-joined laws) w.clock old v fresh f live ok (h.lives j old at) (h.joined j old at live) (opens ready)) h.joined i l (ap (λ ls. slice_get ls i) (sym is) ∙ al)
       where
         opens : Ready w j v ds → (id : EndId) (link : ℕ) → v ≡ event.Opened id link → conn_of (slice_get old.rows id.0) ≡ Some link
         opens (Plain plain o e) id link q = ap conn_of (sym (ap (λ o. row_of_life o id.0) at)) ∙ o id link q

@@ -21,8 +21,8 @@ use Rattle.dist_world_model.proofs.IncarnationSpans.{IsSeen, seen_keeps, Lasts}
 use Rattle.dist_world_model.proofs.PastMoments.{past-is, is-past, not-past, past-sooner, left-sooner, entered-later, dialled-entered, contra}
 use Rattle.dist_world_model.proofs.EndRows.{once-past}
 use Rattle.dist_world_model.specs.NodeLaws.{NodeLaws}
-use Rattle.dist_world_model.proofs.DialEvents.{told-idle, told-undoomed}
-use Rattle.dist_world_model.proofs.RepeatedNames.{told-over}
+use Rattle.dist_world_model.proofs.DialEvents.{notified-idle, notified-undoomed}
+use Rattle.dist_world_model.proofs.RepeatedNames.{notified-over}
 use Rattle.dist_world_model.proofs.SupersededEnds.{Alike, IsIdle, Undoomed, plain-idle, plain-over}
 
 -- ---- each happening
@@ -50,7 +50,7 @@ module _ (laws : NodeLaws) where
         let agreed = plain-agree t l.rows new (reach id c) (get-reached id c l.rows) (below-of t l h.seen) (λ i row s g. reach-same (claim_before s) (λ row c. refl) id c i row) in
         let was : (i : ℕ) (y : EndRow) → slice_get new i ≡ Some y → (x : EndRow) × (slice_get l.rows i ≡ Some x) × Alike x y = λ i y e. (let g = before-map (reach id c i) (slice_get l.rows i) y (sym (get-reached id c l.rows i) ∙ e) in (g.0, g.1, subst (Alike g.0) (sym g.2) (reach-any (Alike g.0) (λ r c a. record { side = a.side; peer = a.peer; given = a.given; named = a.named; rose = a.rose; doomed = a.doomed; closed = a.closed }) id c i g.0 (alike-same g.0)))) in
         record { seen = (seen_keeps laws).reaches t l id c live h.seen; undoomed = λ i row e. (let g = before-map (reach id c i) (slice_get l.rows i) row (sym (get-reached id c l.rows i) ∙ e) in subst Undoomed (sym g.2) (reach-any Undoomed (λ r c a. a) id c i g.0 (h.undoomed i g.0 g.1))); idle = plain-idle laws t l (below-of t l h.seen) new agreed was h.idle; over = plain-over laws t l (below-of t l h.seen) new agreed was h.over });
-    lives = λ t l v fresh f live ok h. record { seen = (seen_keeps laws).lives t l v fresh f live ok h.seen; undoomed = told-undoomed laws (record { t = t; l = l; v = v; fresh = fresh; f = f; live = live; ok = ok; h = h }); idle = told-idle laws (record { t = t; l = l; v = v; fresh = fresh; f = f; live = live; ok = ok; h = h }); over = told-over laws (record { t = t; l = l; v = v; fresh = fresh; f = f; live = live; ok = ok; h = h }) };
+    lives = λ t l v fresh f live ok h. record { seen = (seen_keeps laws).lives t l v fresh f live ok h.seen; undoomed = notified-undoomed laws (record { t = t; l = l; v = v; fresh = fresh; f = f; live = live; ok = ok; h = h }); idle = notified-idle laws (record { t = t; l = l; v = v; fresh = fresh; f = f; live = live; ok = ok; h = h }); over = notified-over laws (record { t = t; l = l; v = v; fresh = fresh; f = f; live = live; ok = ok; h = h }) };
     resets = λ t l v live ok h. record { seen = (seen_keeps laws).resets t l v live ok h.seen; undoomed = h.undoomed; idle = h.idle; over = h.over };
   }
 

@@ -24,7 +24,7 @@ use Rattle.dist_world_model.specs.Rows.{EndRow, rows_after}
 use Rattle.dist_world_model.specs.World.{World, Life, Conn, runs, runs_for, running, row_at, end_at}
 use Rattle.dist_world_model.specs.Delivery.{after_delivery, body_taken, text_to, change_to, conns_after_saying}
 use Rattle.dist_core_ends.specs.Ends.{is_dialing}
-use Rattle.dist_world_model.specs.Happenings.{most_begins, most_connections, life_after, tell, tell_node, new_life, life_after_end, with_node, conn_of, reached_life, new_conn, next_end, accepted_by, is_open_end, is_nonempty, world_after}
+use Rattle.dist_world_model.specs.Happenings.{most_begins, most_connections, life_after, notify, notify_node, new_life, life_after_end, with_node, conn_of, reached_life, new_conn, next_end, accepted_by, is_open_end, is_nonempty, world_after}
 use Rattle.dist_world_model.specs.Agreement.{Fits}
 use Rattle.dist_world_model.proofs.Conditions.{if_there, if_ok, if_holds}
 use Rattle.dist_world_model.proofs.Places.{first-passes, both-true}
@@ -52,7 +52,7 @@ pub data Act (h : Happening) (w : World) (ls : List Life) (cs : List Conn) : Typ
   Reaches : (i id j : ℕ) → (old far : Life) → slice_get w.lives i ≡ Some old → runs old ≡ true → slice_get w.lives j ≡ Some far → runs far ≡ true → is_dialing (end_at w i id) ≡ true → conn_of (row_at w i id) ≡ None
       → ls ≡ at_place i (reached_life id (length w.conns)) w.lives → cs ≡ w.conns ++ new_conn i id j ∷ [] → Act h w ls cs
   Comes : (side : Side) → (c n : ℕ) → ls ≡ w.lives → cs ≡ at_place c (change_to side (after_delivery n)) w.conns → Act h w ls cs
-  Tells : (i : ℕ) → (old : Life) → (v : Event) → (fresh : ℕ) → (f : Effect) → (ds : List Conn) → (Fits h → fresh < 2 ^ 32) → slice_get w.lives i ≡ Some old → runs old ≡ true → effect_of old.node v fresh ≡ Ok f → Ready w i v ds
+  Reports : (i : ℕ) → (old : Life) → (v : Event) → (fresh : ℕ) → (f : Effect) → (ds : List Conn) → (Fits h → fresh < 2 ^ 32) → slice_get w.lives i ≡ Some old → runs old ≡ true → effect_of old.node v fresh ≡ Ok f → Ready w i v ds
       → ls ≡ at_place i (λ l. life_after w.clock v f.reply (after old.node v f) old) w.lives → cs ≡ conns_after_saying ds (slice_get (rows_after w.clock v f.reply old.rows) f.reply.end_.0) f.reply.say → Act h w ls cs
   Resets : (a i : ℕ) → (old : Life) → (v : Change) → h ≡ happening.Reset a v → slice_get w.lives i ≡ Some old → runs old ≡ true → change old.node v ≡ Ok (after_change old.node v) → ls ≡ at_place i (with_node (after_change old.node v)) w.lives → cs ≡ w.conns → Act h w ls cs
 
@@ -81,8 +81,8 @@ change-ok n v m e = by (is_in_use n v) (finds_no_room n v) e
     by false true e = absurd cc
     by false false e = cc
 
-told-acts : (h : Happening) (w : World) (i : ℕ) (v : Event) (fresh : ℕ) (ds : List Conn) → (Fits h → fresh < 2 ^ 32) → Ready w i v ds → Acts h w (tell (record w { conns = ds }) i v fresh)
-told-acts h w i v fresh ds fits ready = let P = Acted h w in
+notified-acts : (h : Happening) (w : World) (i : ℕ) (v : Event) (fresh : ℕ) (ds : List Conn) → (Fits h → fresh < 2 ^ 32) → Ready w i v ds → Acts h w (notify (record w { conns = ds }) i v fresh)
+notified-acts h w i v fresh ds fits ready = let P = Acted h w in
     if_there P (slice_get w.lives i) _ (λ l at.
     if_holds P (runs l) _ (λ live.
     if_ok P (step l.node v fresh) _ (λ x is.
@@ -92,13 +92,13 @@ told-acts h w i v fresh ds fits ready = let P = Acted h w in
     record {
       setups = refl;
       clock = refl;
-      act = Tells i l v fresh f ds fits at live g.1 ready
+      act = Reports i l v fresh f ds fits at live g.1 ready
           (ap (λ (y : Reply × NodeState). at_place i (λ old. life_after w.clock v y.0 y.1 l) w.lives) same)
           (ap (λ (y : Reply × NodeState). let r = y.0 in conns_after_saying ds (slice_get (rows_after w.clock v r l.rows) r.end_.0) r.say) same);
     })))
 
-plain-acts : (h : Happening) (w : World) (a : ℕ) (v : Event) → IsPlain v → ((id : EndId) (link : ℕ) → v ≡ event.Opened id link → ⊥) → Acts h w (tell_node w a v)
-plain-acts h w a v plain not = if_there (Acted h w) (running w a) _ (λ i e. told-acts h w i v 0 w.conns (λ f. omega arith) (Plain plain (λ id link e. absurd (not id link e)) refl))
+plain-acts : (h : Happening) (w : World) (a : ℕ) (v : Event) → IsPlain v → ((id : EndId) (link : ℕ) → v ≡ event.Opened id link → ⊥) → Acts h w (notify_node w a v)
+plain-acts h w a v plain not = if_there (Acted h w) (running w a) _ (λ i e. notified-acts h w i v 0 w.conns (λ f. omega arith) (Plain plain (λ id link e. absurd (not id link e)) refl))
 
 -- the running incarnation runs
 pub is-running : (w : World) (a i : ℕ) (l : Life) → running w a ≡ Some i → slice_get w.lives i ≡ Some l → (l.who ≡ a) × (runs l ≡ true)
@@ -163,11 +163,11 @@ acts w (happening.Reach a id b) = let P = Acted (happening.Reach a id b) w in
 acts w (happening.Opened a id) = let P = Acted (happening.Opened a id) w in
     if_there P (running w a) _ (λ i e.
     if_there P (conn_of (row_at w i id.0)) _ (λ c on.
-    told-acts (happening.Opened a id) w i (event.Opened id c) 0 w.conns (λ f. omega arith) (Plain tt (λ x link q. (let y : id ≡ x = cc in let z : c ≡ link = cc in ap (λ (k : EndId). conn_of (row_at w i k.0)) (sym y) ∙ on ∙ ap Some z)) refl)))
+    notified-acts (happening.Opened a id) w i (event.Opened id c) 0 w.conns (λ f. omega arith) (Plain tt (λ x link q. (let y : id ≡ x = cc in let z : c ≡ link = cc in ap (λ (k : EndId). conn_of (row_at w i k.0)) (sym y) ∙ on ∙ ap Some z)) refl)))
 acts w (happening.Accept c) = let P = Acted (happening.Accept c) w in
     if_there P (slice_get w.conns c) _ (λ k at.
     if_holds P (is_none k.accepted) _ (λ free.
-    told-acts (happening.Accept c) w k.target _ 0 _ (λ f. omega arith) (Accepts c k refl at (none-by k.accepted free) refl refl)))
+    notified-acts (happening.Accept c) w k.target _ 0 _ (λ f. omega arith) (Accepts c k refl at (none-by k.accepted free) refl refl)))
 acts w (happening.Deliver a id n) = let P = Acted (happening.Deliver a id n) w in
     if_there P (running w a) _ (λ i e.
     if_holds P (is_open_end (end_at w i id.0)) _ (λ open_.
@@ -182,4 +182,4 @@ acts w (happening.Take a id fresh) = let P = Acted (happening.Take a id fresh) w
     if_there P row.conn _ (λ c on.
     if_there P (slice_get w.conns c) _ (λ k at-c.
     if_there P (let t = text_to row.side k in first_body w16 t.come) _ (λ body is.
-    told-acts (happening.Take a id fresh) w i _ fresh _ (λ f. f) (Takes id row c k body refl at on at-c is refl))))))
+    notified-acts (happening.Take a id fresh) w i _ fresh _ (λ f. f) (Takes id row c k body refl at on at-c is refl))))))

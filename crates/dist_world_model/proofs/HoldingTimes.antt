@@ -151,8 +151,8 @@ module _ (t : ℕ) (l : Life) (live : runs l ≡ true) (h : IsTimed t l) (v : Ev
       by (event.Lost id w) e = absurd cc
       by (event.Tick id) e = absurd cc
 
-  told-timed : (i : ℕ) (row : EndRow) → slice_get (rows_after t v f.reply l.rows) i ≡ Some row → Timed row
-  told-timed i row is =
+  notified-timed : (i : ℕ) (row : EndRow) → slice_get (rows_after t v f.reply l.rows) i ≡ Some row → Timed row
+  notified-timed i row is =
       let o = before-map (mark t f.reply i) (slice_get (add_some l.rows (given_by t v)) i) row (sym (get-row t v f.reply l.rows i) ∙ is) in
       subst Timed (sym o.2) (by (given_by t v) refl o.0 o.1)
     where
@@ -187,7 +187,7 @@ module _ (laws : NodeLaws) where
       life = (life_keeps laws).reaches t l id c live h.life;
       timed = λ i row is. (let o = before-map (reach id c i) (slice_get l.rows i) row (sym (get-reached id c l.rows i) ∙ is) in subst Timed (sym o.2) (reach-any Timed (λ row c g. record { said = g.said; rose = g.rose }) id c i o.0 (h.timed i o.0 o.1)));
     };
-    lives = λ t l v fresh f live is h. record { life = (life_keeps laws).lives t l v fresh f live is h.life; timed = told-timed t l live h v f (deed_of laws l.node h.life.legal v fresh f is) };
+    lives = λ t l v fresh f live is h. record { life = (life_keeps laws).lives t l v fresh f live is h.life; timed = notified-timed t l live h v f (deed_of laws l.node h.life.legal v fresh f is) };
     resets = λ t l v live ok h. record { life = (life_keeps laws).resets t l v live ok h.life; timed = h.timed };
   }
 

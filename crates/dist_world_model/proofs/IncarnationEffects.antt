@@ -13,7 +13,7 @@ use Rattle.dist_world_model.specs.Happenings.{life_after, new_life, life_after_e
 use Rattle.dist_world_model.specs.Run.{run}
 use Rattle.dist_world_model.specs.Laws.{AllLives}
 use Rattle.dist_world_model.proofs.Places.{at-one, at-more}
-use Rattle.dist_world_model.proofs.HappeningEffects.{Act, Acted, Begins, Ends, Reaches, Comes, Tells, Resets, acts}
+use Rattle.dist_world_model.proofs.HappeningEffects.{Act, Acted, Begins, Ends, Reaches, Comes, Reports, Resets, acts}
 
 -- WHAT HAPPENS TO AN INCARNATION at number t: l is what place i has afterwards
 pub data Turn (ls : List Life) (t i : ℕ) (l : Life) : Type 0 where
@@ -35,7 +35,7 @@ turned-by w ls cs (Begins who s c fc at r is k) i l h = at-more (Turn w.lives w.
 turned-by w ls cs (Ends j old at live is k) i l h = at-one (Turn w.lives w.clock) j _ w.lives (λ x e. Stops x e (ap runs (alike w.lives j x old e at) ∙ live) refl) (same w.lives w.clock) i l (ap (λ xs. slice_get xs i) (sym is) ∙ h)
 turned-by w ls cs (Reaches j id k old far at live atf livef d n is ks) i l h = at-one (Turn w.lives w.clock) j _ w.lives (λ x e. Links x id _ e (ap runs (alike w.lives j x old e at) ∙ live) refl) (same w.lives w.clock) i l (ap (λ xs. slice_get xs i) (sym is) ∙ h)
 turned-by w ls cs (Comes side c n is k) i l h = Stays (ap (λ xs. slice_get xs i) (sym is) ∙ h)
-turned-by w ls cs (Tells j old v fresh f ds fits at live ok ready is k) i l h = at-one (Turn w.lives w.clock) j _ w.lives (λ x e. Lives old v fresh f at live ok refl) (same w.lives w.clock) i l (ap (λ xs. slice_get xs i) (sym is) ∙ h)
+turned-by w ls cs (Reports j old v fresh f ds fits at live ok ready is k) i l h = at-one (Turn w.lives w.clock) j _ w.lives (λ x e. Lives old v fresh f at live ok refl) (same w.lives w.clock) i l (ap (λ xs. slice_get xs i) (sym is) ∙ h)
 turned-by w ls cs (Resets a j old v r at live ok is k) i l h = at-one (Turn w.lives w.clock) j _ w.lives (λ x e. Changes old v at live ok (ap (with_node (after_change old.node v)) (alike w.lives j x old e at))) (same w.lives w.clock) i l (ap (λ xs. slice_get xs i) (sym is) ∙ h)
 
 -- WHAT A STATEMENT ABOUT ONE INCARNATION AND THE CLOCK HAS TO KEEP

@@ -135,8 +135,8 @@ module _ (laws : NodeLaws) (t : ℕ) (l : Life) (v : Event) (fresh : ℕ) (f : E
       by (event.Lost id y) x e = was x e
       by (event.Tick id) x e = was x e
 
-  told-since : AllRows (Since l.begun) (rows_after t v f.reply l.rows)
-  told-since p row at = from-old (Since l.begun) p (λ x e. written-since l.begun t _ _ _ f.reply x h.start (h.since p x e)) (λ side q c. new-since l.begun t _ _ _ f.reply side q c h.start) row at
+  notified-since : AllRows (Since l.begun) (rows_after t v f.reply l.rows)
+  notified-since p row at = from-old (Since l.begun) p (λ x e. written-since l.begun t _ _ _ f.reply x h.start (h.since p x e)) (λ side q c. new-since l.begun t _ _ _ f.reply side q c h.start) row at
 
   -- an end that comes up now is open
   now-up : (p : ℕ) (row : EndRow) → slice_get (rows_after t v f.reply l.rows) p ≡ Some row → (eqb f.reply.end_.0 p && rises f.reply.up) ≡ true → left_before (t + 1) row ≡ false
@@ -151,8 +151,8 @@ module _ (laws : NodeLaws) (t : ℕ) (l : Life) (v : Event) (fresh : ℕ) (f : E
       let o = up-open r.0 row fits in
       open-left (t + 1) row o.0 o.1
 
-  told-lasts : AllRows Lasts (rows_after t v f.reply l.rows)
-  told-lasts p row at = from-old (λ m. slice_get (rows_after t v f.reply l.rows) p ≡ Some m → Lasts m) p was made row at at
+  notified-lasts : AllRows Lasts (rows_after t v f.reply l.rows)
+  notified-lasts p row at = from-old (λ m. slice_get (rows_after t v f.reply l.rows) p ≡ Some m → Lasts m) p was made row at at
     where
       made : (side : Side) (q : Option Name) (c : Option ℕ) → slice_get (rows_after t v f.reply l.rows) p ≡ Some (mark t f.reply p (new_row side q c t)) → Lasts (mark t f.reply p (new_row side q c t))
       made side q c at n e = by (eqb f.reply.end_.0 p && rises f.reply.up) refl e
@@ -172,11 +172,11 @@ module _ (laws : NodeLaws) (t : ℕ) (l : Life) (v : Event) (fresh : ℕ) (f : E
               new-one true b g = let z : t ≡ n = cc in ap (λ k. left_before (k + 1) (mark t f.reply p x)) (sym z) ∙ now-up p _ at b
               new-one false b g = absurd cc
 
-  told-seen : IsSeen (t + 1) (life_after t v f.reply (after l.node v f) l)
-  told-seen = record {
+  notified-seen : IsSeen (t + 1) (life_after t v f.reply (after l.node v f) l)
+  notified-seen = record {
     timed = new;
-    lasts = told-lasts;
-    since = told-since;
+    lasts = notified-lasts;
+    since = notified-since;
     start = (let s = h.start in omega (arith, s));
     over = λ n e. absurd (not-over l n live e);
   }
@@ -206,6 +206,6 @@ module _ (laws : NodeLaws) where
       start = (let s = h.start in omega (arith, s));
       over = λ n e. absurd (not-over l n live e);
     };
-    lives = λ t l v fresh f live ok h. (told-seen laws) t l v fresh f live ok h;
+    lives = λ t l v fresh f live ok h. (notified-seen laws) t l v fresh f live ok h;
     resets = λ t l v live ok h. record { timed = (timed_keeps laws).resets t l v live ok h.timed; lasts = h.lasts; since = h.since; start = (let s = h.start in omega (arith, s)); over = λ n e. absurd (not-over l n live e) };
   }

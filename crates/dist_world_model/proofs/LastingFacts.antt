@@ -26,8 +26,8 @@ use Rattle.dist_world_model.proofs.WithoutEvent.{begins-decided, begins-life, en
 
 module _ (laws : NodeLaws) where
   module _ (t : ℕ) (l : Life) (live : runs l ≡ true) (h : IsLife t l) (v : Event) (f : Effect) (deed : Deed l.node v f) where
-    told-life : AreLegal (ends_after l.node.ends f) → IsLife (t + 1) (life_after t v f.reply (after l.node v f) l)
-    told-life legal =
+    notified-life : AreLegal (ends_after l.node.ends f) → IsLife (t + 1) (life_after t v f.reply (after l.node v f) l)
+    notified-life legal =
         let beside : AreBeside (ends_after l.node.ends f) (rows_after t v f.reply l.rows) = beside-deed laws l.node h.legal l.rows t (h.beside live) v f deed in
         record {
           legal = legal;
@@ -37,7 +37,7 @@ module _ (laws : NodeLaws) where
         }
 
   lives-life : (t : ℕ) (l : Life) (v : Event) (fresh : ℕ) (f : Effect) → runs l ≡ true → effect_of l.node v fresh ≡ Ok f → IsLife t l → IsLife (t + 1) (life_after t v f.reply (after l.node v f) l)
-  lives-life t l v fresh f live is h = told-life t l live h v f (deed_of laws l.node h.legal v fresh f is)
+  lives-life t l v fresh f live is h = notified-life t l live h v f (deed_of laws l.node h.legal v fresh f is)
       (let Q : Result Effect StepError → Type 0 = λ o. AreLegal (node_after l.node (step_result l.node v o)).ends in subst Q is (laws.step_legal l.node v fresh h.legal))
 
   pub life_keeps : Keeps IsLife

@@ -91,13 +91,13 @@ pub data Own (n : NodeState) (v : Event) (f : Effect) : Type 0 where
   Came : (link : ℕ) → v ≡ event.Incoming link → Own n v f
   Idle : needs f.this ≡ false → Own n v f
   Had : needs_at (slice_get n.ends f.reply.end_.0) ≡ true → Own n v f
-  Told : (id : EndId) → (link : ℕ) → v ≡ event.Opened id link → f.reply.end_ ≡ id → Own n v f
+  Notified : (id : EndId) → (link : ℕ) → v ≡ event.Opened id link → f.reply.end_ ≡ id → Own n v f
 
 module _ (laws : NodeLaws) where
   pub own-of : (n : NodeState) (v : Event) (fresh : ℕ) (f : Effect) → StepRow n v fresh f → Own n v f
   own-of n v fresh f (core.Dials p o is idle sp full cr k) = Idle (ap (λ (f : Effect). needs f.this) k)
   own-of n v fresh f (core.Comes_in link is sp cr k) = Came link is
-  own-of n v fresh f (core.Begins id link b is at ph sp k) = Told id link is (ap (λ (f : Effect). f.reply.end_) k)
+  own-of n v fresh f (core.Begins id link b is at ph sp k) = Notified id link is (ap (λ (f : Effect). f.reply.end_) k)
   own-of n v fresh f (core.Ceases id link b is at ph sp k) = Idle (ap (λ (f : Effect). needs f.this) k)
   own-of n v fresh f (core.Loses id w e is at op k) = Idle (ap (λ (f : Effect). needs f.this) k)
   own-of n v fresh f (core.Ticks id r is at sp k) = Had (ap (λ (f : Effect). needs_at (slice_get n.ends f.reply.end_.0)) k ∙ ap needs_at at)

@@ -23,7 +23,7 @@ use Rattle.dist_world_model.specs.NodeLaws.{NodeLaws}
 use Rattle.dist_world_model.specs.OwnSetups.{AreNoResets, HasSetDigests, IsNoReset, IsSetUp, change_by, changes_at, is_place, setup_by, where_applied}
 use Rattle.dist_world_model.proofs.Conditions.{if_ok, if_there}
 use Rattle.dist_world_model.proofs.Places.{get-place}
-use Rattle.dist_world_model.proofs.HappeningEffects.{Act, Acted, Begins, Comes, Ends, Reaches, Resets, Tells, acts, change-ok}
+use Rattle.dist_world_model.proofs.HappeningEffects.{Act, Acted, Begins, Comes, Ends, Reaches, Resets, Reports, acts, change-ok}
 use Rattle.dist_world_model.proofs.Lookups.{changed-at, more-at}
 use Rattle.dist_world_model.proofs.WireSteps.{bare-stays}
 use Rattle.dist_world_model.proofs.Digests.{digest_lives}
@@ -105,7 +105,7 @@ module _ (ss : List Setup) where
     go-on ls cs (Ends i old at live is k) = subst (AllGo w.lives) (sym is) (go-at i (life_after_end w.clock) w.lives old at (λ who s g. g))
     go-on ls cs (Reaches i id j old away at live ata livea d n is k) = subst (AllGo w.lives) (sym is) (go-at i (reached_life id _) w.lives old at (λ who s g. g))
     go-on ls cs (Comes side c n is k) = subst (AllGo w.lives) (sym is) (λ i. goes-refl (slice_get w.lives i))
-    go-on ls cs (Tells i old v fresh f ds fits at live ok ready is k) =
+    go-on ls cs (Reports i old v fresh f ds fits at live ok ready is k) =
         subst (AllGo w.lives) (sym is) (go-at i (λ l. life_after w.clock v f.reply (after old.node v f) old) w.lives old at (λ who s g. g))
     go-on ls cs (Resets a i old v r at live ok is k) = not-reset a v r
 

@@ -196,5 +196,5 @@ module _ (laws : NodeLaws) (turn : Turn) where
             now-is true q = cc
             now-is false q = absurd cc
 
-  pub told-over : Superseded (rows' laws turn)
-  told-over = over-now
+  pub notified-over : Superseded (rows' laws turn)
+  notified-over = over-now

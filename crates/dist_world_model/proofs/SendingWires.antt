@@ -25,46 +25,46 @@ use Rattle.dist_world_model.specs.NodeLaws.{NodeLaws}
 use Rattle.dist_world_model.proofs.EventEnds.{own-end}
 use Rattle.dist_world_model.proofs.GrowingRows.{frame-end, spoken-none}
 use Rattle.dist_world_model.proofs.OwnWires.{own-says, own-takes}
-use Rattle.dist_world_model.proofs.SilentWires.{Kept, beside, deed, me, rows', silent, the-row, Telling}
+use Rattle.dist_world_model.proofs.SilentWires.{Kept, beside, deed, me, rows', silent, the-row, Notifying}
 
-module _ (laws : NodeLaws) (telling : Telling) where
-  open telling use {w, lives, fit, linked, wires, i, old, v, fresh, f, small, at, live, ok}
+module _ (laws : NodeLaws) (notifying : Notifying) where
+  open notifying use {w, lives, fit, linked, wires, i, old, v, fresh, f, small, at, live, ok}
 
   -- ---- the event's own row
 
   record Found : Type 0 where
     x0 : EndRow
     e0 : End
-    at-x : slice_get old.rows (me laws telling) ≡ Some x0
-    at-e : (let n = old.node in slice_get n.ends (me laws telling)) ≡ Some e0
+    at-x : slice_get old.rows (me laws notifying) ≡ Some x0
+    at-e : (let n = old.node in slice_get n.ends (me laws notifying)) ≡ Some e0
     fits : Fits e0 x0
-    row-is : slice_get (rows' laws telling) (me laws telling) ≡ Some (row_after w.clock true (dooms f.reply.note (me laws telling)) (shuts_end f.reply.closed (me laws telling)) f.reply x0)
+    row-is : slice_get (rows' laws notifying) (me laws notifying) ≡ Some (row_after w.clock true (dooms f.reply.note (me laws notifying)) (shuts_end f.reply.closed (me laws notifying)) f.reply x0)
 
   found : is_given v ≡ false → Found
-  found ng = let e = own-end old.node v f (deed laws telling) ng in by e.0 e.1 (slice_get old.rows (me laws telling)) refl (let P : Option End → Type 0 = λ o. Beside o (slice_get old.rows (me laws telling)) in subst P e.1 ((beside laws telling) (me laws telling)))
+  found ng = let e = own-end old.node v f (deed laws notifying) ng in by e.0 e.1 (slice_get old.rows (me laws notifying)) refl (let P : Option End → Type 0 = λ o. Beside o (slice_get old.rows (me laws notifying)) in subst P e.1 ((beside laws notifying) (me laws notifying)))
     where
-      by : (e : End) → (let n = old.node in slice_get n.ends (me laws telling)) ≡ Some e → (o : Option EndRow) → slice_get old.rows (me laws telling) ≡ o → Beside (Some e) o → Found
+      by : (e : End) → (let n = old.node in slice_get n.ends (me laws notifying)) ≡ Some e → (o : Option EndRow) → slice_get old.rows (me laws notifying) ≡ o → Beside (Some e) o → Found
       by e ae None ax b = absurd b
-      by e ae (Some x) ax b = record { x0 = x; e0 = e; at-x = ax; at-e = ae; fits = b; row-is = get-row-old w.clock v f.reply old.rows (me laws telling) ng ∙ ap (option_map (mark w.clock f.reply (me laws telling))) ax ∙ (λ n. Some (row_after w.clock (eqb-self (me laws telling) n) (dooms f.reply.note (me laws telling)) (shuts_end f.reply.closed (me laws telling)) f.reply x)) }
+      by e ae (Some x) ax b = record { x0 = x; e0 = e; at-x = ax; at-e = ae; fits = b; row-is = get-row-old w.clock v f.reply old.rows (me laws notifying) ng ∙ ap (option_map (mark w.clock f.reply (me laws notifying))) ax ∙ (λ n. Some (row_after w.clock (eqb-self (me laws notifying) n) (dooms f.reply.note (me laws notifying)) (shuts_end f.reply.closed (me laws notifying)) f.reply x)) }
 
-  conn-not : (x : EndRow) → slice_get old.rows (me laws telling) ≡ Some x → x.conn ≡ None → (c : ℕ) (y : EndRow) → slice_get old.rows (me laws telling) ≡ Some y → y.conn ≡ Some c → is_given v ≡ true
+  conn-not : (x : EndRow) → slice_get old.rows (me laws notifying) ≡ Some x → x.conn ≡ None → (c : ℕ) (y : EndRow) → slice_get old.rows (me laws notifying) ≡ Some y → y.conn ≡ Some c → is_given v ≡ true
   conn-not x ax none c y ay on = absurd (let z : Some x ≡ Some y = sym ax ∙ ay in let q : x ≡ y = cc in let u : None ≡ Some c = sym none ∙ ap (λ (r : EndRow). r.conn) q ∙ on in cc)
 
   -- ---- a row that is given out
 
   pub long : length old.rows ≡ length (let n = old.node in n.ends)
-  long = sym (same-length (let n = old.node in n.ends) old.rows (beside laws telling))
+  long = sym (same-length (let n = old.node in n.ends) old.rows (beside laws notifying))
 
-  pub new-row-at : (new : EndRow) → is_given v ≡ true → given_by w.clock v ≡ Some new → slice_get (rows' laws telling) (me laws telling) ≡ Some (mark w.clock f.reply (me laws telling) new)
+  pub new-row-at : (new : EndRow) → is_given v ≡ true → given_by w.clock v ≡ Some new → slice_get (rows' laws notifying) (me laws notifying) ≡ Some (mark w.clock f.reply (me laws notifying) new)
   new-row-at new g is =
-      let id : (me laws telling) ≡ length (let n = old.node in n.ends) = (let h = gives old.node v f (deed laws telling) g in h.id) in
-      get-row w.clock v f.reply old.rows (me laws telling) ∙ ap (λ o. option_map (mark w.clock f.reply (me laws telling)) (slice_get (add_some old.rows o) (me laws telling))) is
-      ∙ ap (option_map (mark w.clock f.reply (me laws telling))) (get-more old.rows new (me laws telling) ∙ ap (λ k. cond (eqb k (me laws telling)) (Some new) (slice_get old.rows (me laws telling))) (long ∙ sym id) ∙ ap (λ b. cond b (Some new) (slice_get old.rows (me laws telling))) (eqb-self (me laws telling)))
+      let id : (me laws notifying) ≡ length (let n = old.node in n.ends) = (let h = gives old.node v f (deed laws notifying) g in h.id) in
+      get-row w.clock v f.reply old.rows (me laws notifying) ∙ ap (λ o. option_map (mark w.clock f.reply (me laws notifying)) (slice_get (add_some old.rows o) (me laws notifying))) is
+      ∙ ap (option_map (mark w.clock f.reply (me laws notifying))) (get-more old.rows new (me laws notifying) ∙ ap (λ k. cond (eqb k (me laws notifying)) (Some new) (slice_get old.rows (me laws notifying))) (long ∙ sym id) ∙ ap (λ b. cond b (Some new) (slice_get old.rows (me laws notifying))) (eqb-self (me laws notifying)))
 
-  dial-conn : is_given v ≡ true → IsPlain v → conn_of (slice_get (rows' laws telling) (me laws telling)) ≡ None
+  dial-conn : is_given v ≡ true → IsPlain v → conn_of (slice_get (rows' laws notifying) (me laws notifying)) ≡ None
   dial-conn g plain = by v refl
     where
-      by : (u : Event) → v ≡ u → conn_of (slice_get (rows' laws telling) (me laws telling)) ≡ None
+      by : (u : Event) → v ≡ u → conn_of (slice_get (rows' laws notifying) (me laws notifying)) ≡ None
       by (event.Dial p o) is = ap conn_of (new-row-at (new_row Dialler (Some p) None w.clock) g (ap (given_by w.clock) is))
       by (event.Incoming link) is = absurd (subst IsPlain is plain)
       by (event.Opened id link) is = absurd (false≢true (ap is_given (sym is) ∙ g))
@@ -75,33 +75,33 @@ module _ (laws : NodeLaws) (telling : Telling) where
   plain-not : IsPlain v → (link : ℕ) → v ≡ event.Incoming link → ⊥
   plain-not plain link is = subst IsPlain is plain
 
-  pub plain-told : (ds : List Conn) → IsPlain v → ds ≡ w.conns → (Kept laws telling) (conns_after_saying ds (slice_get (rows' laws telling) (me laws telling)) f.reply.say)
-  plain-told ds plain e = elim (is_given v) as (λ b. is_given v ≡ b → (Kept laws telling) (conns_after_saying ds (slice_get (rows' laws telling) (me laws telling)) f.reply.say)) [
-    | true ↦ λ g. subst (Kept laws telling) (sym (spoken-none ds (slice_get (rows' laws telling) (me laws telling)) f.reply.say (dial-conn g plain) ∙ e)) ((silent laws telling) (plain-not plain) (λ c x a b. g))
+  pub plain-notified : (ds : List Conn) → IsPlain v → ds ≡ w.conns → (Kept laws notifying) (conns_after_saying ds (slice_get (rows' laws notifying) (me laws notifying)) f.reply.say)
+  plain-notified ds plain e = elim (is_given v) as (λ b. is_given v ≡ b → (Kept laws notifying) (conns_after_saying ds (slice_get (rows' laws notifying) (me laws notifying)) f.reply.say)) [
+    | true ↦ λ g. subst (Kept laws notifying) (sym (spoken-none ds (slice_get (rows' laws notifying) (me laws notifying)) f.reply.say (dial-conn g plain) ∙ e)) ((silent laws notifying) (plain-not plain) (λ c x a b. g))
     | false ↦ λ ng. own ng (found ng)
   ] refl
     where
-      own : is_given v ≡ false → Found → (Kept laws telling) (conns_after_saying ds (slice_get (rows' laws telling) (me laws telling)) f.reply.say)
+      own : is_given v ≡ false → Found → (Kept laws notifying) (conns_after_saying ds (slice_get (rows' laws notifying) (me laws notifying)) f.reply.say)
       own ng q = by (let x = q.x0 in x.conn) refl
         where
-          by : (o : Option ℕ) → (let x = q.x0 in x.conn) ≡ o → (Kept laws telling) (conns_after_saying ds (slice_get (rows' laws telling) (me laws telling)) f.reply.say)
-          by None none = subst (Kept laws telling) (sym (spoken-none ds (slice_get (rows' laws telling) (me laws telling)) f.reply.say (ap conn_of q.row-is ∙ none) ∙ e)) ((silent laws telling) (plain-not plain) (conn-not q.x0 q.at-x none))
+          by : (o : Option ℕ) → (let x = q.x0 in x.conn) ≡ o → (Kept laws notifying) (conns_after_saying ds (slice_get (rows' laws notifying) (me laws notifying)) f.reply.say)
+          by None none = subst (Kept laws notifying) (sym (spoken-none ds (slice_get (rows' laws notifying) (me laws notifying)) f.reply.say (ap conn_of q.row-is ∙ none) ∙ e)) ((silent laws notifying) (plain-not plain) (conn-not q.x0 q.at-x none))
           by (Some c) on =
-              let k = linked.only i (me laws telling) c q.x0 (ap (λ o. row_of_life o (me laws telling)) at ∙ q.at-x) on in
-              subst (Kept laws telling) (sym ((λ n. conns_after_saying (e n) (q.row-is n) f.reply.say) ∙ ap (λ o. spoken_on w.conns o (let x = q.x0 in x.side) f.reply.say) on))
-              ((own-says laws telling) q.x0 q.e0 q.at-x q.at-e q.fits q.row-is c on k.conn k.there ng plain)
+              let k = linked.only i (me laws notifying) c q.x0 (ap (λ o. row_of_life o (me laws notifying)) at ∙ q.at-x) on in
+              subst (Kept laws notifying) (sym ((λ n. conns_after_saying (e n) (q.row-is n) f.reply.say) ∙ ap (λ o. spoken_on w.conns o (let x = q.x0 in x.side) f.reply.say) on))
+              ((own-says laws notifying) q.x0 q.e0 q.at-x q.at-e q.fits q.row-is c on k.conn k.there ng plain)
 
-  pub take-told : (ds : List Conn) (id : EndId) (row : EndRow) (c : ℕ) (k : Conn) (body : List ℕ) → v ≡ event.Frame id body → row_at w i id.0 ≡ Some row → row.conn ≡ Some c → slice_get w.conns c ≡ Some k → (let u = text_to row.side k in first_body w16 u.come) ≡ Some body → ds ≡ at_place c (change_to row.side body_taken) w.conns
-      → (Kept laws telling) (conns_after_saying ds (slice_get (rows' laws telling) (me laws telling)) f.reply.say)
-  take-told ds id row c k body is ar on ak first e =
+  pub take-notified : (ds : List Conn) (id : EndId) (row : EndRow) (c : ℕ) (k : Conn) (body : List ℕ) → v ≡ event.Frame id body → row_at w i id.0 ≡ Some row → row.conn ≡ Some c → slice_get w.conns c ≡ Some k → (let u = text_to row.side k in first_body w16 u.come) ≡ Some body → ds ≡ at_place c (change_to row.side body_taken) w.conns
+      → (Kept laws notifying) (conns_after_saying ds (slice_get (rows' laws notifying) (me laws notifying)) f.reply.say)
+  take-notified ds id row c k body is ar on ak first e =
       let ng : is_given v ≡ false = ap is_given is in
       let q = found ng in
-      let own : (me laws telling) ≡ id.0 = ap (λ (y : EndId). y.0) (frame-end laws old.node v fresh f id body (the-row laws telling) is) in
+      let own : (me laws notifying) ≡ id.0 = ap (λ (y : EndId). y.0) (frame-end laws old.node v fresh f id body (the-row laws notifying) is) in
       let z : Some q.x0 ≡ Some row = sym q.at-x ∙ ap (slice_get old.rows) own ∙ sym (ap (λ o. row_of_life o id.0) at) ∙ ar in
       let same : row ≡ q.x0 = cc in
       let on0 : (let x = q.x0 in x.conn) ≡ Some c = ap (λ (r : EndRow). r.conn) (sym same) ∙ on in
       let first0 : (let s = let x = q.x0 in x.side in let u = text_to s k in first_body w16 u.come) ≡ Some body = ap (λ (r : EndRow). let u = text_to r.side k in first_body w16 u.come) (sym same) ∙ first in
       let ds0 : ds ≡ at_place c (change_to (let x = q.x0 in x.side) body_taken) w.conns = e ∙ ap (λ (r : EndRow). at_place c (change_to r.side body_taken) w.conns) same in
-      subst (Kept laws telling) (sym ((λ n. conns_after_saying (ds0 n) (q.row-is n) f.reply.say) ∙ ap (λ o. spoken_on (at_place c (change_to (let x = q.x0 in x.side) body_taken) w.conns) o (let x = q.x0 in x.side) f.reply.say) on0
+      subst (Kept laws notifying) (sym ((λ n. conns_after_saying (ds0 n) (q.row-is n) f.reply.say) ∙ ap (λ o. spoken_on (at_place c (change_to (let x = q.x0 in x.side) body_taken) w.conns) o (let x = q.x0 in x.side) f.reply.say) on0
       ∙ place-twice c (change_to (let x = q.x0 in x.side) body_taken) (says (let x = q.x0 in x.side) f.reply.say) w.conns))
-      ((own-takes laws telling) q.x0 q.e0 q.at-x q.at-e q.fits q.row-is c on0 k ak ng id body is first0)
+      ((own-takes laws notifying) q.x0 q.e0 q.at-x q.at-e q.fits q.row-is c on0 k ak ng id body is first0)

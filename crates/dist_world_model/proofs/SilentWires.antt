@@ -26,7 +26,7 @@ use Rattle.dist_world_model.specs.NodeLaws.{NodeLaws}
 use Rattle.dist_world_model.proofs.GrowingRows.{add-keeps}
 
 -- an event that a running incarnation gets, in a world all of whose connections are wires
-pub record Telling : Type 0 where
+pub record Notifying : Type 0 where
   pub w : World
   pub lives : (i : ℕ) (l : Life) → slice_get w.lives i ≡ Some l → IsLife w.clock l
   pub fit : (i : ℕ) (l : Life) → slice_get w.lives i ≡ Some l → IsFit l.node.setup
@@ -42,8 +42,8 @@ pub record Telling : Type 0 where
   pub live : runs old ≡ true
   pub ok : effect_of old.node v fresh ≡ Ok f
 
-module _ (laws : NodeLaws) (telling : Telling) where
-  open telling use {w, lives, fit, linked, wires, i, old, v, fresh, f, small, at, live, ok}
+module _ (laws : NodeLaws) (notifying : Notifying) where
+  open notifying use {w, lives, fit, linked, wires, i, old, v, fresh, f, small, at, live, ok}
 
   abbrev pub now : Life
   now = life_after w.clock v f.reply (after old.node v f) old
@@ -72,8 +72,8 @@ module _ (laws : NodeLaws) (telling : Telling) where
   pub get-now : slice_get ls' i ≡ Some now
   get-now = placed i (λ (l : Life). now) w.lives old at
 
-  pub tell-setups : (j : ℕ) → SetupStays (setup_in w.lives j) (setup_in ls' j)
-  tell-setups j = changed-at setup_of SetupStays setup-refl i (λ (l : Life). now) w.lives old at j (λ e s h. h)
+  pub notify-setups : (j : ℕ) → SetupStays (setup_in w.lives j) (setup_in ls' j)
+  notify-setups j = changed-at setup_of SetupStays setup-refl i (λ (l : Life). now) w.lives old at j (λ e s h. h)
 
   -- ---- rows stay with their connections
 
@@ -119,7 +119,7 @@ module _ (laws : NodeLaws) (telling : Telling) where
   own-row j p x e q h = ap (slice_get old.rows) q ∙ sym (ap (λ o. row_of_life o p) at) ∙ ap (λ k. row_in w.lives k p) e ∙ h
 
   pub other-wire : (d : ℕ) (k h : Conn) → slice_get w.conns d ≡ Some k → Alike w.lives k h → ((y : ℕ) → h.accepted ≡ Some y → (k.accepted ≡ Some y) ⊎ (is_given v ≡ true)) → ((x : EndRow) → slice_get old.rows me ≡ Some x → x.conn ≡ Some d → is_given v ≡ true) → WireAt ls' h
-  other-wire d k h ak a far-was free = wire-alike w.lives ls' w.conns tell-setups linked wires d k h ak a (record {
+  other-wire d k h ak a far-was free = wire-alike w.lives ls' w.conns notify-setups linked wires d k h ak a (record {
     row = (let g = dialled in g.0);
     end_ = (let g = dialled in g.1);
     far_row = λ y e. (let g = accepted y (far-was y e) in g.0);
@@ -140,7 +140,7 @@ module _ (laws : NodeLaws) (telling : Telling) where
 
   pub silent : ((link : ℕ) → v ≡ event.Incoming link → ⊥) → ((c : ℕ) (x : EndRow) → slice_get old.rows me ≡ Some x → x.conn ≡ Some c → is_given v ≡ true) → Kept w.conns
   silent not free = (
-    linked-same w.lives ls' w.conns w.conns all-stay (all-were not) tell-setups (conns-same w.conns) linked,
+    linked-same w.lives ls' w.conns w.conns all-stay (all-were not) notify-setups (conns-same w.conns) linked,
     λ c k ak. other-wire c k k ak (alike-refl w.lives k) (λ y e. inl e) (free c),
   )
 

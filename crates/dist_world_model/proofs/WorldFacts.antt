@@ -20,7 +20,7 @@ use Rattle.dist_world_model.specs.Run.{run}
 use Rattle.dist_world_model.specs.Agreement.{bare, AreSetups, Fits, AllFit}
 use Rattle.dist_world_model.specs.Laws.{AllLives}
 use Rattle.dist_world_model.proofs.Places.{at-one, at-more, get-more, eqb-self}
-use Rattle.dist_world_model.proofs.HappeningEffects.{Act, Acted, Begins, Ends, Reaches, Comes, Tells, Resets}
+use Rattle.dist_world_model.proofs.HappeningEffects.{Act, Acted, Begins, Ends, Reaches, Comes, Reports, Resets}
 use Rattle.dist_world_model.proofs.IncarnationEffects.{kept-by-all, one-step, alike, all-free}
 use Rattle.dist_world_model.proofs.SentFrames.{IsFit}
 use Rattle.dist_world_model.proofs.IncarnationFacts.{IsLife}
@@ -30,7 +30,7 @@ use Rattle.dist_world_model.proofs.ConnectionRows.{Linked}
 use Rattle.dist_world_model.proofs.AllWires.{Wires}
 use Rattle.dist_world_model.proofs.WireSteps.{begun-linked, begun-wires, ended-linked, ended-wires, reset-linked, reset-wires, bare-stays, come-linked, come-wires}
 use Rattle.dist_world_model.proofs.DialledWires.{reached-linked, reached-wires}
-use Rattle.dist_world_model.proofs.AcceptedWires.{told-kept}
+use Rattle.dist_world_model.proofs.AcceptedWires.{notified-kept}
 use Rattle.dist_world_model.specs.NodeLaws.{NodeLaws}
 
 -- the incarnation has its node's setup, but for the creation, the cookies and the allow list
@@ -138,8 +138,8 @@ ends-heads w i old at live = heads-at w.clock i (life_after_end w.clock) w.lives
 reaches-heads : (w : World) (i id : ℕ) → Heads w.clock w.lives (at_place i (reached_life id (length w.conns)) w.lives)
 reaches-heads w i id = heads-at w.clock i (reached_life id (length w.conns)) w.lives (λ l e. record { who = refl; begun = refl; setup = refl; over = inl refl })
 
-tells-heads : (w : World) (i : ℕ) (old : Life) (v : Event) (f : Effect) → slice_get w.lives i ≡ Some old → Heads w.clock w.lives (at_place i (λ (l : Life). life_after w.clock v f.reply (after old.node v f) old) w.lives)
-tells-heads w i old v f at = heads-at w.clock i (λ l. life_after w.clock v f.reply (after old.node v f) old) w.lives (λ l e. let z = alike w.lives i old l at e in record { who = ap (λ (l : Life). l.who) z; begun = ap (λ (l : Life). l.begun) z; setup = ap (λ (l : Life). bare l.node.setup) z; over = inl (ap (λ (l : Life). l.over) z) })
+notifies-heads : (w : World) (i : ℕ) (old : Life) (v : Event) (f : Effect) → slice_get w.lives i ≡ Some old → Heads w.clock w.lives (at_place i (λ (l : Life). life_after w.clock v f.reply (after old.node v f) old) w.lives)
+notifies-heads w i old v f at = heads-at w.clock i (λ l. life_after w.clock v f.reply (after old.node v f) old) w.lives (λ l e. let z = alike w.lives i old l at e in record { who = ap (λ (l : Life). l.who) z; begun = ap (λ (l : Life). l.begun) z; setup = ap (λ (l : Life). bare l.node.setup) z; over = inl (ap (λ (l : Life). l.over) z) })
 
 resets-heads : (w : World) (i : ℕ) (old : Life) (v : Change) → slice_get w.lives i ≡ Some old → Heads w.clock w.lives (at_place i (with_node (after_change old.node v)) w.lives)
 resets-heads w i old v at = heads-at w.clock i (with_node (after_change old.node v)) w.lives (λ l e. record { who = refl; begun = refl; setup = bare-stays old.node.setup v ∙ ap (λ (l : Life). bare l.node.setup) (alike w.lives i old l at e); over = inl refl })
@@ -172,7 +172,7 @@ module _ (w : World) (seen : AllLives (IsSeen w.clock) w) (order : InOrder w.liv
   order-after ls cs (Ends i old at live is k) = subst InOrder (sym is) (heads-order w.clock w.lives _ (ends-heads w i old at live) order)
   order-after ls cs (Reaches i id j old away at live ata livea d n is k) = subst InOrder (sym is) (heads-order w.clock w.lives _ (reaches-heads w i id) order)
   order-after ls cs (Comes side c n is k) = subst InOrder (sym is) order
-  order-after ls cs (Tells i old v fresh f ds fits at live ok ready is k) = subst InOrder (sym is) (heads-order w.clock w.lives _ (tells-heads w i old v f at) order)
+  order-after ls cs (Reports i old v fresh f ds fits at live ok ready is k) = subst InOrder (sym is) (heads-order w.clock w.lives _ (notifies-heads w i old v f at) order)
   order-after ls cs (Resets a i old v r at live ok is k) = subst InOrder (sym is) (heads-order w.clock w.lives _ (resets-heads w i old v at) order)
 
 -- in every world, whatever its setups and numbers
@@ -229,11 +229,11 @@ module _ (laws : NodeLaws) where
     rest ls cs (Comes side c n is k) =
         let P : List Life → List Conn → Type 0 = λ x y. Rest x y in
         subst (λ x. P x cs) (sym is) (subst (P _) (sym k) (by-heads w.lives _ (λ i l at. (l, at, head-refl w.clock l)) (come-linked side c n w.lives w.conns h.linked) (come-wires side c n w.lives w.conns h.linked h.wires)))
-    rest ls cs (Tells i old v fresh f ds fits at live ok ready is k) =
+    rest ls cs (Reports i old v fresh f ds fits at live ok ready is k) =
         let P : List Life → List Conn → Type 0 = λ x y. Rest x y in
-        let g = told-kept laws (record { w = w; lives = lives; fit = h.fits; linked = h.linked; wires = h.wires; i = i; old = old; v = v; fresh = fresh; f = f; small = fits known; at = at; live = live; ok = ok }) ds ready in
+        let g = notified-kept laws (record { w = w; lives = lives; fit = h.fits; linked = h.linked; wires = h.wires; i = i; old = old; v = v; fresh = fresh; f = f; small = fits known; at = at; live = live; ok = ok }) ds ready in
         subst (λ x. P x cs) (sym is) (subst (P _) (sym k) (by-heads (at_place i (λ l. life_after w.clock v f.reply (after old.node v f) old) w.lives) _
-        (tells-heads w i old v f at)
+        (notifies-heads w i old v f at)
         g.0 g.1))
     rest ls cs (Resets a i old v r at live ok is k) =
         let P : List Life → List Conn → Type 0 = λ x y. Rest x y in

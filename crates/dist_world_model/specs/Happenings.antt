@@ -58,10 +58,10 @@ most_applied = 4611686018427387904
 abbrev pub life_after : ℕ → Event → Reply → NodeState → Life → Life
 life_after t v r n l = record l { node = n; rows = rows_after t v r l.rows }
 
--- INCARNATION i IS TOLD AN EVENT: it runs and its step succeeds; what the reply says is appended to the connection of the
+-- INCARNATION i GETS AN EVENT: it runs and its step succeeds; what the reply says is appended to the connection of the
 -- end that it names
-abbrev pub tell : World → ℕ → Event → ℕ → Option World
-tell w i v fresh = do
+abbrev pub notify : World → ℕ → Event → ℕ → Option World
+notify w i v fresh = do
   life ← slice_get w.lives i
   runs life
   (reply, node) ← result_ok (step life.node v fresh)
@@ -72,11 +72,11 @@ tell w i v fresh = do
     last_closed = option_map (λ closed. (life.who, closed)) reply.closed;
   })
 
--- DIAL, TICK, LOSE: a running node is told this event
-abbrev pub tell_node : World → ℕ → Event → Option World
-tell_node w node v = do
+-- DIAL, TICK, LOSE: a running node gets this event
+abbrev pub notify_node : World → ℕ → Event → Option World
+notify_node w node v = do
   i ← running w node
-  tell w i v 0
+  notify w i v 0
 
 -- ---- beginning and end
 
@@ -156,12 +156,12 @@ reach w node id target = do
     conns = w.conns ++ new_conn i id.0 j ∷ [];
   })
 
--- OPENED: an end that has a connection is told of it
-abbrev pub tell_opened : World → ℕ → EndId → Option World
-tell_opened w node id = do
+-- OPENED: an end that has a connection learns of it
+abbrev pub notify_opened : World → ℕ → EndId → Option World
+notify_opened w node id = do
   i ← running w node
   c ← conn_of (row_at w i id.0)
-  tell w i (event.Opened id c) 0
+  notify w i (event.Opened id c) 0
 
 -- the number that the next end of an incarnation has
 abbrev pub next_end : Option Life → ℕ
@@ -178,7 +178,7 @@ accept w c = do
   conn ← slice_get w.conns c
   is_none conn.accepted
   let id = next_end (slice_get w.lives conn.target)
-  tell (record w { conns = at_place c (accepted_by id) w.conns }) conn.target (event.Incoming c) 0
+  notify (record w { conns = at_place c (accepted_by id) w.conns }) conn.target (event.Incoming c) 0
 
 -- ---- what comes to an end, and what it takes
 
@@ -204,7 +204,7 @@ deliver w node id k = do
   nat_lt 0 k && is_nonempty text.said
   Some (record w { conns = at_place c (change_to row.side (after_delivery k)) w.conns })
 
--- TAKE: an end takes the first whole frame of what came, and is told its body as it is read, with the challenge that was drawn
+-- TAKE: an end takes the first whole frame of what came, and gets its body as it is read, with the challenge that was drawn
 -- for it
 abbrev pub take_read : (List ℕ → List ℕ) → World → ℕ → EndId → ℕ → Option World
 take_read reading w node id fresh = do
@@ -214,7 +214,7 @@ take_read reading w node id fresh = do
   conn ← slice_get w.conns c
   let text = text_to row.side conn
   body ← first_body w16 text.come
-  tell (record w { conns = at_place c (change_to row.side body_taken) w.conns }) i (event.Frame id (reading body)) fresh
+  notify (record w { conns = at_place c (change_to row.side body_taken) w.conns }) i (event.Frame id (reading body)) fresh
 
 -- as it came
 abbrev pub take_frame : World → ℕ → EndId → ℕ → Option World
@@ -226,14 +226,14 @@ take_frame = take_read (λ body. body)
 abbrev pub world_after : World → Happening → Option World
 world_after w (happening.Begin node creation) = begin w node creation
 world_after w (happening.Halt node) = halt w node
-world_after w (happening.Dial node peer opening) = tell_node w node (event.Dial peer opening)
-world_after w (happening.Tick node id) = tell_node w node (event.Tick id)
+world_after w (happening.Dial node peer opening) = notify_node w node (event.Dial peer opening)
+world_after w (happening.Tick node id) = notify_node w node (event.Tick id)
 world_after w (happening.Reach node id target) = reach w node id target
-world_after w (happening.Opened node id) = tell_opened w node id
+world_after w (happening.Opened node id) = notify_opened w node id
 world_after w (happening.Accept c) = accept w c
 world_after w (happening.Deliver node id k) = deliver w node id k
 world_after w (happening.Take node id fresh) = take_frame w node id fresh
-world_after w (happening.Lose node id why) = tell_node w node (event.Lost id why)
+world_after w (happening.Lose node id why) = notify_node w node (event.Lost id why)
 world_after w (happening.Reset node v) = reset w node v
 
 -- nothing is known of the last step

@@ -7,7 +7,7 @@ use dist_core_laws::{
     steps_are_rows, two_ends_change_at_most,
 };
 use dist_core_setup::{
-    announced_flags_fit, flags_tell_versions, low_halves_suffice, messages_can_be_said,
+    announced_flags_fit, flags_show_versions, low_halves_suffice, messages_can_be_said,
     what_is_said_is_read,
 };
 use dist_names::order_of_names;
@@ -23,7 +23,7 @@ pub fn nodes_keep_laws()
     what_is_said_is_read();
     announced_flags_fit();
     length_of_digest();
-    flags_tell_versions();
+    flags_show_versions();
     low_halves_suffice();
     ends_after_a_change();
     steps_are_rows();

@@ -8,21 +8,21 @@ use Rattle.distmapd.specs.declared.rates.Rates.{Rates}
 
 -- ---- one kind
 
--- nothing was written
+-- no line was written
 abbrev pub new_rate : Rate
 new_rate = record { second = 0; lines = 0 }
 
--- A LINE IS ADMITTED where fewer than 100 of its kind were in its second
+-- A LINE IS ADMITTED if its kind had fewer than 100 in this second
 abbrev pub is_admitted : ℕ → Rate → Bool
 is_admitted now rate = not (now == rate.second) || nat_lt rate.lines 100
 
--- the rate with a line more, where it is admitted
+-- the rate with one more line, if it is admitted
 abbrev pub after_admit : ℕ → Rate → Rate
 after_admit now rate = if is_admitted now rate then record { second = now; lines = if now == rate.second then rate.lines + 1 else 1 } else rate
 
 -- ---- all kinds
 
--- nothing was written, and nothing left out
+-- no line was written, and none left out
 abbrev pub new_rates : Rates
 new_rates = record {
   registered = new_rate;
@@ -37,7 +37,7 @@ new_rates = record {
   second = 0;
 }
 
--- the rate of a kind: each that has a line has its own
+-- the rate of a kind; all kinds without a line share one
 abbrev pub rate_of : EventKind → Rates → Rate
 rate_of kind.Registered r = r.registered
 rate_of kind.Ended r = r.ended
@@ -49,7 +49,7 @@ rate_of kind.NoMemory r = r.no_memory
 rate_of kind.LookedUp r = r.answered
 rate_of kind.Listed r = r.answered
 
--- the rates where that of a kind is this one
+-- the rates with this one for a kind
 abbrev pub with_rate : EventKind → Rate → Rates → Rates
 with_rate kind.Registered rate r = record r { registered = rate }
 with_rate kind.Ended rate r = record r { ended = rate }
@@ -61,16 +61,16 @@ with_rate kind.NoMemory rate r = record r { no_memory = rate }
 with_rate kind.LookedUp rate r = record r { answered = rate }
 with_rate kind.Listed rate r = record r { answered = rate }
 
--- the rates after a line of a kind was asked for: no other kind's changes
+-- the rates after a line of a kind was asked for; those of other kinds stay
 abbrev pub after_admitting : EventKind → ℕ → Rates → Rates
 after_admitting k now r = with_rate k (after_admit now (rate_of k r)) r
 
 -- ---- what is left out
 
--- so many more are left out in this second
+-- this many more are left out in this second
 abbrev pub leaving_out : ℕ → ℕ → Rates → Rates
 leaving_out count now r = record r { left_out = at_most r.left_out count; second = now }
 
--- none are left out that nobody was told of, where the second of the last is over
+-- none is left out any more, once the second of the last one is over
 abbrev pub with_none_left_out : ℕ → Rates → Rates
 with_none_left_out now r = record r { left_out = if now == r.second then r.left_out else 0 }

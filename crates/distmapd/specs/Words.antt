@@ -10,17 +10,17 @@ use Rattle.distmapd.specs.declared.key.Key.{Key}
 use Rattle.distmapd.specs.declared.key.Key.TheVariants as key
 use Rattle.distmapd.specs.declared.reading.Awaits.{Awaits}
 use Rattle.distmapd.specs.declared.reading.Awaits.TheVariants as awaits
-use Rattle.distmapd.specs.declared.reading.Reading.{Reading}
-use Rattle.distmapd.specs.declared.refusal.Refusal.{Refusal}
-use Rattle.distmapd.specs.declared.refusal.Refusal.TheVariants.{UnknownWord, NotDone, BadPort, BadTimeout, BadClients, BadLog, BadMetrics}
+use Rattle.distmapd.specs.declared.reading.ParsedWords.{ParsedWords}
+use Rattle.distmapd.specs.declared.refusal.WordError.{WordError}
+use Rattle.distmapd.specs.declared.refusal.WordError.TheVariants.{UnknownWord, NotDone, BadPort, BadTimeout, BadClients, BadLog, BadMetrics}
 use Rattle.distmapd.specs.declared.refusal.BadWords.{BadWords}
 use Rattle.distmapd.specs.declared.refusal.BadWords.TheVariants.{At, NoValue}
-use Rattle.distmapd.specs.declared.form.Form.{Form}
-use Rattle.distmapd.specs.declared.form.Form.TheVariants as form
+use Rattle.distmapd.specs.declared.form.LogForm.{LogForm}
+use Rattle.distmapd.specs.declared.form.LogForm.TheVariants as form
 use Rattle.distmapd.specs.declared.settings.Settings.{Settings}
 use Rattle.distmapd.specs.declared.settings.Task.TheVariants as task
 
--- ---- the words that stand by themselves
+-- ---- options and switches
 
 abbrev pub name_of : Key → List ℕ
 name_of key.Port = codes "-port"
@@ -56,7 +56,7 @@ key_named word = find (has_name word) all_keys
 
 -- ---- numbers
 
--- decimal digits, at least one, that write a number above 0 and up to this one; leading zeros are allowed
+-- a number from 1 to this one, in decimal digits; leading zeros are allowed
 abbrev pub is_number : ℕ → List ℕ → Bool
 is_number most word = nat_lt 0 (length word) && (all_ascii_digits word && (nat_lt 0 (digits_value 10 word) && nat_le (digits_value 10 word) most))
 
@@ -65,19 +65,19 @@ number_of most word = if is_number most word then Some (digits_value 10 word) el
 
 -- ---- forms of the log
 
-unfoldable pub form_named : List ℕ → Option Form
+unfoldable pub form_named : List ℕ → Option LogForm
 form_named word = if pointwise ◌==◌ word (codes "text") then Some form.Text else (if pointwise ◌==◌ word (codes "json") then Some form.Json else None)
 
 -- ---- one word
 
--- what was read so far
+-- what the words so far say
 abbrev pub Read : Type 0
-Read = Result Reading Refusal
+Read = Result ParsedWords WordError
 
 abbrev pub reading_of : Settings → Awaits → Read
 reading_of settings what = Ok (record { settings = settings; awaits = what })
 
--- what a word that stands by itself makes of what was read before it
+-- the state after an option or a switch
 abbrev pub after_key : Settings → Option Key → Read
 after_key s None = Err UnknownWord
 after_key s (Some key.Port) = reading_of s awaits.Port
@@ -100,21 +100,21 @@ after_key s (Some key.Stop) = Err NotDone
 after_key s (Some key.Debug) = Err NotDone
 after_key s (Some key.Relaxed) = Err NotDone
 
--- the number that an option awaited, or why there is none
-abbrev pub with_number : Option ℕ → Refusal → (ℕ → Settings) → Read
+-- the state after a number that an option wants, or why the word is not one
+abbrev pub with_number : Option ℕ → WordError → (ℕ → Settings) → Read
 with_number None refusal with = Err refusal
 with_number (Some n) refusal with = reading_of (with n) awaits.Key
 
--- the form that -log awaited, or why there is none
-abbrev pub with_form : Option Form → Settings → Read
+-- the state after the form that -log wants, or why the word is not one
+abbrev pub with_form : Option LogForm → Settings → Read
 with_form None s = Err BadLog
 with_form (Some f) s = reading_of (record s { log = Some f }) awaits.Key
 
--- a word as it was handed over
+-- a word of the command line
 abbrev pub Word : Type 0
 Word = Bor (List ℕ)
 
--- what a word makes of what was read before it, by what it is to be
+-- the state after a word, by what that word should be
 abbrev pub after_word : Settings → Awaits → Word → Read
 after_word s awaits.Key word = after_key s (key_named word.now)
 after_word s awaits.Port word = with_number (number_of 65535 word.now) BadPort (λ n. record s { port = n })
@@ -126,27 +126,27 @@ after_word s awaits.Metrics word = with_number (number_of 65535 word.now) BadMet
 
 -- ---- all words
 
--- what was read of all words so far, or the first that is bad
+-- what all words so far say, or the first that is bad
 abbrev pub ReadAll : Type 0
-ReadAll = Result Reading BadWords
+ReadAll = Result ParsedWords BadWords
 
--- what was made of a word, with the word where it is bad
+-- the state after a word, or the word itself if it is bad
 abbrev pub at_word : Word → Read → ReadAll
 at_word word (Ok r) = Ok r
 at_word word (Err refusal) = Err (At word refusal)
 
--- Each word counts in turn: a later one stands for an earlier one, and the first that is bad is refused.
+-- Words are read in order: a later one overrides an earlier one, and the first bad one is refused.
 abbrev pub after_words : ReadAll → List Word → ReadAll
 after_words (Err bad) words = Err bad
 after_words (Ok r) [] = Ok r
 after_words (Ok r) (word ∷ words) = after_words (at_word word (after_word r.settings r.awaits word)) words
 
--- what is asked for without any word, at this port, with the addresses of ERL_EPMD_ADDRESS
+-- the settings without any words, at this port, with the addresses of ERL_EPMD_ADDRESS
 abbrev pub usual_settings : ℕ → Option Word → Settings
 usual_settings port address =
     record { task = task.Serve; port = port; addresses = address; seconds = 60; clients = 4096; systemd = false; log = Some form.Text; metrics = None }
 
--- behind the last word none is awaited that is a value
+-- after the last word, no value may be missing
 abbrev pub final_settings : Settings → Awaits → Result Settings BadWords
 final_settings s awaits.Key = Ok s
 final_settings s awaits.Port = Err NoValue
@@ -160,6 +160,6 @@ abbrev pub settings_after : ReadAll → Result Settings BadWords
 settings_after (Ok r) = final_settings r.settings r.awaits
 settings_after (Err bad) = Err bad
 
--- WHAT THE WORDS ASK FOR, with the port and the addresses that the environment says
+-- WHAT THE WORDS ASK FOR, with the port and the addresses that the environment names
 abbrev pub settings_of : ℕ → Option Word → List Word → Result Settings BadWords
 settings_of port address words = settings_after (after_words (Ok (record { settings = usual_settings port address; awaits = awaits.Key })) words)

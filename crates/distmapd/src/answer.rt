@@ -1,4 +1,4 @@
-//! The answer of a port mapper that is asked for all names: 4 bytes of its port, a line for each name, and the end (ERTS User's
+//! The answer of a port mapper to the question for all names: its port in 4 bytes, a line for each name, and the end (ERTS User's
 //! Guide, Distribution Protocol, Get All Registered Names from EPMD).
 
 ghost use Rattle.std.specs.Prelude.{◌≡◌, IfOk, IfErr};
@@ -14,20 +14,20 @@ const QUESTION: [u8; 3] = [0, 1, b'n'];
 // The most bytes of one read.
 const PIECE: usize = 4096;
 
-// No more is read once this many bytes came, so that no answer takes all memory. A name has its line of at most 280 bytes, so
-// there is room for 3,700 and more. Our own choice.
+// Reading stops after this many bytes, so that no answer takes all memory. The line of a name has at most 280 bytes, so there is room
+// for more than 3,700. Our own choice.
 const ENOUGH: usize = 1_048_576;
 
-/// What came of an answer.
+/// The part of an answer that arrived.
 #[derive(Drop)]
-pub struct Answer {
-    /// The bytes that came, in their order.
+pub struct ReceivedAnswer {
+    /// The bytes, in order.
     pub bytes: Vec<u8>,
-    /// Whether the port mapper ended it. Else a read failed, the time was over, or more came than is read.
+    /// Whether the port mapper ended it. If not, a read failed, the time was over, or there were more bytes than are read.
     pub is_ended: bool,
 }
 
-// Appends what comes, up to the end, to the first fault or to enough bytes. Returns whether the end was read.
+// Appends what is read until the end, the first fault, or enough bytes. Returns whether the end was reached.
 fn read_rest<S: Stream>(
     limited: &mut Limited<'_, S>,
     bytes: &mut Vec<u8>,
@@ -51,11 +51,10 @@ fn read_rest<S: Stream>(
     }
 }
 
-/// Asks for all names, and reads what comes: up to the end, or up to a fault, a stream that stays quiet, or a mebibyte and
-/// at most 4,095 bytes more.
+/// Asks for all names, and reads until the end, a fault, a stream that stays quiet, or a mebibyte and at most 4,095 bytes more.
 ///
-/// NoAnswer where the question could not be sent whole, and NoMemory. Nothing else is refused: what came may be cut anywhere.
-pub fn ask<S: Stream>(alloc: Global, stream: &mut S) -> Result<Answer, Fault>
+/// `NoAnswer` if the question could not be sent whole, and `NoMemory`. Nothing else is refused: the answer may be cut anywhere.
+pub fn ask<S: Stream>(alloc: Global, stream: &mut S) -> Result<ReceivedAnswer, Fault>
     ensures ok { IfOk result (λ answer. AnswersNames (S.meaning stream.old) (S.meaning stream.new) answer) }
     ensures err { IfErr result IsFaultOfAsking }
 {
@@ -68,5 +67,5 @@ pub fn ask<S: Stream>(alloc: Global, stream: &mut S) -> Result<Answer, Fault>
     }
     let mut bytes = Vec::new(alloc);
     let is_ended = read_rest(&mut limited, &mut bytes)?;
-    Ok(Answer { bytes, is_ended })
+    Ok(ReceivedAnswer { bytes, is_ended })
 }

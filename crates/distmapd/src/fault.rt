@@ -10,19 +10,19 @@ use thiserror::Error;
 /// Why the program stops.
 #[derive(Debug, Drop, Error)]
 pub enum Fault {
-    /// The words of the command line or the environment ask for nothing. Whoever started it is to blame.
+    /// The words of the command line or the environment are refused. The user is to blame.
     #[error("{0}")]
     BadWords(String),
-    /// A word is no UTF-8. Whoever started it is to blame.
+    /// A word is not UTF-8. The user is to blame.
     #[error("a word of the command line or the environment is no UTF-8")]
     NoText,
-    /// ERL_EPMD_PORT names no port. Whoever set it is to blame.
+    /// ERL_EPMD_PORT is not a port. The user is to blame.
     #[error("{0}")]
     BadMapperPort(PortError),
-    /// An address is no IP address. Whoever started it is to blame.
+    /// An address is not an IP address. The user is to blame.
     #[error("-address and ERL_EPMD_ADDRESS want IP addresses with commas between them")]
     BadAddress,
-    /// It can't listen: the port is taken, an address is not this host's, or no socket that listens was handed over to it.
+    /// It can't listen: the port is taken, an address is not this host's, or no listening socket was handed over to it.
     #[error("ListenFailed: the port is taken, an address is not of this host, or no socket that listens was handed over to it")]
     ListenFailed,
     /// It can't listen at the port of the figures.
@@ -31,16 +31,16 @@ pub enum Fault {
     /// The system doesn't report what is ready.
     #[error("ServeFailed")]
     ServeFailed,
-    /// Nobody listens at the port of the port mapper.
+    /// No program listens at the port of the port mapper.
     #[error("ConnectFailed: no port mapper listens at that port of this host")]
     ConnectFailed,
-    /// The port mapper gives no answer.
+    /// The port mapper did not answer.
     #[error("NoAnswer")]
     NoAnswer,
-    /// The port mapper's answer was cut, and what came of it was printed.
+    /// The port mapper's answer was cut; what arrived was printed.
     #[error("AnswerCut: names may be missing")]
     AnswerCut,
-    /// What was asked for could not be written.
+    /// The output could not be written.
     #[error("WriteFailed")]
     WriteFailed,
     /// No memory was left.
@@ -49,7 +49,7 @@ pub enum Fault {
 }
 
 impl Fault {
-    /// The status that the program ends with.
+    /// The exit status.
     pub fn status(&self) -> u8 {
         match self {
             Fault::BadWords(_) | Fault::NoText | Fault::BadMapperPort(_) | Fault::BadAddress => 2,

@@ -1,10 +1,10 @@
 //! The forms of the log.
 
-/// In which form a log is written.
+/// The form in which a log is written.
 #[derive(Clone, Copy)]
-pub enum Form {
-    /// Words for people.
+pub enum LogForm {
+    /// Words, for people to read.
     Text,
-    /// An object of JSON in each line.
+    /// Each line is a JSON object.
     Json,
 }

@@ -1,4 +1,4 @@
-//! Bytes of strangers as a string of JSON (RFC 8259, section 7).
+//! Bytes from other machines as a JSON string (RFC 8259, section 7).
 
 ghost use Rattle.std.specs.Prelude.{◌≡◌, ◌++◌, ◌<◌, IfOk, OnOk};
 ghost use Rattle.std.specs.String.{string_bytes};
@@ -16,7 +16,7 @@ fn digit(value: u8) -> char
     char::from_digit(u32::from(value), 16).unwrap_or('0')
 }
 
-// Puts a byte by its code.
+// Appends a byte by its code.
 fn push_code(text: &mut String, byte: u8) -> Result<(), AllocError>
     ensures { OnOk result (string_bytes text.new ≡ string_bytes text.old ++ by_code byte) }
 {
@@ -25,7 +25,7 @@ fn push_code(text: &mut String, byte: u8) -> Result<(), AllocError>
     text.push(digit(byte % 16))
 }
 
-// Puts the escape of a byte.
+// Appends the escape of a byte.
 fn push_escape(text: &mut String, byte: u8) -> Result<(), AllocError>
     ensures { OnOk result (string_bytes text.new ≡ string_bytes text.old ++ json_escape byte) }
 {
@@ -37,7 +37,7 @@ fn push_escape(text: &mut String, byte: u8) -> Result<(), AllocError>
     }
 }
 
-/// The string of JSON whose characters have these bytes as their codes. It has no byte outside 0x20 to 0x7E.
+/// The JSON string whose characters have these bytes as their codes. All its bytes are from 0x20 to 0x7E.
 pub fn json_string(alloc: Global, bytes: &[u8]) -> Result<String, AllocError>
     ensures { IfOk result (λ text. string_bytes text ≡ json_string bytes.now) }
 {

@@ -1,50 +1,50 @@
-//! The words that stand by themselves.
+//! The words of the command line that are not values: options and switches.
 
 ghost use Rattle.std.specs.Prelude.{◌≡◌, Some, IfSome};
 ghost use Rattle.std.specs.List.{find};
 ghost use Rattle.distmapd.specs.declared.key.Key.{Key};
 ghost use Rattle.distmapd.specs.Words.{has_name, key_named, name_of};
 
-/// A word of the command line that is no value of another.
+/// A word of the command line that is not the value of another.
 #[derive(Clone, Copy, PartialEq, Eq)]
 pub enum Key {
-    /// The port comes next.
+    /// The next word is the port.
     Port,
-    /// The same, by the word that the other programs have for it.
+    /// The same, spelled as by the other programs.
     Mapper,
-    /// The addresses come next.
+    /// The next word is the addresses.
     Address,
-    /// The same, by the form of the words of the other programs.
+    /// The same, with two dashes.
     LongAddress,
-    /// The seconds come next.
+    /// The next word is the seconds.
     Timeout,
-    /// The most clients come next.
+    /// The next word is the most clients.
     Clients,
-    /// The socket is handed over.
+    /// The sockets are handed over.
     Systemd,
-    /// The names are asked for.
+    /// Print the names.
     Names,
-    /// Nothing is logged.
+    /// Log nothing.
     Quiet,
-    /// The form of the log comes next.
+    /// The next word is the form of the log.
     Log,
-    /// The port comes next at which the figures are served.
+    /// The next word is the port at which the figures are served.
     Metrics,
-    /// The help is asked for.
+    /// Print the help.
     Help,
-    /// The same, by the form of the words of `epmd`.
+    /// The same, with one dash.
     ShortHelp,
-    /// The version is asked for.
+    /// Print the version.
     Version,
-    /// `epmd` goes into the background.
+    /// `epmd` would run in the background.
     Daemon,
-    /// `epmd` is ended.
+    /// `epmd` would be stopped.
     Kill,
-    /// A node is unregistered.
+    /// A node would be unregistered.
     Stop,
-    /// `epmd` prints what it does.
+    /// `epmd` would print what it does.
     Debug,
-    /// `epmd` is ended though nodes are registered, and nodes are unregistered.
+    /// `epmd` would be stopped although nodes are registered, and nodes unregistered.
     Relaxed,
 }
 
@@ -71,7 +71,7 @@ const ALL: [Key; 19] = [
 ];
 
 impl Key {
-    /// The word itself.
+    /// The word as it is written.
     pub fn name(self) -> &'static str
         ensures { result.now ≡ name_of self }
     {
@@ -98,7 +98,7 @@ impl Key {
         }
     }
 
-    /// What this word is.
+    /// What this word means.
     pub fn of_word(word: &str) -> Option<Key>
         ensures found { IfSome result (λ key. name_of key ≡ word.now) }
         ensures every { (key : Key) → name_of key ≡ word.now → result ≡ Some key }
@@ -115,7 +115,7 @@ impl Key {
     }
 }
 
-// The first of these that is this word.
+// The first of these keys with this word.
 fn key_of(word: &str, keys: &[Key]) -> Option<Key>
     ensures { result ≡ find (has_name word.now) keys.now }
 {

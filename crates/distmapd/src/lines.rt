@@ -1,35 +1,35 @@
-//! The lines of the log, in both forms. What a stranger sent is escaped in both.
+//! The lines of the log, in both forms. What a client sent is escaped in both.
 
 ghost use Rattle.std.specs.Prelude.{◌≡◌, ◌++◌, IfOk, codes};
 ghost use Rattle.std.specs.String.{string_bytes};
-ghost use Rattle.distmapd.specs.Lines.{event_line, left_out_line, line, name_front, name_part, port_part, refusal, silence, spelling};
+ghost use Rattle.distmapd.specs.Lines.{event_line, left_out_line, line, name_front, name_part, port_part, refused_words, silence, spelling};
 
-use crate::form::Form;
+use crate::form::LogForm;
 use crate::json::json_string;
 use dist_epmd_clients::ClientEvent;
 use dist_names::quote;
 use std::alloc::{AllocError, Global};
 
-// The front of a name that is shown. No name that is registered is longer.
+// The most bytes of a name that are shown. No registered name is longer.
 const SHOWN: usize = 255;
 
-impl Form {
-    // Which of two texts a line of this form has.
+impl LogForm {
+    // The one of two texts that a line in this form has.
     fn spelling(self, text: &'static str, json: &'static str) -> &'static str
         ensures { result.now ≡ spelling self text.now json.now }
     {
         match self {
-            Form::Text => text,
-            Form::Json => json,
+            LogForm::Text => text,
+            LogForm::Json => json,
         }
     }
 }
 
-// A line: a word, a number by its key, and more.
+// A line: its word, a number after its key, and the rest.
 #[tactic(auto, unfolding(crate::specs::Lines::line))]
 fn line(
     alloc: Global,
-    form: Form,
+    form: LogForm,
     word: &str,
     key: &str,
     number: u64,
@@ -38,12 +38,14 @@ fn line(
     ensures { IfOk result (λ text. string_bytes text ≡ line form word.now key.now number more.now) }
 {
     match form {
-        Form::Text => format!(in alloc; "distmapd: {word} {key}={number}{more}\n"),
-        Form::Json => { format!(in alloc; "{{\"event\":\"{word}\",\"{key}\":{number}{more}}}\n") }
+        LogForm::Text => format!(in alloc; "distmapd: {word} {key}={number}{more}\n"),
+        LogForm::Json => {
+            format!(in alloc; "{{\"event\":\"{word}\",\"{key}\":{number}{more}}}\n")
+        }
     }
 }
 
-// The front of a name that is shown.
+// The part of a name that is shown.
 fn name_front(name: &[u8]) -> &[u8]
     ensures { result.now ≡ name_front name.now }
 {
@@ -54,27 +56,27 @@ fn name_front(name: &[u8]) -> &[u8]
     }
 }
 
-// What a line has of a name.
+// The part of a line that shows a name.
 #[tactic(auto, unfolding(crate::specs::Lines::name_part))]
-fn name_part(alloc: Global, form: Form, name: &[u8]) -> Result<String, AllocError>
+fn name_part(alloc: Global, form: LogForm, name: &[u8]) -> Result<String, AllocError>
     ensures { IfOk result (λ text. string_bytes text ≡ name_part form name.now) }
 {
     let front = name_front(name);
     match form {
-        Form::Text => {
+        LogForm::Text => {
             let quoted = quote(alloc, front)?;
             format!(in alloc; " name={quoted}")
         }
-        Form::Json => {
+        LogForm::Json => {
             let string = json_string(alloc, front)?;
             format!(in alloc; ",\"name\":{string}")
         }
     }
 }
 
-// What a line has of a port.
+// The part of a line that shows a port.
 #[tactic(auto, unfolding(crate::specs::Lines::port_part))]
-fn port_part(alloc: Global, form: Form, port: u16) -> Result<String, AllocError>
+fn port_part(alloc: Global, form: LogForm, port: u16) -> Result<String, AllocError>
     ensures { IfOk result (λ text. string_bytes text ≡ port_part form port) }
 {
     let key = form.spelling(" port=", ",\"port\":");
@@ -82,35 +84,35 @@ fn port_part(alloc: Global, form: Form, port: u16) -> Result<String, AllocError>
 }
 
 // Why a registration was refused.
-fn refusal(form: Form, is_taken: bool) -> &'static str
-    ensures { result.now ≡ refusal form is_taken }
+fn refused_words(form: LogForm, is_taken: bool) -> &'static str
+    ensures { result.now ≡ refused_words form is_taken }
 {
     match (form, is_taken) {
-        (Form::Text, true) => " why=\"a node of this name is registered\"",
-        (Form::Text, false) => " why=\"no name that may be registered, or no room\"",
-        (Form::Json, true) => ",\"taken\":true",
-        (Form::Json, false) => ",\"taken\":false",
+        (LogForm::Text, true) => " why=\"a node of this name is registered\"",
+        (LogForm::Text, false) => " why=\"no name that may be registered, or no room\"",
+        (LogForm::Json, true) => ",\"taken\":true",
+        (LogForm::Json, false) => ",\"taken\":false",
     }
 }
 
 // Why a client was not answered.
-fn silence(form: Form, is_local: bool) -> &'static str
+fn silence(form: LogForm, is_local: bool) -> &'static str
     ensures { result.now ≡ silence form is_local }
 {
     match (form, is_local) {
-        (Form::Text, true) => " why=\"it asked for nothing that is served\"",
-        (Form::Text, false) => {
+        (LogForm::Text, true) => " why=\"it asked for nothing that is served\"",
+        (LogForm::Text, false) => {
             " why=\"from another host it asked for nothing that is served there\""
         }
-        (Form::Json, true) => ",\"local\":true",
-        (Form::Json, false) => ",\"local\":false",
+        (LogForm::Json, true) => ",\"local\":true",
+        (LogForm::Json, false) => ",\"local\":false",
     }
 }
 
-// The line of a connection and a name, and more.
+// A line with a connection, a name, and the rest.
 fn named_line(
     alloc: Global,
-    form: Form,
+    form: LogForm,
     word: &str,
     conn: u64,
     name: &[u8],
@@ -123,8 +125,8 @@ fn named_line(
     line(alloc, form, word, "connection", conn, &parts)
 }
 
-/// The line of an event, and nothing of one that has none.
-pub fn event_line(alloc: Global, form: Form, event: &ClientEvent) -> Result<String, AllocError>
+/// The line of an event; empty if the event has none.
+pub fn event_line(alloc: Global, form: LogForm, event: &ClientEvent) -> Result<String, AllocError>
     ensures { IfOk result (λ text. string_bytes text ≡ event_line form event.now) }
 {
     match event {
@@ -140,7 +142,7 @@ pub fn event_line(alloc: Global, form: Form, event: &ClientEvent) -> Result<Stri
             name,
             is_taken,
         } => {
-            let why = refusal(form, *is_taken);
+            let why = refused_words(form, *is_taken);
             named_line(alloc, form, "refused", *conn, name.as_slice(), why)
         }
         ClientEvent::Unanswered { conn, is_local } => {
@@ -160,8 +162,8 @@ pub fn event_line(alloc: Global, form: Form, event: &ClientEvent) -> Result<Stri
     }
 }
 
-/// The line that says how many were left out.
-pub fn left_out_line(alloc: Global, form: Form, count: u64) -> Result<String, AllocError>
+/// The line that says how many lines were left out.
+pub fn left_out_line(alloc: Global, form: LogForm, count: u64) -> Result<String, AllocError>
     ensures { IfOk result (λ text. string_bytes text ≡ left_out_line form count) }
 {
     let word = form.spelling("left out", "left_out");

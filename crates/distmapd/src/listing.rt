@@ -4,14 +4,14 @@ ghost use Rattle.std.specs.Prelude.{◌≡◌, IfOk};
 ghost use Rattle.std.specs.String.{string_bytes};
 ghost use Rattle.distmapd.specs.Listing.{Prints, has_whole_lines, is_whole, line_end, listing};
 
-use crate::answer::Answer;
+use crate::answer::ReceivedAnswer;
 use crate::fault::Fault;
 use crate::output::print;
 use dist_names::escape_lines;
 use std::alloc::{AllocError, Global};
 use std::io::Write;
 
-// Whether the text has whole lines alone, or none.
+// Whether the text consists of whole lines, or is empty.
 fn has_whole_lines(text: &[u8]) -> bool
     ensures { result ≡ has_whole_lines text.now }
 {
@@ -25,14 +25,14 @@ fn is_whole(is_ended: bool, text: &[u8]) -> bool
     is_ended && has_whole_lines(text)
 }
 
-// What ends the last line where it was cut.
+// A line feed if the last line was cut.
 fn line_end(text: &[u8]) -> &'static str
     ensures { result.now ≡ line_end text.now }
 {
     if has_whole_lines(text) { "" } else { "\n" }
 }
 
-// The port mapper's port, and its lines. A name may have any bytes, and what is not printable in it is escaped.
+// The port mapper's port, and its lines. A name may have any bytes; those that are not printable are escaped.
 #[tactic(auto, unfolding(crate::specs::Listing::listing))]
 fn listing(alloc: Global, port: u32, text: &[u8]) -> Result<String, AllocError>
     ensures { IfOk result (λ printed. string_bytes printed ≡ listing port text.now) }
@@ -42,11 +42,15 @@ fn listing(alloc: Global, port: u32, text: &[u8]) -> Result<String, AllocError>
     format!(in alloc; "epmd: up and running on port {port} with data:\n{lines}{end}")
 }
 
-/// Prints what came of an answer.
+/// Prints the part of an answer that arrived.
 ///
-/// AnswerCut where it was printed and the answer isn't whole: its end did not come, or came in mid-line. NoAnswer where not
-/// even the port came, and NoMemory: then nothing is printed. WriteFailed where it could not be printed whole.
-pub fn print_answer<W: Write>(alloc: Global, answer: &Answer, out: &mut W) -> Result<(), Fault>
+/// `AnswerCut` if it was printed but is not whole: its end did not arrive, or arrived in mid-line. `NoAnswer` if not even the port
+/// arrived, and `NoMemory`: then nothing is printed. `WriteFailed` if it could not be printed whole.
+pub fn print_answer<W: Write>(
+    alloc: Global,
+    answer: &ReceivedAnswer,
+    out: &mut W,
+) -> Result<(), Fault>
     ensures { Prints (W.contents out.old) (W.contents out.new) answer.now result }
 {
     let Some((port, text)) = answer.bytes.split_first_chunk::<4>() else {

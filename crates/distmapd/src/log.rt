@@ -1,20 +1,20 @@
-//! The log. A writer that fails, or takes no more, ends nothing and holds nothing up: what it does not take is left out.
+//! The log. A writer that fails, or takes no more, neither stops nor delays the program: the lines that it does not take are left out.
 
 ghost use Rattle.std.specs.Prelude.{◌≡◌, ◌-◌, ℕ, List, IfOk};
 ghost use Rattle.std.specs.String.{string_bytes};
 ghost use Rattle.dist_epmd_clients.specs.Reporting.{counts_of, events_of};
-ghost use Rattle.distmapd.specs.Logging.{after_missing, LogsEvent, LogsEvents, LogsRound, Puts, PutsFor, TellsLeftOut};
+ghost use Rattle.distmapd.specs.Logging.{after_missing, LogsEvent, LogsEvents, LogsRound, Puts, PutsFor, ReportsLeftOut};
 ghost use Rattle.distmapd.specs.Logs.{form_in, missed_in, rates_in};
 ghost use Rattle.distmapd.specs.Rates.{new_rates};
 
-use crate::form::Form;
+use crate::form::LogForm;
 use crate::lines::{event_line, left_out_line};
 use crate::rates::Rates;
 use dist_epmd_clients::{ClientEvent, Clients};
 use std::alloc::{AllocError, Global};
 use std::io::Write;
 
-// Writes a line by one write. Returns whether it was taken whole.
+// Writes a line in one write. Returns whether all of it was written.
 fn put<W: Write>(out: &mut W, line: Result<String, AllocError>) -> bool
     ensures { (text : List ℕ) → IfOk line (λ l. string_bytes l ≡ text) → Puts text result (W.contents out.old) (W.contents out.new) }
 {
@@ -27,18 +27,18 @@ fn put<W: Write>(out: &mut W, line: Result<String, AllocError>) -> bool
     }
 }
 
-/// A log, and what it has left out.
+/// A log, and how many of its lines were left out.
 #[derive(Drop)]
 pub struct Log {
-    form: Form,
+    form: LogForm,
     rates: Rates,
-    // How many events were missed before it looked.
+    // How many events had been missed when it last looked.
     missed: u64,
 }
 
 impl Log {
-    /// A log in this form, of which nothing was written.
-    pub fn new(form: Form) -> Log
+    /// A log in this form, with no line written.
+    pub fn new(form: LogForm) -> Log
         ensures form { form_in result ≡ form }
         ensures rates { rates_in result ≡ new_rates }
         ensures missed { missed_in result ≡ 0 }
@@ -50,7 +50,7 @@ impl Log {
         }
     }
 
-    // Puts a line that stands for so many: where it is not taken whole, so many are left out.
+    // Writes a line that counts for this many: if it is not written whole, this many are left out.
     fn put_for<W: Write>(
         &mut self,
         out: &mut W,
@@ -68,7 +68,7 @@ impl Log {
         }
     }
 
-    // Writes the line of an event, where its kind has room for one in this second.
+    // Writes the line of an event, if its kind may have one more line in this second.
     fn write_event<W: Write>(&mut self, alloc: Global, out: &mut W, event: &ClientEvent, now: u64)
         ensures logs { LogsEvent (form_in self.old) now event.now (rates_in self.old) (rates_in self.new) (W.contents out.old) (W.contents out.new) }
         ensures form { form_in self.new ≡ form_in self.old }
@@ -93,9 +93,9 @@ impl Log {
         }
     }
 
-    // Says how many lines were left out, where that second is over.
+    // Writes how many lines were left out, once the second of the last one is over.
     fn write_left_out<W: Write>(&mut self, alloc: Global, out: &mut W, now: u64)
-        ensures tells { TellsLeftOut (form_in self.old) now (rates_in self.old) (rates_in self.new) (W.contents out.old) (W.contents out.new) }
+        ensures reports { ReportsLeftOut (form_in self.old) now (rates_in self.old) (rates_in self.new) (W.contents out.old) (W.contents out.new) }
         ensures form { form_in self.new ≡ form_in self.old }
         ensures missed { missed_in self.new ≡ missed_in self.old }
     {
@@ -106,7 +106,7 @@ impl Log {
         }
     }
 
-    // Counts the events that were missed since it looked as left out.
+    // Counts the events missed since it last looked as left out.
     fn leave_out_missed(&mut self, missed: u64, now: u64)
         ensures rates { rates_in self.new ≡ after_missing (missed - missed_in self.old) now (rates_in self.old) }
         ensures form { form_in self.new ≡ form_in self.old }
@@ -119,7 +119,7 @@ impl Log {
         }
     }
 
-    /// Writes what happened to the clients since the events were forgotten, in this second.
+    /// Writes the events since the last call of `forget_events`, in this second.
     pub fn write_events<S: Drop, W: Write>(
         &mut self,
         alloc: Global,

@@ -37,7 +37,7 @@ use crate::serving::{Beside, serve};
 use crate::settings::{Settings, Task};
 use crate::sockets::{handed_over, listeners, port_of};
 use crate::standard_error::StandardError;
-use dist_epmd_server::{Limits, Server};
+use dist_epmd_server::{MapperLimits, Server};
 use dist_names::quote;
 use dist_program::{mapper_port, report, texts, variable, words_of};
 use std::alloc::{AllocError, Global};
@@ -76,7 +76,7 @@ Status: 0 done, 1 a fault here, 2 a bad command line.
 /// The version of the program.
 const VERSION: &str = "distmapd 0.2.0\n";
 
-// The least creation: below it stand those that nodes without one use. Source: OTP, erl_epmd.
+// The least creation; nodes without a creation use those below it. Source: OTP, erl_epmd.
 const LEAST_CREATION: u32 = 4;
 
 fn main(rt: HostRuntime) -> ExitCode {
@@ -86,7 +86,7 @@ fn main(rt: HostRuntime) -> ExitCode {
     }
 }
 
-// Does what the words say. What may wait is handed in once more as `host`: outside of `main` the runtime itself does not.
+// Does what the words ask for. `host` is the same runtime once more, for calls that may wait: outside of `main` the runtime itself may not.
 fn perform<R: Net + Wait + Clock, W: Write>(
     rt: &HostRuntime,
     host: &R,
@@ -110,7 +110,7 @@ fn perform<R: Net + Wait + Clock, W: Write>(
     }
 }
 
-// The sentence that refuses words, with the one that is bad.
+// The sentence that refuses the words, with the bad one in it.
 fn sentence(alloc: Global, words: &[&str], bad: BadWords<'_>) -> Result<String, AllocError> {
     match bad {
         BadWords::At(word, refusal) => {
@@ -124,8 +124,8 @@ fn sentence(alloc: Global, words: &[&str], bad: BadWords<'_>) -> Result<String, 
     }
 }
 
-// The first creation: the seconds since 1970, so that a mapper that is started anew gives none that it gave before, unless
-// it registered more than one node a second all the time.
+// The first creation: the seconds since 1970. So a mapper that is restarted gives out no creation twice, unless it registers more than
+// one node a second all the time.
 fn first_creation<R: Clock>(rt: &R) -> u32 {
     let Ok(now) = SystemTime::now(rt) else {
         return LEAST_CREATION;
@@ -136,7 +136,7 @@ fn first_creation<R: Clock>(rt: &R) -> u32 {
     u32::try_from(since.as_secs()).map_or(LEAST_CREATION, |seconds| seconds.max(LEAST_CREATION))
 }
 
-// How many sockets were handed over: none where they are not asked for.
+// How many sockets were handed over: 0 if the settings don't ask for any.
 fn sockets_handed_over(rt: &HostRuntime, settings: &Settings<'_>) -> Result<u16, Fault> {
     if !settings.systemd {
         return Ok(0);
@@ -161,15 +161,15 @@ fn beside<R: Net>(net: &R, alloc: Global, settings: &Settings<'_>) -> Result<Bes
     })
 }
 
-// Notifies whoever started the program that it listens, where it asks for that.
-fn tell_ready(rt: &HostRuntime) -> Result<(), Fault> {
+// Notifies the service manager, if one asks for it, that the program listens.
+fn report_ready(rt: &HostRuntime) -> Result<(), Fault> {
     if let Some(name) = variable(rt, "NOTIFY_SOCKET")? {
         let _ = say_ready(name.as_bytes());
     }
     Ok(())
 }
 
-// Listens, and serves for ever.
+// Listens, and serves until the system fails.
 fn run<R: Net + Wait + Clock>(
     rt: &HostRuntime,
     host: &R,
@@ -181,14 +181,14 @@ fn run<R: Net + Wait + Clock>(
         return Err(Fault::ListenFailed);
     };
     let mut beside = beside(host, alloc, settings)?;
-    let limits = Limits {
+    let limits = MapperLimits {
         clients: settings.clients as usize,
         seconds: settings.seconds as u64,
     };
     let Ok(mut server) = server_at(host, alloc, sockets, port, limits) else {
         return Err(Fault::ServeFailed);
     };
-    tell_ready(rt)?;
+    report_ready(rt)?;
     serve(host, alloc, &mut server, &mut beside).map_err(|_| Fault::ServeFailed)
 }
 
@@ -197,7 +197,7 @@ fn server_at<R: Net + Clock>(
     alloc: Global,
     sockets: Vec<mio::net::TcpListener>,
     port: u16,
-    limits: Limits,
+    limits: MapperLimits,
 ) -> io::Result<Server> {
     let mut server = Server::new(rt, alloc, port, first_creation(rt), limits)?;
     for socket in sockets {

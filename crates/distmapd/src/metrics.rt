@@ -1,4 +1,4 @@
-//! The figures of the port mapper, as text of Prometheus.
+//! The figures of the port mapper, as text for Prometheus.
 
 ghost use Rattle.std.specs.Prelude.{◌≡◌, ◌++◌, IfOk, OnOk};
 ghost use Rattle.std.specs.List.{flat_map};
@@ -11,31 +11,31 @@ use std::alloc::{AllocError, Global};
 /// A figure.
 #[derive(Clone, Copy, PartialEq, Eq)]
 pub enum Figure {
-    /// Nodes that are registered.
+    /// Nodes registered now.
     Registrations,
-    /// Clients that are connected.
+    /// Clients connected now.
     Clients,
-    /// Answers that are owed to clients that have left.
+    /// Answers owed to clients that have closed their side.
     AnswersOwed,
-    /// Nodes that were registered.
+    /// Registrations made.
     Registered,
     /// Registrations that ended.
     Ended,
-    /// Registrations that were refused.
+    /// Registrations refused.
     Refused,
-    /// Questions for one node.
+    /// Questions about one node.
     LookedUp,
     /// Questions for all names.
     Listed,
     /// Clients that asked for nothing that is served.
     Unanswered,
-    /// Clients that made room.
+    /// Clients closed to make room.
     MadeRoom,
-    /// Clients that had not asked in time.
+    /// Clients that did not ask in time.
     Late,
     /// Clients for which memory ran out.
     NoMemory,
-    /// Events that no line could be kept for.
+    /// Events for which the log had no room.
     Missed,
 }
 
@@ -55,17 +55,17 @@ const ALL: [Figure; 13] = [
     Figure::Missed,
 ];
 
-/// What is counted nowhere, since it stands now.
+/// What is not counted, because it is known at any time.
 #[derive(Clone, Copy)]
 pub struct Standing {
-    /// How many clients are connected that have not left.
+    /// How many clients are connected and have not left.
     pub clients: u64,
     /// How many answers are owed to clients that have left.
     pub owed: u64,
 }
 
 impl Figure {
-    // By which name it is known.
+    // The name of the figure.
     fn name(self) -> &'static str
         ensures { result.now ≡ figure_name self }
     {
@@ -86,7 +86,7 @@ impl Figure {
         }
     }
 
-    // Whether it only rises.
+    // Its kind: a counter only rises.
     fn kind(self) -> &'static str
         ensures { result.now ≡ figure_kind self }
     {
@@ -96,7 +96,7 @@ impl Figure {
         }
     }
 
-    // How much it is.
+    // Its value.
     fn value(self, counts: &Counts, standing: Standing) -> u64
         ensures { result ≡ figure_value counts.now standing self }
     {
@@ -125,7 +125,7 @@ fn figure_line(alloc: Global, name: &str, kind: &str, value: u64) -> Result<Stri
     format!(in alloc; "# TYPE {name} {kind}\n{name} {value}\n")
 }
 
-// Puts a figure.
+// Appends a figure.
 fn push_figure(
     text: &mut String,
     alloc: Global,

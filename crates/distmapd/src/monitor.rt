@@ -1,4 +1,4 @@
-//! Who watches the port mapper is answered at a port of its own, on the same thread. Nobody there is waited for.
+//! Monitoring clients are answered at a port of their own, on the same thread, which never waits for one.
 
 use crate::metrics::{Standing, figures_text};
 use crate::page::{page_text, request_of};
@@ -13,32 +13,32 @@ use std::io::{self, ErrorKind};
 use std::net::{self, IpAddr, Ipv4Addr, Net, SocketAddr};
 use std::os::fd::AsRawFd;
 
-// The most who are answered at once: a later one takes the place of the oldest. Our own choice.
+// The most monitoring clients at once: a later one takes the place of the oldest. Our own choice.
 const SEATS: usize = 8;
 
 // The most bytes of a request's head. Our own choice.
 const HEAD: usize = 4096;
 
-// After how many seconds a connection is closed that has not asked. Our own choice.
+// After how many seconds the connection of a client is closed that has not sent its request. Our own choice.
 const SECONDS: u64 = 5;
 
 // The most connections that are accepted in one round.
 const ACCEPTS: usize = 16;
 
-// The most reads of one connection before the others are looked at.
+// The most reads from one connection before the next is served.
 const READS: usize = 16;
 
-// What a read of a connection came to.
-enum Came {
+// The result of a read from a connection.
+enum ReadOutcome {
     Bytes,
     Nothing,
     End,
 }
 
-// Who watches: a connection, and what came of its request. Once it is answered, what still comes is read and dropped: with bytes
-// unread the system would break the connection off, and the answer with it.
+// A monitoring client: its connection, and what it sent. After the answer, further bytes are read and dropped: if bytes stayed unread,
+// the system would reset the connection, and the answer would be lost.
 #[derive(Drop)]
-struct Seat {
+struct Watcher {
     stream: SocketStream,
     place: usize,
     since: u64,
@@ -46,13 +46,13 @@ struct Seat {
     is_answered: bool,
 }
 
-// Whether the rest of a request's head behind a line feed begins with an empty line.
+// Whether the rest of a request's head, after a line feed, begins with an empty line.
 fn begins_empty(rest: &[u8]) -> bool {
     rest.starts_with(b"\n") || rest.starts_with(b"\r\n")
 }
 
-// Whether the head of a request has ended: with an empty line, or since it is as long as may be. A line ends with a line feed, with a
-// carriage return before it or without (RFC 9112, section 2.2). What stands behind the head is the body.
+// Whether the head of a request has ended, by an empty line or by its length. A line ends with a line feed, with or without a carriage
+// return before it (RFC 9112, section 2.2). After the head comes the body.
 fn is_whole(head: &[u8]) -> bool {
     if head.len() >= HEAD {
         return true;
@@ -65,34 +65,34 @@ fn is_whole(head: &[u8]) -> bool {
     false
 }
 
-impl Seat {
-    // Keeps what came of its request.
-    fn keep(&mut self, piece: &[u8]) -> Came {
+impl Watcher {
+    // Keeps a piece of the request.
+    fn keep(&mut self, piece: &[u8]) -> ReadOutcome {
         if self.is_answered || self.head.append(piece).is_ok() {
-            Came::Bytes
+            ReadOutcome::Bytes
         } else {
-            Came::End
+            ReadOutcome::End
         }
     }
 
-    // Reads what came.
-    fn read(&mut self, room: &mut [u8]) -> Came {
+    // Reads a piece of the request.
+    fn read(&mut self, room: &mut [u8]) -> ReadOutcome {
         if room.is_empty() {
-            return Came::End;
+            return ReadOutcome::End;
         }
         match self.stream.read(room) {
-            Heard::Bytes(0) | Heard::Failed => Came::End,
+            Heard::Bytes(0) | Heard::Failed => ReadOutcome::End,
             Heard::Bytes(count) => self.keep(&room[..count]),
-            Heard::Quiet => Came::Nothing,
+            Heard::Quiet => ReadOutcome::Nothing,
         }
     }
 
-    // Whether it is to be answered.
+    // Whether the answer is due.
     fn is_due(&self) -> bool {
         !self.is_answered && is_whole(self.head.as_slice())
     }
 
-    // Sends an answer by one write: what the socket does not take at once is lost, and nobody is waited for.
+    // Sends an answer in one write. What the socket does not take at once is lost, so that nothing waits.
     fn answer(&mut self, text: &str) {
         self.is_answered = true;
         if !text.is_empty() {
@@ -102,20 +102,20 @@ impl Seat {
     }
 }
 
-/// A port at which the figures are served, and those who ask there.
+/// A port at which the figures are served, and its clients.
 #[derive(Drop)]
 pub struct Monitor {
     alloc: Global,
     listener: TcpListener,
-    seats: Vec<Seat>,
-    // With the seats, one more than there may be: clients take none of these.
+    seats: Vec<Watcher>,
+    // One more than the free seats, so that the port mapper's clients can't take these descriptors.
     spares: Spares,
-    // Connections may wait at the listener.
+    // Whether connections may wait at the listener.
     waits: bool,
 }
 
 impl Monitor {
-    /// Listens at a port of the loopback. An error is the system's, as where the port is taken.
+    /// Listens at a port of the loopback. An error is the system's, for example if the port is taken.
     pub fn new(net: &impl Net, alloc: Global, port: u16) -> io::Result<Monitor> {
         let address = SocketAddr::new(IpAddr::V4(Ipv4Addr::LOCALHOST), port);
         let listener = TcpListener::bind(net, address)?;
@@ -130,17 +130,17 @@ impl Monitor {
         })
     }
 
-    /// Asks the server to be notified of who comes. `false` where the system refuses.
+    /// Asks the server to report connections to the listener. `false` if the system refuses.
     pub fn watch(&self, server: &Server) -> bool {
         server.watch_other(self.listener.as_raw_fd(), 0)
     }
 
-    // Whether nobody has a place.
+    // Whether a place is free.
     fn is_free(&self, place: usize) -> bool {
         self.seats.iter().all(|seat| seat.place != place)
     }
 
-    // Makes room for one more, and returns a place that nobody has, from 1.
+    // Makes room for one more client, and returns a free place, counted from 1.
     fn find_place(&mut self) -> Option<usize> {
         if self.seats.len() >= SEATS {
             let _ = self.seats.remove(0);
@@ -148,7 +148,7 @@ impl Monitor {
         (1..=SEATS).find(|place| self.is_free(*place))
     }
 
-    // Takes a connection in. Where that fails it is closed.
+    // Takes in a connection. If that fails, the connection is closed.
     fn admit(&mut self, server: &Server, stream: net::TcpStream, now: u64) {
         let Some(place) = self.find_place() else {
             return;
@@ -156,7 +156,7 @@ impl Monitor {
         if !server.watch_other(stream.as_raw_fd(), place) {
             return;
         }
-        let _ = self.seats.push(Seat {
+        let _ = self.seats.push(Watcher {
             stream: SocketStream::new(stream),
             place,
             since: now,
@@ -165,7 +165,7 @@ impl Monitor {
         });
     }
 
-    // Accepts the next who waits. Returns whether one more try may find another.
+    // Accepts the next connection that waits. Returns whether there may be another.
     fn accept_next(&mut self, server: &Server, now: u64) -> bool {
         match self.listener.accept() {
             Ok((stream, _from)) => {
@@ -179,7 +179,7 @@ impl Monitor {
         }
     }
 
-    // Accepts who waits: the descriptors that are kept back are for them.
+    // Accepts connections that wait, with the descriptors that were kept back for them.
     fn accept_some(&mut self, server: &Server, now: u64) {
         self.spares.release();
         for _ in 0..ACCEPTS {
@@ -200,8 +200,8 @@ impl Monitor {
         page_text(self.alloc, request_of(head), !server.is_stuck(), &text)
     }
 
-    // Takes the seat at a place out.
-    fn take_seat(&mut self, place: usize) -> Option<Seat> {
+    // Takes out the seat at a place.
+    fn take_seat(&mut self, place: usize) -> Option<Watcher> {
         let index = self.seats.iter().position(|seat| seat.place == place)?;
         if index < self.seats.len() {
             Some(self.seats.remove(index))
@@ -210,13 +210,13 @@ impl Monitor {
         }
     }
 
-    // Reads what came of a request, and answers it where it is whole. Returns whether the connection goes on.
-    fn hear(&self, server: &Server, seat: &mut Seat, room: &mut [u8]) -> bool {
+    // Reads a request, and answers it once it is whole. Returns whether the connection stays open.
+    fn hear(&self, server: &Server, seat: &mut Watcher, room: &mut [u8]) -> bool {
         for _ in 0..READS {
             match seat.read(room) {
-                Came::Bytes => {}
-                Came::Nothing => return true,
-                Came::End => return false,
+                ReadOutcome::Bytes => {}
+                ReadOutcome::Nothing => return true,
+                ReadOutcome::End => return false,
             }
             if seat.is_due() {
                 match self.answer(server, seat.head.as_slice()) {
@@ -228,7 +228,7 @@ impl Monitor {
         true
     }
 
-    // Serves who is at a place.
+    // Serves the client at a place.
     fn attend(&mut self, server: &Server, place: usize, room: &mut [u8]) {
         if let Some(mut seat) = self.take_seat(place)
             && self.hear(server, &mut seat, room)
@@ -237,7 +237,7 @@ impl Monitor {
         }
     }
 
-    // Serves one who is ready.
+    // Serves what one token stands for: the listener, or a client.
     fn serve_token(&mut self, server: &Server, token: Token, room: &mut [u8]) {
         match other_of(token) {
             Some(0) => self.waits = true,
@@ -246,8 +246,8 @@ impl Monitor {
         }
     }
 
-    /// Serves who is ready, in this second, and closes who has not asked in time. As many descriptors are kept back as those who come may
-    /// want.
+    /// Serves what is ready, in this second, and closes connections without a request in time. It keeps back as many descriptors as
+    /// further clients may need.
     pub fn serve(&mut self, server: &Server, events: &Events, room: &mut [u8], now: u64) {
         for event in events.iter() {
             self.serve_token(server, event.token(), room);

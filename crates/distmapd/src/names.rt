@@ -1,4 +1,4 @@
-//! What the port mapper of this host knows, as `epmd -names` prints it.
+//! The names that the port mapper of this host knows, as `epmd -names` prints them.
 
 use crate::answer::ask;
 use crate::fault::Fault;
@@ -10,7 +10,7 @@ use std::io::{self, ErrorKind, Write};
 use std::net::{Ipv6Addr, Net, SocketAddr, TcpListener, TcpStream};
 use std::time::Clock;
 
-// A connection to this port of the loopback of IPv6, with the limits of `talk_here`.
+// A connection to this port of the IPv6 loopback, with the limits of `talk_here`.
 fn talk_over_ipv6<'a, R: Net<Listener = TcpListener, Stream = TcpStream> + Clock>(
     rt: &'a R,
     port: u16,
@@ -20,7 +20,7 @@ fn talk_over_ipv6<'a, R: Net<Listener = TcpListener, Stream = TcpStream> + Clock
     talk_over(rt, stream, ANSWER_SECONDS)
 }
 
-// A connection to this port of the loopback: of IPv4, and of IPv6 where nobody listens there.
+// A connection to this port of the loopback: over IPv4, or over IPv6 if nothing listens there.
 fn talk_with<'a, R: Net<Listener = TcpListener, Stream = TcpStream> + Clock>(
     rt: &'a R,
     port: u16,
@@ -31,10 +31,10 @@ fn talk_with<'a, R: Net<Listener = TcpListener, Stream = TcpStream> + Clock>(
     }
 }
 
-/// Asks the port mapper at this port of the loopback, of IPv4 or else of IPv6, and prints its own port and the names.
+/// Asks the port mapper at this port of the loopback, over IPv4 or else IPv6, and prints its own port and the names.
 ///
-/// ConnectFailed where nobody takes the connection within 8 seconds. What has not come 5 seconds later is not waited for: see
-/// [`print_answer`] for what is reported then.
+/// `ConnectFailed` if no connection is made within 8 seconds. The answer must arrive within 5 seconds more: [`print_answer`] says what
+/// is reported otherwise.
 pub fn print_names<R: Net<Listener = TcpListener, Stream = TcpStream> + Clock, W: Write>(
     rt: &R,
     alloc: Global,

@@ -1,13 +1,13 @@
-//! Notifies whoever started the program that it listens (systemd, sd_notify(3)).
+//! Notifies the service manager that the program listens (systemd, sd_notify(3)).
 
 ghost use Rattle.std.specs.Prelude.{◌≤◌, IfSome};
 
 use libc::net::{AF_UNIX, MSG_DONTWAIT, MSG_NOSIGNAL, SOCK_CLOEXEC, SOCK_DGRAM, sendto, socket};
 
-// What is sent.
+// The message.
 const READY: &[u8] = b"READY=1\n";
 
-// The bytes of an address, and where its name begins behind its kind. Source: unix(7).
+// The size of an address, and where the name begins in it, after the address family. Source: unix(7).
 const ADDRESS: usize = 128;
 
 const NAME: usize = 2;
@@ -15,8 +15,7 @@ const NAME: usize = 2;
 // The most bytes of a name.
 const MOST: usize = 107;
 
-// Writes the address of a socket by its name, and returns its length. One that begins with `@` is none of a file: a 0 stands for
-// the `@`.
+// Writes the address of a socket with this name, and returns its length. A name that begins with `@` is not a file's: a 0 replaces the `@`.
 fn write_address(address: &mut [u8; ADDRESS], name: &[u8]) -> Option<u32>
     ensures { IfSome result (λ length. length ≤ 128) }
 {
@@ -32,7 +31,7 @@ fn write_address(address: &mut [u8; ADDRESS], name: &[u8]) -> Option<u32>
     Some((NAME + name.len()) as u32)
 }
 
-/// Sends that to the socket of this name. Returns whether it was taken.
+/// Sends the message to the socket of this name. Returns whether it was taken.
 pub fn say_ready(name: &[u8]) -> bool {
     let mut address = [0u8; ADDRESS];
     let Some(length) = write_address(&mut address, name) else {

@@ -1,4 +1,4 @@
-//! What is printed, written as a whole.
+//! Writes what is printed, as a whole.
 
 ghost use Rattle.std.specs.Prelude.{◌≡◌, IfErr, OnOk};
 ghost use Rattle.std.specs.Io.KnownBytes.{Appends};

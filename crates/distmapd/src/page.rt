@@ -1,4 +1,4 @@
-//! What is answered to who watches the port mapper, over HTTP (RFC 9112).
+//! The answers to monitoring clients, over HTTP (RFC 9112).
 
 ghost use Rattle.std.specs.Prelude.{◌≡◌, IfOk};
 ghost use Rattle.std.specs.String.{string_bytes};
@@ -6,31 +6,31 @@ ghost use Rattle.distmapd.specs.Metrics.{asks_path, answer_text, head_text, page
 
 use std::alloc::{AllocError, Global};
 
-/// What is asked for.
+/// What a request asks for.
 #[derive(Clone, Copy)]
-pub enum Page {
+pub enum Resource {
     /// The figures.
     Metrics,
     /// Whether connections are accepted.
     Ready,
     /// Whether the program answers.
     Health,
-    /// Something that is not here.
+    /// A path that is not served.
     Unknown,
-    /// Something that is neither GET nor HEAD.
+    /// A method that is neither GET nor HEAD.
     Refused,
 }
 
 /// A request.
 #[derive(Clone, Copy)]
-pub struct Request {
+pub struct HttpRequest {
     /// What it asks for.
-    pub page: Page,
+    pub page: Resource,
     /// Whether it wants the body: HEAD does not.
     pub wants_body: bool,
 }
 
-// Whether a target is this path, with a query or without.
+// Whether a target is this path, with or without a query.
 fn asks_path(target: &[u8], path: &[u8]) -> bool
     ensures { result ≡ asks_path target.now path.now }
 {
@@ -40,44 +40,44 @@ fn asks_path(target: &[u8], path: &[u8]) -> bool
     }
 }
 
-// The page of a target.
-fn page_at(target: &[u8]) -> Page
+// The page at a target.
+fn page_at(target: &[u8]) -> Resource
     ensures { result ≡ page_at target.now }
 {
     if asks_path(target, b"/metrics") {
-        Page::Metrics
+        Resource::Metrics
     } else if asks_path(target, b"/ready") {
-        Page::Ready
+        Resource::Ready
     } else if asks_path(target, b"/health") {
-        Page::Health
+        Resource::Health
     } else {
-        Page::Unknown
+        Resource::Unknown
     }
 }
 
-/// What a request asks for, by its front.
-pub fn request_of(head: &[u8]) -> Request
+/// What a request asks for, by its first bytes.
+pub fn request_of(head: &[u8]) -> HttpRequest
     ensures { result ≡ request_of head.now }
 {
     if let Some(target) = head.strip_prefix(b"GET ") {
-        return Request {
+        return HttpRequest {
             page: page_at(target),
             wants_body: true,
         };
     }
     if let Some(target) = head.strip_prefix(b"HEAD ") {
-        return Request {
+        return HttpRequest {
             page: page_at(target),
             wants_body: false,
         };
     }
-    Request {
-        page: Page::Refused,
+    HttpRequest {
+        page: Resource::Refused,
         wants_body: true,
     }
 }
 
-// The head of an answer with a body of so many bytes: its status, and a line behind it where that has one.
+// The head of an answer with a body of this many bytes; a status may have a header line after it.
 #[tactic(auto, unfolding(crate::specs::Metrics::head_text))]
 fn head_text(alloc: Global, status: &str, length: usize) -> Result<String, AllocError>
     ensures { IfOk result (λ text. string_bytes text ≡ head_text status.now length) }
@@ -87,7 +87,7 @@ fn head_text(alloc: Global, status: &str, length: usize) -> Result<String, Alloc
     )
 }
 
-// The whole answer: its connection ends behind it.
+// The whole answer; the connection is closed after it.
 fn answer_text(
     alloc: Global,
     status: &str,
@@ -103,10 +103,10 @@ fn answer_text(
     Ok(text)
 }
 
-/// The answer to a request, by whether connections are accepted, and the text of the figures.
+/// The answer to a request, by whether connections are accepted, and with the text of the figures.
 pub fn page_text(
     alloc: Global,
-    request: Request,
+    request: HttpRequest,
     is_ready: bool,
     figures: &str,
 ) -> Result<String, AllocError>
@@ -114,18 +114,18 @@ pub fn page_text(
 {
     let wants_body = request.wants_body;
     match request.page {
-        Page::Metrics => answer_text(alloc, "200 OK", figures, wants_body),
-        Page::Health => answer_text(alloc, "200 OK", "alive\n", wants_body),
-        Page::Ready if is_ready => answer_text(alloc, "200 OK", "ready\n", wants_body),
-        Page::Ready => {
+        Resource::Metrics => answer_text(alloc, "200 OK", figures, wants_body),
+        Resource::Health => answer_text(alloc, "200 OK", "alive\n", wants_body),
+        Resource::Ready if is_ready => answer_text(alloc, "200 OK", "ready\n", wants_body),
+        Resource::Ready => {
             let body = "no descriptor or no memory is left\n";
             answer_text(alloc, "503 Service Unavailable", body, wants_body)
         }
-        Page::Unknown => {
+        Resource::Unknown => {
             let body = "/metrics, /ready and /health are here\n";
             answer_text(alloc, "404 Not Found", body, wants_body)
         }
-        Page::Refused => {
+        Resource::Refused => {
             let status = "405 Method Not Allowed\r\nAllow: GET, HEAD";
             answer_text(alloc, status, "GET and HEAD alone are served\n", wants_body)
         }

@@ -3,7 +3,7 @@
 ghost use Rattle.std.specs.Prelude.{◌≡◌};
 ghost use Rattle.distmapd.specs.Rates.{after_admit, is_admitted, new_rate};
 
-/// The most lines of a kind in a second, so that no stranger fills a disk. Our own choice.
+/// The most lines of a kind in a second, so that no client fills a disk. Our own choice.
 const LINES: u32 = 100;
 
 /// How many lines of a kind were written in the second of the last one.
@@ -14,7 +14,7 @@ pub struct Rate {
 }
 
 impl Rate {
-    /// Nothing was written.
+    /// No line was written.
     pub fn new() -> Rate
         ensures { result ≡ new_rate }
     {
@@ -24,14 +24,14 @@ impl Rate {
         }
     }
 
-    // Whether one line more is admitted in this second.
+    // Whether one more line is admitted in this second.
     fn is_admitted(&self, now: u64) -> bool
         ensures { result ≡ is_admitted now self.now }
     {
         now != self.second || self.lines < LINES
     }
 
-    /// Asks for one line in this second.
+    /// Asks for one more line in this second.
     pub fn admit(&mut self, now: u64) -> bool
         ensures admitted { result ≡ is_admitted now self.old }
         ensures after { self.new ≡ after_admit now self.old }

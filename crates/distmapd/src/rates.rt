@@ -1,4 +1,4 @@
-//! How many lines a log may have of each kind, so that none hides the lines of others.
+//! How many lines of each kind a log may have, so that no kind crowds out the lines of others.
 
 ghost use Rattle.std.specs.Prelude.{◌≡◌, ◌==◌, if◌then◌else◌};
 ghost use Rattle.distmapd.specs.Rates.{after_admitting, is_admitted, leaving_out, new_rates, rate_of, with_none_left_out, with_rate};
@@ -6,7 +6,7 @@ ghost use Rattle.distmapd.specs.Rates.{after_admitting, is_admitted, leaving_out
 use crate::rate::Rate;
 use dist_epmd_clients::EventKind;
 
-/// The rates of all kinds of events, and how many lines were left out that the log has not reported.
+/// The rates of all kinds of events, and how many lines were left out and not yet reported.
 #[derive(Clone, Copy)]
 pub struct Rates {
     registered: Rate,
@@ -16,15 +16,15 @@ pub struct Rates {
     made_room: Rate,
     late: Rate,
     no_memory: Rate,
-    // Of those that have no line.
+    // For the kinds without a line.
     answered: Rate,
     left_out: u64,
-    // The second in which one was left out the last time.
+    // The second in which a line was last left out.
     second: u64,
 }
 
 impl Rates {
-    /// Nothing was written, and nothing left out.
+    /// No line was written, and none left out.
     pub fn new() -> Rates
         ensures { result ≡ new_rates }
     {
@@ -75,7 +75,7 @@ impl Rates {
         }
     }
 
-    /// Asks for one line of a kind in this second.
+    /// Asks for one more line of a kind in this second.
     pub fn admit(&mut self, kind: EventKind, now: u64) -> bool
         ensures admitted { result ≡ is_admitted now (rate_of kind self.old) }
         ensures after { self.new ≡ after_admitting kind now self.old }
@@ -86,7 +86,7 @@ impl Rates {
         is_admitted
     }
 
-    /// So many more lines are left out in this second.
+    /// Counts this many more lines as left out in this second.
     pub fn leave_out(&mut self, count: u64, now: u64)
         ensures { self.new ≡ leaving_out count now self.old }
     {
@@ -97,7 +97,7 @@ impl Rates {
         self.second = now;
     }
 
-    /// How many lines were left out since this was asked before, where the second of the last is over.
+    /// How many lines were left out since the last call, once the second of the last one is over.
     pub fn take_left_out(&mut self, now: u64) -> u64
         ensures count { result ≡ (if now == self.old.second then 0 else self.old.left_out) }
         ensures after { self.new ≡ with_none_left_out now self.old }

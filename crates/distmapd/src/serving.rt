@@ -1,4 +1,4 @@
-//! The loop: the port mapper, and beside it its log and who watches it.
+//! The loop: the port mapper, and beside it its log and the monitoring port.
 
 use crate::log::Log;
 use crate::monitor::Monitor;
@@ -10,19 +10,20 @@ use std::io;
 use std::sync::Wait;
 use std::time::{Clock, Duration, Instant};
 
-// The most that is taken from the system at once.
+// The most events that are taken from the system at once.
 const EVENTS: usize = 1024;
 
-// The most bytes of one read: a request and its length fit.
+// The most bytes of one read; a request with its length fits.
 const ROOM: usize = 4096;
 
-// How long is waited where nothing happens: once a second it is looked for clients that are late.
+// How long it waits if nothing happens: late clients are looked for once a second.
 const SECONDS: u64 = 1;
 
-// The most events that wait for the log in one round. Its lines of a second are fewer.
-const MOST_EVENTS: usize = 256;
+// The most events that the server keeps for the log in one round: two for each of the usual 4,096 clients, so that a flood of one kind
+// hides no other kind. Our own choice.
+const MOST_EVENTS: usize = 8192;
 
-/// What runs beside the port mapper: where it is wanted, its log, and who watches it.
+/// What runs beside the port mapper, if it is wanted: its log, and the monitoring port.
 #[derive(Drop)]
 pub struct Beside {
     pub log: Option<Log>,
@@ -31,7 +32,7 @@ pub struct Beside {
 }
 
 impl Beside {
-    // Lets the server keep what these want.
+    // Lets the server keep events for the log.
     fn begin(&self, server: &mut Server) -> Result<(), AllocError> {
         if self.log.is_some() {
             server.keep_events(MOST_EVENTS)?;
@@ -42,14 +43,14 @@ impl Beside {
         Ok(())
     }
 
-    // Serves who watches, among what was ready in a round.
+    // Serves the monitoring clients that were ready in a round.
     fn serve(&mut self, server: &Server, events: &Events, room: &mut [u8], now: u64) {
         if let Some(monitor) = &mut self.monitor {
             monitor.serve(server, events, room, now);
         }
     }
 
-    // Writes what happened in a round.
+    // Logs what happened in a round.
     fn write(&mut self, alloc: Global, server: &mut Server, now: u64) {
         if let Some(log) = &mut self.log {
             log.write_events(alloc, &mut self.standard_error, server.clients(), now);
@@ -58,21 +59,21 @@ impl Beside {
     }
 }
 
-// Serves the clients among what is ready.
+// Serves the clients that are ready.
 fn serve_clients(server: &mut Server, events: &Events, room: &mut [u8], now: u64) {
     for event in events.iter() {
         server.serve_client(event.token(), room, now);
     }
 }
 
-// Accepts at the listeners among what is ready: behind the clients, so that the end of a registration comes before a new one.
+// Accepts at the listeners that are ready: after the clients, so that a registration ends before a new one begins.
 fn serve_listeners(server: &mut Server, events: &Events, now: u64) {
     for event in events.iter() {
         server.serve_listener(event.token(), now);
     }
 }
 
-/// Serves until the system does not report what is ready: its error is returned.
+/// Serves until the system fails to report what is ready, and returns its error.
 pub fn serve<R: Wait + Clock>(
     rt: &R,
     alloc: Global,

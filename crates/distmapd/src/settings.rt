@@ -1,6 +1,6 @@
-//! What is asked for.
+//! The settings that the command line asks for.
 
-use crate::form::Form;
+use crate::form::LogForm;
 
 /// What the program is to do.
 #[derive(Clone, Copy, PartialEq, Eq)]
@@ -9,29 +9,29 @@ pub enum Task {
     Serve,
     /// Print the names that the port mapper of this host knows.
     Names,
-    /// Print how the program is called.
+    /// Print the help.
     Help,
-    /// Print which version it is.
+    /// Print the version.
     Version,
 }
 
 /// What the words ask for.
 #[derive(Clone, Copy)]
 pub struct Settings<'a> {
-    /// What is to be done.
+    /// The task.
     pub task: Task,
     /// The port of the port mapper.
     pub port: u16,
-    /// The addresses at which it listens beside the loopback, as they were written. `None`: at all.
+    /// The addresses at which it listens beside the loopback, as they were written. `None`: all addresses.
     pub addresses: Option<&'a str>,
     /// After how many seconds a client is closed that has not asked.
     pub seconds: u32,
     /// The most clients at once.
     pub clients: u32,
-    /// Whether the sockets are handed over by the one that started the program.
+    /// Whether the service manager hands the sockets over.
     pub systemd: bool,
-    /// In which form it is logged what happens. `None`: not at all.
-    pub log: Option<Form>,
-    /// At which port of the loopback the figures are served. `None`: at none.
+    /// The form of the log. `None`: no log.
+    pub log: Option<LogForm>,
+    /// The port of the loopback at which the figures are served. `None`: they are not.
     pub metrics: Option<u16>,
 }

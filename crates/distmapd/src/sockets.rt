@@ -11,7 +11,7 @@ use std::alloc::Global;
 use std::io::{self, ErrorKind};
 use std::net::{IpAddr, Ipv4Addr, Ipv6Addr, Net, SocketAddr};
 
-// The most sockets that are handed over.
+// The most sockets that may be handed over.
 const MOST_HANDED_OVER: u16 = 16;
 
 // The first descriptor that is handed over. Source: systemd, sd_listen_fds(3).
@@ -30,7 +30,7 @@ fn listen_at(net: &impl Net, address: IpAddr, port: u16) -> io::Result<TcpListen
     TcpListener::bind(net, SocketAddr::new(address, port))
 }
 
-// All addresses of both kinds where the system has both, else those of IPv4.
+// All addresses, of IPv6 and IPv4 if the system has both, else of IPv4.
 fn listen_at_all(net: &impl Net, port: u16) -> io::Result<TcpListener> {
     match listen_at(net, ALL_6, port) {
         Ok(listener) => Ok(listener),
@@ -38,8 +38,8 @@ fn listen_at_all(net: &impl Net, port: u16) -> io::Result<TcpListener> {
     }
 }
 
-// Whether a descriptor may be a socket at which somebody listens: no such socket is ever ready to be written, and a socket of UDP, one
-// that does not listen and a file are. Of a descriptor that is closed the system reports that.
+// Whether a descriptor may be a listening socket. Such a socket is never ready to be written; a UDP socket, a socket that does not
+// listen, and a file are. If the descriptor is closed, the system reports that.
 fn may_listen(fd: i32) -> bool {
     let mut fds = [pollfd {
         fd,
@@ -49,7 +49,7 @@ fn may_listen(fd: i32) -> bool {
     poll(&mut fds, 0) == 0
 }
 
-// A socket that the one who started the program handed over.
+// A socket that the service manager handed over.
 fn inherited_socket(place: u16) -> io::Result<TcpListener> {
     let fd = HANDED_OVER + i32::from(place);
     if !may_listen(fd) {
@@ -62,7 +62,7 @@ fn inherited_socket(place: u16) -> io::Result<TcpListener> {
     Ok(listener)
 }
 
-// So many of them.
+// This many of them.
 fn inherited_sockets(alloc: Global, count: u16) -> io::Result<Vec<TcpListener>> {
     let mut found = Vec::new(alloc);
     for place in 0..count {
@@ -71,7 +71,7 @@ fn inherited_sockets(alloc: Global, count: u16) -> io::Result<Vec<TcpListener>> 
     Ok(found)
 }
 
-// The addresses between commas and spaces, as `epmd` reads them.
+// The addresses in a text, with commas or spaces between them, as `epmd` reads it.
 fn addresses_in(alloc: Global, text: &str) -> Result<Vec<IpAddr>, Fault> {
     let mut addresses = Vec::new(alloc);
     for part in text.split([',', ' ']) {
@@ -85,14 +85,14 @@ fn addresses_in(alloc: Global, text: &str) -> Result<Vec<IpAddr>, Fault> {
     Ok(addresses)
 }
 
-// Whether one is listened at that has these already: those of one kind are among all of it, and those of both among all of IPv6.
+// Whether an address is covered by these: all of IPv4 cover those of IPv4, and all of IPv6 cover those of both.
 fn is_within(address: IpAddr, all: &[IpAddr]) -> bool {
     all.iter().any(|one| {
         *one == address || *one == ALL_6 || (*one == ALL_4 && address.is_ipv4())
     })
 }
 
-// Whether another of these addresses has this one: an equal one before it, or all of its kind.
+// Whether another of these addresses covers this one: an equal one before it, or all of IPv4.
 fn is_taken(address: IpAddr, addresses: &[IpAddr], place: usize) -> bool {
     match addresses.get(..place) {
         Some(before) if before.contains(&address) => true,
@@ -100,8 +100,8 @@ fn is_taken(address: IpAddr, addresses: &[IpAddr], place: usize) -> bool {
     }
 }
 
-// Listens at these addresses, each once, and at the loopback of both kinds where none of them has it; without any, at all. All of a
-// kind comes first.
+// Listens at these addresses, each once, and at the loopback of both kinds if they don't cover it; without any addresses, at all. A
+// listener for all addresses of a kind comes first.
 fn listen_at_each(
     net: &impl Net,
     alloc: Global,
@@ -121,7 +121,7 @@ fn listen_at_each(
             found.push(listen_at(net, *address, port)?)?;
         }
     }
-    // The host may lack this one.
+    // The host may not have this address.
     if !is_within(HERE_6, addresses)
         && let Ok(listener) = listen_at(net, HERE_6, port)
     {
@@ -130,7 +130,7 @@ fn listen_at_each(
     Ok(found)
 }
 
-// Whether LISTEN_PID names this process, or nobody.
+// Whether LISTEN_PID names this process, or is not set.
 fn is_for(own: i32, process: Option<&str>) -> bool {
     match process {
         Some(word) => number_32(word.as_bytes()).map(i64::from) == Some(i64::from(own)),
@@ -138,8 +138,8 @@ fn is_for(own: i32, process: Option<&str>) -> bool {
     }
 }
 
-/// How many sockets were handed over, by LISTEN_FDS: from 1 to 16, and one where it is not set. `None` where it says another
-/// number, or LISTEN_PID another process than this one.
+/// How many sockets were handed over, by LISTEN_FDS: from 1 to 16, and one if it is not set. `None` for another number, or if
+/// LISTEN_PID names another process.
 pub fn handed_over(said: Option<&str>, process: Option<&str>, own: i32) -> Option<u16> {
     if !is_for(own, process) {
         return None;
@@ -154,7 +154,7 @@ pub fn handed_over(said: Option<&str>, process: Option<&str>, own: i32) -> Optio
     Some(count)
 }
 
-/// The listeners that the settings ask for. So many sockets were handed over.
+/// The listeners that the settings ask for, of which `handed_over` were handed over.
 pub fn listeners(
     net: &impl Net,
     alloc: Global,

@@ -1,4 +1,4 @@
-//! Descriptors that are kept back, so that there are some where clients have taken all others.
+//! Descriptors that are kept back, so that some are left after clients have taken all others.
 
 use std::alloc::Global;
 
@@ -10,7 +10,7 @@ pub struct Spares {
 }
 
 impl Spares {
-    /// None yet. It takes no memory.
+    /// No descriptor yet. It takes no memory.
     pub fn new(alloc: Global, of: i32) -> Spares {
         Spares {
             of,
@@ -18,7 +18,7 @@ impl Spares {
         }
     }
 
-    // One more. Returns whether there was a descriptor for it, and memory.
+    // Keeps one more. Returns false if there is no descriptor or memory for it.
     fn hold_one(&mut self) -> bool {
         let fd = os::duplicate(self.of);
         if fd < 0 {
@@ -31,7 +31,7 @@ impl Spares {
         true
     }
 
-    /// Holds so many, as far as there are descriptors and memory.
+    /// Keeps this many, as far as there are descriptors and memory.
     pub fn hold(&mut self, count: usize) {
         for _ in self.held.len()..count {
             if !self.hold_one() {

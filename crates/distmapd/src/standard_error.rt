@@ -1,24 +1,24 @@
-//! Standard error, as the log is written to it: what it does not take at once is lost, and nobody is waited for.
+//! Standard error, as the log is written to it: what it does not take at once is lost, so that nothing waits.
 
 use libc::STDERR_FILENO;
 use libc::net::{POLLOUT, poll};
 use libc::types::pollfd;
 use std::io::{self, ErrorKind, Write};
 
-// What standard error is open on. Source: proc(5).
+// The path by which standard error can be opened anew. Source: proc(5).
 const OWN_STANDARD_ERROR: &[u8] = b"/proc/self/fd/2";
 
 /// Standard error.
 #[derive(Drop)]
 pub struct StandardError {
     fd: i32,
-    // The last line was taken in part.
+    // Whether only a part of the last line was written.
     is_cut: bool,
 }
 
-// A descriptor of the terminal that standard error is, whose writes do not wait. A terminal reports that it has room where it has less
-// than a line. It is opened anew, so that the shell, which shares what it is open on, does not get the setting. Where it can't be opened,
-// as behind `su`, the shell gets it: a node that waits for its registration is worse.
+// A descriptor for the terminal that standard error is, with writes that do not wait: a terminal reports that it has room even if it
+// has less than a line. It is opened anew, so that the shell, which shares the open file, does not get the setting. If it can't be
+// opened, as behind `su`, the shell does get it: a node that waits for its registration is worse.
 fn terminal() -> i32 {
     let anew = os::open_append(OWN_STANDARD_ERROR);
     let fd = if anew < 0 { STDERR_FILENO } else { anew };
@@ -37,7 +37,7 @@ impl StandardError {
         StandardError { fd, is_cut: false }
     }
 
-    // Whether it takes something without a wait: a pipe or a socket that has room takes a line.
+    // Whether a write would not wait: a pipe or a socket that has room takes a line.
     fn has_room(&self) -> bool {
         let mut fds = [pollfd {
             fd: self.fd,
@@ -47,7 +47,7 @@ impl StandardError {
         poll(&mut fds, 0) == 1 && fds[0].revents & POLLOUT != 0
     }
 
-    // Ends a line that was taken in part, so that the next does not stand behind it. Returns whether that is done.
+    // Ends a line of which only a part was written, so that the next begins a new one. Returns whether that is done.
     fn end_line(&mut self) -> bool {
         if self.is_cut {
             self.is_cut = libc::write(self.fd, b"\n") != 1;
@@ -57,7 +57,7 @@ impl StandardError {
 }
 
 impl Write for StandardError {
-    // The start of a program has SIGPIPE ignored, so where nobody reads the write fails and ends nothing.
+    // The runtime ignores SIGPIPE from the start, so a write that has no reader fails and does not end the program.
     fn write(&mut self, bytes: &[u8]) -> io::Result<usize> {
         if !self.has_room() || !self.end_line() {
             return Err(io::Error::from(ErrorKind::WouldBlock));

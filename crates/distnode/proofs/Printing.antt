@@ -5,7 +5,7 @@ use Rattle.std.proofs.KnownBytes.{Appends-nil, Appends-trans}
 use Rattle.dist_world_model.specs.World.{World}
 use Rattle.dist_locked_book.specs.declared.closing.Closed.{Closed}
 use Rattle.dist_audit.specs.declared.audit_error.AuditError.{AuditError}
-use Rattle.dist_audit.specs.Audit.{IsWorldOf, Tells, TellsFirst}
+use Rattle.dist_audit.specs.Audit.{IsWorldOf, Reports, ReportsFirst}
 use Rattle.dist_commands.specs.declared.fault.Fault.{Fault}
 use Rattle.dist_commands.specs.declared.fault.Fault.TheVariants as fault
 use Rattle.dist_commands.specs.Fault.{status_of}
@@ -58,8 +58,8 @@ pub says_held : (cs : List Closed) (w : World) (a b : Option (List ℕ)) → IsW
 says_held cs w a b is p = (p.0, (w, is, p.1), p.2)
 
 -- where it refuses
-pub says_refused : (cs : List Closed) (e : AuditError) (a b : Option (List ℕ)) → Tells e cs → TellsFirst e cs → Appends a b (refusal_text e cs) → Puts (IsAudited 1 cs) a b
-says_refused cs e a b tells first p = (refusal_text e cs, (e, tells, first, refl), p)
+pub says_refused : (cs : List Closed) (e : AuditError) (a b : Option (List ℕ)) → Reports e cs → ReportsFirst e cs → Appends a b (refusal_text e cs) → Puts (IsAudited 1 cs) a b
+says_refused cs e a b reports first p = (refusal_text e cs, (e, reports, first, refl), p)
 
 -- the orders, and then what is printed
 pub of_run : (status : ℕ) (fs gs : List OrderFault) (cs ds : List Closed) (a b c : Option (List ℕ)) → gs ≡ fs → ds ≡ cs → Appends a b (orders_text gs) → Puts (IsAudited status ds) b c → Puts (IsOfRun status fs cs) a c

@@ -1,4 +1,4 @@
--- WHICH COMMAND AN ORDER LEADS TO.
+-- WHAT EACH ORDER DOES.
 use Rattle.std.specs.Prelude.{◌≡◌, ◌⊎◌, ℕ, Bool, true, false, List, Option, Result, Err}
 use Rattle.dist_stream.specs.Stream.{StreamState}
 use Rattle.dist_commands.specs.declared.order_of_words.Order.{Order}
@@ -17,13 +17,13 @@ use Rattle.dist_commands.specs.Stopped.{EndsByFault, StopsCookie, StopsNames, St
 use Rattle.distnode.specs.Printed.{PrintsRunOf}
 use Rattle.distnode.specs.Stopped.{StopsRunOf}
 
--- the answer of the port mapper over a connection that stands so was put there, in at most 1,280 turns: by its escape on a terminal
+-- the port mapper's answer on this connection was printed, in at most 1,280 turns; on a terminal it was escaped
 abbrev pub PrintsAnswer : Bool → StreamState → Option (List ℕ) → Option (List ℕ) → Type 0
 PrintsAnswer true talk old new = (left : StreamState) × PrintsEscapedNames talk left 1280 old new
 PrintsAnswer false talk old new = (left : StreamState) × PrintsNames talk left 1280 old new
 
--- AN ORDER, DONE: what its command prints of the script on standard input, of the file at the path that it names, or of the port
--- mapper at the port that it names
+-- AN ORDER, DONE: its command printed what it prints, of the script on standard input, the file at the named path, or the port mapper
+-- at the named port
 abbrev pub Follows : (List ℕ → Option (List ℕ)) → (ℕ → StreamState) → Bool → Option (List ℕ) → Option (List ℕ) → Order
     → Option (List ℕ) → Option (List ℕ) → Type 0
 Follows files talks terminal before after order.Enact old new = Plays before after old new
@@ -32,41 +32,41 @@ Follows files talks terminal before after (order.Cookie file challenge) old new 
 Follows files talks terminal before after (order.Names port) old new = PrintsAnswer terminal (talks port) old new
 Follows files talks terminal before after (order.Run file) old new = (left : Option (List ℕ)) × PrintsRunOf (files file.now) left 0 old new
 
--- a script that was read is at fault, with status 2, or its playing was cut, with status 1: the line of that fault stands on standard
--- error, or a beginning of it
+-- a script is at fault, with status 2, or its playing was cut short, with status 1; the line of that fault was written to standard
+-- error, or a prefix of it
 abbrev pub EndsPlay : Option (List ℕ) → Option (List ℕ) → ℕ → Option (List ℕ) → Option (List ℕ) → Option (List ℕ) → Option (List ℕ) → Type 0
 EndsPlay before after status old new err_old err_new =
     (fault : ScriptFault)
     × (((status ≡ 2) × IsBad before after old new fault) ⊎ ((status ≡ 1) × (script.status_of fault ≡ 1) × IsCut before after old new fault))
     × PutsFront (script.fault_line fault) err_old err_new
 
--- what stops `cookie` of the file at a path: it could not be opened, or what stops it of what that file has
+-- what stops `cookie` of the file at a path: it could not be opened, or what stops `cookie` of its contents
 abbrev pub StopsCookieAt : Option (List ℕ) → ℕ → Option (List ℕ) → Option (List ℕ) → Fault → Type 0
 StopsCookieAt file challenge old new OpenFailed = new ≡ old
 StopsCookieAt file challenge old new fault = (left : Option (List ℕ)) × StopsCookie file left challenge old new fault
 
--- what stops `names` over a connection that stands so, by its escape on a terminal
+-- what stops `names` on this connection; on a terminal the answer is escaped
 abbrev pub StopsTalk : Bool → StreamState → Option (List ℕ) → Option (List ℕ) → Fault → Type 0
 StopsTalk true talk old new fault = (left : StreamState) × StopsEscapedNames talk left 1280 old new fault
 StopsTalk false talk old new fault = (left : StreamState) × StopsNames talk left 1280 old new fault
 
--- the same of a connection that is to be made: it could not be made
+-- the same, or the connection could not be made
 abbrev pub StopsAnswer : Bool → StreamState → Option (List ℕ) → Option (List ℕ) → Fault → Type 0
 StopsAnswer terminal talk old new ConnectFailed = new ≡ old
 StopsAnswer terminal talk old new fault = StopsTalk terminal talk old new fault
 
--- what stops `run` of the file at a path: it could not be opened, or what stops it of what that file has
+-- what stops `run` of the file at a path: it could not be opened, or what stops `run` of its contents
 abbrev pub StopsRunAt : Option (List ℕ) → Option (List ℕ) → Option (List ℕ) → Fault → Type 0
 StopsRunAt file old new OpenFailed = new ≡ old
 StopsRunAt file old new fault = (left : Option (List ℕ)) × StopsRunOf file left old new fault
 
--- the environment names no port for the port mapper: its line stands on standard error, or a beginning of it, and nothing was printed
+-- the environment names a bad port for the port mapper: that line was written to standard error, or a prefix of it, and nothing was printed
 abbrev pub EndsByPort : Result ℕ PortError → ℕ → Option (List ℕ) → Option (List ℕ) → Option (List ℕ) → Option (List ℕ) → Type 0
 EndsByPort named status old new err_old err_new =
     (error : PortError) × (named ≡ Err error) × (port_error_status error ≡ status) × (new ≡ old) × PutsFront (port_line error) err_old err_new
 
--- AN ORDER THAT WAS NOT DONE, and ended with this status: what stopped its command, the line of which stands on standard error, or a
--- beginning of it; or the audit of its run refused, which is printed, and nothing stands on standard error
+-- AN ORDER THAT WAS NOT DONE, and ended with this status: a fault stopped its command, and the line of the fault was written to
+-- standard error, or a prefix of it; or the audit of its run refused, which was printed, and nothing was written to standard error
 abbrev pub Ends : (List ℕ → Option (List ℕ)) → (ℕ → StreamState) → Bool → Result ℕ PortError → Option (List ℕ) → Option (List ℕ) → Order
     → ℕ → Option (List ℕ) → Option (List ℕ) → Option (List ℕ) → Option (List ℕ) → Type 0
 Ends files talks terminal named before after order.Enact status old new err_old err_new =

@@ -5,7 +5,7 @@ use Rattle.std.specs.Io.KnownBytes.{Appends, Consumes, IsAtEnd}
 use Rattle.dist_world_model.specs.World.{World}
 use Rattle.dist_locked_book.specs.declared.closing.Closed.{Closed}
 use Rattle.dist_audit.specs.declared.audit_error.AuditError.{AuditError}
-use Rattle.dist_audit.specs.Audit.{IsWorldOf, Tells, TellsFirst}
+use Rattle.dist_audit.specs.Audit.{IsWorldOf, Reports, ReportsFirst}
 use Rattle.dist_audit.specs.Refusals.{refusal_name, refusal_number}
 use Rattle.dist_run_plan.specs.declared.plan.Plan.{Plan}
 use Rattle.dist_run_plan.specs.Plans.{plan_of}
@@ -20,7 +20,7 @@ use Rattle.dist_commands.specs.declared.fault.Fault.{Fault}
 use Rattle.dist_commands.specs.declared.fault.Fault.TheVariants.{WriteFailed}
 use Rattle.dist_commands.specs.Fault.{status_of}
 
--- a text of which this is so is written behind what stood
+-- a text of this kind was written
 abbrev pub Puts : (List ℕ → Type 0) → Option (List ℕ) → Option (List ℕ) → Type 0
 Puts Is old new = (text : List ℕ) × Is text × Appends old new text
 
@@ -37,7 +37,7 @@ orders_text (fault ∷ faults) = order_line fault ++ orders_text faults
 abbrev pub closed_node : Closed → List ℕ
 closed_node closed = let n = closed.node in let s = n.setup in node_text s.name (Some n)
 
--- those of each
+-- those of all nodes
 abbrev pub closed_text : List Closed → List ℕ
 closed_text [] = []
 closed_text (closed ∷ others) = closed_node closed ++ closed_text others
@@ -46,19 +46,19 @@ closed_text (closed ∷ others) = closed_node closed ++ closed_text others
 abbrev pub refused_line : AuditError → List ℕ
 refused_line e = concat (codes "audit refused " ∷ decimal (refusal_number e) ∷ codes " " ∷ refusal_name e ∷ codes "\n" ∷ [])
 
--- WHERE THE AUDIT REFUSES: the nodes as they were closed, and why
+-- IF THE AUDIT REFUSES: the nodes as they were closed, and why
 abbrev pub refusal_text : AuditError → List Closed → List ℕ
 refusal_text e closed = closed_text closed ++ refused_line e
 
--- WHERE IT HOLDS: the nodes of the audited world, what each two of them agree on, and `audit holds`
+-- IF IT HOLDS: the nodes of the audited world, what each pair agrees on, and `audit holds`
 abbrev pub IsHeld : World → List ℕ → Type 0
 IsHeld w text = (agreements : List ℕ) × AreAgreements w agreements × (text ≡ nodes_text w ++ agreements ++ codes "audit holds\n")
 
--- WHAT IS PRINTED OF CLOSED NODES, by the exit status: with 0 they are of one world, whose text it is, and whose ends that are up
--- hold the digests of the cookies that these nodes were set up with; with 1 the audit's first refusal is printed
+-- WHAT IS PRINTED OF CLOSED NODES, by the exit status. With 0 it is the text of one world that has these nodes; its ends that are up
+-- hold the digests of the cookies with which these nodes were set up. With 1 it is the audit's first refusal.
 abbrev pub IsAudited : ℕ → List Closed → List ℕ → Type 0
 IsAudited zero closed text = (w : World) × IsWorldOf closed w × IsHeld w text
-IsAudited (suc zero) closed text = (e : AuditError) × Tells e closed × TellsFirst e closed × (text ≡ refusal_text e closed)
+IsAudited (suc zero) closed text = (e : AuditError) × Reports e closed × ReportsFirst e closed × (text ≡ refusal_text e closed)
 IsAudited (suc (suc status)) closed text = ⊥
 
 -- THE TEXT OF A RUN: the orders that made no dial, and what is printed of its closed nodes
@@ -67,32 +67,32 @@ IsOfRun status faults closed text = (said : List ℕ) × IsAudited status closed
 
 -- WHAT `run` PRINTS, by the exit status: the text of a run of the nodes file
 pub record PrintsRun (file : List ℕ) (status : ℕ) (old new : Option (List ℕ)) : Type 0 where
-  -- what the file says
+  -- the plan in the file
   pub plan : Plan
   -- the orders that made no dial
   pub faults : List OrderFault
   -- the nodes as they were closed
   pub closed : List Closed
-  -- the file is a nodes file, and says just this
+  -- the file is a nodes file with just this plan
   pub says : plan_of file ≡ Some plan
-  -- the closed nodes are the file's: as many, in its order, each set up as it says
+  -- the closed nodes are those of the file, in its order, each with the setup that it names
   pub nodes : AreOfPlans plan.node closed
-  -- those orders stand in the order of the file
+  -- these orders are in the order of the file
   pub order : AreInOrder faults
-  -- each order of the file made its dial once, or is one of those and made none; and no node made another dial
+  -- each order of the file made its dial once, or is one of these and made none; no node made another dial
   pub orders : AreObeyed plan.dial faults closed
-  -- just their text was put there
+  -- just their text was written
   pub text : Puts (IsOfRun status faults closed) old new
 
--- by the status, that of a nodes file that was read to its end
+-- the same for a nodes file that was read to its end
 abbrev pub PrintsRunOf : Option (List ℕ) → Option (List ℕ) → ℕ → Option (List ℕ) → Option (List ℕ) → Type 0
 PrintsRunOf before after status old new = (file : List ℕ) × Consumes before after file × IsAtEnd after × PrintsRun file status old new
 
--- nothing was put there, unless a write failed
+-- nothing was written, unless a write failed
 abbrev pub IsUnprinted : Fault → Option (List ℕ) → Option (List ℕ) → Type 0
 IsUnprinted WriteFailed old new = Unit {0}
 IsUnprinted e old new = new ≡ old
 
--- a fault of status 1 ended the command, and what it prints was not put there
+-- a fault of status 1 ended the command, and nothing was printed
 abbrev pub PrintsNothing : Option (List ℕ) → Option (List ℕ) → Type 0
 PrintsNothing old new = (e : Fault) × (status_of e ≡ 1) × IsUnprinted e old new

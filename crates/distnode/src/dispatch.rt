@@ -1,4 +1,4 @@
-//! Which command an order leads to.
+//! Calls the command of an order.
 
 ghost use Rattle.std.specs.Prelude.{◌≡◌, ◌≤◌, ◌⊎◌, Option, List, ℕ};
 ghost use Rattle.std.specs.Io.KnownBytes.{Keeps};
@@ -9,14 +9,14 @@ ghost use Rattle.distnode.specs.Followed.{PrintsAnswer, Follows, StopsCookieAt, 
 
 use crate::run::run_file;
 use crate::system::System;
-use dist_commands::{Fault, Order, cookie, names, names_on_terminal, tell_port};
+use dist_commands::{Fault, Order, cookie, names, names_on_terminal, report_port};
 use dist_program::PortError;
 use dist_run::Machine;
 use dist_script_play::enact;
 use std::alloc::Global;
 use std::io::{Read, Write};
 
-// The command `cookie`, of the file at a path.
+// The command `cookie`, for the file at a path.
 #[tactic(auto, using(crate::proofs::Followed::cookie_ended, crate::proofs::Followed::cookie_unopened))]
 fn follow_cookie<S: System, W: Write, E: Write>(
     system: &S,
@@ -35,11 +35,11 @@ fn follow_cookie<S: System, W: Write, E: Write>(
 {
     match system.open_cookie(path) {
         Ok(mut file) => cookie(alloc, &mut file, challenge, out, err),
-        Err(_) => Fault::OpenFailed.tell(err),
+        Err(_) => Fault::OpenFailed.report_to(err),
     }
 }
 
-// What the port mapper at a port knows, as it came, or by its escape where standard output is a terminal.
+// Prints what the port mapper at a port knows; escaped if standard output is a terminal.
 #[tactic(auto, using(crate::proofs::Followed::names_ended, crate::proofs::Followed::escaped_ended, crate::proofs::Followed::names_unconnected))]
 fn print_names<S: System, W: Write, E: Write>(
     system: &S,
@@ -60,11 +60,11 @@ fn print_names<S: System, W: Write, E: Write>(
         } else {
             names(alloc, &mut stream, out, err)
         },
-        Err(_) => Fault::ConnectFailed.tell(err),
+        Err(_) => Fault::ConnectFailed.report_to(err),
     }
 }
 
-// The command `names`, unless the environment names a bad port, whatever port the command line names.
+// The command `names`. It is refused if the environment names a bad port, even if the command line names another.
 fn follow_names<S: System, W: Write, E: Write>(
     system: &S,
     alloc: Global,
@@ -83,11 +83,11 @@ fn follow_names<S: System, W: Write, E: Write>(
 {
     match named {
         Ok(_) => print_names(system, alloc, port, out, err),
-        Err(error) => tell_port(error, err),
+        Err(error) => report_port(error, err),
     }
 }
 
-// The command `run`, of the nodes file at a path.
+// The command `run`, for the nodes file at a path.
 fn follow_run<S: System, R: Machine, W: Write, E: Write>(
     system: &S,
     host: &R,
@@ -107,12 +107,12 @@ fn follow_run<S: System, R: Machine, W: Write, E: Write>(
 {
     match system.open(path) {
         Ok(mut file) => run_file(host, alloc, &mut file, out, err),
-        Err(_) => Fault::OpenFailed.tell(err),
+        Err(_) => Fault::OpenFailed.report_to(err),
     }
 }
 
-/// Does what an order says, and returns the exit status. `named` is the port of the environment: a bad one is reported where a port
-/// mapper would be asked. What starts threads is handed in as `host`.
+/// Does what an order says, and returns the exit status. `named` is the port of the environment: a bad one is reported by the command
+/// that asks a port mapper. `host` is the runtime, for commands that start threads.
 #[tactic(auto, using(crate::proofs::Followed::play_ended, crate::proofs::Followed::play_refused))]
 pub fn follow<S: System, R: Machine, I: Read, W: Write, E: Write>(
     system: &S,
@@ -126,12 +126,12 @@ pub fn follow<S: System, R: Machine, I: Read, W: Write, E: Write>(
 ) -> u8
     ensures status { result ≤ 2 }
 
-    // With status 0 the order's command was done, of what the order names: just what it prints was printed.
+    // With status 0 the command was done, for what the order names: just what it prints was printed.
     ensures done { result ≡ 0 → Follows (S.bytes_at system.now) (S.talk_at system.now) (S.has_terminal system.now)
         (I.remaining input.old) (I.remaining input.new) order.entry (W.contents out.old) (W.contents out.new) }
     ensures silent { result ≡ 0 → Keeps (E.contents err.old) (E.contents err.new) }
 
-    // With status 1 or 2 it was not done: which fault ended it, whose line stands on `err`, and what was printed until then.
+    // With status 1 or 2 it was not done: which fault ended it, whose line was written to `err`, and what was printed before.
     ensures ended { result ≡ 1 → Ends (S.bytes_at system.now) (S.talk_at system.now) (S.has_terminal system.now) named.now
         (I.remaining input.old) (I.remaining input.new) order.entry 1 (W.contents out.old) (W.contents out.new) (E.contents err.old) (E.contents err.new) }
     ensures refused { result ≡ 2 → Ends (S.bytes_at system.now) (S.talk_at system.now) (S.has_terminal system.now) named.now

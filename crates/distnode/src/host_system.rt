@@ -9,7 +9,7 @@ use dist_stream::DeadlineStream;
 use std::fs::File;
 use std::io::{self, ErrorKind, IsTerminal};
 
-/// The system of the process. What a file or a connection gives is not known.
+/// The system of the process. Contracts don't know what a file or a connection gives.
 #[derive(Clone, Copy)]
 pub struct HostSystem<'a> {
     rt: &'a HostRuntime,
@@ -18,7 +18,7 @@ pub struct HostSystem<'a> {
 }
 
 impl<'a> HostSystem<'a> {
-    /// That of this runtime.
+    /// The system of this runtime.
     pub fn new(rt: &'a HostRuntime) -> HostSystem<'a> {
         HostSystem {
             rt,
@@ -49,7 +49,7 @@ impl<'a> System for HostSystem<'a> {
         }
     }
 
-    // Made within 8 seconds, and quiet 5 seconds later.
+    // The connection is made within 8 seconds, and falls quiet 5 seconds later.
     fn connect(&self, port: u16) -> io::Result<DeadlineStream<&'a HostRuntime>> {
         talk_here(self.rt, port)
     }

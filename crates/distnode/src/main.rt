@@ -1,7 +1,7 @@
-//! The program: handshakes of nodes by a script, the digest of a cookie, what a port mapper knows, and nodes at work.
+//! The program: plays handshakes from a script, makes the digest of a cookie, prints what a port mapper knows, and runs nodes.
 //!
-//! Each command is a public function over any reader and writers, which returns the exit status, and so is the way from an order
-//! to its command. Only `main` and `host_system` know of files, sockets and the process.
+//! Each command is a public function over any reader and writers, which returns the exit status, and so is the call from an order to
+//! its command. Only `main` and `host_system` know files, sockets and the process.
 #![tactic(auto)]
 
 mod dispatch;
@@ -26,9 +26,9 @@ fn main(rt: HostRuntime) -> ExitCode {
     ExitCode::from(answer(&rt, &rt, rt.alloc()))
 }
 
-// Does what the command line asks for, and returns the exit status. What starts threads is handed in once more as `host`:
-// outside of `main` the runtime itself starts none. It has to be a `Machine`, whose parts stand here, since `main` knows the runtime
-// by these alone.
+// Does what the command line asks for, and returns the exit status. `host` is the same runtime once more, for commands that start
+// threads: outside of `main` the runtime itself starts none. Its bounds are the parts of a `Machine`, since `main` knows only these of
+// the runtime.
 fn answer<R>(rt: &HostRuntime, host: &R, alloc: Global) -> u8
 where
     R: Net<Listener = TcpListener, Stream = TcpStream>
@@ -40,7 +40,7 @@ where
 {
     match order_and_run(rt, host, alloc) {
         Ok(status) => status,
-        Err(fault) => fault.tell(&mut rt.stderr()),
+        Err(fault) => fault.report_to(&mut rt.stderr()),
     }
 }
 
@@ -62,8 +62,8 @@ fn order_and_run<R: Machine>(rt: &HostRuntime, host: &R, alloc: Global) -> Resul
     ))
 }
 
-// The port of the port mapper for words that name none. Where the environment names a bad one it is the usual port, and the command
-// that would ask there refuses.
+// The port of the port mapper if the words name none. If the environment names a bad one, it is the usual port, and the command that
+// would ask there refuses.
 fn port_or_usual(named: &Result<u16, PortError>) -> u16 {
     match named {
         Ok(port) => *port,

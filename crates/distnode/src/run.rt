@@ -1,4 +1,4 @@
-//! The command `run`: the nodes of a nodes file at work, on this host.
+//! The command `run`: runs the nodes of a nodes file on this host.
 
 ghost use Rattle.std.specs.Prelude.{◌≡◌, ◌≤◌, ◌⊎◌, ℕ, List, Option, Some, None, IfOk, IfErr, OnOk, codes};
 ghost use Rattle.std.specs.Io.KnownBytes.{Appends};
@@ -21,7 +21,7 @@ use std::alloc::Global;
 use std::io::{Read, Write};
 use std::{io, str};
 
-// The plan of a text, or why there is none: it is no nodes file, or memory ran out.
+// The plan in a text, or why there is none: it is not a nodes file, or memory ran out.
 fn plan_in(alloc: Global, text: &str) -> Result<Plan, Fault>
     ensures ok { IfOk result (λ plan. plans.plan_of text.now ≡ Some plan) }
     ensures stopped { (out : Option (List ℕ)) → IfErr result (StopsRun text.now out out) }
@@ -33,7 +33,7 @@ fn plan_in(alloc: Global, text: &str) -> Result<Plan, Fault>
     }
 }
 
-// The line of an order that made no dial.
+// Prints the line of an order that made no dial.
 fn print_fault<W: Write>(out: &mut W, fault: &OrderFault) -> io::Result<()>
     ensures { OnOk result (Appends (W.contents out.old) (W.contents out.new) (order_line fault.now)) }
 {
@@ -49,7 +49,7 @@ fn print_fault<W: Write>(out: &mut W, fault: &OrderFault) -> io::Result<()>
     )
 }
 
-// The orders that made no dial.
+// Prints the orders that made no dial.
 #[tactic(auto, using(crate::proofs::Printing::nothing, crate::proofs::Printing::order_more))]
 fn print_faults<W: Write>(out: &mut W, faults: &[OrderFault]) -> io::Result<()>
     ensures { OnOk result (Appends (W.contents out.old) (W.contents out.new) (orders_text faults.now)) }
@@ -60,7 +60,7 @@ fn print_faults<W: Write>(out: &mut W, faults: &[OrderFault]) -> io::Result<()>
     Ok(())
 }
 
-// The nodes of the audit's world, what each two of them agree on, and that it holds.
+// Prints the nodes of the audit's world, what each pair agrees on, and that the audit holds.
 fn print_world<W: Write>(alloc: Global, out: &mut W, world: &World) -> Result<(), ScriptFault>
     ensures { OnOk result (Puts (IsHeld world.now) (W.contents out.old) (W.contents out.new)) }
 {
@@ -72,7 +72,7 @@ fn print_world<W: Write>(alloc: Global, out: &mut W, world: &World) -> Result<()
     }
 }
 
-// The nodes as they were closed.
+// Prints the nodes as they were closed.
 #[tactic(auto, using(crate::proofs::Printing::nothing, crate::proofs::Printing::closed_more))]
 fn print_closed<W: Write>(out: &mut W, all: &[Closed]) -> io::Result<()>
     ensures { OnOk result (Appends (W.contents out.old) (W.contents out.new) (closed_text all.now)) }
@@ -83,7 +83,7 @@ fn print_closed<W: Write>(out: &mut W, all: &[Closed]) -> io::Result<()>
     Ok(())
 }
 
-// Why no world has the histories of the closed nodes.
+// Prints why no world has the histories of the closed nodes.
 fn print_error<W: Write>(out: &mut W, error: AuditError) -> io::Result<()>
     ensures { OnOk result (Appends (W.contents out.old) (W.contents out.new) (refused_line error)) }
 {
@@ -99,7 +99,7 @@ fn print_error<W: Write>(out: &mut W, error: AuditError) -> io::Result<()>
     )
 }
 
-// The nodes as they were closed, and why no world has their histories.
+// Prints the nodes as they were closed, and why no world has their histories.
 fn print_refusal<W: Write>(out: &mut W, all: &[Closed], error: AuditError) -> io::Result<()>
     ensures { OnOk result (Appends (W.contents out.old) (W.contents out.new) (refusal_text error all.now)) }
 {
@@ -107,7 +107,7 @@ fn print_refusal<W: Write>(out: &mut W, all: &[Closed], error: AuditError) -> io
     print_error(out, error)
 }
 
-// What the audit says of closed nodes. Returns the exit status.
+// Audits closed nodes, and prints the result. Returns the exit status.
 #[tactic(auto, using(crate::proofs::Printing::says_held, crate::proofs::Printing::says_refused))]
 fn print_audit<W: Write>(alloc: Global, out: &mut W, all: &[Closed]) -> Result<u8, ScriptFault>
     ensures status { IfOk result (λ status. status ≤ 1) }
@@ -125,7 +125,7 @@ fn print_audit<W: Write>(alloc: Global, out: &mut W, all: &[Closed]) -> Result<u
     }
 }
 
-// What the nodes left, and what the audit says of it. Returns the exit status.
+// Prints the orders that made no dial, and the audit of the nodes. Returns the exit status.
 fn print_ran<W: Write>(alloc: Global, out: &mut W, ran: &Ran) -> Result<u8, ScriptFault>
     ensures status { IfOk result (λ status. status ≤ 1) }
     ensures printed { IfOk result (λ status. Puts (IsOfRun status ran.now.faults.items ran.now.closed.items) (W.contents out.old) (W.contents out.new)) }
@@ -137,7 +137,7 @@ fn print_ran<W: Write>(alloc: Global, out: &mut W, ran: &Ran) -> Result<u8, Scri
     Ok(status)
 }
 
-// Prints what a run left. Answers the exit status.
+// Prints the result of a run. Returns the exit status.
 #[tactic(auto, using(crate::proofs::Stopped::cut_run))]
 fn put_ran<W: Write>(alloc: Global, ran: &Ran, out: &mut W) -> Result<u8, Fault>
     ensures status { IfOk result (λ status. status ≤ 1) }
@@ -155,7 +155,7 @@ fn put_ran<W: Write>(alloc: Global, ran: &Ran, out: &mut W) -> Result<u8, Fault>
     }
 }
 
-// Runs the nodes of a text, audits what they leave, and prints it. Answers the exit status.
+// Runs the nodes of a text, audits the result, and prints it. Returns the exit status.
 #[tactic(auto, using(crate::proofs::Printing::of_text, crate::proofs::Printing::unprinted))]
 fn perform<R: Machine, G: Gate + Sync, W: Write>(
     rt: &R,
@@ -177,11 +177,11 @@ fn perform<R: Machine, G: Gate + Sync, W: Write>(
     put_ran(alloc, &ran, out)
 }
 
-/// Runs the nodes of a nodes file on this host until all their connections were quiet for as many turns as it says, and
-/// prints the orders that made no dial, then what the audit says: for each node its line and its table and for each two that
-/// are up with one another what they agree on, all from the audit's world, and `audit holds`; or the tables of the closed
-/// nodes and `audit refused`. Returns the exit status: 0 where the audit holds, 2 for a text that is no nodes file, 1 for a
-/// refused audit or another fault. A fault is reported on `err`; nothing was printed then, unless a write failed.
+/// Runs the nodes of a nodes file on this host until all their connections were quiet for as many turns as it names. Prints the orders
+/// that made no dial, then the result of the audit. If the audit holds: for each node its line and its table, for each pair that is up
+/// what it agrees on, all from the audit's world, and `audit holds`. If it refuses: the tables of the closed nodes and `audit refused`.
+/// Returns the exit status: 0 if the audit holds, 2 for a text that is not a nodes file, 1 for a refused audit or another fault. A
+/// fault is reported on `err`; nothing was printed then, unless a write failed.
 #[tactic(auto, using(crate::proofs::Printing::never_zero))]
 pub fn run_nodes<R: Machine, G: Gate + Sync, W: Write, E: Write>(
     rt: &R,
@@ -193,32 +193,32 @@ pub fn run_nodes<R: Machine, G: Gate + Sync, W: Write, E: Write>(
 ) -> u8
     ensures status { result ≤ 2 }
 
-    // Status 0 comes only where the audit holds of the nodes of the text, each closed as it was set up there, and each order
-    // of the text made its dial once or has its line, and what was printed is the text of the world that it found.
+    // With status 0 the audit holds for the nodes of the text, each closed as it was set up there. Each order of the text made its dial
+    // once or has its line. What was printed is the text of the world that the audit found.
     ensures printed { result ≡ 0 → PrintsRun text.now 0 (W.contents out.old) (W.contents out.new) }
 
-    // With status 1 the audit refused, and what was printed are the nodes as they were closed, and why; or a fault ended the
-    // run, and nothing was printed, unless the write failed.
+    // With status 1 the audit refused, and the nodes as they were closed were printed, and why; or a fault ended the run, and nothing
+    // was printed, unless the write failed.
     ensures refused { result ≡ 1 → PrintsRun text.now 1 (W.contents out.old) (W.contents out.new)
         ⊎ PrintsNothing (W.contents out.old) (W.contents out.new) }
 
-    // On `err` stands the line of the fault; nothing does where the audit ended the run, whether it holds or refused.
+    // The line of a fault is written to `err`. If the audit ended the run, whether it holds or refused, nothing is.
     ensures silent { result ≡ 0 → E.contents err.new ≡ E.contents err.old }
     ensures ended { result ≡ 1 → (PrintsRun text.now 1 (W.contents out.old) (W.contents out.new) × (E.contents err.new ≡ E.contents err.old))
         ⊎ EndsByFault (StopsRun text.now (W.contents out.old) (W.contents out.new)) 1 (E.contents err.old) (E.contents err.new) }
 
-    // Status 2 comes only where the text is no nodes file. Then nothing is printed, and `err` says so.
+    // Status 2 is only for a text that is not a nodes file. Then nothing is printed, and `err` says so.
     ensures bad { result ≡ 2 → plans.plan_of text.now ≡ None }
     ensures bad_out { result ≡ 2 → W.contents out.new ≡ W.contents out.old }
     ensures bad_line { result ≡ 2 → PutsFront (codes "distnode: bad nodes file\n") (E.contents err.old) (E.contents err.new) }
 {
     match perform(rt, alloc, text, gate, out) {
         Ok(status) => status,
-        Err(fault) => fault.tell(err),
+        Err(fault) => fault.report_to(err),
     }
 }
 
-/// Runs the nodes of a nodes file that is read here. One above 1,048,576 bytes, or that isn't UTF-8, is a bad one.
+/// Reads a nodes file, and runs its nodes. A file above 1,048,576 bytes, or that isn't UTF-8, is a bad one.
 #[tactic(auto, using(crate::proofs::Printing::never_zero, crate::proofs::Printing::of_file))]
 pub fn run_file<R: Machine, F: Read, W: Write, E: Write>(
     rt: &R,
@@ -242,10 +242,10 @@ pub fn run_file<R: Machine, F: Read, W: Write, E: Write>(
 {
     let bytes = match read_text(alloc, file) {
         Ok(bytes) => bytes,
-        Err(fault) => return Fault::from(fault).tell(err),
+        Err(fault) => return Fault::from(fault).report_to(err),
     };
     match str::from_utf8(bytes.as_slice()) {
         Ok(text) => run_nodes(rt, alloc, text, &Open, out, err),
-        Err(_) => Fault::BadNodesFile.tell(err),
+        Err(_) => Fault::BadNodesFile.report_to(err),
     }
 }

@@ -1,12 +1,12 @@
-//! What a command is handed from outside beside its streams.
+//! What a command uses from outside beside its streams.
 
 use dist_stream::Stream;
 use std::io::{self, Read};
 
 /// The files and the port mapper that an order names, and whether standard output is a terminal.
 ///
-/// Its meaning is what the file at each path has to give, and how a connection to the port mapper at each port stands when it is
-/// made, each where that is known.
+/// Contracts see what the file at each path contains, and the state of a new connection to the port mapper at each port, each if it is
+/// known.
 pub trait System {
     ghost use Rattle.std.specs.Prelude.{◌≡◌, ℕ, Bool, List, Option, IfOk};
     ghost use Rattle.dist_stream.specs.Stream.{StreamState};
@@ -27,7 +27,7 @@ pub trait System {
     fn open(&self, path: &str) -> io::Result<Self::File>
         ensures { IfOk result (λ file. Self.File.remaining file ≡ bytes_at self.now path.now) };
 
-    /// Opens the file of a cookie at a path. One whose bytes come when somebody else sends them is refused, so that nobody waits.
+    /// Opens the file of a cookie at a path. A pipe, a socket or a device is refused, since a read of it may wait.
     fn open_cookie(&self, path: &str) -> io::Result<Self::File>
         ensures { IfOk result (λ file. Self.File.remaining file ≡ bytes_at self.now path.now) };
 

@@ -6,12 +6,12 @@ use Rattle.std_alloc.proofs.BoxSteps.Form.{Bx}
 use Rattle.std_heap.specs.contracts.Global as Heap
 use Rattle.std_heap.specs.contracts.GlobalAllocator.TheImpl.{ghosts, dict}
 use Rattle.std_heap.proofs.Global.TheLaws as heap
-use Rattle.distnode_c.specs.contracts.desk.Desk as Desk
-use Rattle.distnode_c.proofs.desk.Desk.TheLaws as desk
+use Rattle.distnode_c.specs.contracts.desk.RegistryDesk as RegistryDesk
+use Rattle.distnode_c.proofs.desk.RegistryDesk.TheLaws as desk
 use Rattle.distnode_c.specs.contracts.parts.Parts as Parts
 
 abbrev pub E : Bx
-E = record { row = Desk.the_row; laws = desk.the_row_laws; al = record { row = Heap.the_row; laws = heap.the_row_laws; g = ghosts; d = dict; drops = impl [] tnil dnil } }
+E = record { row = RegistryDesk.the_row; laws = desk.the_row_laws; al = record { row = Heap.the_row; laws = heap.the_row_laws; g = ghosts; d = dict; drops = impl [] tnil dnil } }
 
 abbrev pub Whole : RattleType
-Whole = Parts.the_row Desk.the_row Heap.the_row ghosts
+Whole = Parts.the_row RegistryDesk.the_row Heap.the_row ghosts

@@ -50,23 +50,23 @@ abbrev pub end_report : Option End → DnEnd
 end_report o = record { peer = length (end_peer o); phase = end_number o; why = end_why o }
 
 -- an end is reported, and the name of its peer copied
-abbrev pub TellsEnd : Option End → ℕ → DnEnd → DnEnd → List ℕ → List ℕ → Type 0
-TellsEnd o code was is old new = (is ≡ end_report o) × CopiesIf (nat_le (length (end_peer o)) (length old)) (end_peer o) code old new
+abbrev pub ReportsEnd : Option End → ℕ → DnEnd → DnEnd → List ℕ → List ℕ → Type 0
+ReportsEnd o code was is old new = (is ≡ end_report o) × CopiesIf (nat_le (length (end_peer o)) (length old)) (end_peer o) code old new
 
 -- the same at a node that may hold no guest (1)
-abbrev pub TellsEndAt : ℕ → Option Guest → ℕ → DnEnd → DnEnd → List ℕ → List ℕ → Type 0
-TellsEndAt id None code was is old new = (code ≡ 1) × (is ≡ was) × (new ≡ old)
-TellsEndAt id (Some s) code was is old new = TellsEnd (slice_get s.node.ends id) code was is old new
+abbrev pub ReportsEndAt : ℕ → Option Guest → ℕ → DnEnd → DnEnd → List ℕ → List ℕ → Type 0
+ReportsEndAt id None code was is old new = (code ≡ 1) × (is ≡ was) × (new ≡ old)
+ReportsEndAt id (Some s) code was is old new = ReportsEnd (slice_get s.node.ends id) code was is old new
 
 -- the number of an end is reported, or there is none (6)
-abbrev pub TellsId : Option EndId → ℕ → ℕ → ℕ → Type 0
-TellsId None code was is = Silent 6 code was is
-TellsId (Some x) code was is = (code ≡ 0) × (is ≡ x.0)
+abbrev pub ReportsId : Option EndId → ℕ → ℕ → ℕ → Type 0
+ReportsId None code was is = Silent 6 code was is
+ReportsId (Some x) code was is = (code ≡ 0) × (is ≡ x.0)
 
 -- the oldest pending end is reported, where there is a guest (1)
-abbrev pub TellsOldest : Option Guest → ℕ → ℕ → ℕ → Type 0
-TellsOldest None code was is = Silent 1 code was is
-TellsOldest (Some s) code was is = TellsId (oldest_pending s.node.ends) code was is
+abbrev pub ReportsOldest : Option Guest → ℕ → ℕ → ℕ → Type 0
+ReportsOldest None code was is = Silent 1 code was is
+ReportsOldest (Some s) code was is = ReportsId (oldest_pending s.node.ends) code was is
 
 -- the guest, once its node has forgotten why the ends below a number were closed
 abbrev pub forgetful : ℕ → Guest → Guest

@@ -101,26 +101,26 @@ abbrev pub peer_of : EndId → UpRecord → DnPeer
 peer_of id r = record { name = length r.peer; common = r.common.0; id = id.0; creation = creation_number r.creation; has_creation = is_known r.creation }
 
 -- a record is reported and its name copied; there is none (6)
-abbrev pub Tells : Option (EndId × UpRecord) → ℕ → DnPeer → DnPeer → List ℕ → List ℕ → Type 0
-Tells None code was is old new = (code ≡ 6) × (is ≡ was) × (new ≡ old)
-Tells (Some x) code was is old new = (is ≡ peer_of x.0 x.1) × CopiesIf (nat_le (length x.1.peer) (length old)) x.1.peer code old new
+abbrev pub Returns : Option (EndId × UpRecord) → ℕ → DnPeer → DnPeer → List ℕ → List ℕ → Type 0
+Returns None code was is old new = (code ≡ 6) × (is ≡ was) × (new ≡ old)
+Returns (Some x) code was is old new = (is ≡ peer_of x.0 x.1) × CopiesIf (nat_le (length x.1.peer) (length old)) x.1.peer code old new
 
 -- the same at a node that may hold no guest (1)
-abbrev pub TellsAt : (Guest → Option (EndId × UpRecord)) → Option Guest → ℕ → DnPeer → DnPeer → List ℕ → List ℕ → Type 0
-TellsAt find None code was is old new = (code ≡ 1) × (is ≡ was) × (new ≡ old)
-TellsAt find (Some s) code was is old new = Tells (find s) code was is old new
+abbrev pub ReportsAt : (Guest → Option (EndId × UpRecord)) → Option Guest → ℕ → DnPeer → DnPeer → List ℕ → List ℕ → Type 0
+ReportsAt find None code was is old new = (code ≡ 1) × (is ≡ was) × (new ≡ old)
+ReportsAt find (Some s) code was is old new = Returns (find s) code was is old new
 
 -- the peer that is up and comes first behind this name, or first of all, in the order of names
 abbrev pub next_of : Option (List ℕ) → Guest → Option (EndId × UpRecord)
 next_of name s = up_from s.node.ends (up_behind name (map.entries (table_of s.node.ends)))
 
 -- the peer behind a name is reported, or the reason why the name is none; memory may run out for the name (3)
-abbrev pub TellsBehind : Result (List ℕ) NameError → ℕ → Guest → DnPeer → DnPeer → List ℕ → List ℕ → Type 0
-TellsBehind (Ok p) code s was is old new = Tells (next_of (Some p) s) code was is old new ⊎ ((code ≡ 3) × (is ≡ was) × (new ≡ old))
-TellsBehind (Err e) code s was is old new = (code ≡ name_code e) × (is ≡ was) × (new ≡ old)
+abbrev pub ReportsBehind : Result (List ℕ) NameError → ℕ → Guest → DnPeer → DnPeer → List ℕ → List ℕ → Type 0
+ReportsBehind (Ok p) code s was is old new = Returns (next_of (Some p) s) code was is old new ⊎ ((code ≡ 3) × (is ≡ was) × (new ≡ old))
+ReportsBehind (Err e) code s was is old new = (code ≡ name_code e) × (is ≡ was) × (new ≡ old)
 
 -- THE NEXT PEER behind the name of these bytes, or the first where there are none, at a node that may hold no guest (1)
-abbrev pub TellsNext : List ℕ → ℕ → Option Guest → DnPeer → DnPeer → List ℕ → List ℕ → Type 0
-TellsNext name code None was is old new = (code ≡ 1) × (is ≡ was) × (new ≡ old)
-TellsNext name code (Some s) was is old new = MatchBool (length name == 0)
-    (Tells (next_of None s) code was is old new) (TellsBehind (name_of_bytes name) code s was is old new)
+abbrev pub ReportsNext : List ℕ → ℕ → Option Guest → DnPeer → DnPeer → List ℕ → List ℕ → Type 0
+ReportsNext name code None was is old new = (code ≡ 1) × (is ≡ was) × (new ≡ old)
+ReportsNext name code (Some s) was is old new = MatchBool (length name == 0)
+    (Returns (next_of None s) code was is old new) (ReportsBehind (name_of_bytes name) code s was is old new)

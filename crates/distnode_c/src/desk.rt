@@ -12,7 +12,7 @@ use std::alloc::Global;
 
 /// A registry of the port mapper, and its answer to the newest request that it took.
 #[derive(Drop)]
-pub struct Desk {
+pub struct RegistryDesk {
     /// The registry.
     pub registry: Registry,
     /// The newest answer, and none before the first request.
@@ -38,13 +38,13 @@ pub fn registered_number(answer: &Answer) -> u32
     }
 }
 
-impl Desk {
+impl RegistryDesk {
     /// A desk of a registry without nodes. It takes no memory.
-    pub fn new(alloc: Global, port: u16, first: u32) -> Desk
+    pub fn new(alloc: Global, port: u16, first: u32) -> RegistryDesk
         ensures registry { result.registry ≡ opening port first }
         ensures last { result.last ≡ None }
     {
-        Desk {
+        RegistryDesk {
             registry: Registry::new(alloc, port, first),
             last: None,
         }

@@ -1,9 +1,9 @@
 //! The pointer to a desk that C holds.
 ghost use Rattle.std.specs.Prelude.{◌≡◌, Option, Some, None};
-ghost use Rattle.distnode_c.specs.declared.desk.Desk.{Desk};
+ghost use Rattle.distnode_c.specs.declared.desk.RegistryDesk.{RegistryDesk};
 ghost use Rattle.distnode_c.specs.KeptDesk.{kept_desk};
 
-use crate::desk::Desk;
+use crate::desk::RegistryDesk;
 use crate::parts::Parts;
 use std::alloc::Global;
 use std::marker::Model;
@@ -14,7 +14,7 @@ use std::marker::Model;
 pub struct DeskSlot {
     at: *mut u8,
     /// The desk that it holds.
-    pub ghost desk: { Option Desk },
+    pub ghost desk: { Option RegistryDesk },
 }
 
 impl Model for DeskSlot {
@@ -23,18 +23,18 @@ impl Model for DeskSlot {
 
 impl DeskSlot {
     // Reads the pointer, and what the slot owned goes with it.
-    fn take_parts(&mut self, alloc: Global) -> Parts<Desk, Global>
-        requires { (s : Desk) × (self.old.desk ≡ Some s) }
+    fn take_parts(&mut self, alloc: Global) -> Parts<RegistryDesk, Global>
+        requires { (s : RegistryDesk) × (self.old.desk ≡ Some s) }
         ensures { (self.old.desk ≡ Some result.value) × (self.new.desk ≡ None) }
     {
         Parts {
-            ptr: self.at as *mut Desk,
+            ptr: self.at as *mut RegistryDesk,
             alloc,
         }
     }
 
     // Writes the pointer, and what the parts owned goes with it.
-    fn put_parts(&mut self, parts: Parts<Desk, Global>)
+    fn put_parts(&mut self, parts: Parts<RegistryDesk, Global>)
         requires { self.old.desk ≡ None }
         ensures { self.new.desk ≡ Some parts.value }
     {
@@ -43,15 +43,15 @@ impl DeskSlot {
     }
 
     /// Takes the desk out.
-    pub fn take(&mut self, alloc: Global) -> Box<Desk>
-        requires { (s : Desk) × (self.old.desk ≡ Some s) }
+    pub fn take(&mut self, alloc: Global) -> Box<RegistryDesk>
+        requires { (s : RegistryDesk) × (self.old.desk ≡ Some s) }
         ensures { (self.old.desk ≡ Some result.value) × (self.new.desk ≡ None) }
     {
         self.take_parts(alloc).into_box()
     }
 
     /// Puts a desk in.
-    pub fn put(&mut self, desk: Box<Desk>)
+    pub fn put(&mut self, desk: Box<RegistryDesk>)
         requires { self.old.desk ≡ None }
         ensures { self.new.desk ≡ Some desk.value }
     {

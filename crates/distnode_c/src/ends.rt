@@ -2,7 +2,7 @@
 ghost use Rattle.std.specs.Prelude.{◌≡◌, Some, slice_get, count_by};
 ghost use Rattle.dist_core_ends.specs.Ends.{is_open, oldest_pending};
 ghost use Rattle.dist_core_ends.specs.declared.known.End.{End};
-ghost use Rattle.distnode_c.specs.Ends.{TellsEnd, TellsEndAt, TellsId, TellsOldest, Forgets, Renews, RenewsWith, phase_number, end_report};
+ghost use Rattle.distnode_c.specs.Ends.{ReportsEnd, ReportsEndAt, ReportsId, ReportsOldest, Forgets, Renews, RenewsWith, phase_number, end_report};
 ghost use Rattle.distnode_c.specs.Steps.{CopiesIf};
 ghost use Rattle.std.specs.Prelude.{length, nat_le};
 
@@ -62,7 +62,7 @@ fn write_end(phase: u32, why: u32, peer: &[u8], end: &mut DnEnd, room: &mut [u8]
 
 // An end that is open.
 fn report_open_end(open: &End, end: &mut DnEnd, room: &mut [u8]) -> u32
-    ensures { TellsEnd (Some open.now) result end.old end.new room.old room.new }
+    ensures { ReportsEnd (Some open.now) result end.old end.new room.old room.new }
 {
     match open {
         End::Unnamed => write_end(3, 0, &[], end, room),
@@ -79,7 +79,7 @@ fn report_open_end(open: &End, end: &mut DnEnd, room: &mut [u8]) -> u32
 }
 
 fn report_end(guest: &Guest, id: u32, end: &mut DnEnd, room: &mut [u8]) -> u32
-    ensures { TellsEnd (slice_get guest.now.node.ends id) result end.old end.new room.old room.new }
+    ensures { ReportsEnd (slice_get guest.now.node.ends id) result end.old end.new room.old room.new }
 {
     match guest.node.open_end(EndId(id)) {
         Ok(open) => report_open_end(open, end, room),
@@ -97,7 +97,7 @@ pub extern "C" fn dn_node_end(
     end: &mut DnEnd,
     room: &mut [u8],
 ) -> u32
-    ensures tells { TellsEndAt id node.old.slot.guest result end.old end.new room.old room.new }
+    ensures reports { ReportsEndAt id node.old.slot.guest result end.old end.new room.old room.new }
     ensures same { node.new.slot.guest ≡ node.old.slot.guest }
 {
     let Some(guest) = node.open(alloc) else {
@@ -109,7 +109,7 @@ pub extern "C" fn dn_node_end(
 }
 
 fn report_oldest(guest: &mut Guest, id: &mut u32) -> u32
-    ensures tells { TellsId (oldest_pending guest.old.node.ends) result id.old id.new }
+    ensures reports { ReportsId (oldest_pending guest.old.node.ends) result id.old id.new }
     ensures same { guest.new ≡ guest.old }
 {
     match guest.node.oldest_pending() {
@@ -124,7 +124,7 @@ fn report_oldest(guest: &mut Guest, id: &mut u32) -> u32
 /// The end that has been open and not up for the longest.
 #[unsafe(no_mangle)]
 pub extern "C" fn dn_node_oldest(node: &mut DnNode, alloc: Global, id: &mut u32) -> u32
-    ensures tells { TellsOldest node.old.slot.guest result id.old id.new }
+    ensures reports { ReportsOldest node.old.slot.guest result id.old id.new }
     ensures same { node.new.slot.guest ≡ node.old.slot.guest }
 {
     let Some(mut guest) = node.open(alloc) else {

@@ -1,7 +1,7 @@
 //! A peer's entry, as C sees it.
 ghost use Rattle.std.specs.Prelude.{◌≡◌, Some};
 ghost use Rattle.dist_names.specs.NodeName.{name_of_bytes};
-ghost use Rattle.distnode_c.specs.Entries.{TellsEntry, entry_report, row};
+ghost use Rattle.distnode_c.specs.Entries.{ReportsEntry, entry_report, row};
 
 use crate::codes::{NOT_A_NODE, OK, name_code};
 use crate::held::DnNode;
@@ -44,7 +44,7 @@ fn entry_report(entry: Option<Entry>) -> DnEntry
 }
 
 fn report_entry(guest: &Guest, alloc: Global, peer: &[u8], entry: &mut DnEntry) -> u32
-    ensures { TellsEntry (name_of_bytes peer.now) result (Some guest.now) entry.old entry.new }
+    ensures { ReportsEntry (name_of_bytes peer.now) result (Some guest.now) entry.old entry.new }
 {
     match NodeName::new(alloc, peer) {
         Ok(peer) => {
@@ -63,7 +63,7 @@ pub extern "C" fn dn_node_entry(
     peer: &[u8],
     entry: &mut DnEntry,
 ) -> u32
-    ensures tells { TellsEntry (name_of_bytes peer.now) result node.old.slot.guest entry.old entry.new }
+    ensures reports { ReportsEntry (name_of_bytes peer.now) result node.old.slot.guest entry.old entry.new }
     ensures same { node.new.slot.guest ≡ node.old.slot.guest }
 {
     let Some(guest) = node.open(alloc) else {

@@ -45,7 +45,7 @@ fn report_room(lost: Option<EndId>, reply: &mut DnReply)
 fn step_newcomer(guest: &mut Guest, alloc: Global, event: &Event, reply: &mut DnReply) -> u32
     ensures { ComesAt (room_for event.now guest.old.node) event.now result guest.old (Some guest.new) reply.old reply.new }
 {
-    let lost = guest.make_room(alloc, event);
+    let lost = guest.evict(alloc, event);
     let code = step_guest(guest, alloc, event, 0, reply);
     report_room(lost, reply);
     code

@@ -7,7 +7,7 @@ ghost use Rattle.dist_names.specs.NodeName.{name_of_bytes};
 ghost use Rattle.dist_secret.specs.Cookie.{cookie_of};
 ghost use Rattle.dist_core_ends.specs.Ends.{up_from, up_ids, table_of, record_in};
 ghost use Rattle.distnode_c.specs.Steps.{Copies, sent_bytes};
-ghost use Rattle.distnode_c.specs.Nodes.{MakesGuest, News, ReadsBoth, version_of, limit_of, limits_in, number_or, Frees, Says, Tells, TellsAt, TellsNext};
+ghost use Rattle.distnode_c.specs.Nodes.{MakesGuest, News, ReadsBoth, version_of, limit_of, limits_in, number_or, Frees, Says, Returns, ReportsAt, ReportsNext};
 
 use crate::codes::{
     HALF_FLAGS, IN_USE, NO_MEMORY, NO_SUCH, NOT_A_NODE, OK, cookie_code, name_code,
@@ -232,7 +232,7 @@ pub extern "C" fn dn_node_say(
 
 // Reports a record and copies its name, where there is one.
 fn report_peer(found: Option<(EndId, &UpRecord)>, room: &mut [u8], peer: &mut DnPeer) -> u32
-    ensures { Tells (option_map (λ r. (r.0, r.1.now)) found.entry) result peer.old peer.new room.old room.new }
+    ensures { Returns (option_map (λ r. (r.0, r.1.now)) found.entry) result peer.old peer.new room.old room.new }
 {
     let Some((id, kept)) = found else {
         return NO_SUCH;
@@ -259,7 +259,7 @@ pub extern "C" fn dn_node_peer_at(
     peer: &mut DnPeer,
     room: &mut [u8],
 ) -> u32
-    ensures tells { TellsAt (λ s. up_from s.node.ends (slice_get (up_ids (map.entries (table_of s.node.ends))) place))
+    ensures reports { ReportsAt (λ s. up_from s.node.ends (slice_get (up_ids (map.entries (table_of s.node.ends))) place))
         node.old.slot.guest result peer.old peer.new room.old room.new }
     ensures same { node.new.slot.guest ≡ node.old.slot.guest }
 {
@@ -273,7 +273,7 @@ pub extern "C" fn dn_node_peer_at(
 
 // Reports the peer that comes next behind the name of these bytes, or the first where there are none.
 fn report_next(guest: &Guest, alloc: Global, name: &[u8], peer: &mut DnPeer, room: &mut [u8]) -> u32
-    ensures { TellsNext name.now result (Some guest.now) peer.old peer.new room.old room.new }
+    ensures { ReportsNext name.now result (Some guest.now) peer.old peer.new room.old room.new }
 {
     if name.is_empty() {
         return report_peer(guest.node.up_behind(None), room, peer);
@@ -293,7 +293,7 @@ pub extern "C" fn dn_node_next_peer(
     peer: &mut DnPeer,
     room: &mut [u8],
 ) -> u32
-    ensures tells { TellsNext name.now result node.old.slot.guest peer.old peer.new room.old room.new }
+    ensures reports { ReportsNext name.now result node.old.slot.guest peer.old peer.new room.old room.new }
     ensures same { node.new.slot.guest ≡ node.old.slot.guest }
 {
     let Some(guest) = node.open(alloc) else {
@@ -313,7 +313,7 @@ pub extern "C" fn dn_node_peer_of(
     peer: &mut DnPeer,
     room: &mut [u8],
 ) -> u32
-    ensures tells { TellsAt (λ s. record_in (record { 0 = id }) (slice_get s.node.ends id)) node.old.slot.guest result peer.old peer.new room.old room.new }
+    ensures reports { ReportsAt (λ s. record_in (record { 0 = id }) (slice_get s.node.ends id)) node.old.slot.guest result peer.old peer.new room.old room.new }
     ensures same { node.new.slot.guest ≡ node.old.slot.guest }
 {
     let Some(guest) = node.open(alloc) else {

@@ -7,7 +7,7 @@ ghost use Rattle.distnode_c.specs.Desks.{Opens, Asked, Answers, CopiesText, Clos
 
 use crate::codes::{AWAITS, IN_USE, NO_MEMORY, NOT_A_NODE, OK, epmd_code};
 use crate::copies::copy_out;
-use crate::desk::{Desk, DeskError, registered_number};
+use crate::desk::{DeskError, RegistryDesk, registered_number};
 use crate::held::{DnRegistry, REGISTRY_MARK};
 use dist_epmd::{Answer, encode_answer};
 use std::alloc::Global;
@@ -38,7 +38,7 @@ pub extern "C" fn dn_registry_new(
     if registry.mark == REGISTRY_MARK {
         return IN_USE;
     }
-    match Box::new(alloc, Desk::new(alloc, port, first)) {
+    match Box::new(alloc, RegistryDesk::new(alloc, port, first)) {
         Ok(desk) => {
             registry.shut(desk);
             OK

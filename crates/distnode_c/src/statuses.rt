@@ -1,7 +1,7 @@
 //! The statuses of the newest step, as C sees them.
 ghost use Rattle.std.specs.Prelude.{◌≡◌, option_and_then};
 ghost use Rattle.dist_c_guest.specs.Statuses.{status_sent};
-ghost use Rattle.distnode_c.specs.Statuses.{TellsStatuses, status_number};
+ghost use Rattle.distnode_c.specs.Statuses.{ReportsStatuses, status_number};
 
 use crate::codes::{NOT_A_NODE, OK};
 use crate::held::DnNode;
@@ -41,7 +41,7 @@ pub extern "C" fn dn_node_status(
     said: &mut u32,
     heard: &mut u32,
 ) -> u32
-    ensures tells { TellsStatuses node.old.slot.guest result said.old said.new heard.old heard.new }
+    ensures reports { ReportsStatuses node.old.slot.guest result said.old said.new heard.old heard.new }
     ensures same { node.new.slot.guest ≡ node.old.slot.guest }
 {
     let Some(guest) = node.open(alloc) else {

@@ -1,19 +1,19 @@
-//! What the program works with, whatever it is asked for.
+//! What the program works with, whatever it does.
 
 use dist_names::NodeName;
 use dist_program::{Addresses, Resolving, lookup_host};
 use dist_secret::Cookie;
-use distping_report::{Dial, Lines, Listed};
+use distping_report::{Dial, LineSink, Listed};
 use distping_words::Wanted;
 
-/// What nodes are probed with, and a connection is taken.
+/// What is needed to probe a node or to take a connection.
 #[derive(Clone, Copy)]
 pub struct Context<'a, R: Resolving> {
-    /// What is asked for sockets and random bytes.
+    /// The runtime, for sockets and random bytes.
     pub rt: &'a HostRuntime,
-    /// What may wait for the resolver.
+    /// The same runtime, for calls that may wait for the resolver.
     pub resolver: &'a R,
-    /// Of which hosts it was printed what their port mappers know.
+    /// The hosts for which the names that their port mappers know were printed.
     pub listed: &'a Listed,
     /// What the command line asks for.
     pub wanted: &'a Wanted<'a>,
@@ -22,9 +22,9 @@ pub struct Context<'a, R: Resolving> {
 }
 
 impl<'a, R: Resolving> Context<'a, R> {
-    /// Lines on the screen: those of objects alone, where these are asked for.
-    pub fn screen(&self) -> Lines<'static> {
-        Lines::on_screen(self.rt, self.wanted.choices.json)
+    /// Lines on the screen; with `--json` only those of objects.
+    pub fn screen(&self) -> LineSink<'static> {
+        LineSink::on_screen(self.rt, self.wanted.choices.json)
     }
 
     /// The addresses of a node's host.
@@ -33,10 +33,10 @@ impl<'a, R: Resolving> Context<'a, R> {
         lookup_host(self.resolver, *self.rt, choices.host(node), choices.limit())
     }
 
-    /// A node that is to be dialled under this name, with its steps on these lines.
+    /// A dial of a node under this name, whose steps are printed to these lines.
     pub fn make_dial<'d>(
         &'d self,
-        lines: Lines<'d>,
+        lines: LineSink<'d>,
         own: &'d NodeName,
         node: &'d NodeName,
     ) -> Dial<'d> {

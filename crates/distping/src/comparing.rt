@@ -1,19 +1,18 @@
-//! Each two of the nodes that were dialled are compared: of more than two those pairs are printed against which something speaks, and
-//! a summary.
+//! Each pair of the nodes that were dialled is compared. Of more than two nodes, only the bad pairs are printed, and a summary.
 
 ghost use Rattle.std.specs.Prelude.{◌≡◌, ◌||◌, ◌<◌, ◌↔◌, IsTrue, length};
 ghost use Rattle.dist_cluster.specs.Pairs.{is_bad};
 
 use dist_cluster::{Half, Pairing, Summary, first_of, pairing_of};
 use distping_json::{pair_object, summary_object};
-use distping_report::Lines;
+use distping_report::LineSink;
 use distping_words::Fault;
 
 // Which pairs are printed, and where.
 #[derive(Clone, Copy)]
 struct Pairs<'p> {
-    lines: Lines<'p>,
-    // Also those against which nothing speaks.
+    lines: LineSink<'p>,
+    // Whether good pairs are printed too.
     all: bool,
 }
 
@@ -28,7 +27,7 @@ impl Pairs<'_> {
 
 // Prints what can be said of two nodes.
 fn put_pair(
-    lines: Lines<'_>,
+    lines: LineSink<'_>,
     first: &Half<'_>,
     second: &Half<'_>,
     pairing: Pairing,
@@ -40,7 +39,7 @@ fn put_pair(
     }
 }
 
-// Prints what can be said of two nodes, where that is printed, and returns the status of it.
+// Prints what can be said of two nodes, if that is to be printed, and returns its status.
 fn pair_one(pairs: Pairs<'_>, first: &Half<'_>, second: &Half<'_>) -> Result<u8, Fault> {
     let pairing = pairing_of(first, second);
     if pairs.shows(pairing) {
@@ -49,7 +48,7 @@ fn pair_one(pairs: Pairs<'_>, first: &Half<'_>, second: &Half<'_>) -> Result<u8,
     Ok(pairing.status())
 }
 
-// Prints what can be said of one node and each of others, and returns the first status that is not 0.
+// Prints what can be said of one node with each of the others, and returns the first status that is not 0.
 fn pair_with(pairs: Pairs<'_>, first: &Half<'_>, others: &[Half<'_>]) -> Result<u8, Fault> {
     let mut status = 0;
     for second in others {
@@ -58,7 +57,7 @@ fn pair_with(pairs: Pairs<'_>, first: &Half<'_>, others: &[Half<'_>]) -> Result<
     Ok(status)
 }
 
-// Prints what can be said of each two nodes, and returns the first status that is not 0.
+// Prints what can be said of each pair of nodes, and returns the first status that is not 0.
 fn pair_all(pairs: Pairs<'_>, halves: &[Half<'_>]) -> Result<u8, Fault> {
     let mut status = 0;
     let mut rest = halves;
@@ -76,15 +75,15 @@ fn behind_the_first<'h, 'n>(halves: &'h [Half<'n>]) -> &'h [Half<'n>] {
     }
 }
 
-// Whether there are more than two, so that a summary is printed, and of the pairs those against which something speaks.
+// Whether there are more than two nodes, so that a summary is printed, and only the bad pairs.
 fn are_many(halves: &[Half<'_>]) -> bool
     ensures { IsTrue result ↔ (2 < length halves.now) }
 {
     halves.len() > 2
 }
 
-// Prints how many nodes came to which verdict, and how many pairs have which word.
-fn put_summary(lines: Lines<'_>, halves: &[Half<'_>], status: u8) -> Result<(), Fault> {
+// Prints how many nodes have which verdict, and how many pairs which word.
+fn put_summary(lines: LineSink<'_>, halves: &[Half<'_>], status: u8) -> Result<(), Fault> {
     let summary = Summary::of_nodes(lines.alloc, halves)?;
     if lines.quiet {
         lines.write_made(summary_object(lines.alloc, &summary, status))
@@ -93,10 +92,10 @@ fn put_summary(lines: Lines<'_>, halves: &[Half<'_>], status: u8) -> Result<(), 
     }
 }
 
-/// Prints what can be said of these nodes together, and returns the first status that is not 0. `status` is that of the nodes, and
-/// with `all_pairs` each pair is printed, however many there are.
+/// Prints what can be said of these nodes together, and returns the first status that is not 0. `status` is that of the nodes; with
+/// `all_pairs` every pair is printed.
 pub fn compare(
-    lines: Lines<'_>,
+    lines: LineSink<'_>,
     all_pairs: bool,
     halves: &[Half<'_>],
     status: u8,

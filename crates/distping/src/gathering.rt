@@ -1,5 +1,5 @@
-//! The nodes that are dialled: those that are named, and those that the port mappers of hosts know, which are asked one after another.
-//! A port mapper may say anything: of what is more than is dialled or shown the number is printed.
+//! The nodes to dial: those that are named, and those that the port mappers of hosts know, which are asked one after another. A port
+//! mapper may send anything: if it sends more than is dialled or shown, the number of the rest is printed.
 
 ghost use Rattle.std.specs.Prelude.{◌≡◌, IfOk};
 ghost use Rattle.dist_probe.specs.Words.{status_of};
@@ -12,7 +12,7 @@ use dist_names::{NameError, NodeName};
 use dist_program::Resolving;
 use distping_json::{group_object, left_out_object, more_left_out_object};
 use distping_links::{Census, Names, ask_census, empty_host};
-use distping_report::{LeftOut, Lines, MOST_SHOWN, Outcome};
+use distping_report::{LeftOut, LineSink, MOST_SHOWN, ProbeOutcome};
 use distping_words::{Fault, Wanted};
 use std::net::SocketAddr;
 
@@ -24,22 +24,22 @@ fn is_named(targets: &[Target], node: &NodeName) -> bool {
     })
 }
 
-// A group, and what its nodes are gathered with.
+// A group, and what is needed to gather its nodes.
 #[derive(Clone, Copy)]
-struct Site<'a> {
-    lines: Lines<'a>,
+struct Gathering<'a> {
+    lines: LineSink<'a>,
     wanted: &'a Wanted<'a>,
     group: &'a Group,
 }
 
-// What the lines of a port mapper came to.
+// A count of the lines of a port mapper.
 #[derive(Clone, Copy)]
 struct Tally {
     // How many name a node.
     named: u32,
-    // How many name none.
+    // How many do not.
     unnamed: u32,
-    // How many nodes are more than are dialled.
+    // How many nodes exceed the number that is dialled.
     surplus: u32,
 }
 
@@ -54,8 +54,8 @@ impl Tally {
     }
 }
 
-// Leaves out a line that names no node: as many are printed as are shown, and the others counted.
-fn leave_out(site: Site<'_>, text: &[u8], tally: &mut Tally) -> Result<(), Fault> {
+// Leaves out a line that names no node: prints it if it is one of the first, and counts it.
+fn leave_out(site: Gathering<'_>, text: &[u8], tally: &mut Tally) -> Result<(), Fault> {
     let is_shown = tally.unnamed < MOST_SHOWN;
     tally.unnamed = tally.unnamed.saturating_add(1);
     let lines = site.lines;
@@ -68,9 +68,9 @@ fn leave_out(site: Site<'_>, text: &[u8], tally: &mut Tally) -> Result<(), Fault
     }
 }
 
-// One more node of a group, unless it is there already, or more than are dialled.
+// Adds a node of a group, unless it is there already, or there are enough.
 fn push_new(
-    site: Site<'_>,
+    site: Gathering<'_>,
     nodes: &mut Nodes,
     node: NodeName,
     tally: &mut Tally,
@@ -87,9 +87,9 @@ fn push_new(
     Ok(())
 }
 
-// Takes the node that a line of a port mapper names, where it names one.
+// Takes the node that a line of a port mapper names, if it names one.
 fn take_line(
-    site: Site<'_>,
+    site: Gathering<'_>,
     line: &[u8],
     nodes: &mut Nodes,
     tally: &mut Tally,
@@ -107,8 +107,8 @@ fn take_line(
     }
 }
 
-// Takes the nodes that these lines of a port mapper name, and returns what the lines came to.
-fn take_lines(site: Site<'_>, text: &[u8], nodes: &mut Nodes) -> Result<Tally, Fault> {
+// Takes the nodes that these lines of a port mapper name, and returns the count of the lines.
+fn take_lines(site: Gathering<'_>, text: &[u8], nodes: &mut Nodes) -> Result<Tally, Fault> {
     let mut tally = Tally {
         named: 0,
         unnamed: 0,
@@ -120,8 +120,8 @@ fn take_lines(site: Site<'_>, text: &[u8], nodes: &mut Nodes) -> Result<Tally, F
     Ok(tally)
 }
 
-// Prints how much of what a port mapper said is left out, where anything is.
-fn put_more_left_out(site: Site<'_>, left_out: LeftOut) -> Result<(), Fault> {
+// Prints how much of what a port mapper sent was left out, if anything was.
+fn put_more_left_out(site: Gathering<'_>, left_out: LeftOut) -> Result<(), Fault> {
     let lines = site.lines;
     if left_out.is_nothing() {
         Ok(())
@@ -132,8 +132,8 @@ fn put_more_left_out(site: Site<'_>, left_out: LeftOut) -> Result<(), Fault> {
     }
 }
 
-// Prints what a host that gave no node comes to, and returns the status of it.
-fn put_nobody(site: Site<'_>, outcome: &Outcome) -> Result<u8, Fault>
+// Prints the verdict on a host that gave no node, and returns its status.
+fn put_nobody(site: Gathering<'_>, outcome: &ProbeOutcome) -> Result<u8, Fault>
     ensures { IfOk result (λ status. status ≡ status_of outcome.now.verdict) }
 {
     let lines = site.lines;
@@ -145,9 +145,9 @@ fn put_nobody(site: Site<'_>, outcome: &Outcome) -> Result<u8, Fault>
     Ok(outcome.verdict.status())
 }
 
-// Takes the nodes that a port mapper named, and returns the status of it: that of a host without nodes where it named none.
+// Takes the nodes that a port mapper named, and returns the status: if it named none, that of a host without nodes.
 fn take_names(
-    site: Site<'_>,
+    site: Gathering<'_>,
     address: SocketAddr,
     names: &Names,
     nodes: &mut Nodes,
@@ -164,13 +164,13 @@ fn take_names(
     Ok(left_out.status())
 }
 
-// Asks the port mapper of a host for its nodes, and returns the status of it.
+// Asks the port mapper of a host for its nodes, and returns the status.
 fn ask_group<'x, R: Resolving>(
     context: &Context<'x, R>,
     group: &'x Group,
     nodes: &mut Nodes,
 ) -> Result<u8, Fault> {
-    let site = Site {
+    let site = Gathering {
         lines: context.screen(),
         wanted: context.wanted,
         group,
@@ -183,7 +183,7 @@ fn ask_group<'x, R: Resolving>(
     }
 }
 
-// Puts the nodes of a target behind these, and returns the status of it.
+// Adds the nodes of a target, and returns the status.
 fn take_target<'x, R: Resolving>(
     context: &Context<'x, R>,
     target: &'x Target,
@@ -202,7 +202,7 @@ fn take_target<'x, R: Resolving>(
     }
 }
 
-/// The nodes that are to be dialled, and the first status that is not 0 of the hosts that are asked for theirs.
+/// The nodes to dial, and the first status that is not 0 of the hosts that were asked for their nodes.
 pub fn gather<R: Resolving>(context: &Context<'_, R>) -> Result<(Nodes, u8), Fault> {
     let mut nodes = Nodes::new(context.rt.alloc());
     let mut status = 0;

@@ -4,8 +4,8 @@ ghost use Rattle.std.specs.Prelude.{◌≡◌, ◌≢◌, ◌++◌, ◌<◌, ◌
 
 use dist_names::NodeName;
 
-/// The most nodes that are dialled at once, each in a thread of its own. A probe has one connection at a time, and its resolver has
-/// a descriptor or two: 32 of them stay far below the 1,024 descriptors that a process usually may have. Our own choice.
+/// The most nodes that are dialled at once, each in a thread of its own. A probe has one connection at a time, and its resolver one or
+/// two descriptors: 32 probes stay far below the 1,024 descriptors that a process usually may have. Our own choice.
 const MOST_AT_ONCE: usize = 32;
 
 /// Whether a node is among these.
@@ -16,7 +16,7 @@ pub fn is_among(nodes: &[NodeName], node: &NodeName) -> bool
     nodes.iter().any(|other| other.is_same(node))
 }
 
-// How many of the nodes are dialled next: as many as are dialled at once, or those before the first that comes again.
+// How many of the nodes are dialled next: at most 32, and only those before the first name that occurs twice.
 #[tactic(auto, using(crate::proofs::Apart::apart_few, crate::proofs::Apart::apart_more))]
 fn count_next(nodes: &[NodeName]) -> usize
     ensures most { result ≤ 32 }
@@ -35,8 +35,8 @@ fn count_next(nodes: &[NodeName]) -> usize
     size
 }
 
-/// The nodes that are dialled next, all at once, and those behind them. A node that is named twice is dialled twice, and not at
-/// once: it might refuse the second of two connections of one name.
+/// The nodes that are dialled next, all at once, and the rest. A node that is named twice is dialled twice, but not at once: it might
+/// refuse the second of two connections from one name.
 pub fn split_group(nodes: &[NodeName]) -> (&[NodeName], &[NodeName])
     // Each node is in one of the two, in its order.
     ensures whole { nodes.now ≡ result.0.now ++ result.1.now }

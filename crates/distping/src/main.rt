@@ -1,8 +1,7 @@
-//! The program: dials a live node, and prints what happens, step by step, with the cause and what can be done.
+//! The program: dials a live node, and prints each step, the cause of a failure, and what can be done.
 //!
-//! What it means is found by the crate of verdicts, how a node is dialled or a connection taken by crates of their own, and so are
-//! the words of the command line and what is printed. Here is what puts these together: which nodes are dialled, several at
-//! once or again and again, and what is said of them.
+//! Other crates find the verdict, dial the node or take a connection, read the command line, and make the lines. This one puts them
+//! together: it decides which nodes are dialled, several at once or again and again, and prints what can be said of them.
 #![tactic(auto)]
 
 mod common;
@@ -22,7 +21,7 @@ use dist_names::NodeName;
 use dist_program::{HostError, Resolving, lookup_host, mapper_port, words_of};
 use distping_json::caller_object;
 use distping_links::{draw_challenge, setup_of, take_connection};
-use distping_report::{Caller, Lines, Listed, Listen, Taken};
+use distping_report::{Caller, LineSink, Listed, Listen, Taken};
 use distping_words::{Fault, Instead, Refusal, Wanted, cookie_of, read_roster, wanted_of};
 use gathering::gather;
 use std::net::SocketAddr;
@@ -30,7 +29,7 @@ use std::process::ExitCode;
 use together::collect_halves;
 use watching::watch_all;
 
-/// How the program is called.
+/// The help.
 const HELP: &str =
     "usage: distping NODE.. [--nodes FILE] [--name NAME] [--cookie FILE | --no-cookie] [--cookie-unsafe] [--flags FLAG,..|HEX]
                 [--epmd-port N] [--port N] [--address HOST] [--seconds N] [--watch SECONDS] [--count N]
@@ -39,8 +38,8 @@ const HELP: &str =
                 [--address HOST] [--seconds N] [--json]
        distping --help | --version
 
-Dials a live Erlang node at each address of its host until it is found, tells what happens, step by step, and ends with one verdict, its cause and its remedy.
-Of several nodes it also tells what can be told of each two of them: of more than two those pairs that have a fault, and a summary.
+Dials a live Erlang node at each address of its host until it is found, reports what happens, step by step, and ends with one verdict, its cause and its remedy.
+Of several nodes it also reports what can be reported of each two of them: of more than two those pairs that have a fault, and a summary.
 
   NODE            the node to dial, NAME@HOST, or @HOST: each node that the port mapper of that host knows
   --nodes FILE    further nodes, one or @HOST a line, # before a comment; - is standard input
@@ -54,10 +53,10 @@ Of several nodes it also tells what can be told of each two of them: of more tha
   --address HOST  the host to connect to, in place of the host part of NODE; with --listen the one to listen at (all of this host)
   --seconds N     the most that the look-up of the host, a connect, a lookup of the node and the talk may take each (8), at all
                   addresses of the host together; with --listen also the wait for a connection (without end)
-  --listen PORT   takes one connection as the node NAME would, and tells what the other side says
-  --watch SECONDS probes all nodes again every so many seconds, and tells what changes
-  --count N       with --watch: ends after so many rounds, and tells how long the answers took
-  --all-pairs     tells of each pair of more than two nodes
+  --listen PORT   takes one connection as the node NAME would, and reports what the other side says
+  --watch SECONDS probes all nodes again every so many seconds, and reports what changes
+  --count N       with --watch: ends after so many rounds, and reports how long the answers took
+  --all-pairs     reports of each pair of more than two nodes
   --json          an object of JSON for each node, each pair and each connection taken, in place of the lines
   --help, --version
 
@@ -73,11 +72,11 @@ Hosts are found by the C library; in a static program by /etc/hosts and the name
 fn main(rt: HostRuntime) -> ExitCode {
     match perform(&rt, &rt) {
         Ok(status) => ExitCode::from(status),
-        Err(refusal) => ExitCode::from(refusal.tell(&mut rt.stderr())),
+        Err(refusal) => ExitCode::from(refusal.report_to(&mut rt.stderr())),
     }
 }
 
-// Does what the command line asks for. The second handle is the same: what may wait for a thread.
+// Does what the command line asks for. `resolver` is the same runtime, for calls that may wait for a thread.
 fn perform<R: Resolving + Sync>(rt: &HostRuntime, resolver: &R) -> Result<u8, Refusal> {
     let words = words_of(rt)?;
     let mapper_port = mapper_port(rt)?;
@@ -89,13 +88,13 @@ fn perform<R: Resolving + Sync>(rt: &HostRuntime, resolver: &R) -> Result<u8, Re
     }
 }
 
-// Writes a text that was asked for.
+// Prints the help or the version.
 fn print(rt: &HostRuntime, text: &str) -> Result<u8, Fault> {
-    Lines::on_screen(rt, false).write(text)?;
+    LineSink::on_screen(rt, false).write(text)?;
     Ok(0)
 }
 
-// Listens, or checks nodes, once the file of names and that of the cookie are read.
+// Reads the file of names and that of the cookie, then listens or checks nodes.
 fn follow<'x, R: Resolving + Sync>(
     rt: &'x HostRuntime,
     resolver: &'x R,
@@ -118,7 +117,7 @@ fn follow<'x, R: Resolving + Sync>(
     Ok(status)
 }
 
-// Puts what the file of names has behind what the command line names, where there is such a file.
+// Adds the names in the file of names to those of the command line, if there is such a file.
 fn read_names(rt: &HostRuntime, wanted: &mut Wanted<'_>) -> Result<(), Refusal> {
     let Some(path) = wanted.choices.roster else {
         return Ok(());
@@ -130,7 +129,7 @@ fn read_names(rt: &HostRuntime, wanted: &mut Wanted<'_>) -> Result<(), Refusal> 
     Ok(())
 }
 
-// The address to listen at, where one is named: the first of its host.
+// The address to listen at, if a host is named: its first.
 fn place_of<R: Resolving>(context: &Context<'_, R>) -> Result<Option<SocketAddr>, Fault> {
     let choices = &context.wanted.choices;
     let Some(host) = choices.address else {
@@ -143,7 +142,7 @@ fn place_of<R: Resolving>(context: &Context<'_, R>) -> Result<Option<SocketAddr>
     }
 }
 
-// Takes one connection at this port as the node of this name, prints what came of it, and returns its status.
+// Takes one connection at this port as the node with this name, prints the result, and returns its status.
 fn listen<R: Resolving>(context: &Context<'_, R>, port: u16, name: &NodeName) -> Result<u8, Fault> {
     let choices = &context.wanted.choices;
     let place = place_of(context)?;
@@ -165,9 +164,9 @@ fn listen<R: Resolving>(context: &Context<'_, R>, port: u16, name: &NodeName) ->
     Ok(taken.status())
 }
 
-// Prints what came of a connection.
+// Prints the result of a connection.
 fn put_taken(
-    lines: Lines<'_>,
+    lines: LineSink<'_>,
     one: &Listen<'_>,
     caller: &Caller,
     taken: Taken,
@@ -179,7 +178,7 @@ fn put_taken(
     }
 }
 
-// Watches all nodes, or probes each once and prints what can be said of each two of them.
+// Watches all nodes, or probes each once and prints what can be said of each pair.
 fn check_nodes<R: Resolving + Sync>(context: &Context<'_, R>) -> Result<u8, Fault> {
     let (nodes, status) = gather(context)?;
     let names = &nodes.names;

@@ -11,7 +11,7 @@ use std::alloc::{AllocError, Global};
 pub struct Nodes {
     /// Their names, in the order in which they are dialled.
     pub names: Vec<NodeName>,
-    // There are no more.
+    // At most as many as a run may dial.
     pub ghost most: { length names.items ≤ 1024 },
 }
 
@@ -25,16 +25,16 @@ impl Nodes {
         }
     }
 
-    /// Whether no more are dialled.
+    /// Whether the list is full.
     pub fn is_full(&self) -> bool
         ensures { IsTrue result ↔ (length self.now.names.items ≡ 1024) }
     {
         self.names.len() >= MOST_NODES
     }
 
-    /// One more node.
+    /// Adds a node.
     pub fn push(&mut self, node: NodeName) -> Result<(), AllocError>
-        // `is_full` is not so.
+        // The caller has asked `is_full`.
         requires { length self.old.names.items < 1024 }
         ensures ok { OnOk result (self.new.names.items ≡ self.old.names.items ++ node ∷ []) }
         ensures err { OnErr result (self.new.names.items ≡ self.old.names.items) }

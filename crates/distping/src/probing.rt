@@ -1,19 +1,19 @@
-//! One node is probed, and what it comes to is printed.
+//! Probes one node, and prints the result.
 
 ghost use Rattle.std.specs.Prelude.{◌≡◌, IfOk};
 
 use crate::common::Context;
 use dist_cluster::{Half, Target, USUAL};
 use dist_names::NodeName;
-use dist_probe::Verdict;
+use dist_probe::ProbeVerdict;
 use dist_program::Resolving;
 use distping_json::object_of;
 use distping_links::probe;
-use distping_report::{Dial, Found, Lines, Outcome};
+use distping_report::{Dial, Found, LineSink, ProbeOutcome};
 use distping_words::{Fault, Wanted, parse_name};
 use std::alloc::Global;
 
-// The own name: the one that is given, else one at the node's host, so that it is as long or short as the node's.
+// Our name: the given one, or one at the node's host, so that both names are long or both short.
 fn own_name(alloc: Global, wanted: &Wanted<'_>, node: &NodeName) -> Result<NodeName, Fault> {
     match &wanted.name {
         Some(name) => Ok(name.try_clone(alloc)?),
@@ -21,7 +21,7 @@ fn own_name(alloc: Global, wanted: &Wanted<'_>, node: &NodeName) -> Result<NodeN
     }
 }
 
-// The own name at this host, where none is given.
+// The usual name at this host.
 fn usual_name(alloc: Global, host: &[u8]) -> Result<NodeName, Fault> {
     let mut text = Vec::from_slice(alloc, USUAL)?;
     text.push(b'@')?;
@@ -31,8 +31,8 @@ fn usual_name(alloc: Global, host: &[u8]) -> Result<NodeName, Fault> {
     }
 }
 
-// Prints what a probe came to.
-fn put_outcome(dial: &Dial<'_>, outcome: &Outcome) -> Result<(), Fault> {
+// Prints the result of a probe.
+fn put_outcome(dial: &Dial<'_>, outcome: &ProbeOutcome) -> Result<(), Fault> {
     let lines = dial.lines;
     if lines.quiet {
         lines.write_made(object_of(lines.alloc, dial, outcome))
@@ -43,8 +43,8 @@ fn put_outcome(dial: &Dial<'_>, outcome: &Outcome) -> Result<(), Fault> {
     }
 }
 
-// Prints that nodes go another way than `--address`, where the node was found by that.
-fn put_other_way(dial: &Dial<'_>, verdict: Verdict) -> Result<(), Fault> {
+// Prints that nodes don't use `--address`, if the node was found by it.
+fn put_other_way(dial: &Dial<'_>, verdict: ProbeVerdict) -> Result<(), Fault> {
     match dial.choices.address {
         Some(host) if verdict.status() == 0 && host.as_bytes() != dial.node.host() => {
             dial.lines.put_other_way(dial.node)
@@ -53,8 +53,8 @@ fn put_other_way(dial: &Dial<'_>, verdict: Verdict) -> Result<(), Fault> {
     }
 }
 
-// Prints which address got furthest, where several were tried.
-fn put_furthest(lines: Lines<'_>, outcome: &Outcome) -> Result<(), Fault> {
+// Prints which address got furthest, if several were tried.
+fn put_furthest(lines: LineSink<'_>, outcome: &ProbeOutcome) -> Result<(), Fault> {
     let count = u32::try_from(outcome.verdicts.len()).unwrap_or(u32::MAX);
     match &outcome.found.address {
         Some(address) if count > 1 => lines.put_furthest(address, count),
@@ -62,13 +62,13 @@ fn put_furthest(lines: Lines<'_>, outcome: &Outcome) -> Result<(), Fault> {
     }
 }
 
-// What is left of a node. What another node said of itself is ignored.
-fn half_of<'n>(node: &'n NodeName, found: &Found, verdict: Verdict) -> Half<'n>
+// What is kept of a probe. The flags of a node with another name are ignored.
+fn half_of<'n>(node: &'n NodeName, found: &Found, verdict: ProbeVerdict) -> Half<'n>
     ensures node { result.node.now ≡ node.now }
     ensures verdict { result.verdict ≡ verdict }
 {
     let flags = match (verdict, &found.peer) {
-        (Verdict::OtherName(_), _) | (_, None) => None,
+        (ProbeVerdict::OtherName(_), _) | (_, None) => None,
         (_, Some(peer)) => Some(peer.flags),
     };
     Half {
@@ -78,15 +78,15 @@ fn half_of<'n>(node: &'n NodeName, found: &Found, verdict: Verdict) -> Half<'n>
     }
 }
 
-// Whether each node has a heading: not the one that alone is asked for.
+// Whether each node has a heading: all have one unless a single node is asked for.
 fn has_headings(targets: &[Target]) -> bool {
     !matches!(targets, [Target::Node(_)])
 }
 
-/// Probes a node behind its heading, where it has one, prints what it comes to, and returns what is left of it.
+/// Prints the heading of a node, if it has one, probes the node, prints the result, and returns what is kept of it.
 pub fn print_probe<'n, R: Resolving>(
     context: &Context<'_, R>,
-    lines: Lines<'_>,
+    lines: LineSink<'_>,
     node: &'n NodeName,
 ) -> Result<Half<'n>, Fault>
     ensures { IfOk result (λ half. half.node.now ≡ node.now) }
@@ -101,12 +101,12 @@ pub fn print_probe<'n, R: Resolving>(
     Ok(half_of(node, &outcome.found, outcome.verdict))
 }
 
-/// The verdict upon a node, with no step printed.
+/// The verdict on a node, with no step printed.
 pub fn verdict_upon<R: Resolving>(
     context: &Context<'_, R>,
     node: &NodeName,
-) -> Result<Verdict, Fault> {
+) -> Result<ProbeVerdict, Fault> {
     let own = own_name(context.rt.alloc(), context.wanted, node)?;
-    let dial = context.make_dial(Lines::on_screen(context.rt, true), &own, node);
+    let dial = context.make_dial(LineSink::on_screen(context.rt, true), &own, node);
     Ok(probe(&dial, context.addresses(node))?.verdict)
 }

@@ -1,4 +1,4 @@
-//! What is left of one of several nodes that were dialled at once.
+//! The result for one of several nodes that were dialled at once.
 
 ghost use Rattle.std.specs.Prelude.{◌≡◌};
 ghost use Rattle.std.specs.Result.{ForOk};
@@ -7,15 +7,15 @@ use dist_cluster::Half;
 use dist_names::NodeName;
 use distping_words::Fault;
 
-/// What a thread that dialled a node gives back.
+/// What a thread returns that dialled a node.
 #[derive(Drop)]
-pub struct Reply<'n> {
+pub struct DialReply<'n> {
     /// The node.
     pub node: &'n NodeName,
-    /// What is still to be printed of it.
+    /// The lines that are still to be printed.
     pub text: String,
-    /// What is left of it, or the fault that stopped the probe.
+    /// What is kept of the probe, or the fault that stopped it.
     pub half: Result<Half<'n>, Fault>,
-    // What is left is that node's.
+    // It is kept of that node.
     pub ghost own: { ForOk half (λ h. h.node.now ≡ node.now) },
 }

@@ -1,8 +1,8 @@
-//! Several nodes are probed at once, each in a thread, and what comes of them is printed in their order.
+//! Probes several nodes at once, each in a thread, and prints the results in the order of the nodes.
 //!
-//! The lines of the first node of a group go to the screen step by step; those of each other node stand on a page until the group is
-//! done, since two that are printed at once would mix. A fault ends all where it would have ended them one after another: what
-//! stands before it is printed.
+//! The lines of the first node of a group go to the screen step by step. Those of each other node wait on a page until the group is
+//! done, since lines of two nodes would mix. A fault has the same effect as if the nodes were probed one after another: what comes
+//! before it is printed.
 
 ghost use Rattle.std.specs.Prelude.{◌≡◌, ◌++◌, ◌∷◌, [], ◌<◌, length, IfOk, OnOk, slice_index_or};
 ghost use Rattle.std.specs.Result.{ForOk};
@@ -13,20 +13,20 @@ ghost use Rattle.distping.specs.Order.{first_status, names_in, names_of};
 use crate::common::Context;
 use crate::grouping::split_group;
 use crate::probing::print_probe;
-use crate::reply::Reply;
+use crate::reply::DialReply;
 use dist_cluster::{Half, first_of};
 use dist_names::NodeName;
 use dist_program::Resolving;
-use distping_report::{Lines, Page};
+use distping_report::{LineSink, Page};
 use distping_words::Fault;
 use std::thread::map_indices;
 
-// Probes the node at this place of its group. The lines of the first go to the screen, those of each other to a page.
+// Probes the node at this place of its group. The lines of the first go to the screen, those of any other to a page.
 fn make_reply<'n, R: Resolving>(
     context: &Context<'_, R>,
     place: usize,
     node: &'n NodeName,
-) -> Reply<'n>
+) -> DialReply<'n>
     ensures { result.node.now ≡ node.now }
 {
     let page = Page::new(context.rt.alloc());
@@ -37,25 +37,25 @@ fn make_reply<'n, R: Resolving>(
         screen.on_page(&page)
     };
     let half = print_probe(context, lines, node);
-    Reply {
+    DialReply {
         node,
         text: page.into_text(),
         half,
     }
 }
 
-// Probes the nodes of a group at once, each in a thread, and returns what came of each, in their order.
+// Probes the nodes of a group at once, each in a thread, and returns the results in their order.
 fn probe_group<'n, R: Resolving + Sync>(
     context: &Context<'_, R>,
     group: &'n [NodeName],
-) -> Result<Vec<Reply<'n>>, Fault>
+) -> Result<Vec<DialReply<'n>>, Fault>
     ensures { IfOk result (λ replies. names_in replies.items ≡ group.now) }
 {
     let replies = map_indices(
         context.resolver,
         context.rt.alloc(),
         group.len(),
-        &|place: usize| -> Reply<'_>
+        &|place: usize| -> DialReply<'_>
             requires { place < length group.now }
             ensures { result.node.now ≡ slice_index_or group.entry.now place [] }
         { make_reply(context, place, &group[place]) },
@@ -63,19 +63,19 @@ fn probe_group<'n, R: Resolving + Sync>(
     Ok(replies)
 }
 
-// Prints what is still to be printed.
-fn put_text(lines: Lines<'_>, text: &str) -> Result<(), Fault> {
+// Prints a text, unless it is empty.
+fn put_text(lines: LineSink<'_>, text: &str) -> Result<(), Fault> {
     if text.is_empty() {
         return Ok(());
     }
     lines.write(text)
 }
 
-// Prints what is still to be printed of a node, keeps what is left of it, and returns its status.
+// Prints the lines that a node still has, keeps its result, and returns its status.
 #[tactic(auto, using(crate::proofs::Firsts::first_status_push))]
 fn take_reply<'n>(
-    lines: Lines<'_>,
-    reply: Reply<'n>,
+    lines: LineSink<'_>,
+    reply: DialReply<'n>,
     halves: &mut Vec<Half<'n>>,
 ) -> Result<u8, Fault>
     ensures names { OnOk result (names_of halves.new.items ≡ names_of halves.old.items ++ reply.entry.node.now ∷ []) }
@@ -83,18 +83,18 @@ fn take_reply<'n>(
     ensures status { IfOk result (λ status. ForOk reply.entry.half (λ half. status ≡ status_of half.verdict)) }
     ensures first { IfOk result (λ status. first_status halves.new.items ≡ first_of (first_status halves.old.items) status) }
 {
-    let Reply { text, half, .. } = reply;
+    let DialReply { text, half, .. } = reply;
     put_text(lines, &text)?;
     let half = half?;
     halves.push(half)?;
     Ok(half.verdict.status())
 }
 
-// Takes what came of each node of a group, in their order, and returns the first status that is not 0.
+// Takes the results of a group, in the order of its nodes, and returns the first status that is not 0.
 #[tactic(auto, using(crate::proofs::Firsts::first_of_assoc, crate::proofs::Firsts::first_of_none))]
 fn take_replies<'n>(
-    lines: Lines<'_>,
-    replies: Vec<Reply<'n>>,
+    lines: LineSink<'_>,
+    replies: Vec<DialReply<'n>>,
     halves: &mut Vec<Half<'n>>,
 ) -> Result<u8, Fault>
     ensures names { OnOk result (names_of halves.new.items ≡ names_of halves.old.items ++ names_in replies.entry.items) }
@@ -107,8 +107,8 @@ fn take_replies<'n>(
     Ok(status)
 }
 
-/// Probes all nodes, group by group, prints what comes of them, puts what is left of each behind these, in the order of the nodes,
-/// and returns the first status that is not 0.
+/// Probes all nodes, group by group, prints the results, appends them to `halves` in the order of the nodes, and returns the first
+/// status that is not 0.
 #[tactic(auto, using(crate::proofs::Firsts::first_of_assoc, crate::proofs::Firsts::first_of_none))]
 pub fn collect_halves<'n, R: Resolving + Sync>(
     context: &Context<'_, R>,
@@ -116,7 +116,7 @@ pub fn collect_halves<'n, R: Resolving + Sync>(
     halves: &mut Vec<Half<'n>>,
 ) -> Result<u8, Fault>
     ensures names { OnOk result (names_of halves.new.items ≡ names_of halves.old.items ++ nodes.now) }
-    // Where nothing was left before, the status is the first that is not 0 of what is left now.
+    // If there were no results before, the status is the first of these results' that is not 0.
     ensures first { IfOk result (λ status. first_status halves.new.items ≡ first_of (first_status halves.old.items) status) }
 {
     if nodes.is_empty() {

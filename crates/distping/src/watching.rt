@@ -1,25 +1,25 @@
-//! All nodes are probed again and again, several at once, and what changes is printed in their order.
+//! Probes all nodes again and again, several at once, and prints what changes, in their order.
 
 use crate::common::Context;
 use crate::grouping::split_group;
 use crate::probing::verdict_upon;
-use dist_cluster::{Change, Latencies, Observation, Watch};
+use dist_cluster::{Latencies, Observation, VerdictChange, Watch};
 use dist_names::{ByteString, NodeName};
-use dist_probe::Verdict;
+use dist_probe::ProbeVerdict;
 use dist_program::{Resolving, deadline_in};
 use dist_stream::time_left;
 use distping_json::{change_object, latency_object};
-use distping_report::{Answers, Lines, Seen, now_seconds, utc_text, verdict_word_in};
+use distping_report::{Answers, LineSink, Seen, now_seconds, utc_text, verdict_word_in};
 use distping_words::{Fault, Rhythm};
 use std::alloc::{AllocError, Global};
 use std::io;
 use std::thread::{self, map_indices};
 use std::time::Instant;
 
-/// The status where something changed after the first context.
+/// The exit status if something changed after the first round.
 const CHANGED: u8 = 11;
 
-// What is kept of all nodes from round to context.
+// What is kept of all nodes from round to round.
 #[derive(Drop)]
 struct Course {
     watch: Watch,
@@ -27,15 +27,15 @@ struct Course {
     has_changed: bool,
 }
 
-// The text by which two verdicts are one: the word and the cause.
-fn verdict_text(alloc: Global, verdict: Verdict) -> Result<ByteString, AllocError> {
+// The text by which verdicts are compared: word and cause.
+fn verdict_text(alloc: Global, verdict: ProbeVerdict) -> Result<ByteString, AllocError> {
     let mut text = Vec::from_slice(alloc, verdict.name().as_bytes())?;
     text.extend_from_slice(b": ")?;
     text.extend_from_slice(verdict.cause().as_bytes())?;
     Ok(ByteString::from_vec(text))
 }
 
-// A course of so many nodes, of which none was probed.
+// A course for this many nodes, with none probed.
 fn new_course(alloc: Global, nodes: usize) -> Result<Course, AllocError> {
     let mut latencies = Vec::new(alloc);
     for _ in 0..nodes {
@@ -48,7 +48,7 @@ fn new_course(alloc: Global, nodes: usize) -> Result<Course, AllocError> {
     })
 }
 
-// What the clock gave, or that it failed.
+// A time from the clock, or the fault that it gave none.
 fn or_no_time<T: Drop>(given: io::Result<T>) -> Result<T, Fault> {
     match given {
         Ok(it) => Ok(it),
@@ -72,8 +72,8 @@ fn look_at<'n, R: Resolving>(
     })
 }
 
-// The word of the verdict before, where there is one.
-fn word_before(change: &Change) -> &[u8] {
+// The word of the verdict before, if there was one.
+fn word_before(change: &VerdictChange) -> &[u8] {
     match &change.before {
         Some(before) => verdict_word_in(before),
         None => b"",
@@ -81,7 +81,7 @@ fn word_before(change: &Change) -> &[u8] {
 }
 
 // Prints a change.
-fn put_change(lines: Lines<'_>, seen: &Seen<'_>, change: &Change) -> Result<(), Fault> {
+fn put_change(lines: LineSink<'_>, seen: &Seen<'_>, change: &VerdictChange) -> Result<(), Fault> {
     let time = utc_text(lines.alloc, change.at)?;
     if lines.quiet {
         lines.write_made(change_object(lines.alloc, &time, seen, change))
@@ -91,7 +91,7 @@ fn put_change(lines: Lines<'_>, seen: &Seen<'_>, change: &Change) -> Result<(), 
 }
 
 impl Course {
-    // Keeps how long the answer of a node took.
+    // Keeps the time that a node's answer took.
     fn note_latency(&mut self, target: usize, latency: u64) -> Result<(), AllocError> {
         match self.latencies.get_mut(target) {
             Some(latencies) => latencies.note(latency),
@@ -99,8 +99,13 @@ impl Course {
         }
     }
 
-    // Takes what a probe came to, and prints it where it is a change.
-    fn take_in(&mut self, lines: Lines<'_>, target: usize, seen: &Seen<'_>) -> Result<(), Fault> {
+    // Takes the result of a probe, and prints it if it is a change.
+    fn take_in(
+        &mut self,
+        lines: LineSink<'_>,
+        target: usize,
+        seen: &Seen<'_>,
+    ) -> Result<(), Fault> {
         if seen.verdict.status() == 0 {
             self.note_latency(target, seen.latency)?;
         }
@@ -116,13 +121,13 @@ impl Course {
         put_change(lines, seen, &change)
     }
 
-    // The status: whether something changed after the first context.
+    // The exit status: whether something changed after the first round.
     fn status(&self) -> u8 {
         if self.has_changed { CHANGED } else { 0 }
     }
 }
 
-// Probes the nodes of a group at once, each in a thread, and returns what each came to, in their order.
+// Probes the nodes of a group at once, each in a thread, and returns the results in their order.
 fn look_at_group<'n, R: Resolving + Sync>(
     context: &Context<'_, R>,
     group: &'n [NodeName],
@@ -136,9 +141,9 @@ fn look_at_group<'n, R: Resolving + Sync>(
     Ok(all)
 }
 
-// Takes what the probes of a group came to, in the order of its nodes. The first has this place among all nodes.
+// Takes the results of a group, in the order of its nodes. `front` is the place of the first among all nodes.
 fn take_group(
-    lines: Lines<'_>,
+    lines: LineSink<'_>,
     front: usize,
     all: Vec<Result<Seen<'_>, Fault>>,
     course: &mut Course,
@@ -151,7 +156,7 @@ fn take_group(
     Ok(())
 }
 
-// Probes these nodes once, group by group. The first has this place among all nodes.
+// Probes these nodes once, group by group. `front` is the place of the first among all nodes.
 fn play_round<R: Resolving + Sync>(
     context: &Context<'_, R>,
     front: usize,
@@ -175,7 +180,7 @@ fn wait_until(rt: &HostRuntime, until: Instant) {
     }
 }
 
-// Probes all nodes again and again: a round begins so many seconds behind the one before, or as soon as that is over.
+// Probes all nodes again and again: a round begins `rhythm.seconds` after the one before, or once that one is over.
 fn play_rounds<R: Resolving + Sync>(
     context: &Context<'_, R>,
     nodes: &[NodeName],
@@ -192,8 +197,8 @@ fn play_rounds<R: Resolving + Sync>(
     Ok(())
 }
 
-// Prints how long a node's answers took.
-fn put_answers(lines: Lines<'_>, answers: &Answers<'_>) -> Result<(), Fault> {
+// Prints the times that a node's answers took.
+fn put_answers(lines: LineSink<'_>, answers: &Answers<'_>) -> Result<(), Fault> {
     if lines.quiet {
         lines.write_made(latency_object(lines.alloc, answers))
     } else {
@@ -201,9 +206,9 @@ fn put_answers(lines: Lines<'_>, answers: &Answers<'_>) -> Result<(), Fault> {
     }
 }
 
-// Prints how long each node's answers took.
+// Prints the times that each node's answers took.
 fn put_all_answers(
-    lines: Lines<'_>,
+    lines: LineSink<'_>,
     nodes: &[NodeName],
     rounds: u64,
     course: &Course,
@@ -222,8 +227,8 @@ fn put_all_answers(
     Ok(())
 }
 
-/// Probes all nodes again and again, prints what changes, and at the end how long their answers took. The status is 11 where
-/// something changed after the first context.
+/// Probes all nodes again and again, prints what changes, and at the end the times that their answers took. The status is 11 if
+/// something changed after the first round.
 pub fn watch_all<R: Resolving + Sync>(
     context: &Context<'_, R>,
     nodes: &[NodeName],

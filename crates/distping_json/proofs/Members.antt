@@ -1,16 +1,19 @@
 -- Members that come one behind the other, and the line of the object that they make.
-use Rattle.std.proofs.Common.{◌≡◌, ℕ, List, [], ◌∷◌, ◌++◌, All, Result, Ok, Err, OnOk, map, refl, sym, ap, ◌∙◌, append_assoc, append-nil}
-use Rattle.std.proofs.lemmas.List.{map-append}
-use Rattle.std.proofs.lemmas.List.Elements.{All-nil, All-cons, All-append}
-use Rattle.std.specs.Bool.{⊤}
+use Rattle.std.proofs.Common.{◌≡◌, ◌+◌, ◌<◌, ℕ, List, [], ◌∷◌, ◌++◌, Bool, cond, Result, Ok, Err, OnOk, filter, get_or, length, map, take, refl, sym, ap, ◌∙◌, append_assoc, append-nil}
+use Rattle.std.proofs.lemmas.List.{map-append, take_more}
+use Rattle.std.proofs.lemmas.List.Elements.{filter_more}
 use Rattle.std.specs.Borrow.{Bor}
-use Rattle.json.specs.Json as json
-use Rattle.json.specs.Json.{Json, Items, no_items, item, Members, document, value, if_last, max_depth}
+use Rattle.dist_flags.specs.Names.{flag_of, name_of}
+use Rattle.dist_flags.specs.declared.dflag.Dflag.{Dflag}
+use Rattle.dist_names.specs.Flags.{has_all}
 use Rattle.json.specs.Token.{Token}
 use Rattle.json.specs.Tree.{json_tokens, items_tokens, members_tokens}
 use Rattle.json.specs.Written.{Written, Writes}
-use Rattle.distping_json.specs.Objects.{Shape, some_texts, object, objects, Layout, no_member, member, texts_in, objects_in, Has, HasMembers, Narrows, shape_of, layout_of, front, PutsValue, PutsMembers}
+use Rattle.dist_cluster.specs.declared.summary.WordCount.{WordCount}
+use Rattle.distping_json.specs.Layouts.{counts_layout}
+use Rattle.distping_json.specs.Objects.{Shape, number, texts, object, objects, Layout, no_member, member, Layouts, no_object, one_object, texts_in, json_of, members_in, objects_in, names_among, shape_of, layout_of, front, object_tokens, PutsValue, PutsMembers, PutsObjects}
 use Rattle.distping_json.specs.declared.member.Value.{Value}
+use Rattle.distping_json.specs.declared.member.Value.TheVariants as value
 
 -- ---- one behind the other
 
@@ -19,44 +22,33 @@ abbrev pub and_then : Layout → Layout → Layout
 and_then no_member more = more
 and_then (member name s l) more = member name s (and_then l more)
 
-abbrev pub joined : Members → Members → Members
-joined json.no_members more = more
-joined (json.member k j ms) more = json.member k j (joined ms more)
-
-HasMembers-joined : (l more : Layout) (ms ns : Members) → HasMembers l ms → HasMembers more ns → HasMembers (and_then l more) (joined ms ns)
-HasMembers-joined no_member more json.no_members ns h k = k
-HasMembers-joined no_member more (json.member name j ms) ns h k = absurd h
-HasMembers-joined (member name s l) more json.no_members ns h k = absurd h
-HasMembers-joined (member name s l) more (json.member key j ms) ns h k = (h.0, h.1, HasMembers-joined l more ms ns h.2 k)
-
-front-joined : (ms ns : Members) → front (joined ms ns) ≡ front ms ++ front ns
-front-joined json.no_members ns = refl
-front-joined (json.member k j ms) ns = ap (λ ts. Token.key k ∷ (json_tokens j ++ ts)) (front-joined ms ns) ∙ ap (λ ts. Token.key k ∷ ts) (sym (append_assoc (json_tokens j) (front ms) (front ns)))
+front-and_then : (l more : Layout) → front (and_then l more) ≡ front l ++ front more
+front-and_then no_member more = refl
+front-and_then (member name s l) more =
+    ap (λ ts. Token.key name ∷ (json_tokens (json_of s) ++ ts)) (front-and_then l more) ∙ ap (λ ts. Token.key name ∷ ts) (sym (append_assoc (json_tokens (json_of s)) (front l) (front more)))
 
 pub puts_nothing : (w : Written) → PutsMembers no_member w w
-puts_nothing w = record { members = json.no_members; has = tt; tokens = sym (append-nil w.tokens); before = refl }
+puts_nothing w = record { tokens = sym (append-nil w.tokens); before = refl }
 
 pub puts_both : {l more : Layout} {a b c : Written} → PutsMembers l a b → PutsMembers more b c → PutsMembers (and_then l more) a c
 puts_both {l} {more} {a} {b} {c} p q = record {
-  members = joined p.members q.members;
-  has = HasMembers-joined l more p.members q.members p.has q.has;
-  tokens = q.tokens ∙ ap (λ ts. ts ++ front q.members) p.tokens ∙ append_assoc a.tokens (front p.members) (front q.members) ∙ ap (λ ts. a.tokens ++ ts) (sym (front-joined p.members q.members));
+  tokens = q.tokens ∙ ap (λ ts. ts ++ front more) p.tokens ∙ append_assoc a.tokens (front l) (front more) ∙ ap (λ ts. a.tokens ++ ts) (sym (front-and_then l more));
   before = q.before ∙ p.before;
 }
 
 -- a name and then its value
 pub puts_one : {s : Shape} {a b c : Written} (name : List ℕ) → b.tokens ≡ a.tokens ++ Token.key name ∷ [] → b.before ≡ a.before → PutsValue s b c → PutsMembers (member name s no_member) a c
 puts_one {s} {a} {b} {c} name named before p = record {
-  members = json.member name p.json json.no_members;
-  has = (refl, p.has, tt);
-  tokens = p.tokens ∙ ap (λ ts. ts ++ json_tokens p.json) named ∙ append_assoc a.tokens (Token.key name ∷ []) (json_tokens p.json)
-      ∙ ap (λ ts. a.tokens ++ Token.key name ∷ ts) (sym (append-nil (json_tokens p.json)));
+  tokens = p.tokens ∙ ap (λ ts. ts ++ json_tokens (json_of s)) named ∙ append_assoc a.tokens (Token.key name ∷ []) (json_tokens (json_of s))
+      ∙ ap (λ ts. a.tokens ++ Token.key name ∷ ts) (sym (append-nil (json_tokens (json_of s))));
   before = p.before ∙ before;
 }
 
 pub layout_of-push : (ms : List (Bor (List ℕ) × Value)) (m : Bor (List ℕ) × Value) → layout_of (ms ++ m ∷ []) ≡ and_then (layout_of ms) (member m.0.now (shape_of m.1) no_member)
 layout_of-push [] m = refl
 layout_of-push (n ∷ ms) m = ap (member n.0.now (shape_of n.1)) (layout_of-push ms m)
+
+-- ---- lists and objects
 
 abbrev pub text_tokens : List (List ℕ) → List Token
 text_tokens ss = map Token.string ss
@@ -66,32 +58,57 @@ pub texts_more : (start now then : Written) (ss : List (List ℕ)) (s : List ℕ
     → then.tokens ≡ start.tokens ++ text_tokens (ss ++ s ∷ [])
 texts_more start now then ss s before is = is ∙ ap (λ ts. ts ++ Token.string s ∷ []) before ∙ append_assoc start.tokens (text_tokens ss) (Token.string s ∷ []) ∙ ap (λ ts. start.tokens ++ ts) (sym (map-append Token.string ss (s ∷ [])))
 
--- ---- lists and objects
+-- one flag more
+pub names_more : (flags : ℕ) (fs : List Dflag) (i : ℕ) (d : Dflag) (b : Bool) → i < length fs → b ≡ has_all flags (flag_of (get_or fs i d))
+    → names_among flags (take (i + 1) fs) ≡ names_among flags (take i fs) ++ map name_of (cond b (get_or fs i d ∷ []) [])
+names_more flags fs i d b lt is =
+    let p : Dflag → Bool = λ f. has_all flags (flag_of f) in
+    ap (map name_of) (filter_more p fs i d lt ∙ ap (λ c. filter p (take i fs) ++ cond c (get_or fs i d ∷ []) []) (sym is))
+    ∙ map-append name_of (filter p (take i fs)) (cond b (get_or fs i d ∷ []) [])
 
-pub members_tokens-front : (ms : Members) → members_tokens ms ≡ front ms ++ Token.end_object ∷ []
-members_tokens-front json.no_members = refl
-members_tokens-front (json.member k j ms) = ap (λ ts. Token.key k ∷ (json_tokens j ++ ts)) (members_tokens-front ms) ∙ ap (λ ts. Token.key k ∷ ts) (sym (append_assoc (json_tokens j) (front ms) (Token.end_object ∷ [])))
+pub members_tokens-front : (l : Layout) → members_tokens (members_in l) ≡ front l ++ Token.end_object ∷ []
+members_tokens-front no_member = refl
+members_tokens-front (member name s l) =
+    ap (λ ts. Token.key name ∷ (json_tokens (json_of s) ++ ts)) (members_tokens-front l) ∙ ap (λ ts. Token.key name ∷ ts) (sym (append_assoc (json_tokens (json_of s)) (front l) (Token.end_object ∷ [])))
 
-pub items_tokens-texts : (ss : List (List ℕ)) → items_tokens (texts_in ss) ≡ text_tokens ss ++ Token.end_array ∷ []
+items_tokens-texts : (ss : List (List ℕ)) → items_tokens (texts_in ss) ≡ text_tokens ss ++ Token.end_array ∷ []
 items_tokens-texts [] = refl
 items_tokens-texts (s ∷ ss) = ap (λ ts. Token.string s ∷ ts) (items_tokens-texts ss)
 
+items_tokens-objects : (ls : Layouts) → items_tokens (objects_in ls) ≡ object_tokens ls ++ Token.end_array ∷ []
+items_tokens-objects no_object = refl
+items_tokens-objects (one_object l ls) =
+    ap (λ ts. json_tokens (json_of (object l)) ++ ts) (items_tokens-objects ls) ∙ sym (append_assoc (json_tokens (json_of (object l))) (object_tokens ls) (Token.end_array ∷ []))
+
 -- one token is a whole value
-pub writes_value : {E : Type 0} (s : Shape) (j : Json) {t : Token} {old new : Written} (r : Result (Unit {0}) E) → Writes r old new t → Has s j → json_tokens j ≡ t ∷ [] → OnOk r (PutsValue s old new)
-writes_value s j {t} {old} {new} (Ok x) w has is = record { json = j; has = has; tokens = w.ok ∙ ap (λ ts. old.tokens ++ ts) (sym is); before = w.room.0 }
-writes_value s j (Err e) w has is = tt
+pub writes_value : {E : Type 0} (s : Shape) {t : Token} {old new : Written} (r : Result (Unit {0}) E) → Writes r old new t → json_tokens (json_of s) ≡ t ∷ [] → OnOk r (PutsValue s old new)
+writes_value s {t} {old} {new} (Ok x) w is = record { tokens = w.ok ∙ ap (λ ts. old.tokens ++ ts) (sym is); before = w.room.0 }
+writes_value s (Err e) w is = tt
+
+-- what stands between two brackets makes a value
+bracketed : (s : Shape) (old opened last new : Written) (left right : Token) (inside : List Token) → opened.tokens ≡ old.tokens ++ left ∷ [] → last.tokens ≡ opened.tokens ++ inside
+    → new.tokens ≡ last.tokens ++ right ∷ [] → json_tokens (json_of s) ≡ left ∷ (inside ++ right ∷ []) → new.tokens ≡ old.tokens ++ json_tokens (json_of s)
+bracketed s old opened last new left right inside begun put ended is =
+    ended ∙ ap (λ ts. ts ++ right ∷ []) (put ∙ ap (λ ts. ts ++ inside) begun ∙ append_assoc old.tokens (left ∷ []) inside)
+    ∙ append_assoc old.tokens (left ∷ inside) (right ∷ []) ∙ ap (λ ts. old.tokens ++ ts) (sym is)
 
 -- a list of texts, from bracket to bracket
 pub writes_texts : {E : Type 0} (old opened last new : Written) (ss : List (List ℕ)) (r : Result (Unit {0}) E) → opened.tokens ≡ old.tokens ++ Token.begin_array ∷ [] → opened.before ≡ old.before
-    → last.tokens ≡ opened.tokens ++ text_tokens ss → last.before ≡ opened.before → Writes r last new Token.end_array → OnOk r (PutsValue some_texts old new)
+    → last.tokens ≡ opened.tokens ++ text_tokens ss → last.before ≡ opened.before → Writes r last new Token.end_array → OnOk r (PutsValue (texts ss) old new)
 writes_texts old opened last new ss (Ok x) begun before inside kept w = record {
-  json = json.array (texts_in ss);
-  has = (ss, refl);
-  tokens = w.ok ∙ ap (λ ts. ts ++ Token.end_array ∷ []) (inside ∙ ap (λ ts. ts ++ text_tokens ss) begun ∙ append_assoc old.tokens (Token.begin_array ∷ []) (text_tokens ss))
-      ∙ append_assoc old.tokens (Token.begin_array ∷ text_tokens ss) (Token.end_array ∷ []) ∙ ap (λ ts. old.tokens ++ Token.begin_array ∷ ts) (sym (items_tokens-texts ss));
+  tokens = bracketed (texts ss) old opened last new Token.begin_array Token.end_array (text_tokens ss) begun inside w.ok (ap (λ ts. Token.begin_array ∷ ts) (items_tokens-texts ss));
   before = w.room.0 ∙ kept ∙ before;
 }
 writes_texts old opened last new ss (Err e) begun before inside kept w = tt
+
+-- an object of these members, from brace to brace
+pub writes_object : {E : Type 0} {l : Layout} (old opened last new : Written) (r : Result (Unit {0}) E) → opened.tokens ≡ old.tokens ++ Token.begin_object ∷ [] → opened.before ≡ old.before
+    → PutsMembers l opened last → Writes r last new Token.end_object → OnOk r (PutsValue (object l) old new)
+writes_object {E} {l} old opened last new (Ok x) begun kept p w = record {
+  tokens = bracketed (object l) old opened last new Token.begin_object Token.end_object (front l) begun p.tokens w.ok (ap (λ ts. Token.begin_object ∷ ts) (members_tokens-front l));
+  before = w.room.0 ∙ p.before ∙ kept;
+}
+writes_object old opened last new (Err e) begun kept p w = tt
 
 -- a name and then its value, where that is the last call
 pub writes_one : {E : Type 0} (s : Shape) (old named new : Written) (name : List ℕ) (r : Result (Unit {0}) E) → named.tokens ≡ old.tokens ++ Token.key name ∷ [] → named.before ≡ old.before
@@ -104,79 +121,40 @@ pub writes_last : {E : Type 0} {l : Layout} {a b : Written} (more : Layout) (c :
 writes_last more c (Ok x) p q = puts_both p q
 writes_last more c (Err e) p q = tt
 
--- an object of these members, from brace to brace
-pub writes_object : {E : Type 0} {l : Layout} (old opened last new : Written) (r : Result (Unit {0}) E) → opened.tokens ≡ old.tokens ++ Token.begin_object ∷ [] → opened.before ≡ old.before
-    → PutsMembers l opened last → Writes r last new Token.end_object → OnOk r (PutsValue (object l) old new)
-writes_object old opened last new (Ok x) begun kept p w =
-    let inside : last.tokens ++ Token.end_object ∷ [] ≡ old.tokens ++ json_tokens (json.object p.members) =
-    ap (λ ts. ts ++ Token.end_object ∷ []) (p.tokens ∙ ap (λ ts. ts ++ front p.members) begun ∙ append_assoc old.tokens (Token.begin_object ∷ []) (front p.members))
-    ∙ append_assoc old.tokens (Token.begin_object ∷ front p.members) (Token.end_object ∷ []) ∙ ap (λ ts. old.tokens ++ Token.begin_object ∷ ts) (sym (members_tokens-front p.members)) in
-    record { json = json.object p.members; has = (p.members, refl, p.has); tokens = w.ok ∙ inside; before = w.room.0 ∙ p.before ∙ kept }
-writes_object old opened last new (Err e) begun kept p w = tt
-
 -- ---- lists of objects
 
--- the tokens of objects, one behind the other
-abbrev pub object_tokens : List Members → List Token
-object_tokens [] = []
-object_tokens (ms ∷ mss) = json_tokens (json.object ms) ++ object_tokens mss
+pub no_objects : (w : Written) → PutsObjects no_object w w
+no_objects w = record { tokens = sym (append-nil w.tokens); before = refl }
 
-object_tokens-push : (mss : List Members) (ms : Members) → object_tokens (mss ++ ms ∷ []) ≡ object_tokens mss ++ json_tokens (json.object ms)
-object_tokens-push [] ms = append-nil (json_tokens (json.object ms))
-object_tokens-push (ns ∷ mss) ms = ap (λ ts. json_tokens (json.object ns) ++ ts) (object_tokens-push mss ms) ∙ sym (append_assoc (json_tokens (json.object ns)) (object_tokens mss) (json_tokens (json.object ms)))
-
-items_tokens-objects : (mss : List Members) → items_tokens (objects_in mss) ≡ object_tokens mss ++ Token.end_array ∷ []
-items_tokens-objects [] = refl
-items_tokens-objects (ms ∷ mss) = ap (λ ts. json_tokens (json.object ms) ++ ts) (items_tokens-objects mss) ∙ sym (append_assoc (json_tokens (json.object ms)) (object_tokens mss) (Token.end_array ∷ []))
-
--- objects with these members were put there
-pub record PutsObjects (l : Layout) (start now : Written) : Type 0 where
-  pub objects : List Members
-  pub has : All (λ ms. HasMembers l ms) objects
-  pub tokens : now.tokens ≡ start.tokens ++ object_tokens objects
-  pub before : now.before ≡ start.before
-
-pub no_objects : (l : Layout) (w : Written) → PutsObjects l w w
-no_objects l w = record { objects = []; has = All-nil _; tokens = sym (append-nil w.tokens); before = refl }
-
-pub one_more_object : {l : Layout} {start now then : Written} → PutsObjects l start now → PutsValue (object l) now then → PutsObjects l start then
-one_more_object {l} {start} {now} {then} p v =
-    let ms = v.has.0 in
-    record {
-      objects = p.objects ++ ms ∷ [];
-      has = All-append (HasMembers l) p.objects (ms ∷ []) p.has (All-cons (HasMembers l) ms [] v.has.2 (All-nil (HasMembers l)));
-      tokens = v.tokens ∙ ap (λ ts. ts ++ json_tokens v.json) p.tokens ∙ append_assoc start.tokens (object_tokens p.objects) (json_tokens v.json)
-          ∙ ap (λ j. start.tokens ++ (object_tokens p.objects ++ json_tokens j)) v.has.1 ∙ ap (λ ts. start.tokens ++ ts) (sym (object_tokens-push p.objects ms));
-      before = v.before ∙ p.before;
-    }
+-- an object and then the others
+pub writes_objects : {E : Type 0} {l : Layout} {a b : Written} (ls : Layouts) (c : Written) (r : Result (Unit {0}) E) → PutsValue (object l) a b → OnOk r (PutsObjects ls b c) → OnOk r (PutsObjects (one_object l ls) a c)
+writes_objects {E} {l} {a} {b} ls c (Ok x) p q = record {
+  tokens = q.tokens ∙ ap (λ ts. ts ++ object_tokens ls) p.tokens ∙ append_assoc a.tokens (json_tokens (json_of (object l))) (object_tokens ls);
+  before = q.before ∙ p.before;
+}
+writes_objects ls c (Err e) p q = tt
 
 -- a name, and a list of objects from bracket to bracket
-pub writes_objects : {E : Type 0} {l : Layout} (old named opened last new : Written) (name : List ℕ) (r : Result (Unit {0}) E) → named.tokens ≡ old.tokens ++ Token.key name ∷ [] → named.before ≡ old.before
-    → opened.tokens ≡ named.tokens ++ Token.begin_array ∷ [] → opened.before ≡ named.before → PutsObjects l opened last → Writes r last new Token.end_array
-    → OnOk r (PutsMembers (member name (objects l) no_member) old new)
-writes_objects {E} {l} old named opened last new name (Ok x) is before begun kept p w =
-    let inside : last.tokens ++ Token.end_array ∷ [] ≡ named.tokens ++ json_tokens (json.array (objects_in p.objects)) =
-    ap (λ ts. ts ++ Token.end_array ∷ []) (p.tokens ∙ ap (λ ts. ts ++ object_tokens p.objects) begun ∙ append_assoc named.tokens (Token.begin_array ∷ []) (object_tokens p.objects))
-    ∙ append_assoc named.tokens (Token.begin_array ∷ object_tokens p.objects) (Token.end_array ∷ []) ∙ ap (λ ts. named.tokens ++ Token.begin_array ∷ ts) (sym (items_tokens-objects p.objects)) in
-    let whole : PutsValue (objects l) named new = record { json = json.array (objects_in p.objects); has = (p.objects, refl, p.has); tokens = w.ok ∙ inside; before = w.room.0 ∙ p.before ∙ kept } in
+pub writes_list : {E : Type 0} {ls : Layouts} (old named opened last new : Written) (name : List ℕ) (r : Result (Unit {0}) E) → named.tokens ≡ old.tokens ++ Token.key name ∷ [] → named.before ≡ old.before
+    → opened.tokens ≡ named.tokens ++ Token.begin_array ∷ [] → opened.before ≡ named.before → PutsObjects ls opened last → Writes r last new Token.end_array
+    → OnOk r (PutsMembers (member name (objects ls) no_member) old new)
+writes_list {E} {ls} old named opened last new name (Ok x) is before begun kept p w =
+    let whole : PutsValue (objects ls) named new = record {
+      tokens = bracketed (objects ls) named opened last new Token.begin_array Token.end_array (object_tokens ls) begun p.tokens w.ok (ap (λ ts. Token.begin_array ∷ ts) (items_tokens-objects ls));
+      before = w.room.0 ∙ p.before ∙ kept;
+    } in
     puts_one name is before whole
-writes_objects old named opened last new name (Err e) is before begun kept p w = tt
+writes_list old named opened last new name (Err e) is before begun kept p w = tt
 
--- ---- a wider shape
+-- one word more
+pub counts_more : (counts : List WordCount) (c : WordCount) → counts_layout (counts ++ c ∷ []) ≡ and_then (counts_layout counts) (member c.word.now (number c.count) no_member)
+counts_more [] c = refl
+counts_more (d ∷ counts) c = ap (member d.word.now (number d.count)) (counts_more counts c)
 
--- the same names, and each shape is narrower than the other's
-abbrev pub NarrowsEach : Layout → Layout → Type 0
-NarrowsEach no_member no_member = ⊤
-NarrowsEach no_member (member name s l) = ⊥
-NarrowsEach (member name s l) no_member = ⊥
-NarrowsEach (member name s l) (member other t k) = (name ≡ other) × Narrows s t × NarrowsEach l k
-
-pub HasMembers-wider : (l k : Layout) (ms : Members) → NarrowsEach l k → HasMembers l ms → HasMembers k ms
-HasMembers-wider no_member no_member ms n h = h
-HasMembers-wider no_member (member name s l) ms n h = absurd n
-HasMembers-wider (member name s l) no_member ms n h = absurd n
-HasMembers-wider (member name s l) (member other t k) json.no_members n h = absurd h
-HasMembers-wider (member name s l) (member other t k) (json.member key j ms) n h = (h.0 ∙ n.0, n.1 j h.1, HasMembers-wider l k ms n.2 h.2)
-
-pub puts_wider : {l k : Layout} {a b : Written} → NarrowsEach l k → PutsMembers l a b → PutsMembers k a b
-puts_wider {l} {k} n p = record { members = p.members; has = HasMembers-wider l k p.members n p.has; tokens = p.tokens; before = p.before }
+-- the same, of the members that were made of the words so far
+pub counts_pushed : (counts : List WordCount) (i : ℕ) (d : WordCount) (members : List (Bor (List ℕ) × Value)) (m : Bor (List ℕ) × Value) → i < length counts → layout_of members ≡ counts_layout (take i counts)
+    → m ≡ (let c = get_or counts i d in (c.word, value.Number c.count)) → layout_of (members ++ m ∷ []) ≡ counts_layout (take (i + 1) counts)
+counts_pushed counts i d members m lt before is =
+    layout_of-push members m ∙ ap (λ l. and_then l (member m.0.now (shape_of m.1) no_member)) before
+    ∙ ap (λ (n : Bor (List ℕ) × Value). and_then (counts_layout (take i counts)) (member n.0.now (shape_of n.1) no_member)) is
+    ∙ sym (counts_more (take i counts) (get_or counts i d)) ∙ ap counts_layout (sym (take_more counts i d lt))

@@ -1,14 +1,11 @@
 -- The line of an object: how deep it nests, that it reads back, and that it is one line.
-use Rattle.std.proofs.Common.{◌≡◌, ◌≤◌, ◌<◌, ◌&&◌, ℕ, zero, suc, Bool, true, false, cond, nat_lt, List, [], ◌∷◌, ◌++◌, inl, inr, ⊎_elim, Some, All, option_and_then, decimal, refl, sym, ap, ◌∙◌, subst, arith, append-nil}
+use Rattle.std.proofs.Common.{◌≡◌, ◌≤◌, ◌<◌, ◌/◌, ◌%◌, ◌+◌, ◌==◌, ◌&&◌, ℕ, zero, suc, Bool, true, false, cond, nat_lt, List, [], ◌∷◌, ◌++◌, ⊎_elim, Some, All, option_and_then, decimal, refl, sym, ap, ◌∙◌, subst, arith, append-nil}
 use Rattle.std.specs.Bool.{⊤}
-use Rattle.std.specs.Str.Parse.{AllDigits}
+use Rattle.std.specs.Fmt.{digit_glyph, digits, digits_onto}
 use Rattle.std.proofs.lemmas.Bool.{and_parts, cases_eq, cases_lt, ltb-true}
-use Rattle.std.proofs.lemmas.Fmt.{decimal_is_IsNumeral}
 use Rattle.std.proofs.lemmas.List.Concat.{flat_map-cons}
 use Rattle.std.proofs.lemmas.List.Elements.{All-nil, All-cons}
-use Rattle.std.proofs.lemmas.Str.Parse.{digit_at}
-use Rattle.json.specs.Json as json
-use Rattle.json.specs.Json.{Json, no_items, item, Members, document, value, if_last, max_depth}
+use Rattle.json.specs.Json.{Json, document, value, if_last, max_depth}
 use Rattle.json.specs.Lex.{tokens}
 use Rattle.json.specs.Print.{print, print_from, separator, begins, ends, token_text, escape, escape_byte, quoted}
 use Rattle.json.specs.Token.{Token}
@@ -16,7 +13,7 @@ use Rattle.json.specs.Tree.{json_tokens, items_tokens, depth, items_depth, membe
 use Rattle.json.specs.Written.{Written}
 use Rattle.json.proofs.Printed.Strings.{escape_byte_plain}
 use Rattle.json.proofs.Printed.Trees.{value-json_tokens}
-use Rattle.distping_json.specs.Objects.{Shape, nothing, truth, number, text, some_text, some_texts, or_null, object, objects, Layout, no_member, member, texts_in, objects_in, Has, HasMembers, IsObjectLine, front, PutsMembers, BeginsLine, levels, layout_levels}
+use Rattle.distping_json.specs.Objects.{Shape, nothing, truth, number, text, texts, object, objects, Layout, no_member, member, Layouts, no_object, one_object, texts_in, json_of, members_in, objects_in, IsObjectLine, front, PutsMembers, BeginsLine, levels, layout_levels, object_levels}
 use Rattle.distping_json.proofs.Members.{members_tokens-front}
 
 -- ---- how deep it nests
@@ -25,28 +22,23 @@ texts_flat : (ss : List (List ℕ)) → items_depth (texts_in ss) ≡ 0
 texts_flat [] = refl
 texts_flat (s ∷ ss) = omega (arith, texts_flat ss)
 
-depth-objects_in : (l : Layout) (n : ℕ) → ((ms : Members) → HasMembers l ms → members_depth ms ≤ n) → (mss : List Members) → All (λ ms. HasMembers l ms) mss → items_depth (objects_in mss) ≤ suc n
-depth-objects_in l n each [] h = omega arith
-depth-objects_in l n each (ms ∷ mss) h = omega (arith, each ms (h 0 ms (omega arith)), depth-objects_in l n each mss (λ k d lt. h (suc k) d (omega arith)))
-
 mutual
-  depth-levels : (s : Shape) (j : Json) → Has s j → depth j ≤ levels s
-  depth-levels nothing j h = omega (arith, ap depth h)
-  depth-levels (truth b) j h = omega (arith, ap depth h)
-  depth-levels (number n) j h = omega (arith, ap depth h.1)
-  depth-levels (text s) j h = omega (arith, ap depth h)
-  depth-levels some_text j h = omega (arith, ap depth h.1)
-  depth-levels some_texts j h = omega (arith, ap depth h.1, texts_flat h.0)
-  depth-levels (or_null s) j (inl h) = omega (arith, ap depth h)
-  depth-levels (or_null s) j (inr h) = depth-levels s j h
-  depth-levels (object l) j h = omega (arith, ap depth h.1, depth-layout_levels l h.0 h.2)
-  depth-levels (objects l) j h = omega (arith, ap depth h.1, depth-objects_in l (layout_levels l) (depth-layout_levels l) h.0 h.2)
+  depth-levels : (s : Shape) → depth (json_of s) ≤ levels s
+  depth-levels nothing = omega arith
+  depth-levels (truth b) = omega arith
+  depth-levels (number n) = omega arith
+  depth-levels (text s) = omega arith
+  depth-levels (texts ss) = omega (arith, texts_flat ss)
+  depth-levels (object l) = omega (arith, depth-layout_levels l)
+  depth-levels (objects ls) = omega (arith, depth-object_levels ls)
 
-  depth-layout_levels : (l : Layout) (ms : Members) → HasMembers l ms → members_depth ms ≤ layout_levels l
-  depth-layout_levels no_member json.no_members h = omega arith
-  depth-layout_levels no_member (json.member k j ms) h = absurd h
-  depth-layout_levels (member name s l) json.no_members h = absurd h
-  depth-layout_levels (member name s l) (json.member k j ms) h = omega (arith, depth-levels s j h.1, depth-layout_levels l ms h.2)
+  depth-layout_levels : (l : Layout) → members_depth (members_in l) ≤ layout_levels l
+  depth-layout_levels no_member = omega arith
+  depth-layout_levels (member name s l) = omega (arith, depth-levels s, depth-layout_levels l)
+
+  depth-object_levels : (ls : Layouts) → items_depth (objects_in ls) ≤ object_levels ls
+  depth-object_levels no_object = omega arith
+  depth-object_levels (one_object l ls) = omega (arith, depth-layout_levels l, depth-object_levels ls)
 
 -- ---- no byte below a space
 
@@ -62,9 +54,27 @@ All-visible : (xs : List ℕ) → AreVisible xs → All (λ b. 0x20 ≤ b) xs
 All-visible [] h = All-nil (λ b. 0x20 ≤ b)
 All-visible (x ∷ xs) h = All-cons (λ b. 0x20 ≤ b) x xs h.0 (All-visible xs h.1)
 
-AreVisible-digits : (ds : List ℕ) → AllDigits 10 ds → AreVisible ds
-AreVisible-digits [] h = tt
-AreVisible-digits (c ∷ cs) h = (omega (arith, (digit_at (c ∷ cs) 0 h (omega arith)).0), AreVisible-digits cs h.1)
+-- of two texts the one or the other
+visible_either : (b : Bool) (xs ys : List ℕ) → AreVisible xs → AreVisible ys → AreVisible (cond b xs ys)
+visible_either true xs ys h k = h
+visible_either false xs ys h k = k
+
+glyph_visible : (d : ℕ) → 0x20 ≤ digit_glyph false d
+glyph_visible d = elim (nat_lt d 10) as (λ b. 0x20 ≤ cond b (48 + d) (87 + d)) [
+  | true ↦ omega arith
+  | false ↦ omega arith
+]
+
+visible_onto : (k n : ℕ) (digits : List ℕ) → AreVisible digits → AreVisible (digits_onto k 10 false n digits)
+visible_onto zero n digits h = h
+visible_onto (suc k) n digits h =
+    let more : AreVisible (digit_glyph false (n % 10) ∷ digits) = (glyph_visible (n % 10), h) in
+    visible_either (n / 10 == 0) (digit_glyph false (n % 10) ∷ digits) (digits_onto k 10 false (n / 10) (digit_glyph false (n % 10) ∷ digits)) more
+    (visible_onto k (n / 10) (digit_glyph false (n % 10) ∷ digits) more)
+
+AreVisible-decimal : (n : ℕ) → AreVisible (decimal n)
+unfolding digits
+AreVisible-decimal n = visible_onto 64 n [] tt
 
 -- the same as a test
 abbrev are_visible : List ℕ → Bool
@@ -163,56 +173,45 @@ texts_plain : (ss : List (List ℕ)) → ArePlain (items_tokens (texts_in ss))
 texts_plain [] = (tt, tt)
 texts_plain (s ∷ ss) = (tt, texts_plain ss)
 
-objects_plain : (l : Layout) → ((ms : Members) → HasMembers l ms → ArePlain (json_tokens (json.object ms))) → (mss : List Members) → All (λ ms. HasMembers l ms) mss → ArePlain (items_tokens (objects_in mss))
-objects_plain l each [] h = (tt, tt)
-objects_plain l each (ms ∷ mss) h =
-    ArePlain-append (json_tokens (json.object ms)) _ (each ms (h 0 ms (omega arith))) (objects_plain l each mss (λ k d lt. h (suc k) d (omega arith)))
-
-object_plain : (ms : Members) → ArePlain (front ms) → ArePlain (json_tokens (json.object ms))
-object_plain ms h = (tt, subst ArePlain (sym (members_tokens-front ms)) (ArePlain-append (front ms) (Token.end_object ∷ []) h (tt, tt)))
+object_plain : (l : Layout) → ArePlain (front l) → ArePlain (json_tokens (json_of (object l)))
+object_plain l h = (tt, subst ArePlain (sym (members_tokens-front l)) (ArePlain-append (front l) (Token.end_object ∷ []) h (tt, tt)))
 
 -- the tokens of a value of this shape
 mutual
-  shape_plain : (s : Shape) (j : Json) → Has s j → ArePlain (json_tokens j)
-  shape_plain nothing j h = subst (λ k. ArePlain (json_tokens k)) (sym h) (tt, tt)
-  shape_plain (truth b) j h = subst (λ k. ArePlain (json_tokens k)) (sym h) (tt, tt)
-  shape_plain (number n) j h = subst (λ k. ArePlain (json_tokens k)) (sym h.1) (AreVisible-digits (decimal n) (decimal_is_IsNumeral n h.0).0.1, tt)
-  shape_plain (text s) j h = subst (λ k. ArePlain (json_tokens k)) (sym h) (tt, tt)
-  shape_plain some_text j h = subst (λ k. ArePlain (json_tokens k)) (sym h.1) (tt, tt)
-  shape_plain some_texts j h = subst (λ k. ArePlain (json_tokens k)) (sym h.1) (tt, texts_plain h.0)
-  shape_plain (or_null s) j (inl h) = subst (λ k. ArePlain (json_tokens k)) (sym h) (tt, tt)
-  shape_plain (or_null s) j (inr h) = shape_plain s j h
-  shape_plain (object l) j h = subst (λ k. ArePlain (json_tokens k)) (sym h.1) (object_plain h.0 (layout_plain l h.0 h.2))
-  shape_plain (objects l) j h = subst (λ k. ArePlain (json_tokens k)) (sym h.1) (tt, objects_plain l (λ ms has. object_plain ms (layout_plain l ms has)) h.0 h.2)
+  shape_plain : (s : Shape) → ArePlain (json_tokens (json_of s))
+  shape_plain nothing = (tt, tt)
+  shape_plain (truth b) = (tt, tt)
+  shape_plain (number n) = (AreVisible-decimal n, tt)
+  shape_plain (text s) = (tt, tt)
+  shape_plain (texts ss) = (tt, texts_plain ss)
+  shape_plain (object l) = object_plain l (layout_plain l)
+  shape_plain (objects ls) = (tt, objects_plain ls)
 
-  layout_plain : (l : Layout) (ms : Members) → HasMembers l ms → ArePlain (front ms)
-  layout_plain no_member json.no_members h = tt
-  layout_plain no_member (json.member k j ms) h = absurd h
-  layout_plain (member name s l) json.no_members h = absurd h
-  layout_plain (member name s l) (json.member k j ms) h = (tt, ArePlain-append (json_tokens j) (front ms) (shape_plain s j h.1) (layout_plain l ms h.2))
+  layout_plain : (l : Layout) → ArePlain (front l)
+  layout_plain no_member = tt
+  layout_plain (member name s l) = (tt, ArePlain-append (json_tokens (json_of s)) (front l) (shape_plain s) (layout_plain l))
+
+  objects_plain : (ls : Layouts) → ArePlain (items_tokens (objects_in ls))
+  objects_plain no_object = (tt, tt)
+  objects_plain (one_object l ls) = ArePlain-append (json_tokens (json_of (object l))) (items_tokens (objects_in ls)) (object_plain l (layout_plain l)) (objects_plain ls)
 
 -- ---- the whole line
 
 -- the text of a value that does not nest too deep is read back as that value
-reads_back : (j : Json) (ts : List Token) → ts ≡ json_tokens j → depth j ≤ max_depth → tokens (print ts) ≡ ts → document (print ts) ≡ Some j
+reads_back : (j : Json) (ts : List Token) → ts ≡ json_tokens j → depth j ≤ max_depth → tokens (print ts) ≡ ts → document (print (json_tokens j)) ≡ Some j
 reads_back j ts is shallow read =
-    ap (option_and_then (λ p. if_last p.0 p.1))
-    (ap (value max_depth) (read ∙ is ∙ sym (append-nil (json_tokens j))) ∙ value-json_tokens j max_depth [] shallow)
+    ap document (ap print (sym is))
+    ∙ ap (option_and_then (λ p. if_last p.0 p.1)) (ap (value max_depth) (read ∙ is ∙ sym (append-nil (json_tokens j))) ∙ value-json_tokens j max_depth [] shallow)
 
 pub ends_line : (begun last out : Written) (l : Layout) (bytes line : List ℕ) → BeginsLine begun → layout_levels l < max_depth → PutsMembers l begun last
     → out.tokens ≡ last.tokens ++ Token.end_object ∷ [] → out.before ≡ last.before → bytes ≡ out.before ++ print out.tokens → tokens (print out.tokens) ≡ out.tokens → line ≡ bytes ++ 10 ∷ []
     → IsObjectLine l line
 ends_line begun last out l bytes line begins shallow p ended before is read fed =
-    let whole : out.tokens ≡ json_tokens (json.object p.members) =
-    ended ∙ ap (λ ts. ts ++ Token.end_object ∷ []) (p.tokens ∙ ap (λ ts. ts ++ front p.members) begins.tokens) ∙ ap (λ ts. Token.begin_object ∷ ts) (sym (members_tokens-front p.members)) in
-    let printed : bytes ≡ print out.tokens = is ∙ ap (λ bs. bs ++ print out.tokens) (before ∙ p.before ∙ begins.before) in
+    let whole : out.tokens ≡ json_tokens (json_of (object l)) =
+    ended ∙ ap (λ ts. ts ++ Token.end_object ∷ []) (p.tokens ∙ ap (λ ts. ts ++ front l) begins.tokens) ∙ ap (λ ts. Token.begin_object ∷ ts) (sym (members_tokens-front l)) in
+    let printed : bytes ≡ print (json_tokens (json_of (object l))) = is ∙ ap (λ bs. bs ++ print out.tokens) (before ∙ p.before ∙ begins.before) ∙ ap print whole in
     record {
-      members = p.members;
-      has = p.has;
-      text = bytes;
-      is = printed ∙ ap print whole;
-      reads = ap document printed ∙ reads_back (json.object p.members) out.tokens whole (omega (arith, depth-layout_levels l p.members p.has)) read;
-      one_line = subst (λ bs. All (λ b. 0x20 ≤ b) bs) (sym (printed ∙ ap print whole))
-          (All-visible _ (AreVisible-print_from false _ (object_plain p.members (layout_plain l p.members p.has))));
-      ends = fed;
+      is = fed ∙ ap (λ bs. bs ++ 10 ∷ []) printed;
+      reads = reads_back (json_of (object l)) out.tokens whole (omega (arith, depth-layout_levels l)) read;
+      one_line = All-visible _ (AreVisible-print_from false _ (object_plain l (layout_plain l)));
     }

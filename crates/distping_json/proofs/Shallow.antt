@@ -1,13 +1,25 @@
--- How deep the members of a node nest.
-use Rattle.std.proofs.Common.{◌≡◌, ℕ, ◌<◌, ◌≤◌, List, Option, Some, None, refl, arith}
+-- How deep the members of a line nest.
+use Rattle.std.proofs.Common.{◌≡◌, ℕ, ◌<◌, ◌≤◌, List, [], ◌∷◌, Option, Some, None, refl, arith}
+use Rattle.std.specs.declared.net.socket_addr.SocketAddr.{SocketAddr}
 use Rattle.json.specs.Json.{max_depth}
-use Rattle.dist_messages.specs.declared.message.Status.{Status}
+use Rattle.dist_cluster.specs.declared.change.VerdictChange.{VerdictChange}
+use Rattle.dist_cluster.specs.declared.latencies.LatencySummary.{LatencySummary}
+use Rattle.dist_cluster.specs.declared.summary.Summary.{Summary}
+use Rattle.dist_cluster.specs.declared.summary.WordCount.{WordCount}
+use Rattle.dist_cluster.specs.declared.targets.Group.{Group}
 use Rattle.dist_probe.specs.declared.asking.Peer.{Peer}
+use Rattle.dist_probe.specs.declared.verdict.ProbeVerdict.{ProbeVerdict}
 use Rattle.distping_report.specs.declared.asked.Dial.{Dial}
-use Rattle.distping_report.specs.declared.found.Outcome.{Outcome}
+use Rattle.distping_report.specs.declared.asked.Listen.{Listen}
+use Rattle.distping_report.specs.declared.found.ProbeOutcome.{ProbeOutcome}
 use Rattle.distping_report.specs.declared.found.Registration.{Registration}
-use Rattle.distping_json.specs.Objects.{Shape, Layout, member, objects, layout_levels, levels}
-use Rattle.distping_json.specs.Layouts.{address_shape, node_layout, number_or_null, peer_shape, registration_shape, status_shape, try_layout}
+use Rattle.distping_report.specs.declared.taken.Caller.{Caller}
+use Rattle.distping_report.specs.declared.taken.Taken.{Taken}
+use Rattle.distping_report.specs.declared.watched.Answers.{Answers}
+use Rattle.distping_report.specs.declared.watched.Seen.{Seen}
+use Rattle.distping_json.specs.Objects.{Shape, Layout, member, object, objects, layout_levels, levels, number_or_null, object_levels, text_or_null}
+use Rattle.distping_json.specs.Layouts.{answer_word, caller_layout, change_layout, counts_layout, group_layout, latency_layout, node_layout}
+use Rattle.distping_json.specs.Layouts.{peer_shape, registration_shape, summary_layout, times_layout, tries_in}
 
 pub record IsShallow (l : Layout) : Type 0 where
   pub less : layout_levels l < max_depth
@@ -15,13 +27,12 @@ pub record IsShallow (l : Layout) : Type 0 where
 deeper : {name : List ℕ} {s : Shape} {l : Layout} → levels s < max_depth → IsShallow l → IsShallow (member name s l)
 deeper {name} {s} {l} h k = let less : layout_levels l < max_depth = k.less in record { less = omega (arith, h, less) }
 
-address : {A : Type 0} (a : Option A) → levels (address_shape a) < max_depth
-address None = omega arith
-address (Some a) = omega arith
+text_flat : (t : Option (List ℕ)) → levels (text_or_null t) ≡ 0
+text_flat None = refl
+text_flat (Some t) = refl
 
-status : (s : Option Status) → levels (status_shape s) < max_depth
-status None = omega arith
-status (Some s) = omega arith
+text : (t : Option (List ℕ)) → levels (text_or_null t) < max_depth
+text t = omega (arith, text_flat t)
 
 number : (n : Option ℕ) → levels (number_or_null n) < max_depth
 number None = omega arith
@@ -41,12 +52,52 @@ zero = omega arith
 one : 1 < max_depth
 one = omega arith
 
-tries : levels (objects try_layout) < max_depth
-tries = omega arith
+tries_flat : (addresses : List SocketAddr) (verdicts : List ProbeVerdict) → object_levels (tries_in addresses verdicts) ≤ 1
+tries_flat [] verdicts = omega arith
+tries_flat (a ∷ addresses) [] = omega arith
+tries_flat (a ∷ addresses) (v ∷ verdicts) = omega (arith, text_flat (answer_word v), tries_flat addresses verdicts)
 
-pub node_shallow : (dial : Dial) (outcome : Outcome) → IsShallow (node_layout dial outcome)
+tries : (addresses : List SocketAddr) (verdicts : List ProbeVerdict) → levels (objects (tries_in addresses verdicts)) < max_depth
+tries addresses verdicts = omega (arith, tries_flat addresses verdicts)
+
+counts_flat : (counts : List WordCount) → layout_levels (counts_layout counts) ≡ 0
+counts_flat [] = refl
+counts_flat (c ∷ counts) = omega (arith, counts_flat counts)
+
+counts : (counts : List WordCount) → levels (object (counts_layout counts)) < max_depth
+counts cs = omega (arith, counts_flat cs)
+
+pub node_shallow : (dial : Dial) (outcome : ProbeOutcome) → IsShallow (node_layout dial outcome)
 node_shallow dial outcome =
-    deeper zero (deeper zero (deeper (address outcome.found.address)
-    (deeper (registration outcome.found.registration) (deeper (number outcome.found.port) (deeper (status outcome.found.status)
+    deeper zero (deeper zero (deeper (text _)
+    (deeper (registration outcome.found.registration) (deeper (number outcome.found.port) (deeper (text _)
     (deeper (peer outcome.found.peer) (deeper one (deeper zero (deeper zero (deeper zero (deeper zero
-    (deeper tries (record { less = zero })))))))))))))
+    (deeper (tries outcome.addresses.items outcome.verdicts.items) (record { less = zero })))))))))))))
+
+pub group_shallow : (group : Group) (outcome : ProbeOutcome) → IsShallow (group_layout group outcome)
+group_shallow group outcome =
+    deeper zero (deeper zero (deeper (text _)
+    (deeper zero (deeper (number outcome.found.port) (deeper (text _)
+    (deeper zero (deeper one (deeper zero (deeper zero (deeper zero (deeper zero
+    (deeper (tries outcome.addresses.items outcome.verdicts.items) (record { less = zero })))))))))))))
+
+pub caller_shallow : (listen : Listen) (caller : Caller) (taken : Taken) → IsShallow (caller_layout listen caller taken)
+caller_shallow listen caller taken =
+    deeper zero (deeper (text _) (deeper zero (deeper (peer caller.peer) (deeper one (deeper zero (deeper zero (deeper zero (record { less = zero }))))))))
+
+pub change_shallow : (time : List ℕ) (seen : Seen) (change : VerdictChange) → IsShallow (change_layout time seen change)
+change_shallow time seen change = deeper zero (deeper zero (deeper zero (deeper zero (deeper (text _) (deeper zero (record { less = zero }))))))
+
+times_shallow : (s : Option LatencySummary) → IsShallow (times_layout s)
+times_shallow None = record { less = zero }
+times_shallow (Some s) = record { less = zero }
+
+pub latency_shallow : (answers : Answers) → IsShallow (latency_layout answers)
+latency_shallow answers = deeper zero (deeper zero (times_shallow answers.summary))
+
+pub summary_shallow : (summary : Summary) (status : ℕ) → IsShallow (summary_layout summary status)
+summary_shallow summary status =
+    deeper zero (deeper (counts summary.verdicts.items) (deeper zero (deeper (counts summary.pairings.items) (deeper zero (record { less = zero })))))
+
+pub flat_shallow : (l : Layout) → layout_levels l ≡ 0 → IsShallow l
+flat_shallow l e = record { less = omega (arith, e) }

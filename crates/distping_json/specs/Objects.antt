@@ -1,7 +1,12 @@
--- OBJECTS OF JSON, each in a line of its own: which members stand there, in which order, and what each of them is.
-use Rattle.std.specs.Prelude.{◌≡◌, ◌⊎◌, ℕ, List, [], ◌∷◌, ◌++◌, ◌<◌, ◌≤◌, ◌^◌, suc, max, Bool, Some, All, ⊤, decimal}
+-- JSON OBJECTS, each on a line of its own: which members they have, in which order, and the value of each.
+use Rattle.std.specs.Prelude.{◌≡◌, ℕ, List, [], ◌∷◌, ◌++◌, ◌<◌, ◌≤◌, suc, max, Bool, false, Option, Some, None, All, decimal, filter, map}
 use Rattle.std.specs.Borrow.{Bor}
+use Rattle.std.specs.Fmt.{digits}
+use Rattle.std.specs.Net.Text.{ip_text}
+use Rattle.dist_flags.specs.Names.{all_flags, flag_of, name_of}
+use Rattle.dist_flags.specs.declared.dflag.Dflag.{Dflag}
 use Rattle.dist_names.specs.Escaped.{escapes_of}
+use Rattle.dist_names.specs.Flags.{has_all}
 use Rattle.json.specs.Json as json
 use Rattle.json.specs.Json.{Json, Items, no_items, item, Members, document, max_depth}
 use Rattle.json.specs.Print.{print}
@@ -11,7 +16,7 @@ use Rattle.json.specs.Written.{Written}
 use Rattle.distping_json.specs.declared.member.Value.{Value}
 use Rattle.distping_json.specs.declared.member.Value.TheVariants as value
 
--- ---- what a value of JSON may be
+-- ---- JSON values
 
 mutual
   pub data Shape : Type 0 where
@@ -19,123 +24,142 @@ mutual
     truth : Bool → Shape
     number : ℕ → Shape
     text : List ℕ → Shape
-    some_text : Shape
     -- a list of texts
-    some_texts : Shape
-    -- null, or this
-    or_null : Shape → Shape
+    texts : List (List ℕ) → Shape
     -- an object with these members
     object : Layout → Shape
-    -- a list of objects, each with these members
-    objects : Layout → Shape
+    -- a list of objects
+    objects : Layouts → Shape
 
-  -- members in their order, each by its name
+  -- members in their order, each with its name
   pub data Layout : Type 0 where
     no_member : Layout
     member : List ℕ → Shape → Layout → Layout
 
--- texts as the items of a list
+  -- objects in their order, each by its members
+  pub data Layouts : Type 0 where
+    no_object : Layouts
+    one_object : Layout → Layouts → Layouts
+
+-- texts, as the items of a list
 abbrev pub texts_in : List (List ℕ) → Items
 texts_in [] = no_items
 texts_in (s ∷ ss) = item (json.string s) (texts_in ss)
 
--- objects as the items of a list
-abbrev pub objects_in : List Members → Items
-objects_in [] = no_items
-objects_in (ms ∷ mss) = item (json.object ms) (objects_in mss)
-
--- A value of JSON is of this shape.
+-- the JSON value
 abbrev mutual
-  pub Has : Shape → Json → Type 0
-  Has nothing j = j ≡ json.null
-  Has (truth b) j = j ≡ json.boolean b
-  Has (number n) j = (n < 2 ^ 64) × (j ≡ json.number (decimal n))
-  Has (text s) j = j ≡ json.string s
-  Has some_text j = (s : List ℕ) × (j ≡ json.string s)
-  Has some_texts j = (ss : List (List ℕ)) × (j ≡ json.array (texts_in ss))
-  Has (or_null s) j = (j ≡ json.null) ⊎ Has s j
-  Has (object l) j = (ms : Members) × (j ≡ json.object ms) × HasMembers l ms
-  Has (objects l) j = (mss : List Members) × (j ≡ json.array (objects_in mss)) × All (λ ms. HasMembers l ms) mss
+  pub json_of : Shape → Json
+  json_of nothing = json.null
+  json_of (truth b) = json.boolean b
+  json_of (number n) = json.number (decimal n)
+  json_of (text s) = json.string s
+  json_of (texts ss) = json.array (texts_in ss)
+  json_of (object l) = json.object (members_in l)
+  json_of (objects ls) = json.array (objects_in ls)
 
-  -- an object has these members, in this order, and no other ones
-  pub HasMembers : Layout → Members → Type 0
-  HasMembers no_member json.no_members = ⊤
-  HasMembers no_member (json.member k j ms) = ⊥
-  HasMembers (member name s l) json.no_members = ⊥
-  HasMembers (member name s l) (json.member k j ms) = (k ≡ name) × Has s j × HasMembers l ms
+  pub members_in : Layout → Members
+  members_in no_member = json.no_members
+  members_in (member name s l) = json.member name (json_of s) (members_in l)
 
--- what is of the first shape is of the second
-abbrev pub Narrows : Shape → Shape → Type 0
-Narrows s t = (j : Json) → Has s j → Has t j
+  pub objects_in : Layouts → Items
+  objects_in no_object = no_items
+  objects_in (one_object l ls) = item (json.object (members_in l)) (objects_in ls)
 
--- A LINE OF JSON: the text of one object with these members, which reads back as that object, and a line feed.
+-- the text of an object with these members
+abbrev pub object_text : Layout → List ℕ
+object_text l = print (json_tokens (json.object (members_in l)))
+
+-- A LINE OF JSON: the text of the object with these members, which reads back as that object, and a line feed.
 pub record IsObjectLine (l : Layout) (line : List ℕ) : Type 0 where
-  pub members : Members
-  pub has : HasMembers l members
-  pub text : List ℕ
-  pub is : text ≡ print (json_tokens (json.object members))
-  pub reads : document text ≡ Some (json.object members)
-  -- no control character stands in it, and so no other line feed
-  pub one_line : All (λ b. 0x20 ≤ b) text
-  pub ends : line ≡ text ++ 10 ∷ []
+  pub is : line ≡ object_text l ++ 10 ∷ []
+  pub reads : document (object_text l) ≡ Some (json.object (members_in l))
+  -- it has no control character, and so no other line feed
+  pub one_line : All (λ b. 0x20 ≤ b) (object_text l)
+
+-- a number, or null
+abbrev pub number_or_null : Option ℕ → Shape
+number_or_null None = nothing
+number_or_null (Some n) = number n
+
+-- a text, or null
+abbrev pub text_or_null : Option (List ℕ) → Shape
+text_or_null None = nothing
+text_or_null (Some s) = text s
+
+-- the names of those of some flags that are set in these
+abbrev pub names_among : ℕ → List Dflag → List (List ℕ)
+names_among flags some = map name_of (filter (λ flag. has_all flags (flag_of flag)) some)
+
+-- the names of flags, from the lowest bit up
+abbrev pub flag_names : ℕ → List (List ℕ)
+flag_names flags = names_among flags all_flags
 
 -- ---- for the clauses of the writer
 
--- the shape of what a value is written as
+-- the shape in which a value is written
 abbrev pub shape_of : Value → Shape
 shape_of value.Null = nothing
 shape_of (value.Bool b) = truth b
 shape_of (value.Number n) = number n
 shape_of (value.Text s) = text s.now
 shape_of (value.Name bytes) = text (escapes_of bytes.now)
-shape_of (value.Piece p) = some_text
-shape_of (value.Names flags) = some_texts
+shape_of (value.Digits flags) = text (digits 16 false flags.0)
+shape_of (value.Names flags) = texts (flag_names flags.0)
+shape_of (value.Host host) = text (ip_text host)
 
 abbrev pub layout_of : List (Bor (List ℕ) × Value) → Layout
 layout_of [] = no_member
 layout_of (m ∷ ms) = member m.0.now (shape_of m.1) (layout_of ms)
 
--- the tokens of members, without the closing bracket
-abbrev pub front : Members → List Token
-front json.no_members = []
-front (json.member k j ms) = Token.key k ∷ (json_tokens j ++ front ms)
+-- the tokens of members, without the closing brace
+abbrev pub front : Layout → List Token
+front no_member = []
+front (member name s l) = Token.key name ∷ (json_tokens (json_of s) ++ front l)
 
--- the tokens of one value come behind others
+-- the tokens of objects, without the brackets of their list
+abbrev pub object_tokens : Layouts → List Token
+object_tokens no_object = []
+object_tokens (one_object l ls) = json_tokens (json.object (members_in l)) ++ object_tokens ls
+
+-- the tokens of one value were appended
 pub record PutsValue (s : Shape) (old new : Written) : Type 0 where
-  pub json : Json
-  pub has : Has s json
-  pub tokens : new.tokens ≡ old.tokens ++ json_tokens json
+  pub tokens : new.tokens ≡ old.tokens ++ json_tokens (json_of s)
   pub before : new.before ≡ old.before
 
--- the tokens of these members come behind others
+-- the tokens of these members were appended
 pub record PutsMembers (l : Layout) (old new : Written) : Type 0 where
-  pub members : Members
-  pub has : HasMembers l members
-  pub tokens : new.tokens ≡ old.tokens ++ front members
+  pub tokens : new.tokens ≡ old.tokens ++ front l
   pub before : new.before ≡ old.before
 
--- an object was begun, and nothing stands before it
+-- the tokens of these objects were appended
+pub record PutsObjects (ls : Layouts) (old new : Written) : Type 0 where
+  pub tokens : new.tokens ≡ old.tokens ++ object_tokens ls
+  pub before : new.before ≡ old.before
+
+-- an object was begun, with nothing before it
 pub record BeginsLine (begun : Written) : Type 0 where
   pub tokens : begun.tokens ≡ Token.begin_object ∷ []
   pub before : begun.before ≡ []
 
--- how deep objects and lists nest in it
+-- how deep objects and lists nest in a value
 abbrev mutual
   pub levels : Shape → ℕ
   levels nothing = 0
   levels (truth b) = 0
   levels (number n) = 0
   levels (text s) = 0
-  levels some_text = 0
-  levels some_texts = 1
-  levels (or_null s) = levels s
+  levels (texts ss) = 1
   levels (object l) = suc (layout_levels l)
-  levels (objects l) = suc (suc (layout_levels l))
+  levels (objects ls) = suc (object_levels ls)
 
   pub layout_levels : Layout → ℕ
   layout_levels no_member = 0
   layout_levels (member name s l) = max (levels s) (layout_levels l)
 
--- where an object was begun and these members were put there, the line is that object
+  pub object_levels : Layouts → ℕ
+  object_levels no_object = 0
+  object_levels (one_object l ls) = max (suc (layout_levels l)) (object_levels ls)
+
+-- if an object was begun and these members were written, the line is that object
 abbrev pub EndsLine : Written → List ℕ → Type 0
 EndsLine last line = (begun : Written) → BeginsLine begun → (l : Layout) → layout_levels l < max_depth → PutsMembers l begun last → IsObjectLine l line

@@ -1,4 +1,4 @@
-//! What was found of a connection that was taken, as one object in a line.
+//! What was found out about a connection that was taken, as one JSON object.
 
 ghost use Rattle.std.specs.Prelude.{IfOk, OnOk, string_bytes};
 ghost use Rattle.distping_json.specs.Layouts.{call_layout, caller_layout, taken_layout};
@@ -12,7 +12,7 @@ use distping_report::{Caller, Listen, Taken};
 use json::Writer;
 use std::alloc::{AllocError, Global};
 
-// Writes the own name, and where a caller came from and to.
+// Writes the listener's name, and where the connection came from and went to.
 fn put_call(
     alloc: Global,
     out: &mut Writer,
@@ -29,14 +29,14 @@ fn put_call(
     put_members(alloc, out, &members)
 }
 
-// Writes what came of a caller.
+// Writes the result of a connection.
 fn put_taken(
     alloc: Global,
     out: &mut Writer,
     lacking: Flags,
     taken: Taken,
 ) -> Result<(), AllocError>
-    ensures { OnOk result (PutsMembers (taken_layout taken) out.old out.new) }
+    ensures { OnOk result (PutsMembers (taken_layout lacking.0 taken) out.old out.new) }
 {
     let members = [
         ("lacking", Value::Names(lacking)),
@@ -47,7 +47,7 @@ fn put_taken(
     put_members(alloc, out, &members)
 }
 
-// Writes what was found of a caller, and what came of it.
+// Writes what was found out about a caller, and the result.
 fn put_caller(
     alloc: Global,
     out: &mut Writer,
@@ -62,7 +62,7 @@ fn put_caller(
     put_taken(alloc, out, peer_lacks(&caller.peer), taken)
 }
 
-/// What was found of a caller, and what came of it, as one line.
+/// What was found out about a caller, and the result, as one line.
 pub fn caller_object(
     alloc: Global,
     listen: &Listen<'_>,

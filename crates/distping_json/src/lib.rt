@@ -1,8 +1,8 @@
-//! What distping prints for programs: an object of JSON in a line for each node, each pair, each connection that was taken, and for
-//! what is said of many nodes.
+//! What distping prints for programs: a JSON object on a line for each node, each pair, each connection that was taken, and what can be
+//! said of several nodes.
 //!
-//! It makes lines and writes none. What somebody else gave, another machine or the command line, is escaped before, so that it is
-//! printable in the text and in whatever a reader of JSON makes of it.
+//! It makes lines and writes none. Text from another machine or the command line is escaped before, so that it is printable both in the
+//! line and in the value that a JSON reader makes of it.
 #![tactic(auto)]
 
 mod callers;

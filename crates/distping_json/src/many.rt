@@ -1,11 +1,11 @@
-//! What is said of several nodes, as objects of JSON in a line each: what a port mapper has in place of a name, what can be said of
-//! two nodes, and what all nodes came to.
+//! What is printed about several nodes, as JSON objects on a line each: what a port mapper has in place of a name, what can be said of
+//! a pair, and a summary.
 
-ghost use Rattle.std.specs.Prelude.{IfOk, OnOk, string_bytes};
-ghost use Rattle.distping_json.specs.Layouts.{left_out_layout, more_left_out_layout, pair_layout};
-ghost use Rattle.distping_json.specs.Objects.{IsObjectLine, PutsMembers};
+ghost use Rattle.std.specs.Prelude.{◌≡◌, IfOk, OnOk, string_bytes};
+ghost use Rattle.distping_json.specs.Layouts.{counts_layout, left_out_layout, more_left_out_layout, pair_layout, summary_layout};
+ghost use Rattle.distping_json.specs.Objects.{IsObjectLine, PutsMembers, layout_of, member, no_member, number, object};
 
-use crate::member::{Value, begin_line, end_line, put_members};
+use crate::member::{Member, Value, begin_line, end_line, put_members, put_object};
 use crate::values::small_number;
 use dist_cluster::{Group, Pairing, Summary, WordCount};
 use dist_names::NodeName;
@@ -13,7 +13,7 @@ use distping_report::LeftOut;
 use json::Writer;
 use std::alloc::{AllocError, Global};
 
-// Writes what a port mapper has in place of a node's name, and at which host.
+// Writes a text that a port mapper has in place of a node's name, and its host.
 fn put_left_out<'x>(
     alloc: Global,
     out: &mut Writer,
@@ -29,7 +29,7 @@ fn put_left_out<'x>(
     put_members(alloc, out, &members)
 }
 
-/// What the port mapper of a host has in place of a node's name, as one line.
+/// A text that the port mapper of a host has in place of a node's name, as one line.
 pub fn left_out_object(alloc: Global, group: &Group, text: &[u8]) -> Result<String, AllocError>
     ensures { IfOk result
         (λ line. IsObjectLine (left_out_layout group.now text.now) (string_bytes line)) }
@@ -39,7 +39,7 @@ pub fn left_out_object(alloc: Global, group: &Group, text: &[u8]) -> Result<Stri
     end_line(out)
 }
 
-// Writes how much more is left out of what a port mapper says, and at which host.
+// Writes how much more of a port mapper's answer is left out, and its host.
 fn put_more_left_out(
     alloc: Global,
     out: &mut Writer,
@@ -57,7 +57,7 @@ fn put_more_left_out(
     put_members(alloc, out, &members)
 }
 
-/// How much more is left out of what the port mapper of a host says, as one line.
+/// How much more of the answer of a host's port mapper is left out, as one line.
 pub fn more_left_out_object(
     alloc: Global,
     group: &Group,
@@ -70,7 +70,7 @@ pub fn more_left_out_object(
     end_line(out)
 }
 
-// Writes what a pair comes to.
+// Writes what can be said of a pair.
 fn put_pair<'x>(
     alloc: Global,
     out: &mut Writer,
@@ -105,32 +105,63 @@ pub fn pair_object(
     end_line(out)
 }
 
+// Each word as a member, with how many have it.
+fn count_members(alloc: Global, counts: &[WordCount]) -> Result<Vec<Member<'static>>, AllocError>
+    ensures { IfOk result (λ members. layout_of members.items ≡ counts_layout counts.now) }
+{
+    let mut members = Vec::new(alloc);
+    for count in counts {
+        members.push((count.word, Value::Number(count.count)))?;
+    }
+    Ok(members)
+}
+
 // Writes how many have which word, as a member.
-fn put_tallies(
+fn put_counts(
     alloc: Global,
     out: &mut Writer,
     name: &str,
-    tallies: &[WordCount],
-) -> Result<(), AllocError> {
-    out.key(name)?;
-    out.begin_object()?;
-    for tally in tallies {
-        put_members(alloc, out, &[(tally.word, Value::Number(tally.count))])?;
-    }
-    out.end_object()
+    counts: &[WordCount],
+) -> Result<(), AllocError>
+    ensures { OnOk result (PutsMembers (member name.now (object (counts_layout counts.now)) no_member) out.old out.new) }
+{
+    let members = count_members(alloc, counts)?;
+    put_object(alloc, out, name, &members)
 }
 
-/// What all nodes came to, as one line. `status` is that of the program.
-pub fn summary_object(alloc: Global, summary: &Summary, status: u8) -> Result<String, AllocError> {
+// Writes a number, as a member.
+fn put_number(
+    alloc: Global,
+    out: &mut Writer,
+    name: &'static str,
+    value: u64,
+) -> Result<(), AllocError>
+    ensures { OnOk result (PutsMembers (member name.now (number value) no_member) out.old out.new) }
+{
+    put_members(alloc, out, &[(name, Value::Number(value))])
+}
+
+// Writes the summary of all nodes.
+fn put_summary(
+    alloc: Global,
+    out: &mut Writer,
+    summary: &Summary,
+    status: u8,
+) -> Result<(), AllocError>
+    ensures { OnOk result (PutsMembers (summary_layout summary.now status) out.old out.new) }
+{
+    put_number(alloc, out, "nodes", summary.nodes)?;
+    put_counts(alloc, out, "verdicts", &summary.verdicts)?;
+    put_number(alloc, out, "pairs", summary.pairs)?;
+    put_counts(alloc, out, "pairings", &summary.pairings)?;
+    put_number(alloc, out, "exit", u64::from(status))
+}
+
+/// The summary of all nodes, as one line. `status` is the exit status.
+pub fn summary_object(alloc: Global, summary: &Summary, status: u8) -> Result<String, AllocError>
+    ensures { IfOk result (λ line. IsObjectLine (summary_layout summary.now status) (string_bytes line)) }
+{
     let mut out = begin_line(alloc)?;
-    put_members(alloc, &mut out, &[("nodes", Value::Number(summary.nodes))])?;
-    put_tallies(alloc, &mut out, "verdicts", &summary.verdicts)?;
-    put_members(alloc, &mut out, &[("pairs", Value::Number(summary.pairs))])?;
-    put_tallies(alloc, &mut out, "pairings", &summary.pairings)?;
-    put_members(
-        alloc,
-        &mut out,
-        &[("exit", Value::Number(u64::from(status)))],
-    )?;
+    put_summary(alloc, &mut out, summary, status)?;
     end_line(out)
 }

@@ -1,39 +1,43 @@
-//! The members of an object of JSON, one behind the other.
+//! The members of a JSON object.
 
-ghost use Rattle.std.specs.Prelude.{◌≡◌, [], IfOk, OnOk, string_bytes};
+ghost use Rattle.std.specs.Prelude.{◌≡◌, [], IfOk, OnOk, false, string_bytes};
+ghost use Rattle.std.specs.Fmt.{digits};
+ghost use Rattle.std.specs.Net.Text.{ip_text};
 ghost use Rattle.dist_names.specs.Escaped.{escapes_of};
 ghost use Rattle.distping_json.specs.Objects.{BeginsLine, EndsLine, PutsMembers, PutsValue};
-ghost use Rattle.distping_json.specs.Objects.{layout_of, member, no_member, object, shape_of, some_text, some_texts, text};
+ghost use Rattle.distping_json.specs.Objects.{layout_of, member, names_among, no_member, object, shape_of, text, texts};
 
 use dist_flags::Dflag;
 use dist_names::{Flags, escape};
-use distping_report::{Piece, push_piece};
 use json::Writer;
 use std::alloc::{AllocError, Global};
+use std::net::IpAddr;
 
 /// The value of a member.
 #[derive(Clone, Copy)]
 pub enum Value<'a> {
-    /// What is not known.
+    /// Null: it is not known.
     Null,
-    /// Whether something holds.
+    /// Whether a condition holds.
     Bool(bool),
     /// A number.
     Number(u64),
-    /// A text of the program itself.
+    /// The program's own text.
     Text(&'static str),
-    /// A name that somebody gave, escaped.
+    /// A name from outside, escaped.
     Name(&'a [u8]),
-    /// The text of a piece.
-    Piece(Piece<'a>),
+    /// Flags in hexadecimal digits.
+    Digits(Flags),
     /// Flags by name, in a list.
     Names(Flags),
+    /// An address without a port.
+    Host(IpAddr),
 }
 
 /// A member: its name and its value.
 pub type Member<'a> = (&'static str, Value<'a>);
 
-// Writes a name that somebody gave, escaped.
+// Writes a name from outside, escaped.
 fn put_name(alloc: Global, out: &mut Writer, bytes: &[u8]) -> Result<(), AllocError>
     ensures { OnOk result
         (PutsValue (text (escapes_of bytes.now)) out.old out.new) }
@@ -41,21 +45,28 @@ fn put_name(alloc: Global, out: &mut Writer, bytes: &[u8]) -> Result<(), AllocEr
     out.string(&escape(alloc, bytes)?)
 }
 
-// Writes the text of a piece.
-fn put_piece(alloc: Global, out: &mut Writer, piece: Piece<'_>) -> Result<(), AllocError>
-    ensures { OnOk result (PutsValue some_text out.old out.new) }
+// Writes flags in hexadecimal digits.
+fn put_digits(alloc: Global, out: &mut Writer, flags: Flags) -> Result<(), AllocError>
+    ensures { OnOk result (PutsValue (text (digits 16 false flags.0)) out.old out.new) }
 {
-    let mut text = String::new(alloc);
-    push_piece(alloc, &mut text, piece)?;
-    out.string(&text)
+    let digits = format!(in alloc; "{:x}", flags.0)?;
+    out.string(&digits)
 }
 
-// Writes flags by name, as a list.
-fn put_names(out: &mut Writer, flags: Flags) -> Result<(), AllocError>
-    ensures { OnOk result (PutsValue some_texts out.old out.new) }
+// Writes an address without a port.
+fn put_host(alloc: Global, out: &mut Writer, host: IpAddr) -> Result<(), AllocError>
+    ensures { OnOk result (PutsValue (text (ip_text host)) out.old out.new) }
+{
+    let address = format!(in alloc; "{host}")?;
+    out.string(&address)
+}
+
+// Writes the names of those of some flags that are set in these, as a list.
+fn put_names(out: &mut Writer, flags: Flags, some: &[Dflag]) -> Result<(), AllocError>
+    ensures { OnOk result (PutsValue (texts (names_among flags.0 some.now)) out.old out.new) }
 {
     out.begin_array()?;
-    for flag in Dflag::all() {
+    for flag in some {
         if flags.has(flag.flags()) {
             out.string(flag.name())?;
         }
@@ -73,8 +84,9 @@ fn put_value(alloc: Global, out: &mut Writer, value: Value<'_>) -> Result<(), Al
         Value::Number(number) => out.u64(number),
         Value::Text(text) => out.string(text),
         Value::Name(bytes) => put_name(alloc, out, bytes),
-        Value::Piece(piece) => put_piece(alloc, out, piece),
-        Value::Names(flags) => put_names(out, flags),
+        Value::Digits(flags) => put_digits(alloc, out, flags),
+        Value::Names(flags) => put_names(out, flags, &Dflag::all()),
+        Value::Host(host) => put_host(alloc, out, host),
     }
 }
 
@@ -93,7 +105,7 @@ pub fn put_members(
     Ok(())
 }
 
-/// Writes an object of these members.
+/// Writes an object with these members.
 pub fn put_inner(alloc: Global, out: &mut Writer, members: &[Member<'_>]) -> Result<(), AllocError>
     ensures { OnOk result (PutsValue (object (layout_of members.now)) out.old out.new) }
 {
@@ -102,7 +114,7 @@ pub fn put_inner(alloc: Global, out: &mut Writer, members: &[Member<'_>]) -> Res
     out.end_object()
 }
 
-/// Writes a member that is an object of these members.
+/// Writes a member that is an object with these members.
 pub fn put_object(
     alloc: Global,
     out: &mut Writer,
@@ -116,7 +128,7 @@ pub fn put_object(
     put_inner(alloc, out, members)
 }
 
-/// Begins the line of an object.
+/// Begins a line with an object.
 pub fn begin_line(alloc: Global) -> Result<Writer, AllocError>
     ensures { IfOk result BeginsLine }
 {
@@ -125,7 +137,7 @@ pub fn begin_line(alloc: Global) -> Result<Writer, AllocError>
     Ok(out)
 }
 
-/// The line of an object whose members were written.
+/// Ends the object, and returns the line.
 pub fn end_line(out: Writer) -> Result<String, AllocError>
     ensures { IfOk result (λ line. EndsLine out (string_bytes line)) }
 {

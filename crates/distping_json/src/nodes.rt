@@ -1,10 +1,10 @@
-//! What was found of a node, or of a host that gave no node, as one object in a line.
+//! The result for a node, or for a host that gave no node, as one JSON object.
 
-ghost use Rattle.std.specs.Prelude.{IfOk, OnOk, codes, string_bytes};
+ghost use Rattle.std.specs.Prelude.{IfOk, OnOk, codes, option_map, string_bytes};
 ghost use Rattle.dist_names.specs.Escaped.{escapes_of};
 ghost use Rattle.dist_cluster.specs.Targets.{group_word};
-ghost use Rattle.distping_json.specs.Layouts.{address_shape, group_layout, node_layout};
-ghost use Rattle.distping_json.specs.Objects.{IsObjectLine, PutsMembers, member, no_member, nothing, text};
+ghost use Rattle.distping_json.specs.Layouts.{address_text, group_layout, node_layout};
+ghost use Rattle.distping_json.specs.Objects.{IsObjectLine, PutsMembers, member, no_member, nothing, text, text_or_null};
 
 use crate::member::{Value, begin_line, end_line, put_members};
 use crate::parts::{
@@ -13,7 +13,7 @@ use crate::parts::{
 use crate::values::address_or_null;
 use dist_cluster::Group;
 use dist_names::Flags;
-use distping_report::{Dial, Found, Outcome};
+use distping_report::{Dial, Found, ProbeOutcome};
 use json::Writer;
 use std::alloc::{AllocError, Global};
 
@@ -26,7 +26,7 @@ fn put_node_names(
 ) -> Result<(), AllocError>
     ensures { OnOk result (PutsMembers (member (codes "node") (text (escapes_of dial.now.node.now))
         (member (codes "name") (text (escapes_of dial.now.own.now))
-        (member (codes "address") (address_shape found.now.address) no_member))) out.old out.new) }
+        (member (codes "address") (text_or_null (option_map address_text found.now.address)) no_member))) out.old out.new) }
 {
     let members = [
         ("node", Value::Name(dial.node.bytes())),
@@ -36,12 +36,12 @@ fn put_node_names(
     put_members(alloc, out, &members)
 }
 
-// Writes what was found of a node, and what it comes to.
+// Writes what was found out about a node, and the verdict.
 fn put_node(
     alloc: Global,
     out: &mut Writer,
     dial: &Dial<'_>,
-    outcome: &Outcome,
+    outcome: &ProbeOutcome,
 ) -> Result<(), AllocError>
     ensures { OnOk result (PutsMembers (node_layout dial.now outcome.now) out.old out.new) }
 {
@@ -54,8 +54,12 @@ fn put_node(
     put_tries(alloc, out, outcome)
 }
 
-/// What was found of a node, and what it comes to, as one line.
-pub fn object_of(alloc: Global, dial: &Dial<'_>, outcome: &Outcome) -> Result<String, AllocError>
+/// What was found out about a node, and the verdict, as one line.
+pub fn object_of(
+    alloc: Global,
+    dial: &Dial<'_>,
+    outcome: &ProbeOutcome,
+) -> Result<String, AllocError>
     ensures { IfOk result
         (λ line. IsObjectLine (node_layout dial.now outcome.now) (string_bytes line)) }
 {
@@ -64,7 +68,7 @@ pub fn object_of(alloc: Global, dial: &Dial<'_>, outcome: &Outcome) -> Result<St
     end_line(out)
 }
 
-// Writes what stands in the place of a node's names, where a host gave no node.
+// Writes what a host that gave no node has in place of a node's names.
 fn put_group_names(
     alloc: Global,
     out: &mut Writer,
@@ -73,7 +77,7 @@ fn put_group_names(
 ) -> Result<(), AllocError>
     ensures { OnOk result (PutsMembers (member (codes "node") (text (escapes_of (group_word group.now)))
         (member (codes "name") nothing
-        (member (codes "address") (address_shape found.now.address)
+        (member (codes "address") (text_or_null (option_map address_text found.now.address))
         (member (codes "epmd") nothing no_member)))) out.old out.new) }
 {
     let members = [
@@ -85,12 +89,12 @@ fn put_group_names(
     put_members(alloc, out, &members)
 }
 
-// Writes what a host that gave no node comes to, with the members of a node.
+// Writes the result for a host that gave no node, with the members of a node.
 fn put_group(
     alloc: Global,
     out: &mut Writer,
     group: &Group,
-    outcome: &Outcome,
+    outcome: &ProbeOutcome,
 ) -> Result<(), AllocError>
     ensures { OnOk result (PutsMembers (group_layout group.now outcome.now) out.old out.new) }
 {
@@ -102,8 +106,12 @@ fn put_group(
     put_tries(alloc, out, outcome)
 }
 
-/// What a host that gave no node comes to, as one line.
-pub fn group_object(alloc: Global, group: &Group, outcome: &Outcome) -> Result<String, AllocError>
+/// The result for a host that gave no node, as one line.
+pub fn group_object(
+    alloc: Global,
+    group: &Group,
+    outcome: &ProbeOutcome,
+) -> Result<String, AllocError>
     ensures { IfOk result
         (λ line. IsObjectLine (group_layout group.now outcome.now) (string_bytes line)) }
 {

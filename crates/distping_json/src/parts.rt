@@ -1,37 +1,42 @@
-//! Members that objects of several kinds have: what the port mapper knows of a node, what it said of itself, what it comes to, and
+//! Members that several kinds of objects share: what the port mapper knows of a node, what the node sent about itself, the verdict, and
 //! what each address gave.
 
-ghost use Rattle.std.specs.Prelude.{◌≡◌, OnOk, Some, codes};
-ghost use Rattle.distping_json.specs.Layouts.{number_or_null, peer_shape, registration_shape, status_shape, try_layout, verdict_layout};
-ghost use Rattle.distping_json.specs.Objects.{PutsMembers, PutsValue, member, no_member, object, objects};
+ghost use Rattle.std.specs.Prelude.{◌≡◌, OnOk, codes, option_map};
+ghost use Rattle.dist_messages.specs.Spelling.{text_of};
+ghost use Rattle.distping_json.specs.Layouts.{lacking_flags, peer_lacks, peer_layout, peer_shape, registration_shape, tries_in, try_layout, verdict_layout};
+ghost use Rattle.distping_json.specs.Objects.{PutsMembers, PutsObjects, PutsValue, layout_of, member, no_member, number_or_null, object, objects, text_or_null};
 
-use crate::member::{Value, put_inner, put_members, put_object};
-use crate::values::{answer_or_null, number_or_null, small_number, status_or_null};
+use crate::member::{Member, Value, put_inner, put_members, put_object};
+use crate::values::{answer_or_null, number_or_null, release_word, small_number, status_or_null};
 use dist_flags::{Dflag, Release, missing, release_of};
 use dist_names::Flags;
-use dist_probe::{Peer, Verdict};
-use distping_report::{Found, Outcome, Piece, Registration, release_texts};
+use dist_probe::{Peer, ProbeVerdict};
+use distping_report::{Found, ProbeOutcome, Registration};
 use json::Writer;
 use std::alloc::{AllocError, Global};
 use std::net::SocketAddr;
 
-/// The flags that a node lacks, where it sent its own, so that newer releases refuse it.
-pub fn peer_lacks(peer: &Option<Peer>) -> Flags {
+/// The flags that a node lacks for newer releases, if it sent its own.
+pub fn peer_lacks(peer: &Option<Peer>) -> Flags
+    ensures { result.0 ≡ peer_lacks peer.now }
+{
     match peer {
         Some(peer) => missing(peer.flags, Release::Otp28.required()),
         None => Flags(0),
     }
 }
 
-/// The missing flags: of the probe where the node refuses it for them, else of the node where newer releases refuse it.
-pub fn lacking_flags(verdict: Verdict, peer: &Option<Peer>) -> Flags {
+/// The missing flags: those for which the node refuses the probe, or else those for which newer releases refuse the node.
+pub fn lacking_flags(verdict: ProbeVerdict, peer: &Option<Peer>) -> Flags
+    ensures { result.0 ≡ lacking_flags verdict peer.now }
+{
     match verdict {
-        Verdict::LacksFlags(_, flags) => flags,
+        ProbeVerdict::LacksFlags(_, flags) => flags,
         _ => peer_lacks(peer),
     }
 }
 
-/// Writes what the port mapper knows of the node, where it does.
+/// Writes what the port mapper knows of the node, or null.
 pub fn put_registration(
     alloc: Global,
     out: &mut Writer,
@@ -53,25 +58,30 @@ pub fn put_registration(
     }
 }
 
-// Writes what a node says of itself.
-fn put_peer(alloc: Global, out: &mut Writer, peer: &Peer) -> Result<(), AllocError>
-    ensures { OnOk result (PutsMembers (member (codes "peer") (peer_shape (Some peer.now)) no_member)
-        out.old out.new) }
+// What a node sent about itself.
+fn peer_members(peer: &Peer) -> [Member<'_>; 6]
+    ensures { layout_of result ≡ peer_layout peer.now }
 {
     let flags = peer.flags;
-    let (_, release) = release_texts(release_of(flags));
-    let members = [
+    [
         ("name", Value::Name(peer.name.as_slice())),
         ("creation", Value::Number(u64::from(peer.creation.0))),
-        ("flags", Value::Piece(Piece::Digits(flags))),
+        ("flags", Value::Digits(flags)),
         ("flag_names", Value::Names(flags)),
-        ("release", Value::Text(release)),
+        ("release", Value::Text(release_word(release_of(flags)))),
         ("hidden", Value::Bool(!flags.has(Dflag::Published.flags()))),
-    ];
-    put_object(alloc, out, "peer", &members)
+    ]
 }
 
-/// Writes what a node said of itself, where it did.
+// Writes what a node sent about itself.
+fn put_peer(alloc: Global, out: &mut Writer, peer: &Peer) -> Result<(), AllocError>
+    ensures { OnOk result (PutsMembers (member (codes "peer") (object (peer_layout peer.now)) no_member)
+        out.old out.new) }
+{
+    put_object(alloc, out, "peer", &peer_members(peer))
+}
+
+/// Writes what a node sent about itself, or null.
 pub fn put_peer_or_null(
     alloc: Global,
     out: &mut Writer,
@@ -89,7 +99,7 @@ pub fn put_peer_or_null(
 /// Writes the port that was dialled and the status that the node sent.
 pub fn put_answer(alloc: Global, out: &mut Writer, found: &Found) -> Result<(), AllocError>
     ensures { OnOk result (PutsMembers (member (codes "port") (number_or_null found.now.port)
-        (member (codes "status") (status_shape found.now.status) no_member)) out.old out.new) }
+        (member (codes "status") (text_or_null (option_map text_of found.now.status)) no_member)) out.old out.new) }
 {
     let members = [
         ("port", number_or_null(found.port)),
@@ -98,14 +108,14 @@ pub fn put_answer(alloc: Global, out: &mut Writer, found: &Found) -> Result<(), 
     put_members(alloc, out, &members)
 }
 
-/// Writes what it comes to.
+/// Writes the verdict.
 pub fn put_verdict(
     alloc: Global,
     out: &mut Writer,
     lacking: Flags,
-    verdict: Verdict,
+    verdict: ProbeVerdict,
 ) -> Result<(), AllocError>
-    ensures { OnOk result (PutsMembers (verdict_layout verdict) out.old out.new) }
+    ensures { OnOk result (PutsMembers (verdict_layout lacking.0 verdict) out.old out.new) }
 {
     let members = [
         ("lacking", Value::Names(lacking)),
@@ -117,32 +127,51 @@ pub fn put_verdict(
     put_members(alloc, out, &members)
 }
 
-// Writes what one address gave: the verdict upon it, and how the connect ended where it made no connection.
+// Writes what one address gave: the verdict, and how the connect ended if it made no connection.
 fn put_try(
     alloc: Global,
     out: &mut Writer,
     address: &SocketAddr,
-    verdict: Verdict,
+    verdict: ProbeVerdict,
 ) -> Result<(), AllocError>
-    ensures { OnOk result (PutsValue (object try_layout) out.old out.new) }
+    ensures { OnOk result (PutsValue (object (try_layout address.now verdict)) out.old out.new) }
 {
     let members = [
-        ("address", Value::Piece(Piece::Host(address.ip()))),
+        ("address", Value::Host(address.ip())),
         ("verdict", Value::Text(verdict.name())),
         ("answer", answer_or_null(verdict)),
     ];
     put_inner(alloc, out, &members)
 }
 
+// Writes what was found out at each address: the first verdict is that of the first address.
+fn put_each_try(
+    alloc: Global,
+    out: &mut Writer,
+    addresses: &[SocketAddr],
+    verdicts: &[ProbeVerdict],
+) -> Result<(), AllocError>
+    ensures { OnOk result (PutsObjects (tries_in addresses.now verdicts.now) out.old out.new) }
+{
+    match addresses.split_first() {
+        None => Ok(()),
+        Some((address, others)) => match verdicts.split_first() {
+            None => Ok(()),
+            Some((verdict, later)) => {
+                put_try(alloc, out, address, *verdict)?;
+                put_each_try(alloc, out, others, later)
+            }
+        },
+    }
+}
+
 /// Writes what each address gave that was tried.
-pub fn put_tries(alloc: Global, out: &mut Writer, outcome: &Outcome) -> Result<(), AllocError>
-    ensures { OnOk result (PutsMembers (member (codes "addresses") (objects try_layout) no_member)
-        out.old out.new) }
+pub fn put_tries(alloc: Global, out: &mut Writer, outcome: &ProbeOutcome) -> Result<(), AllocError>
+    ensures { OnOk result (PutsMembers (member (codes "addresses")
+        (objects (tries_in outcome.now.addresses.items outcome.now.verdicts.items)) no_member) out.old out.new) }
 {
     out.key("addresses")?;
     out.begin_array()?;
-    for (address, verdict) in outcome.addresses.iter().zip(outcome.verdicts.iter()) {
-        put_try(alloc, out, address, *verdict)?;
-    }
+    put_each_try(alloc, out, &outcome.addresses, &outcome.verdicts)?;
     out.end_array()
 }

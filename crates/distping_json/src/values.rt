@@ -1,13 +1,16 @@
-//! Values that objects of several kinds have.
+//! Values that several kinds of objects share.
 
-ghost use Rattle.std.specs.Prelude.{◌≡◌};
-ghost use Rattle.distping_json.specs.Layouts.{address_shape, number_or_null, status_shape};
-ghost use Rattle.distping_json.specs.Objects.{Narrows, number, or_null, shape_of, some_text};
+ghost use Rattle.std.specs.Prelude.{◌≡◌, option_map};
+ghost use Rattle.dist_messages.specs.Spelling.{text_of};
+ghost use Rattle.distping_json.specs.Layouts.{address_text, answer_word, release_word, times_layout};
+ghost use Rattle.distping_json.specs.Objects.{layout_of, number, number_or_null, shape_of, text_or_null};
 
-use crate::member::Value;
+use crate::member::{Member, Value};
+use dist_cluster::LatencySummary;
+use dist_flags::Release;
 use dist_messages::Status;
-use dist_probe::{Unreached, Verdict};
-use distping_report::{Piece, status_word};
+use dist_probe::{ProbeVerdict, Unreached};
+use distping_report::status_word;
 use std::net::SocketAddr;
 
 /// A number of 16 bits.
@@ -17,7 +20,7 @@ pub fn small_number(value: u16) -> Value<'static>
     Value::Number(u64::from(value))
 }
 
-/// A number, where there is one.
+/// A number, or null.
 pub fn number_or_null(value: Option<u16>) -> Value<'static>
     ensures { shape_of result ≡ number_or_null value }
 {
@@ -27,19 +30,19 @@ pub fn number_or_null(value: Option<u16>) -> Value<'static>
     }
 }
 
-/// An address without its port, where there is one.
+/// An address without its port, or null.
 pub fn address_or_null(address: Option<SocketAddr>) -> Value<'static>
-    ensures { shape_of result ≡ address_shape address }
+    ensures { shape_of result ≡ text_or_null (option_map address_text address) }
 {
     match address {
-        Some(address) => Value::Piece(Piece::Host(address.ip())),
+        Some(address) => Value::Host(address.ip()),
         None => Value::Null,
     }
 }
 
-/// The status that the node sent, where it sent one.
+/// The status that the node sent, or null.
 pub fn status_or_null(status: Option<Status>) -> Value<'static>
-    ensures { shape_of result ≡ status_shape status }
+    ensures { shape_of result ≡ text_or_null (option_map text_of status) }
 {
     match status {
         Some(status) => Value::Text(status_word(status)),
@@ -47,15 +50,51 @@ pub fn status_or_null(status: Option<Status>) -> Value<'static>
     }
 }
 
-/// How a connect ended, where that is what the verdict is of.
-pub fn answer_or_null(verdict: Verdict) -> Value<'static>
-    ensures { Narrows (shape_of result) (or_null some_text) }
+/// How a connect ended, if the verdict is about that, or null.
+pub fn answer_or_null(verdict: ProbeVerdict) -> Value<'static>
+    ensures { shape_of result ≡ text_or_null (answer_word verdict) }
 {
     match verdict {
-        Verdict::MapperRefused | Verdict::PortRefused => Value::Text(Unreached::Refused.name()),
-        Verdict::MapperUnreachable(unreached) | Verdict::PortUnreachable(unreached) => {
+        ProbeVerdict::MapperRefused | ProbeVerdict::PortRefused => Value::Text(
+            Unreached::Refused.name(),
+        ),
+        ProbeVerdict::MapperUnreachable(unreached) | ProbeVerdict::PortUnreachable(unreached) => {
             Value::Text(unreached.name())
         }
         _ => Value::Null,
+    }
+}
+
+/// The word of a release.
+pub fn release_word(release: Release) -> &'static str
+    ensures { result.now ≡ release_word release }
+{
+    match release {
+        Release::Before23 => "before 23",
+        Release::Otp23 => "23",
+        Release::Otp24 => "24",
+        Release::Otp25 => "25",
+        Release::Otp28 => "28",
+        Release::Otp29 => "29",
+    }
+}
+
+/// How many answers there were, and the least, the median and the worst time that they took, if there was one.
+pub fn times_of(summary: Option<LatencySummary>) -> [Member<'static>; 4]
+    ensures { layout_of result ≡ times_layout summary }
+{
+    match summary {
+        Some(it) => [
+            ("answers", Value::Number(it.count)),
+            ("least", Value::Number(it.least)),
+            ("median", Value::Number(it.median)),
+            ("worst", Value::Number(it.worst)),
+        ],
+        None => [
+            ("answers", Value::Number(0)),
+            ("least", Value::Null),
+            ("median", Value::Null),
+            ("worst", Value::Null),
+        ],
     }
 }

@@ -37,8 +37,8 @@ use Rattle.distping_links.specs.Accepting.{AwaitsName, alone, only_end}
 -- the node after a step that had this effect
 node-after : (n : NodeState) (v : Event) (f : Effect) (r : Reply) (m : NodeState) → step_result n v (Ok f) ≡ Ok (r, m) → m ≡ after n v f
 node-after n v f r m e =
-    let told : ◌≡◌ {A = Reply × NodeState} (f.reply, after n v f) (r, m) = cc in
-    sym (ap (λ (x : Reply × NodeState). x.1) told)
+    let reported : ◌≡◌ {A = Reply × NodeState} (f.reply, after n v f) (r, m) = cc in
+    sym (ap (λ (x : Reply × NodeState). x.1) reported)
 
 -- a refusal is no step
 refused : (n : NodeState) (v : Event) (x : StepError) (r : Reply) (m : NodeState) → step_result n v (Err x) ≡ Ok (r, m) → ⊥

@@ -43,7 +43,7 @@ use Rattle.distping_links.proofs.OneEnd.{IsFirst, IsSecond, IsShut, first, named
 
 -- ---- an end
 
--- how the end stands, as a verdict tells it
+-- how the end stands, as a verdict shows it
 abbrev ShowsEnd : Taken → Option End → Type 0
 ShowsEnd taken.Up e = (kept : UpRecord) × (e ≡ Some (ends.Up kept))
 ShowsEnd taken.Answered e = ⊥

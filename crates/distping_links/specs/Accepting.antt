@@ -1,4 +1,4 @@
--- THE ACCEPTING SIDE of one handshake: what a node that has no other end is told, what it says, and what a verdict shows of it.
+-- THE ACCEPTING SIDE of one handshake: what a node without other ends receives, what it sends, and what a verdict shows of it.
 use Rattle.std.specs.Prelude.{◌≡◌, ℕ, ◌⊎◌, Bool, true, false, List, [], ◌∷◌, Option, Some, None, Result, Ok, Err, slice_get}
 use Rattle.dist_names.specs.Flags.{common}
 use Rattle.dist_messages.specs.Reading.{read}
@@ -44,15 +44,15 @@ use Rattle.distping_links.specs.Listening.{fault_verdict, own_verdict, step_verd
 abbrev pub only_end : EndId
 only_end = record { 0 = 0 }
 
--- how that end is
+-- that end
 abbrev pub only : NodeState → Option End
 only n = slice_get n.ends 0
 
--- a node of this setup that has one end, after so many steps
+-- a node of this setup with one end, after this many steps
 abbrev pub alone : Setup → ℕ → End → NodeState
 alone s steps e = record { setup = s; steps = steps; ends = e ∷ [] }
 
--- one connection came to the node, and it awaits the name
+-- one connection came to the node, which awaits the name
 abbrev pub AwaitsName : Setup → NodeState → Type 0
 AwaitsName s n = (steps : ℕ) × (n ≡ alone s steps ends.Unnamed)
 
@@ -68,12 +68,12 @@ abbrev pub content_as : Result Message MessageError → Content
 content_as (Ok m) = content_in m
 content_as (Err e) = content.Other
 
--- the first bytes of what a dialling side says: n of an older name, N of a newer one, s of a status, c of a complement, r of a reply
+-- the first bytes of a dialling side's messages: n of an older name, N of a newer one, s of a status, c of a complement, r of a reply
 -- (ERTS User's Guide, Distribution Handshake)
 abbrev pub tags : List ℕ
 tags = 0x6e ∷ 0x4e ∷ 0x73 ∷ 0x63 ∷ 0x72 ∷ []
 
--- what is heard where the node awaits this: a body and what it says, or the verdict upon what stands in its place
+-- what is received while the node awaits this: a body and what it says, or the verdict on what came instead
 abbrev pub IsHeardAs : Option Awaited → Came → Result Inbound Taken → Type 0
 IsHeardAs waits (came.Body body) (Ok inbound) = (inbound.body ≡ body) × (inbound.content ≡ content_as (read Dialler body))
 IsHeardAs waits (came.Body body) (Err t) = t ≡ taken.NoMemory
@@ -81,15 +81,15 @@ IsHeardAs waits (came.Front front) heard = heard ≡ Err (taken.Foreign (service
 IsHeardAs waits (came.Stopped stop count) heard = heard ≡ Err (fault_verdict waits stop)
 IsHeardAs waits came.NoMemory heard = heard ≡ Err taken.NoMemory
 
--- One body was heard where the node awaits this, or why none was, within the turns that were there; nothing was written.
+-- One body was received while the node awaits this, or the verdict says why none was, within the turns that were left; nothing was written.
 pub record HearsBody (waits : Option Awaited) (old new : StreamState) (turns left : ℕ) (heard : Result Inbound Taken) : Type 0 where
   pub frame : Came
   pub hears : HearsFrameOf old new turns left tags frame
   pub means : IsHeardAs waits frame heard
 
--- ---- what becomes of a body
+-- ---- what a body does
 
--- What the node says was written, or a front of it where a fault cut that off; the verdict is upon how the end then stands.
+-- What the node sends was written, or a prefix of it if a fault cut it off; the verdict is on the end after that.
 pub record Writes (text : List ℕ) (e : Option End) (old new : StreamState) (turns left : ℕ) (verdict : Option Taken) : Type 0 where
   pub stop : Option TurnError
   pub says : SaysFront old new turns left stop text
@@ -104,45 +104,45 @@ module _ (fresh : ℕ) (body : List ℕ) (n m : NodeState) (old new : StreamStat
     pub rests : Rests old new turns left
     pub verdict_is : verdict ≡ Some (step_verdict cause)
 
-  -- The node took the body, and what its reply says was written.
+  -- The node accepted the body, and what its reply sends was written.
   pub record TakesBody : Type 0 where
     pub reply : Reply
     pub is : step n (event.Frame only_end body) fresh ≡ Ok (reply, m)
     pub writes : Writes reply.say (slice_get m.ends 0) old new turns left verdict
 
-  -- The body was handed on to the node.
+  -- The body was given to the node.
   abbrev pub HandsOn : Type 0
   HandsOn = RefusesBody ⊎ TakesBody
 
-  -- the same, unless the listener judged it itself
+  -- the same, unless the listener judges the body itself
   abbrev pub TakesUnless : Option Taken → Type 0
   TakesUnless (Some t) = (m ≡ n) × Rests old new turns left × (verdict ≡ Some t)
   TakesUnless None = HandsOn
 
--- WHAT BECOMES OF A BODY that says this
+-- WHAT A BODY DOES that says this
 abbrev pub Takes : ℕ → Bool → List ℕ → Content → NodeState → NodeState → StreamState → StreamState → ℕ → ℕ → Option Taken → Type 0
 Takes fresh compares body says n m old new turns left verdict =
     TakesUnless fresh body n m old new turns left verdict (own_verdict compares (awaited_of (only n)) says)
 
--- ---- the talk, from its end
+-- ---- the talk
 
--- The verdict of a body; a node that awaits more still would be another one than this.
+-- The verdict of the last body. There is always one: this node awaits no further body.
 abbrev pub last_verdict : Option Taken → Taken
 last_verdict (Some t) = t
 last_verdict None = taken.Unexpected
 
--- The body that came upon the challenge decides.
+-- The body that came after the challenge decides.
 pub record Decides (fresh : ℕ) (compares : Bool) (inbound : Inbound) (n m : NodeState) (old new : StreamState) (turns left : ℕ) (t : Taken) : Type 0 where
   pub verdict : Option Taken
   pub takes : Takes fresh compares inbound.body inbound.content n m old new turns left verdict
   pub is : t ≡ last_verdict verdict
 
--- what was heard upon the challenge decides
+-- what was received after the challenge decides
 abbrev pub DecidesBy : Result Inbound Taken → ℕ → Bool → NodeState → NodeState → StreamState → StreamState → ℕ → ℕ → Taken → Type 0
 DecidesBy (Ok inbound) fresh compares n m old new turns left t = Decides fresh compares inbound n m old new turns left t
 DecidesBy (Err v) fresh compares n m old new turns left t = (m ≡ n) × Rests old new turns left × (t ≡ v)
 
--- One more body was heard, and decides.
+-- One more body was received, and decides.
 pub record TalksOn (fresh : ℕ) (compares : Bool) (n m : NodeState) (old new : StreamState) (turns left : ℕ) (t : Taken) : Type 0 where
   pub heard : Result Inbound Taken
   pub mid : StreamState
@@ -150,13 +150,13 @@ pub record TalksOn (fresh : ℕ) (compares : Bool) (n m : NodeState) (old new : 
   pub hears : HearsBody (awaited_of (only n)) old mid turns between heard
   pub decides : DecidesBy heard fresh compares n m mid new between left t
 
--- behind the first body: it decided, or the node awaits more
+-- after the first body: it decided, or the node awaits more
 abbrev pub GoesOn : Option Taken → ℕ → Bool → NodeState → NodeState → StreamState → StreamState → ℕ → ℕ → Taken → Type 0
 GoesOn (Some v) fresh compares n m old new turns left t = (m ≡ n) × Rests old new turns left × (t ≡ v)
 GoesOn None fresh compares n m old new turns left t = TalksOn fresh compares n m old new turns left t
 
--- THE TALK behind the first body, which says this: the node is told each body that came, in order, but for those that the listener
--- judges itself; what it says is written before the next body is read; and the verdict is upon how its end stands.
+-- THE TALK from the first body on, which says this: the node gets each body, in order, except those that the listener judges itself;
+-- what it sends is written before the next body is read; and the verdict is on its end.
 pub record Talks (fresh : ℕ) (compares : Bool) (body : List ℕ) (says : Content) (n m : NodeState)
     (old new : StreamState) (turns left : ℕ) (t : Taken) : Type 0 where
   pub verdict : Option Taken
@@ -168,28 +168,28 @@ pub record Talks (fresh : ℕ) (compares : Bool) (body : List ℕ) (says : Conte
 
 -- ---- what a verdict shows
 
--- The record is of the node that said this of itself, and of the cookie and the challenge of this node.
+-- The record is of the node that sent this about itself, and of this node's cookie and challenge.
 pub record IsRecordOf (s : Setup) (fresh : ℕ) (peer : Peer) (kept : UpRecord) : Type 0 where
-  -- the peer has the name that it said
+  -- the peer has the name that it sent
   pub name : kept.peer ≡ peer.name
   -- the flags are those that both announced
   pub flags : kept.common ≡ record { 0 = common (announced_by s) (let f = peer.flags in f.0) }
-  -- its creation is the one that it said
+  -- its creation is the one that it sent
   pub creation : kept.creation ≡ Some peer.creation
   -- the challenge is the one that was drawn
   pub challenge : kept.challenge ≡ fresh
-  -- the digest that came is that of the own cookie for this peer and of that challenge
+  -- the digest received is that of this node's cookie for the peer, and of that challenge
   pub right : same_bytes kept.digest_received (own_digest s kept.peer fresh) ≡ true
 
--- The node has a record of its end, of what the first body said.
+-- The node has a record of its end, with what the first body says.
 abbrev pub IsUp : Setup → ℕ → Content → NodeState → Type 0
 IsUp s fresh says n = (peer : Peer) × (kept : UpRecord) × (says ≡ content.Name peer) × (only n ≡ Some (ends.Up kept)) × IsRecordOf s fresh peer kept
 
--- WHAT A VERDICT SHOWS OF THE NODE, as the talk left it
+-- WHAT A VERDICT SHOWS OF THE NODE after the talk
 abbrev pub Shows : Setup → ℕ → Bool → Content → Taken → NodeState → Type 0
 -- Up: a cookie was compared, and the node has a record of the end
 Shows s fresh compares says taken.Up n = (compares ≡ true) × IsUp s fresh says n
--- Answered: no cookie was compared, and the end awaits the reply still
+-- Answered: no cookie was compared, and the end still awaits the reply
 Shows s fresh compares says taken.Answered n = (compares ≡ false) × (awaited_of (only n) ≡ Some awaited.Reply)
 -- WrongCookie: the node closed the end for its digest
 Shows s fresh compares says taken.WrongCookie n = only n ≡ Some (ends.Closed why.WrongDigest)

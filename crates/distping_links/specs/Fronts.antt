@@ -1,8 +1,8 @@
--- What a connection shows of itself that ends for who reads it behind so many bytes.
+-- What contracts see of a connection whose reader gets only its first bytes.
 use Rattle.std.specs.Prelude.{Bool, None, ◌||◌}
 use Rattle.dist_stream.specs.Stream.{StreamState}
 
--- that of the connection, of which no byte is known; it has ended, too, where more came than is taken
+-- the connection, without its bytes; it has also ended if more bytes arrived than are read
 abbrev pub front_meaning : Bool → StreamState → StreamState
 front_meaning is_cut inner = record {
   unread = None;

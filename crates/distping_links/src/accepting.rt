@@ -1,7 +1,7 @@
-//! The accepting side of one handshake: a node that has no other end takes what comes, and what it says is written.
+//! The accepting side of one handshake: a node without other ends gets what arrives, and what it sends is written.
 //!
-//! No sockets, no clock, and nothing is printed here. Which message is awaited, what comes up and why an end is closed is the
-//! node's. The listener itself judges two bodies: the older form of a name, and a reply where no cookie is compared.
+//! It has no sockets and no clock, and prints nothing. The node decides which message is awaited, which end comes up, and why one is
+//! closed. The listener itself judges two bodies: the older form of a name, and a reply if no cookie is compared.
 
 ghost use Rattle.std.specs.Prelude.{◌≡◌, IfOk, IfErr};
 ghost use Rattle.dist_messages.specs.Reading.{read};
@@ -19,8 +19,8 @@ use dist_stream::{Limited, Stream, TurnError};
 use distping_report::{Listen, Taken};
 use std::alloc::Global;
 
-// The tags of the dialling side: an older name, a newer one, a status, a complement, a reply. Source: ERTS User's Guide,
-// Distribution Handshake. A length counts only before one of them, as at the dialling probe.
+// The tags of the dialling side: an older name, a newer one, a status, a complement, a reply. Source: ERTS User's Guide, Distribution
+// Handshake. A length counts only before one of them, as in a probe that dials.
 const TAGS: [u8; 5] = [0x6e, 0x4e, 0x73, 0x63, 0x72];
 
 /// The node's one end.
@@ -29,17 +29,17 @@ pub const END: EndId = EndId(0);
 /// What a body of the dialling side says, as far as the listener looks at it.
 #[derive(Drop)]
 pub enum Content {
-    /// The newer form of a name, in which a node tells of itself.
+    /// The newer form of a name, in which a node sends its flags and its creation.
     Name(Peer),
     /// The older form of a name.
     OldName,
     /// A reply to a challenge.
     Reply,
-    /// Anything else, also what is no message.
+    /// Anything else, even if it is not a message.
     Other,
 }
 
-/// A body that came, and what it says.
+/// A body that was received, and what it says.
 #[derive(Drop)]
 pub struct Inbound {
     /// The body.
@@ -70,7 +70,7 @@ fn content_in(message: Message) -> Content
 
 // ---- verdicts
 
-// The connection ended, or broke, where this was awaited.
+// The verdict if the connection ended, or broke, while this was awaited.
 fn end_verdict(awaited: Option<Awaited>) -> Taken
     ensures { result ≡ end_verdict awaited }
 {
@@ -81,7 +81,7 @@ fn end_verdict(awaited: Option<Awaited>) -> Taken
     }
 }
 
-// The stream gave or took no more where this was awaited.
+// The verdict if a read or a write failed, or the turns ran out, while this was awaited.
 fn fault_verdict(awaited: Option<Awaited>, fault: TurnError) -> Taken
     ensures { result ≡ fault_verdict awaited fault }
 {
@@ -91,7 +91,7 @@ fn fault_verdict(awaited: Option<Awaited>, fault: TurnError) -> Taken
     }
 }
 
-// The node closed the end for this cause.
+// The verdict if the node closed the end for this cause.
 fn close_verdict(why: Why) -> Taken
     ensures { result ≡ close_verdict why }
 {
@@ -101,7 +101,7 @@ fn close_verdict(why: Why) -> Taken
     }
 }
 
-// The node refused the body.
+// The verdict if the node refused the body.
 fn step_verdict(error: StepError) -> Taken
     ensures { result ≡ step_verdict error }
 {
@@ -111,7 +111,7 @@ fn step_verdict(error: StepError) -> Taken
     }
 }
 
-// How the end stands, once all that the node said was written. None where its handshake goes on.
+// The verdict on the end once all that the node sends was written. `None` if its handshake goes on.
 fn still_verdict(still: Still) -> Option<Taken>
     ensures { result ≡ still_verdict still }
 {
@@ -122,7 +122,7 @@ fn still_verdict(still: Still) -> Option<Taken>
     }
 }
 
-// How the end stands and what it awaits, where this fault cut off what the node said.
+// The verdict on the end if this fault cut off what the node sends.
 fn cut_verdict(still: Still, awaited: Option<Awaited>, fault: TurnError) -> Taken
     ensures { result ≡ cut_verdict still awaited fault }
 {
@@ -133,7 +133,7 @@ fn cut_verdict(still: Still, awaited: Option<Awaited>, fault: TurnError) -> Take
     }
 }
 
-// What the listener judges itself, where this is awaited.
+// The verdict on a body that the listener judges itself, while this is awaited.
 fn own_verdict(compares: bool, awaited: Option<Awaited>, content: &Content) -> Option<Taken>
     ensures { result ≡ own_verdict compares awaited content.now }
 {
@@ -152,7 +152,7 @@ fn own_verdict(compares: bool, awaited: Option<Awaited>, content: &Content) -> O
 
 // ---- bodies
 
-// What a body that came says.
+// A body that was received, with what it says.
 fn read_body(alloc: Global, body: ByteString) -> Result<Inbound, Taken>
     ensures ok { IfOk result (λ inbound. (inbound.body ≡ body) × (inbound.content ≡ content_as (read Dialler body))) }
     ensures err { IfErr result (λ t. t ≡ Taken.NoMemory) }
@@ -170,9 +170,9 @@ fn read_body(alloc: Global, body: ByteString) -> Result<Inbound, Taken>
     }
 }
 
-/// The next body of the dialling side, or the verdict upon what stands in its place, where this is awaited. It writes nothing.
+/// The next body of the dialling side, or the verdict on what came instead, while this is awaited. It writes nothing.
 ///
-/// A body has up to 65,535 bytes. Where the byte behind a length is no tag, those three bytes alone are read.
+/// A body has up to 65,535 bytes. If the byte after a length is not a tag, only these three bytes are read.
 pub fn hear<S: Stream>(
     alloc: Global,
     limited: &mut Limited<'_, S>,
@@ -190,7 +190,7 @@ pub fn hear<S: Stream>(
     }
 }
 
-// Writes what the node says, and answers how its end then stands. None where its handshake goes on.
+// Writes what the node sends, and returns the verdict on its end. `None` if its handshake goes on.
 fn write_text<S: Stream>(limited: &mut Limited<'_, S>, node: &Node, text: &[u8]) -> Option<Taken>
     ensures writes { Writes text.now (only node.now)
         (S.meaning limited.old.stream.now) (S.meaning limited.new.stream.now) limited.old.left limited.new.left result }
@@ -202,7 +202,7 @@ fn write_text<S: Stream>(limited: &mut Limited<'_, S>, node: &Node, text: &[u8])
     }
 }
 
-// Hands a body on to the node, and writes what that says. None where the node awaits more.
+// Gives a body to the node, and writes what the node sends. `None` if the node awaits more.
 fn hand_on<S: Stream>(
     alloc: Global,
     limited: &mut Limited<'_, S>,
@@ -220,7 +220,7 @@ fn hand_on<S: Stream>(
     }
 }
 
-// Judges a body, or hands it on to the node. None where the node awaits more.
+// Judges a body, or gives it to the node. `None` if the node awaits more.
 fn take<S: Stream>(
     alloc: Global,
     limited: &mut Limited<'_, S>,
@@ -241,7 +241,7 @@ fn take<S: Stream>(
 
 // ---- the talk
 
-/// A node of this setup, to which one connection came: it awaits the name.
+/// A node of this setup with one connection, which awaits the name.
 pub fn open_node(alloc: Global, setup: &Setup) -> Result<Node, StepError>
     ensures { IfOk result (AwaitsName setup.now) }
 {
@@ -253,14 +253,14 @@ pub fn open_node(alloc: Global, setup: &Setup) -> Result<Node, StepError>
     Ok(node)
 }
 
-/// The verdict of a node that refused the connection.
+/// The verdict if the node refused the connection.
 pub fn refusal_verdict(error: StepError) -> Taken
     ensures { result ≡ step_verdict error }
 {
     step_verdict(error)
 }
 
-// What comes of what is heard upon the challenge.
+// Receives one more body, after the challenge, and returns the verdict.
 fn continue_talk<S: Stream>(
     alloc: Global,
     limited: &mut Limited<'_, S>,
@@ -280,7 +280,7 @@ fn continue_talk<S: Stream>(
     }
 }
 
-/// What comes of the first body, which says this.
+/// The verdict of the talk from the first body on, which says this.
 pub fn talk<S: Stream>(
     alloc: Global,
     limited: &mut Limited<'_, S>,
@@ -289,10 +289,10 @@ pub fn talk<S: Stream>(
     body: ByteString,
     content: &Content,
 ) -> Taken
-    // The node is one that `open_node` gave.
+    // `open_node` returned the node.
     requires opened { AwaitsName listen.now.setup.now node.old }
 
-    // `hear` gave both.
+    // `hear` returned both.
     requires content { content.now ≡ content_as (read Dialler body) }
     ensures talks { Talks listen.now.fresh listen.now.compares body content.now node.old node.new
         (S.meaning limited.old.stream.now) (S.meaning limited.new.stream.now) limited.old.left limited.new.left result }

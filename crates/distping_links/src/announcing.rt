@@ -1,21 +1,21 @@
-//! The addresses of a host, as they are printed before each is tried.
+//! Prints the addresses of a host, each before it is tried.
 
 use dist_program::{at_port, without_brackets};
 use distping_report::Dial;
 use distping_words::Fault;
 use std::net::{IpAddr, SocketAddr, TcpListener};
 
-// Whether a host is a name, and no address.
+// Whether a host is a name, not an address.
 fn is_name(host: &str) -> bool {
     without_brackets(host).parse::<IpAddr>().is_err()
 }
 
-// Whether an address is one of this machine itself: those alone can be listened at.
+// Whether an address is this machine's own: only at those can it listen.
 fn is_own_address(rt: &HostRuntime, address: &SocketAddr) -> bool {
     TcpListener::bind(rt, at_port(address, 0)).is_ok()
 }
 
-/// Prints an address of the host, and where the host is a name whether that leads to this machine itself.
+/// Prints an address of the host; if the host is a name, also whether the address is this machine's own.
 pub fn put_address(dial: &Dial<'_>, address: &SocketAddr, has_ipv4: bool) -> Result<(), Fault> {
     let host = dial.choices.host(dial.node);
     dial.lines.put_address(host, address, has_ipv4)?;

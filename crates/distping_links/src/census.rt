@@ -1,30 +1,30 @@
-//! The port mapper of a host is asked for all nodes that it knows.
+//! Asks the port mapper of a host for all nodes that it knows.
 
 use crate::announcing::put_address;
 use crate::mapper::{Names, ask_front, connect_to_mapper, lookup_verdict};
 use crate::outcomes::{no_host, outcome_of};
 use crate::stop::Stop;
 use crate::tries::Tries;
-use dist_probe::Verdict;
-use dist_program::{Addresses, Budget, Step};
-use distping_report::{Dial, Found, Outcome};
+use dist_probe::ProbeVerdict;
+use dist_program::{Addresses, Budget, TimedStep};
+use distping_report::{Dial, Found, ProbeOutcome};
 use distping_words::Fault;
 use std::alloc::Global;
 use std::net::SocketAddr;
 
-/// What the port mapper of a host says of its nodes.
+/// What the port mapper of a host knows of its nodes.
 #[derive(Drop)]
 pub enum Census {
-    /// It gave these, at this address.
+    /// It knows these names; it was asked at this address.
     Names(SocketAddr, Names),
-    /// It gave none.
-    Nobody(Outcome),
+    /// It gave none, with this result.
+    Nobody(ProbeOutcome),
 }
 
-/// What a host without nodes comes to, at this address.
-pub fn empty_host(alloc: Global, address: SocketAddr) -> Outcome {
-    Outcome {
-        verdict: Verdict::NotRegistered,
+/// The result for a host without nodes, at this address.
+pub fn empty_host(alloc: Global, address: SocketAddr) -> ProbeOutcome {
+    ProbeOutcome {
+        verdict: ProbeVerdict::NotRegistered,
         found: Found::nothing(Some(address)),
         addresses: Vec::new(alloc),
         verdicts: Vec::new(alloc),
@@ -35,7 +35,7 @@ pub fn empty_host(alloc: Global, address: SocketAddr) -> Outcome {
 fn ask_address(dial: &Dial<'_>, address: &SocketAddr, budget: &mut Budget) -> Result<Names, Stop> {
     let mut stream = connect_to_mapper(dial, address, budget)?;
     let answer = ask_front(dial, &mut stream);
-    budget.settle(Step::Lookup, stream.time_left());
+    budget.settle(TimedStep::Lookup, stream.time_left());
     match answer {
         Ok(names) => Ok(names),
         Err(error) => {
@@ -45,7 +45,7 @@ fn ask_address(dial: &Dial<'_>, address: &SocketAddr, budget: &mut Budget) -> Re
     }
 }
 
-// The names that the port mapper at one address more gives, else the verdict upon that address.
+// The names from the port mapper at the next address, or the verdict on that address.
 fn try_names(
     dial: &Dial<'_>,
     address: &SocketAddr,
@@ -62,7 +62,7 @@ fn try_names(
     Ok(None)
 }
 
-// The names that the port mapper gives at the first of the addresses where it answers.
+// The names from the first of the addresses whose port mapper answers.
 fn first_names(
     dial: &Dial<'_>,
     addresses: &[SocketAddr],
@@ -80,7 +80,7 @@ fn first_names(
     Ok(None)
 }
 
-/// Asks the port mapper of a host for all nodes that it knows, at each of these addresses until it answers, and prints each step.
+/// Asks the port mapper of a host for all nodes that it knows, at one address after the other until one answers, and prints each step.
 pub fn ask_census(dial: &Dial<'_>, addresses: Addresses) -> Result<Census, Fault> {
     let alloc = dial.lines.alloc;
     let addresses = match addresses {

@@ -1,16 +1,16 @@
-//! Connections, and what it means where one is not made.
+//! Makes connections, and says why one is not made.
 
 use dist_probe::{Unreached, unreached_of};
-use dist_program::{Budget, Step, at_port, deadline_in};
+use dist_program::{Budget, TimedStep, at_port, deadline_in};
 use dist_stream::{DeadlineStream, connect_by, deadline_after, time_left};
 use std::io;
 use std::net::SocketAddr;
 use std::time::Instant;
 
 /// A connection that is quiet once its time is over.
-pub type Connection = DeadlineStream<HostRuntime>;
+pub type ProbeStream = DeadlineStream<HostRuntime>;
 
-// How a connect ended that this error tells of.
+// How a connect ended that returned this error.
 fn unreached_by(error: &io::Error) -> Unreached {
     let number = match error.raw_os_error() {
         Some(code) => u32::try_from(code).unwrap_or(0),
@@ -19,13 +19,13 @@ fn unreached_by(error: &io::Error) -> Unreached {
     unreached_of(error.kind(), number)
 }
 
-// A connection to this place, made within the share of the first step, for what has the share of the second.
+// A connection to this place. The connect has the share of the first step, and the talk that of the second.
 fn connect_within(
     rt: &HostRuntime,
     place: &SocketAddr,
-    (step, next): (Step, Step),
+    (step, next): (TimedStep, TimedStep),
     budget: &mut Budget,
-) -> io::Result<Connection> {
+) -> io::Result<ProbeStream> {
     let until = deadline_after(rt, budget.share(step))?;
     let made = connect_by(rt, place, until);
     budget.settle(step, time_left(rt, until));
@@ -34,34 +34,34 @@ fn connect_within(
     Ok(DeadlineStream::new(stream, *rt, until))
 }
 
-/// A connection to a port of an address, made within the share of the first step. What is said on it has the share of the second.
+/// A connection to a port of an address. The connect has the share of the first step, and the talk that of the second.
 pub fn connect_to(
     rt: &HostRuntime,
     address: &SocketAddr,
     port: u16,
-    steps: (Step, Step),
+    steps: (TimedStep, TimedStep),
     budget: &mut Budget,
-) -> Result<Connection, Unreached> {
+) -> Result<ProbeStream, Unreached> {
     match connect_within(rt, &at_port(address, port), steps, budget) {
         Ok(stream) => Ok(stream),
         Err(error) => Err(unreached_by(&error)),
     }
 }
 
-/// A further connection to a port of an address, which ends at this time together with what is sent on it.
+/// One more connection to a port of an address. Connect and talk both end at this time.
 pub fn connect_again(
     rt: &HostRuntime,
     address: &SocketAddr,
     port: u16,
     until: Instant,
-) -> Option<Connection> {
+) -> Option<ProbeStream> {
     match connect_by(rt, &at_port(address, port), until) {
         Ok(stream) => Some(DeadlineStream::new(stream.into_inner(), *rt, until)),
         Err(_) => None,
     }
 }
 
-/// The end of what takes a second at most, and ends at this time at the latest.
+/// The end of a step that takes at most a second, and ends at this time at the latest.
 pub fn second_before(rt: &HostRuntime, until: Instant) -> Instant {
     match deadline_in(rt, 1) {
         Ok(second) if second < until => second,

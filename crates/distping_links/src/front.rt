@@ -1,29 +1,29 @@
-//! What is taken of a port mapper's answer: its front, however much it says.
+//! Reads only the first bytes of a port mapper's answer, however long it is.
 
 ghost use Rattle.std.specs.Prelude.{◌≡◌, ◌+◌, ◌<◌, ◌≤◌, [], length, false};
 ghost use Rattle.dist_stream.specs.Stream.{Reads, heard_count};
 ghost use Rattle.distping_links.specs.Fronts.{front_meaning};
 
-use crate::dialling::Connection;
+use crate::dialling::ProbeStream;
 use dist_stream::{DeadlineStream, Heard, Stream, Took};
 use std::time::{Duration, Instant};
 
-/// The most bytes that are taken of a port mapper's answer, some 2,500 names of usual length. Our own choice.
+/// The most bytes that are read of a port mapper's answer: some 2,500 names of usual length. Our own choice.
 const MOST_OF_ANSWER: usize = 65_535;
 
-/// A connection to a port mapper that ends, for who reads it, behind so many bytes. No contract says which bytes come and go.
+/// A connection to a port mapper whose reader gets at most this many bytes. No contract says which bytes are read and written.
 #[derive(Drop)]
 pub struct FrontStream {
-    stream: Connection,
-    // How many bytes are still taken.
+    stream: ProbeStream,
+    // How many bytes may still be read.
     left: usize,
-    // More came.
+    // Whether more bytes arrived.
     is_cut: bool,
 }
 
 impl FrontStream {
-    /// The front of what comes on this connection.
-    pub fn new(stream: Connection) -> FrontStream
+    /// The first bytes that arrive on this connection.
+    pub fn new(stream: ProbeStream) -> FrontStream
         ensures most { result.left ≡ 65535 }
         ensures whole { result.is_cut ≡ false }
     {
@@ -34,7 +34,7 @@ impl FrontStream {
         }
     }
 
-    /// When it falls quiet.
+    /// When the connection falls quiet.
     pub fn deadline(&self) -> Instant {
         self.stream.deadline()
     }
@@ -44,14 +44,14 @@ impl FrontStream {
         self.stream.time_left()
     }
 
-    /// Whether more came than is taken.
+    /// Whether more bytes arrived than are read.
     pub fn is_cut(&self) -> bool
         ensures { result ≡ self.now.is_cut }
     {
         self.is_cut
     }
 
-    // Reads what is still taken, into as much room as that needs at most.
+    // Reads bytes that may still be read, into no more room than they need.
     #[tactic(auto, using(crate::proofs::Fronts::reads_front))]
     fn read_front(&mut self, room: &mut [u8]) -> Heard
         requires some { 0 < length room.old }
@@ -67,7 +67,7 @@ impl FrontStream {
         heard
     }
 
-    // Reads a byte behind what is taken: one that comes is left out, and is the end.
+    // Reads a byte beyond those that may be read. If one arrives, it is dropped, and counts as the end.
     #[tactic(auto, using(crate::proofs::Fronts::reads_front, crate::proofs::Fronts::reads_behind))]
     fn read_behind(&mut self) -> Heard
         ensures reads { Reads (front_meaning self.old.is_cut (⟦<DeadlineStream<HostRuntime> as Stream>⟧.meaning self.old.stream))

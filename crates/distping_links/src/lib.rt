@@ -1,10 +1,9 @@
-//! How distping meets a node: it dials one, at each address of the node's host until it is found, or takes one connection, as a
-//! node of the proved core with one end takes it.
+//! How distping meets a node: it dials one, at each address of the node's host until it is found, or takes one connection, with a node
+//! of the proved core that has one end.
 //!
-//! To dial is to ask the port mapper of the host where the node listens, to connect, and to talk, each step within its time; the
-//! port mapper alone can be asked for all that it knows. What is found is printed step by step, and handed back with a verdict.
-//! Which nodes are dialled, what is said of several of them, and the line and the object of what came of a connection are the
-//! program's.
+//! To dial is to ask the host's port mapper where the node listens, to connect, and to talk, each step within its time. The port mapper
+//! can also be asked for all names that it knows. Each step is printed, and the result is returned with a verdict. Which nodes are
+//! dialled, what is printed of several, and the line and the object of a connection are the program's.
 #![tactic(auto)]
 
 mod accepting;

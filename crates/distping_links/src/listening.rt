@@ -1,4 +1,4 @@
-//! One connection is taken as a node takes it, and what the other side sends is printed.
+//! Takes one connection, as a node takes it, and prints what the other side sends.
 
 ghost use Rattle.std.specs.Prelude.{◌≡◌};
 ghost use Rattle.dist_messages.specs.Reading.{read};
@@ -7,18 +7,18 @@ ghost use Rattle.distping_links.specs.Accepting.{AwaitsName, content_as};
 ghost use Rattle.distping_links.specs.Listening.{behind_left, is_probe, wants_name};
 
 use crate::accepting::{Content, END, Inbound, hear, open_node, refusal_verdict, talk};
-use crate::dialling::Connection;
-use crate::waiting::{Arrival, await_caller, bind_listener};
+use crate::dialling::ProbeStream;
+use crate::waiting::{IncomingStream, await_caller, bind_listener};
 use dist_core::Node;
 use dist_names::Flags;
 use dist_probe::Peer;
 use dist_program::talk_over;
 use dist_stream::{Limited, SocketStream};
-use distping_report::{Caller, Lines, Listen, Taken};
+use distping_report::{Caller, LineSink, Listen, Taken};
 use distping_words::Fault;
 use std::io;
 
-// What the system gave the listener, or that it failed.
+// A result of the system for the listener, or the fault that it failed.
 fn or_fault<T: Drop>(given: io::Result<T>) -> Result<T, Fault> {
     match given {
         Ok(it) => Ok(it),
@@ -26,26 +26,26 @@ fn or_fault<T: Drop>(given: io::Result<T>) -> Result<T, Fault> {
     }
 }
 
-// Listens, and waits for one connection. None where nobody dialled in time.
+// Listens, and waits for one connection. `None` if no node dialled in time.
 fn accept(
     rt: &HostRuntime,
     listen: &Listen<'_>,
-    lines: Lines<'_>,
+    lines: LineSink<'_>,
     caller: &mut Caller,
-) -> Result<Option<Connection>, Fault> {
+) -> Result<Option<ProbeStream>, Fault> {
     let listener = or_fault(bind_listener(rt, listen.place, listen.port))?;
     lines.put_listening(listen.port, &listen.setup.name)?;
     let Some(arrival) = or_fault(await_caller(rt, &listener, listen.patience))? else {
         return Ok(None);
     };
-    let Arrival { socket, from } = arrival;
+    let IncomingStream { socket, from } = arrival;
     caller.address = Some(from);
     lines.put_taken(&from)?;
     let stream = or_fault(talk_over(*rt, SocketStream::new(socket), listen.seconds))?;
     Ok(Some(stream))
 }
 
-// Whether a node asks for a name, in place of saying its own.
+// Whether a node asks for a name, instead of sending its own.
 fn wants_name(content: &Content) -> bool
     ensures { result ≡ wants_name content.now }
 {
@@ -55,7 +55,7 @@ fn wants_name(content: &Content) -> bool
     }
 }
 
-// Whether this is the name that a probe gives itself, where it is not told another.
+// Whether this is the name that a probe gives itself if it is given no other.
 fn is_probe(content: &Content) -> bool
     ensures { result ≡ is_probe content.now }
 {
@@ -65,7 +65,7 @@ fn is_probe(content: &Content) -> bool
     }
 }
 
-// What came of who left, where it may be a probe that tries no cookie.
+// The result, changed if the node that left may be a probe that tries no cookie.
 fn behind_left(taken: Taken, content: &Content) -> Taken
     ensures { result ≡ behind_left taken content.now }
 {
@@ -75,23 +75,23 @@ fn behind_left(taken: Taken, content: &Content) -> Taken
     }
 }
 
-// Prints what a node says of itself, where it does.
-fn put_content(lines: Lines<'_>, content: &Content) -> Result<(), Fault> {
+// Prints what a node sent about itself, if it did.
+fn put_content(lines: LineSink<'_>, content: &Content) -> Result<(), Fault> {
     match content {
         Content::Name(peer) => lines.put_peer(peer),
         _ => Ok(()),
     }
 }
 
-// Prints what the first body says, and goes on from there. Beside what came of it stands what the node said of itself.
+// Prints what the first body says, and talks on. Returns the result, and what the node sent about itself.
 fn greet(
-    limited: &mut Limited<'_, Connection>,
+    limited: &mut Limited<'_, ProbeStream>,
     node: &mut Node,
     listen: &Listen<'_>,
-    lines: Lines<'_>,
+    lines: LineSink<'_>,
     inbound: Inbound,
 ) -> Result<(Taken, Option<Peer>), Fault>
-    // The node is one that `open_node` gave, and `hear` gave what came.
+    // `open_node` returned the node, and `hear` the body.
     requires opened { AwaitsName listen.now.setup.now node.old }
     requires content { inbound.content ≡ content_as (read Dialler inbound.body) }
 {
@@ -109,15 +109,15 @@ fn greet(
     }
 }
 
-// Reads the first body, and goes on from there.
+// Reads the first body, and talks on.
 fn attend(
-    limited: &mut Limited<'_, Connection>,
+    limited: &mut Limited<'_, ProbeStream>,
     node: &mut Node,
     listen: &Listen<'_>,
-    lines: Lines<'_>,
+    lines: LineSink<'_>,
     caller: &mut Caller,
 ) -> Result<Taken, Fault>
-    // The node is one that `open_node` gave.
+    // `open_node` returned the node.
     requires { AwaitsName listen.now.setup.now node.old }
 {
     match hear(lines.alloc, limited, node.awaits(END)) {
@@ -130,11 +130,11 @@ fn attend(
     }
 }
 
-// Talks with who dialled, and returns what came of it.
+// Talks with the node that dialled, and returns the result.
 fn attend_caller(
-    stream: &mut Connection,
+    stream: &mut ProbeStream,
     listen: &Listen<'_>,
-    lines: Lines<'_>,
+    lines: LineSink<'_>,
     caller: &mut Caller,
 ) -> Result<Taken, Fault> {
     let mut limited = Limited {
@@ -147,11 +147,11 @@ fn attend_caller(
     }
 }
 
-/// Takes one connection, prints what the other side sends, and returns what came of it. What was found stands in `caller`.
+/// Takes one connection, prints what the other side sends, and returns the result. `caller` gets what was found out.
 pub fn take_connection(
     rt: &HostRuntime,
     listen: &Listen<'_>,
-    lines: Lines<'_>,
+    lines: LineSink<'_>,
     caller: &mut Caller,
 ) -> Result<Taken, Fault> {
     match accept(rt, listen, lines, caller)? {

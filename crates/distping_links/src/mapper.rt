@@ -1,4 +1,4 @@
-//! The port mapper of a node's host is asked where the node listens, and each step is printed.
+//! Asks the port mapper of a node's host where the node listens, and prints each step.
 
 ghost use Rattle.std.specs.Prelude.{◌≡◌};
 ghost use Rattle.distping_links.specs.Places.{lookup_verdict};
@@ -9,30 +9,36 @@ use crate::stop::Stop;
 use dist_epmd::PortInfo;
 use dist_epmd_calls::{LookupError, ask_names, lookup};
 use dist_names::ByteString;
-use dist_probe::{Verdict, mapper_verdict};
-use dist_program::{Budget, Step};
+use dist_probe::{ProbeVerdict, mapper_verdict};
+use dist_program::{Budget, TimedStep};
 use distping_report::{Dial, Found, Registration};
 use distping_words::Fault;
 use std::net::SocketAddr;
 use std::time::Instant;
 
-/// What a port mapper knows: whole lines.
+/// The names that a port mapper knows, on whole lines.
 #[derive(Drop)]
 pub struct Names {
     /// The lines.
     pub text: ByteString,
-    /// It says more than is taken of its answer.
+    /// Whether the answer is longer than what is read.
     pub is_cut: bool,
 }
 
-/// A connection to the port mapper. That it was not reached is printed.
+/// A connection to the port mapper. If it is not reached, that is printed.
 pub fn connect_to_mapper(
     dial: &Dial<'_>,
     address: &SocketAddr,
     budget: &mut Budget,
 ) -> Result<FrontStream, Stop> {
     let port = dial.choices.mapper_port;
-    match connect_to(dial.rt, address, port, (Step::Mapper, Step::Lookup), budget) {
+    match connect_to(
+        dial.rt,
+        address,
+        port,
+        (TimedStep::Mapper, TimedStep::Lookup),
+        budget,
+    ) {
         Ok(stream) => Ok(FrontStream::new(stream)),
         Err(place) => {
             dial.lines.put_unreached("epmd     ", port, place)?;
@@ -41,18 +47,18 @@ pub fn connect_to_mapper(
     }
 }
 
-/// A lookup that went wrong, as a verdict.
-pub fn lookup_verdict(error: LookupError) -> Verdict
+/// The verdict for a lookup that failed.
+pub fn lookup_verdict(error: LookupError) -> ProbeVerdict
     ensures { result ≡ lookup_verdict error }
 {
     match error {
-        LookupError::NotThere => Verdict::NotRegistered,
-        LookupError::NoMemory => Verdict::NoMemory,
-        _ => Verdict::MapperFault(error),
+        LookupError::NotThere => ProbeVerdict::NotRegistered,
+        LookupError::NoMemory => ProbeVerdict::NoMemory,
+        _ => ProbeVerdict::MapperFault(error),
     }
 }
 
-// The lines of a text that end in it.
+// The lines of a text that have their line feed.
 fn whole_lines(text: &[u8]) -> &[u8] {
     match text.iter().rposition(|byte| *byte == b'\n') {
         Some(at) => text.get(..=at).unwrap_or(b""),
@@ -60,7 +66,7 @@ fn whole_lines(text: &[u8]) -> &[u8] {
     }
 }
 
-/// Asks for all names over this connection. Of an answer that is cut the whole lines are taken.
+/// Asks for all names on this connection. If the answer is cut, its whole lines are kept.
 pub fn ask_front(dial: &Dial<'_>, stream: &mut FrontStream) -> Result<Names, LookupError> {
     let alloc = dial.lines.alloc;
     let (_port, text) = ask_names(alloc, stream, dial.choices.turns())?;
@@ -74,14 +80,13 @@ pub fn ask_front(dial: &Dial<'_>, stream: &mut FrontStream) -> Result<Names, Loo
     }
 }
 
-// The names that the port mapper knows, asked for until this time.
+// The names that the port mapper knows, if it answers by this time.
 fn names_by(dial: &Dial<'_>, address: &SocketAddr, until: Instant) -> Option<Names> {
     let stream = connect_again(dial.rt, address, dial.choices.mapper_port, until)?;
     ask_front(dial, &mut FrontStream::new(stream)).ok()
 }
 
-// Prints the names that are registered there, where the port mapper gives them by this time, and they were not printed with
-// another node.
+// Prints the names that are registered there, if the port mapper answers by this time, and they were not printed with another node.
 fn put_registered(dial: &Dial<'_>, address: &SocketAddr, until: Instant) -> Result<(), Fault> {
     if !dial.listed.is_first(dial.node.host()) {
         return dial.lines.put_listed();
@@ -96,8 +101,7 @@ fn put_registered(dial: &Dial<'_>, address: &SocketAddr, until: Instant) -> Resu
     Ok(())
 }
 
-// Prints why there is no registration, with the names that are registered there. They are asked for only where they are
-// printed: once for each host.
+// Prints why there is no registration, and the names that are registered there. It asks for them only to print them: once for each host.
 fn put_unregistered(
     dial: &Dial<'_>,
     address: &SocketAddr,
@@ -111,7 +115,7 @@ fn put_unregistered(
     }
 }
 
-// Asks the port mapper for the node. Beside its answer stands when the time of the lookup ends.
+// Asks the port mapper for the node. Returns the answer, and when the time of the lookup ends.
 fn ask_registration(
     dial: &Dial<'_>,
     address: &SocketAddr,
@@ -120,11 +124,11 @@ fn ask_registration(
     let mut stream = connect_to_mapper(dial, address, budget)?;
     let (short, limit) = (dial.node.short(), dial.choices.turns());
     let answer = lookup(dial.lines.alloc, &mut stream, short, limit);
-    budget.settle(Step::Lookup, stream.time_left());
+    budget.settle(TimedStep::Lookup, stream.time_left());
     Ok((answer, stream.deadline()))
 }
 
-// What the port mapper knows of the node, which is printed.
+// What the port mapper knows of the node. It is printed.
 fn find_registration(
     dial: &Dial<'_>,
     address: &SocketAddr,
@@ -148,7 +152,7 @@ fn find_registration(
     }
 }
 
-/// The node's port: the one that is given, else that of its registration.
+/// The node's port: the given one, or else that of its registration.
 pub fn port_of(
     dial: &Dial<'_>,
     address: &SocketAddr,

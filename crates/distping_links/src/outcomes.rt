@@ -1,40 +1,44 @@
-//! What the addresses of a host come to.
+//! The result of trying the addresses of a host.
 
 ghost use Rattle.std.specs.Prelude.{◌≡◌, ◌<◌, length, is_some};
 ghost use Rattle.distping_links.specs.Places.{host_verdict};
 ghost use Rattle.distping_links.specs.Trying.{IsFurthest};
 ghost use Rattle.dist_probe.specs.declared.verdict.Unresolved.TheVariants.{NoName};
-ghost use Rattle.dist_probe.specs.declared.verdict.Verdict.TheVariants.{NoHost};
+ghost use Rattle.dist_probe.specs.declared.verdict.ProbeVerdict.TheVariants.{NoHost};
 
 use crate::tries::Tries;
-use dist_probe::{Unresolved, Verdict, furthest};
+use dist_probe::{ProbeVerdict, Unresolved, furthest};
 use dist_program::HostError;
-use distping_report::{Found, Outcome};
+use distping_report::{Found, ProbeOutcome};
 use distping_words::Choices;
 use std::alloc::Global;
 use std::net::SocketAddr;
 
-// That a host gave no address, as a verdict: that of `--address`, where it is given, or that of the node's name.
-fn host_verdict(has_address: bool, error: HostError) -> Verdict
+// The verdict for a host without an address: that of `--address`, if it is given, or that of the node's name.
+fn host_verdict(has_address: bool, error: HostError) -> ProbeVerdict
     ensures { result ≡ host_verdict has_address error }
 {
     match error {
-        HostError::NoName if has_address => Verdict::NoHost(Unresolved::NoAddress),
-        HostError::NoName => Verdict::NoHost(Unresolved::NoName),
-        HostError::Failed => Verdict::NoHost(Unresolved::Failed),
-        HostError::Silent => Verdict::ResolverSilent,
-        HostError::NoDescriptors => Verdict::NoDescriptors,
-        HostError::NoMemory => Verdict::NoMemory,
+        HostError::NoName if has_address => ProbeVerdict::NoHost(Unresolved::NoAddress),
+        HostError::NoName => ProbeVerdict::NoHost(Unresolved::NoName),
+        HostError::Failed => ProbeVerdict::NoHost(Unresolved::Failed),
+        HostError::Silent => ProbeVerdict::ResolverSilent,
+        HostError::NoDescriptors => ProbeVerdict::NoDescriptors,
+        HostError::NoMemory => ProbeVerdict::NoMemory,
     }
 }
 
-// What it comes to by this verdict, where nothing was tried.
-fn nothing_tried(addresses: Vec<SocketAddr>, verdicts: Vec<Verdict>, verdict: Verdict) -> Outcome
+// The result with this verdict if nothing was tried.
+fn nothing_tried(
+    addresses: Vec<SocketAddr>,
+    verdicts: Vec<ProbeVerdict>,
+    verdict: ProbeVerdict,
+) -> ProbeOutcome
     ensures verdict { result.verdict ≡ verdict }
     ensures verdicts { result.verdicts ≡ verdicts }
     ensures addresses { result.addresses ≡ addresses }
 {
-    Outcome {
+    ProbeOutcome {
         verdict,
         found: Found::nothing(None),
         addresses,
@@ -42,8 +46,8 @@ fn nothing_tried(addresses: Vec<SocketAddr>, verdicts: Vec<Verdict>, verdict: Ve
     }
 }
 
-/// What the addresses come to: the verdict of the first of those that got furthest. There is no host where there is none.
-pub fn outcome_of(addresses: Vec<SocketAddr>, all: Tries) -> Outcome
+/// The result of the addresses: that of the first of those that got furthest; `NoHost` if there are none.
+pub fn outcome_of(addresses: Vec<SocketAddr>, all: Tries) -> ProbeOutcome
     ensures some { 0 < length all.verdicts.items → IsFurthest all result }
     ensures none { length all.verdicts.items ≡ 0 → result.verdict ≡ NoHost NoName }
     ensures verdicts { result.verdicts ≡ all.verdicts }
@@ -55,10 +59,14 @@ pub fn outcome_of(addresses: Vec<SocketAddr>, all: Tries) -> Outcome
         ..
     } = all;
     if verdicts.is_empty() {
-        return nothing_tried(addresses, verdicts, Verdict::NoHost(Unresolved::NoName));
+        return nothing_tried(
+            addresses,
+            verdicts,
+            ProbeVerdict::NoHost(Unresolved::NoName),
+        );
     }
     let at = furthest(&verdicts);
-    Outcome {
+    ProbeOutcome {
         verdict: verdicts[at],
         found: found.swap_remove(at),
         addresses,
@@ -66,8 +74,8 @@ pub fn outcome_of(addresses: Vec<SocketAddr>, all: Tries) -> Outcome
     }
 }
 
-/// What it comes to where the host gave no address.
-pub fn no_host(alloc: Global, choices: &Choices<'_>, error: HostError) -> Outcome
+/// The result if the host has no address.
+pub fn no_host(alloc: Global, choices: &Choices<'_>, error: HostError) -> ProbeOutcome
     ensures { result.verdict ≡ host_verdict (is_some choices.now.address) error }
 {
     let verdict = host_verdict(choices.address.is_some(), error);

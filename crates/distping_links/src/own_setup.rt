@@ -1,4 +1,4 @@
-//! What the probe says of itself.
+//! What the probe sends about itself.
 
 use dist_core_setup::{Limits, Setup, Version};
 use dist_names::{Creation, Flags, NodeName};
@@ -15,7 +15,7 @@ pub fn draw_challenge(rt: &HostRuntime) -> Result<u32, Fault> {
     }
 }
 
-// The cookie that is tried. Without one there stands one that is never sent.
+// The cookie that is tried. If there is none, one that is never used.
 fn cookie_of(alloc: Global, cookie: Option<&Cookie>) -> Result<Cookie, Fault> {
     match cookie {
         Some(cookie) => Ok(cookie.try_clone(alloc)?),
@@ -26,7 +26,7 @@ fn cookie_of(alloc: Global, cookie: Option<&Cookie>) -> Result<Cookie, Fault> {
     }
 }
 
-/// The setup of a node of this name that is only there to ask, with a random creation.
+/// The setup of a node with this name that only asks, with a random creation.
 pub fn setup_of(
     rt: &HostRuntime,
     own: &NodeName,

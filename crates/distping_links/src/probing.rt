@@ -1,4 +1,4 @@
-//! One node is dialled, at each address of its host until it is found, and each step is printed.
+//! Dials one node, at each address of its host until it is found, and prints each step.
 
 use crate::announcing::put_address;
 use crate::mapper::port_of;
@@ -6,9 +6,9 @@ use crate::outcomes::{no_host, outcome_of};
 use crate::stop::Stop;
 use crate::talking::probe_node;
 use crate::tries::Tries;
-use dist_probe::{Verdict, is_found};
+use dist_probe::{ProbeVerdict, is_found};
 use dist_program::{Addresses, Budget};
-use distping_report::{Dial, Found, Outcome};
+use distping_report::{Dial, Found, ProbeOutcome};
 use distping_words::Fault;
 use std::net::SocketAddr;
 
@@ -18,13 +18,13 @@ fn probe_address(
     address: &SocketAddr,
     budget: &mut Budget,
     found: &mut Found,
-) -> Result<Verdict, Stop> {
+) -> Result<ProbeVerdict, Stop> {
     let port = port_of(dial, address, budget, found)?;
     found.port = Some(port);
     probe_node(dial, address, port, budget, found)
 }
 
-// Tries one address more, and returns whether the node was found there.
+// Tries the next address, and returns whether the node was found there.
 fn try_address(
     dial: &Dial<'_>,
     address: &SocketAddr,
@@ -41,7 +41,7 @@ fn try_address(
     Ok(is_found(verdict))
 }
 
-// Tries each address, until the node was found at one.
+// Tries each address, until the node is found at one.
 fn try_each(dial: &Dial<'_>, addresses: &[SocketAddr], all: &mut Tries) -> Result<(), Fault> {
     let count = u32::try_from(addresses.len()).unwrap_or(u32::MAX);
     let mut budget = Budget::new(dial.choices.seconds, count);
@@ -55,8 +55,8 @@ fn try_each(dial: &Dial<'_>, addresses: &[SocketAddr], all: &mut Tries) -> Resul
     Ok(())
 }
 
-/// Dials the node at the addresses of its host, prints each step, and returns what it comes to.
-pub fn probe(dial: &Dial<'_>, addresses: Addresses) -> Result<Outcome, Fault> {
+/// Dials the node at the addresses of its host, prints each step, and returns the result.
+pub fn probe(dial: &Dial<'_>, addresses: Addresses) -> Result<ProbeOutcome, Fault> {
     let alloc = dial.lines.alloc;
     dial.lines.put_styles(dial.own, dial.node)?;
     match addresses {

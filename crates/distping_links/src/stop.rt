@@ -1,14 +1,14 @@
 //! What stops a probe.
 
-use dist_probe::Verdict;
+use dist_probe::ProbeVerdict;
 use distping_words::Fault;
 
 /// What stops a probe.
 #[derive(Clone, Copy)]
 pub enum Stop {
     /// A verdict before the talk.
-    Verdict(Verdict),
-    /// A fault of the own side.
+    Verdict(ProbeVerdict),
+    /// A fault on this side.
     Fault(Fault),
 }
 

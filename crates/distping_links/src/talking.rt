@@ -1,17 +1,19 @@
-//! The node is connected to and talked with, and what it sends is printed.
+//! Connects to the node, talks with it, and prints what it sends.
 
-use crate::dialling::{Connection, connect_again, connect_to, second_before};
+use crate::dialling::{ProbeStream, connect_again, connect_to, second_before};
 use crate::own_setup::{draw_challenge, setup_of};
 use crate::stop::Stop;
-use dist_probe::{Awaited, Report, Service, Verdict, ask_node, port_verdict, speaks_tls};
-use dist_program::{Budget, Step};
+use dist_probe::{
+    AwaitedMessage, ProbeVerdict, Report, Service, ask_node, port_verdict, speaks_tls,
+};
+use dist_program::{Budget, TimedStep};
 use distping_report::{Dial, Found};
 use distping_words::Fault;
 use std::net::SocketAddr;
 use std::time::Instant;
 
-// Whether TLS is spoken there, which a second connection finds out: some servers close without an answer to a name. It takes a
-// second at most, and ends at this time at the latest.
+// Whether a server there speaks TLS. A second connection finds that out, since some servers close without an answer to a name. It takes
+// at most a second, and ends at this time at the latest.
 fn is_tls(dial: &Dial<'_>, address: &SocketAddr, port: u16, until: Instant) -> bool {
     match connect_again(dial.rt, address, port, second_before(dial.rt, until)) {
         Some(mut stream) => speaks_tls(&mut stream, dial.choices.turns()),
@@ -19,7 +21,7 @@ fn is_tls(dial: &Dial<'_>, address: &SocketAddr, port: u16, until: Instant) -> b
     }
 }
 
-// Prints the status that the node sent, what it said of itself, and what the verdict says of the cookie.
+// Prints the status that the node sent, what it sent about itself, and what the verdict says about the cookie.
 fn put_report(dial: &Dial<'_>, report: &Report) -> Result<(), Fault> {
     if let Some(status) = report.status {
         dial.lines.put_status(dial.own, dial.choices.flags, status)?;
@@ -35,7 +37,7 @@ fn talk_with_node(
     dial: &Dial<'_>,
     address: &SocketAddr,
     port: u16,
-    stream: &mut Connection,
+    stream: &mut ProbeStream,
 ) -> Result<Report, Fault> {
     dial.lines.put_connected(address, port)?;
     let fresh = draw_challenge(dial.rt)?;
@@ -52,17 +54,23 @@ fn talk_with_node(
     Ok(report)
 }
 
-// Connects to the node, and talks with it. Beside what it sent stands when the time of the talk ends.
+// Connects to the node, and talks with it. Returns what it sent, and when the time of the talk ends.
 fn connect_and_talk(
     dial: &Dial<'_>,
     address: &SocketAddr,
     port: u16,
     budget: &mut Budget,
 ) -> Result<(Report, Instant), Stop> {
-    match connect_to(dial.rt, address, port, (Step::Port, Step::Talk), budget) {
+    match connect_to(
+        dial.rt,
+        address,
+        port,
+        (TimedStep::Port, TimedStep::Talk),
+        budget,
+    ) {
         Ok(mut stream) => {
             let report = talk_with_node(dial, address, port, &mut stream);
-            budget.settle(Step::Talk, stream.time_left());
+            budget.settle(TimedStep::Talk, stream.time_left());
             Ok((report?, stream.deadline()))
         }
         Err(place) => {
@@ -72,22 +80,22 @@ fn connect_and_talk(
     }
 }
 
-/// Asks the node at this place, and prints what it sent.
+/// Talks with the node at this place, and prints what it sent.
 pub fn probe_node(
     dial: &Dial<'_>,
     address: &SocketAddr,
     port: u16,
     budget: &mut Budget,
     found: &mut Found,
-) -> Result<Verdict, Stop> {
+) -> Result<ProbeVerdict, Stop> {
     let (report, until) = connect_and_talk(dial, address, port, budget)?;
     put_report(dial, &report)?;
     let verdict = report.verdict();
     found.status = report.status;
     found.peer = report.peer;
     match verdict {
-        Verdict::Gone(Awaited::Status) | Verdict::Reset(Awaited::Status)
-            if is_tls(dial, address, port, until) => { Ok(Verdict::Foreign(Service::Tls)) }
+        ProbeVerdict::Gone(AwaitedMessage::Status) | ProbeVerdict::Reset(AwaitedMessage::Status)
+            if is_tls(dial, address, port, until) => { Ok(ProbeVerdict::Foreign(Service::Tls)) }
         other => Ok(other),
     }
 }

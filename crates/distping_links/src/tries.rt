@@ -1,24 +1,24 @@
-//! What was tried.
+//! The addresses that were tried.
 
 ghost use Rattle.std.specs.Prelude.{◌≡◌, ◌++◌, ◌∷◌, [], length, OnOk};
 
-use dist_probe::Verdict;
+use dist_probe::ProbeVerdict;
 use distping_report::Found;
 use std::alloc::{AllocError, Global};
 
-/// What was found at each address so far, and the verdict upon it.
+/// What was found out at each address so far, and the verdict on it.
 #[derive(Drop)]
 pub struct Tries {
-    /// What was found at each.
+    /// What was found out at each.
     pub found: Vec<Found>,
-    /// The verdict upon each.
-    pub verdicts: Vec<Verdict>,
-    // There are as many of both.
+    /// The verdict on each.
+    pub verdicts: Vec<ProbeVerdict>,
+    // Both have the same length.
     pub ghost paired: { length found.items ≡ length verdicts.items },
 }
 
 impl Tries {
-    /// No address so far.
+    /// No address yet.
     pub fn nothing(alloc: Global) -> Tries
         ensures { result.verdicts.items ≡ [] }
     {
@@ -28,8 +28,8 @@ impl Tries {
         }
     }
 
-    /// One address more.
-    pub fn push(&mut self, found: Found, verdict: Verdict) -> Result<(), AllocError>
+    /// Adds an address.
+    pub fn push(&mut self, found: Found, verdict: ProbeVerdict) -> Result<(), AllocError>
         ensures found { OnOk result (self.new.found.items ≡ self.old.found.items ++ found ∷ []) }
         ensures verdict { OnOk result (self.new.verdicts.items ≡ self.old.verdicts.items ++ verdict ∷ []) }
     {

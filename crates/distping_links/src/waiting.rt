@@ -1,4 +1,4 @@
-//! A port of this host at which one connection is waited for.
+//! Waits for one connection at a port of this host.
 
 use dist_program::{deadline_in, one_turn};
 use dist_stream::time_left;
@@ -6,16 +6,16 @@ use std::io::{self, ErrorKind};
 use std::net::{Ipv4Addr, Ipv6Addr, SocketAddr, TcpListener, TcpStream};
 use std::thread;
 
-/// Who dialled: the socket, and the address that it came from.
+/// A connection: the socket, and the address that it came from.
 #[derive(Drop)]
-pub struct Arrival {
+pub struct IncomingStream {
     /// The socket.
     pub socket: TcpStream,
-    /// The address that it came from: one of IPv4 as such.
+    /// The address that it came from; one of IPv4 is not written as one of IPv6.
     pub from: SocketAddr,
 }
 
-// A listener at this port of all addresses of this host: of both kinds, and of IPv4 alone where the system has no others.
+// A listener at this port of all addresses of this host: of IPv6 and IPv4, or only of IPv4 if the system has no IPv6.
 fn bind_all(rt: &HostRuntime, port: u16) -> io::Result<TcpListener> {
     match TcpListener::bind(rt, (Ipv6Addr::UNSPECIFIED, port)) {
         Ok(listener) => Ok(listener),
@@ -24,7 +24,7 @@ fn bind_all(rt: &HostRuntime, port: u16) -> io::Result<TcpListener> {
     }
 }
 
-/// A listener at this port: of this address, else of all addresses of this host. An error is the system's.
+/// A listener at this port of this address, or else of all addresses of this host. An error is the system's.
 pub fn bind_listener(
     rt: &HostRuntime,
     place: Option<SocketAddr>,
@@ -36,36 +36,36 @@ pub fn bind_listener(
     }
 }
 
-// The address, one of IPv4 as such.
+// The address; one of IPv4 that is written as one of IPv6 becomes one of IPv4.
 fn canonical(address: SocketAddr) -> SocketAddr {
     SocketAddr::new(address.ip().to_canonical(), address.port())
 }
 
 // The next connection.
-fn next_caller(listener: &TcpListener) -> io::Result<Arrival> {
+fn next_caller(listener: &TcpListener) -> io::Result<IncomingStream> {
     let (socket, from) = listener.accept()?;
-    Ok(Arrival {
+    Ok(IncomingStream {
         socket,
         from: canonical(from),
     })
 }
 
-// Whether nobody has dialled so far.
+// Whether no connection has come yet.
 fn is_nobody(error: &io::Error) -> bool {
     matches!(error.kind(), ErrorKind::WouldBlock | ErrorKind::Interrupted)
 }
 
-// How many turns are in so many seconds, each of ten milliseconds at least.
+// How many turns there are in this many seconds, each of at least ten milliseconds.
 fn turns_in(seconds: u16) -> u32 {
     u32::from(seconds) * 100 + 1
 }
 
-// The next connection within so many seconds. None where nobody dialled.
+// The next connection within this many seconds. `None` if none came.
 fn await_within(
     rt: &HostRuntime,
     listener: &TcpListener,
     seconds: u16,
-) -> io::Result<Option<Arrival>> {
+) -> io::Result<Option<IncomingStream>> {
     listener.set_nonblocking(true)?;
     let until = deadline_in(rt, seconds)?;
     for _ in 0..turns_in(seconds) {
@@ -82,12 +82,12 @@ fn await_within(
     Ok(None)
 }
 
-/// The next connection, for so many seconds where that has an end. None where nobody dialled.
+/// The next connection, within `patience` seconds if that is given. `None` if none came.
 pub fn await_caller(
     rt: &HostRuntime,
     listener: &TcpListener,
     patience: Option<u16>,
-) -> io::Result<Option<Arrival>> {
+) -> io::Result<Option<IncomingStream>> {
     match patience {
         Some(seconds) => await_within(rt, listener, seconds),
         None => Ok(Some(next_caller(listener)?)),

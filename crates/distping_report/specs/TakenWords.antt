@@ -1,11 +1,11 @@
--- What came of a connection that was taken: the word, the sentence and the exit status.
+-- The result of a connection that was taken: its word, its sentence and its exit status.
 use Rattle.std.specs.Prelude.{ℕ, List, codes}
 use Rattle.dist_probe.specs.declared.service.Service.{Service}
 use Rattle.dist_probe.specs.declared.service.Service.TheVariants as service
 use Rattle.distping_report.specs.declared.taken.Taken.{Taken}
 use Rattle.distping_report.specs.declared.taken.Taken.TheVariants as taken
 
--- the exit status: the place to look at
+-- the exit status, which says where to look
 abbrev pub taken_status : Taken → ℕ
 taken_status taken.Up = 0
 taken_status taken.Answered = 0
@@ -35,7 +35,7 @@ taken_word taken.Unexpected = codes "Unexpected"
 taken_word (taken.Foreign service) = codes "Foreign"
 taken_word taken.NoMemory = codes "NoMemory"
 
--- what dials, where it is no node
+-- what dials, if it is not a node
 abbrev pub what_dials : Service → List ℕ
 what_dials service.Tls =
     codes "what dials speaks TLS: a node started with -proto_dist inet_tls, or another client; this listener speaks none"
@@ -43,7 +43,7 @@ what_dials service.Http = codes "what dials is no node"
 what_dials service.Ssh = codes "what dials is no node"
 what_dials service.Other = codes "what dials is no node"
 
--- what it means
+-- the sentence
 abbrev pub taken_cause : Taken → List ℕ
 taken_cause taken.Up = codes "the node reaches us, and has our cookie"
 taken_cause taken.Answered = codes "the node reaches us and took our name; no cookie was compared"

@@ -2,36 +2,33 @@
 use Rattle.std.specs.Prelude.{◌≡◌, ◌==◌, false, ℕ, ◌++◌, List, [], ◌∷◌, codes, decimal, if◌then◌else◌}
 use Rattle.std.specs.Fmt.{digits}
 use Rattle.std.specs.List.{concat, flat_map}
+use Rattle.std.specs.Net.Text.{ip_text}
 use Rattle.dist_flags.specs.Names.{all_flags, flag_of, name_of}
 use Rattle.dist_flags.specs.declared.dflag.Dflag.{Dflag}
 use Rattle.dist_names.specs.Escaped.{escapes_of, in_double_quotes}
 use Rattle.dist_names.specs.Flags.{has_all}
-use Rattle.distping_report.specs.declared.piece.Piece.{Piece}
-use Rattle.distping_report.specs.declared.piece.Piece.TheVariants as piece
-use Rattle.dist_probe.specs.declared.verdict.Verdict.{Verdict}
+use Rattle.distping_report.specs.declared.piece.LinePiece.{LinePiece}
+use Rattle.distping_report.specs.declared.piece.LinePiece.TheVariants as piece
+use Rattle.dist_probe.specs.declared.verdict.ProbeVerdict.{ProbeVerdict}
 use Rattle.dist_probe.specs.Sentences.{cause_of, remedy_of}
 use Rattle.dist_probe.specs.Words.{status_of, verdict_word}
 
--- the mark of an exit status: a check mark where it is 0, else a cross, each in UTF-8
+-- the mark of an exit status, in UTF-8: a check mark for 0, else a cross
 abbrev pub mark_of : ℕ → List ℕ
 mark_of status = if status == 0 then 0xe2 ∷ 0x9c ∷ 0x93 ∷ [] else 0xe2 ∷ 0x9c ∷ 0x97 ∷ []
 
--- THE LINES OF A VERDICT: the mark of its status, its word and its cause, and in a second line its remedy
-abbrev pub verdict_lines : Verdict → List ℕ
+-- THE LINES OF A VERDICT: the mark of its status, its word and its cause; the second line has its remedy
+abbrev pub verdict_lines : ProbeVerdict → List ℕ
 verdict_lines v =
     concat (mark_of (status_of v) ∷ codes "  " ∷ verdict_word v ∷ codes ": " ∷ cause_of v ∷ codes "\n   remedy    " ∷ remedy_of v ∷ codes "\n" ∷ [])
 
--- Something stands behind a text, which stays as it was.
-abbrev pub Appends : List ℕ → List ℕ → Type 0
-Appends old new = (more : List ℕ) × (new ≡ old ++ more)
-
--- the name of a flag behind a blank, where it is one of these flags
+-- a blank and the name of a flag, if it is among these flags
 abbrev pub flag_text : ℕ → Dflag → List ℕ
 flag_text flags flag = if has_all flags (flag_of flag) then 0x20 ∷ name_of flag else []
 
--- WHAT A PIECE PUTS behind a text. Bytes that somebody else gave, as another machine, come there escaped, and a name between
--- double quotes. A number is decimal; flags are hexadecimal, or their names. Of an address this says that it stands behind the text.
-abbrev pub PutsPiece : Piece → List ℕ → List ℕ → Type 0
+-- WHAT A PIECE APPENDS to a text. Bytes from another machine or the user are escaped; a name is also put between double quotes. Numbers
+-- are decimal, flags hexadecimal or by name. An address has its usual text, without a port.
+abbrev pub PutsPiece : LinePiece → List ℕ → List ℕ → Type 0
 PutsPiece (piece.Text own) old new = new ≡ old ++ own.now
 PutsPiece (piece.Name bytes) old new = new ≡ old ++ in_double_quotes bytes.now
 PutsPiece (piece.Foreign bytes) old new = new ≡ old ++ escapes_of bytes.now
@@ -39,4 +36,4 @@ PutsPiece (piece.Escaped text) old new = new ≡ old ++ text.now
 PutsPiece (piece.Number number) old new = new ≡ old ++ decimal number
 PutsPiece (piece.Digits flags) old new = new ≡ old ++ digits 16 false flags.0
 PutsPiece (piece.Names flags) old new = new ≡ old ++ flat_map (flag_text flags.0) all_flags
-PutsPiece (piece.Host host) old new = Appends old new
+PutsPiece (piece.Host host) old new = new ≡ old ++ ip_text host

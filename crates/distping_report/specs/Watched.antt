@@ -1,4 +1,4 @@
--- What was seen of a node that is watched.
+-- What was observed of a watched node.
 use Rattle.std.specs.Prelude.{ℕ, ◌==◌, Bool, List}
 use Rattle.std.specs.List.{before_first}
 
@@ -6,6 +6,6 @@ use Rattle.std.specs.List.{before_first}
 abbrev pub is_colon : ℕ → Bool
 is_colon byte = byte == 0x3a
 
--- the word in the text of a verdict: what stands before its first colon
+-- the word of a verdict's text: what comes before its first colon
 abbrev pub word_in_verdict : List ℕ → List ℕ
 word_in_verdict text = before_first is_colon text

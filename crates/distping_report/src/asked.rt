@@ -1,6 +1,6 @@
-//! What is asked for: a node that is to be dialled, or a node that listens.
+//! The tasks: to dial a node, or to listen as one.
 
-use crate::lines::Lines;
+use crate::lines::LineSink;
 use crate::listed::Listed;
 use dist_core_setup::Setup;
 use dist_names::NodeName;
@@ -8,14 +8,14 @@ use dist_secret::Cookie;
 use distping_words::Choices;
 use std::net::SocketAddr;
 
-/// A node that is to be dialled.
+/// A node to dial.
 #[derive(Clone, Copy)]
 pub struct Dial<'a> {
-    /// What is asked for addresses, sockets and random bytes.
+    /// The runtime, for addresses, sockets and random bytes.
     pub rt: &'a HostRuntime,
     /// Where the steps are printed.
-    pub lines: Lines<'a>,
-    /// Of which hosts it was printed what their port mappers know.
+    pub lines: LineSink<'a>,
+    /// The hosts for which the names that their port mappers know were printed.
     pub listed: &'a Listed,
     /// The name that the probe gives itself.
     pub own: &'a NodeName,
@@ -23,27 +23,27 @@ pub struct Dial<'a> {
     pub node: &'a NodeName,
     /// The cookie that is tried.
     pub cookie: Option<&'a Cookie>,
-    /// What the command line chooses.
+    /// The other options.
     pub choices: Choices<'a>,
 }
 
-/// A node that listens.
+/// A node that listens for one connection.
 #[derive(Clone, Copy)]
 pub struct Listen<'a> {
-    /// What it is set up with.
+    /// Its setup.
     pub setup: &'a Setup,
     /// Its port.
     pub port: u16,
-    /// The address that it listens at, where it is not all of this host.
+    /// The address that it listens at; `None` for all of this host.
     pub place: Option<SocketAddr>,
-    /// How many seconds a connection is waited for, where that has an end.
+    /// The most seconds to wait for a connection, if there is a limit.
     pub patience: Option<u16>,
     /// Its own challenge.
     pub fresh: u32,
-    /// Its cookie is compared.
+    /// Whether its cookie is compared.
     pub compares: bool,
-    /// How many seconds a talk may take, one at least.
+    /// The most seconds that the talk may take, at least one.
     pub seconds: u16,
-    /// How many reads and writes it may take.
+    /// The most reads and writes that it may take.
     pub turns: usize,
 }

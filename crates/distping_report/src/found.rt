@@ -1,7 +1,7 @@
-//! What was found of a node.
+//! What was found out about a node.
 
 use dist_messages::Status;
-use dist_probe::{Peer, Verdict};
+use dist_probe::{Peer, ProbeVerdict};
 use std::net::SocketAddr;
 
 /// What the port mapper knows of a node.
@@ -11,11 +11,11 @@ pub struct Registration {
     pub port: u16,
     /// The highest version that it speaks.
     pub highest: u16,
-    /// The lowest one.
+    /// The lowest version that it speaks.
     pub lowest: u16,
 }
 
-/// What was found of a node at one address of its host.
+/// What was found out about a node at one address of its host.
 #[derive(Drop)]
 pub struct Found {
     /// The address.
@@ -26,12 +26,12 @@ pub struct Found {
     pub port: Option<u16>,
     /// The status that it sent.
     pub status: Option<Status>,
-    /// What it said of itself.
+    /// What it sent about itself.
     pub peer: Option<Peer>,
 }
 
 impl Found {
-    /// Nothing so far, at this address.
+    /// Nothing found yet, at this address.
     pub fn nothing(address: Option<SocketAddr>) -> Found {
         Found {
             address,
@@ -43,15 +43,15 @@ impl Found {
     }
 }
 
-/// What a probe comes to.
+/// The result of a probe.
 #[derive(Drop)]
-pub struct Outcome {
-    /// The verdict: that of the address that got furthest.
-    pub verdict: Verdict,
-    /// What was found at that address.
+pub struct ProbeOutcome {
+    /// The verdict at the address that got furthest.
+    pub verdict: ProbeVerdict,
+    /// What was found out at that address.
     pub found: Found,
     /// The addresses of the host, in the resolver's order.
     pub addresses: Vec<SocketAddr>,
-    /// The verdict upon each of them that was tried.
-    pub verdicts: Vec<Verdict>,
+    /// The verdict at each address that was tried, in this order.
+    pub verdicts: Vec<ProbeVerdict>,
 }

@@ -1,19 +1,19 @@
-//! What is left out of what a port mapper says.
+//! What was left out of a port mapper's answer.
 
 ghost use Rattle.std.specs.Prelude.{◌≡◌, ◌&&◌, ◌==◌, if◌then◌else◌, not};
 ghost use Rattle.distping_report.specs.Shown.{is_nothing};
 
-/// The status of a port mapper that says more than is taken: the place to look at.
+/// The status if a port mapper's answer is longer than what is read: it says to look at the port mapper.
 const MORE_THAN_TAKEN: u8 = 4;
 
-/// What is left out of what a port mapper says, and not printed.
+/// What was left out of a port mapper's answer, and not printed.
 #[derive(Clone, Copy)]
 pub struct LeftOut {
     /// How many lines name no node.
     pub lines: u32,
-    /// How many nodes are more than are dialled.
+    /// How many nodes exceed the number that is dialled.
     pub nodes: u32,
-    /// More came than is taken of an answer.
+    /// Whether the answer is longer than what is read.
     pub is_cut: bool,
 }
 
@@ -25,7 +25,7 @@ impl LeftOut {
         self.lines == 0 && self.nodes == 0 && !self.is_cut
     }
 
-    /// The exit status: 4 where nodes may be left out, the place to look at.
+    /// The exit status: 4, for the port mapper, if nodes may be left out.
     pub fn status(self) -> u8
         ensures { result ≡ (if (self.nodes == 0) && not self.is_cut then 0 else 4) }
     {

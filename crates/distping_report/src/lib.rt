@@ -1,8 +1,8 @@
-//! What distping prints for people: a line for each step, for each verdict, and for what is said of many nodes; and what was found,
-//! as far as it is printed.
+//! What distping prints for people: a line for each step, each verdict, and what can be said of several nodes; and the results, as far
+//! as they are printed.
 //!
-//! It finds nothing out: it writes what it is given, and asks no socket and no file. What somebody else gave, another machine or the
-//! command line, comes into a line escaped. The objects of JSON are another crate's.
+//! It only writes what it is given, and reads no socket and no file. Text from another machine or the command line is escaped. Another
+//! crate makes the JSON objects.
 #![tactic(auto)]
 
 mod asked;
@@ -20,14 +20,14 @@ mod taken;
 mod watched;
 
 pub use asked::{Dial, Listen};
-pub use found::{Found, Outcome, Registration};
+pub use found::{Found, ProbeOutcome, Registration};
 pub use left_out::LeftOut;
-pub use lines::{Lines, Output};
+pub use lines::{LineSink, Output};
 pub use listed::Listed;
-pub use marks::{release_texts, status_word};
+pub use marks::status_word;
 pub use moment::{now_seconds, utc_text};
 pub use page::Page;
-pub use piece::{Piece, push_piece};
+pub use piece::{LinePiece, push_piece};
 pub use shown::MOST_SHOWN;
 pub use taken::{Caller, Taken};
 pub use watched::{Answers, Seen, verdict_word_in};

@@ -1,8 +1,8 @@
-//! What is printed: a line for each step, each flushed at once, so that one sees where the program waits. Of a node that is dialled
-//! beside others the lines stand on a page first.
+//! Prints a line for each step, and flushes each at once, so that the user sees where the program waits. If several nodes are dialled
+//! at once, the lines of all but the first wait on a page.
 
 use crate::page::Page;
-use crate::piece::{Piece, join_pieces};
+use crate::piece::{LinePiece, join_pieces};
 use dist_names::Flags;
 use distping_words::Fault;
 use std::alloc::{AllocError, Global};
@@ -12,53 +12,53 @@ mod many;
 mod steps;
 mod verdicts;
 
-/// What lines are written to.
+/// Where lines are written.
 #[derive(Clone, Copy)]
 pub enum Output<'p> {
-    /// The standard output, at once.
+    /// Standard output, at once.
     Screen(Stdout),
-    /// A page, which is printed later.
+    /// A page, to be printed later.
     Page(&'p Page),
 }
 
-/// Where the lines of the steps go.
+/// Where the lines of steps go.
 #[derive(Clone, Copy)]
-pub struct Lines<'p> {
+pub struct LineSink<'p> {
     /// Where memory for a line comes from.
     pub alloc: Global,
-    /// What they are written to.
+    /// Where they are written.
     pub out: Output<'p>,
-    /// No step is printed.
+    /// Whether the lines of steps are left out.
     pub quiet: bool,
 }
 
-// Writes a text on the screen, and flushes.
+// Writes a text to the screen, and flushes.
 fn write_on_screen(screen: Stdout, text: &str) -> Result<(), Fault> {
     let mut out = screen;
     out.write_all(text.as_bytes())?;
     Ok(out.flush()?)
 }
 
-impl<'p> Lines<'p> {
-    /// Lines on the screen; no step is printed where it is to be quiet.
-    pub fn on_screen(rt: &HostRuntime, quiet: bool) -> Lines<'p> {
-        Lines {
+impl<'p> LineSink<'p> {
+    /// Lines on the screen; with `quiet`, those of steps are left out.
+    pub fn on_screen(rt: &HostRuntime, quiet: bool) -> LineSink<'p> {
+        LineSink {
             alloc: rt.alloc(),
             out: Output::Screen(rt.stdout()),
             quiet,
         }
     }
 
-    /// The same lines, on this page.
-    pub fn on_page<'q>(self, page: &'q Page) -> Lines<'q> {
-        Lines {
+    /// The same for lines on this page.
+    pub fn on_page<'q>(self, page: &'q Page) -> LineSink<'q> {
+        LineSink {
             alloc: self.alloc,
             out: Output::Page(page),
             quiet: self.quiet,
         }
     }
 
-    /// Writes a text: on the screen, and flushes, or on the page.
+    /// Writes a text to the screen, and flushes; or to the page.
     pub fn write(self, text: &str) -> Result<(), Fault> {
         match self.out {
             Output::Screen(screen) => write_on_screen(screen, text),
@@ -66,7 +66,7 @@ impl<'p> Lines<'p> {
         }
     }
 
-    /// Writes a text that was made, where there was memory for it.
+    /// Writes a text, if there was memory for it.
     pub fn write_made(self, text: Result<String, AllocError>) -> Result<(), Fault> {
         match text {
             Ok(text) => self.write(&text),
@@ -74,7 +74,7 @@ impl<'p> Lines<'p> {
         }
     }
 
-    // A text that was made, unless no step is printed.
+    // Prints a text, if there was memory for it, unless steps are left out.
     fn put_made(self, text: Result<String, AllocError>) -> Result<(), Fault> {
         if self.quiet {
             Ok(())
@@ -83,8 +83,8 @@ impl<'p> Lines<'p> {
         }
     }
 
-    // A line of pieces, unless no step is printed.
-    fn put(self, pieces: &[Piece<'_>]) -> Result<(), Fault> {
+    // Prints a line of these pieces, unless steps are left out.
+    fn put(self, pieces: &[LinePiece<'_>]) -> Result<(), Fault> {
         if self.quiet {
             Ok(())
         } else {
@@ -92,8 +92,12 @@ impl<'p> Lines<'p> {
         }
     }
 
-    // A line of flags by name.
+    // Prints a line of flags by name.
     fn put_flags(self, front: &'static str, flags: Flags) -> Result<(), Fault> {
-        self.put(&[Piece::Text(front), Piece::Names(flags), Piece::Text("\n")])
+        self.put(&[
+            LinePiece::Text(front),
+            LinePiece::Names(flags),
+            LinePiece::Text("\n"),
+        ])
     }
 }

@@ -1,4 +1,4 @@
-//! Of which hosts it was printed what their port mappers know.
+//! The hosts for which the names that their port mappers know were printed.
 
 use dist_names::{ByteString, NodeName};
 use std::alloc::{AllocError, Global};
@@ -6,15 +6,15 @@ use std::sync::atomic::{AtomicBool, Ordering};
 
 // A host, and whether the names that its port mapper knows were printed.
 #[derive(Drop)]
-struct Host {
+struct ListedHost {
     name: ByteString,
     is_printed: AtomicBool,
 }
 
-/// The hosts of the nodes that are dialled. The names that a port mapper knows are printed once for each.
+/// The hosts of the nodes that are dialled. The names that their port mapper knows are printed once for each host.
 #[derive(Drop)]
 pub struct Listed {
-    hosts: Vec<Host>,
+    hosts: Vec<ListedHost>,
 }
 
 impl Listed {
@@ -25,7 +25,7 @@ impl Listed {
         }
     }
 
-    /// The hosts of these nodes, of which nothing was printed.
+    /// The hosts of these nodes, with nothing printed.
     pub fn new(alloc: Global, nodes: &[NodeName]) -> Result<Listed, AllocError> {
         let mut listed = Listed::nothing(alloc);
         for node in nodes {
@@ -34,15 +34,15 @@ impl Listed {
         Ok(listed)
     }
 
-    // The place of a host.
-    fn find(&self, host: &[u8]) -> Option<&Host> {
+    // The entry of a host.
+    fn find(&self, host: &[u8]) -> Option<&ListedHost> {
         self.hosts.iter().find(|it| it.name.as_slice() == host)
     }
 
-    // One more host, unless it is there.
+    // Adds a host, unless it is there.
     fn add(&mut self, alloc: Global, host: &[u8]) -> Result<(), AllocError> {
         if self.find(host).is_none() {
-            self.hosts.push(Host {
+            self.hosts.push(ListedHost {
                 name: ByteString::from_slice(alloc, host)?,
                 is_printed: AtomicBool::new(false),
             })?;
@@ -50,7 +50,7 @@ impl Listed {
         Ok(())
     }
 
-    /// Whether the names of this host are to be printed: not by who comes later.
+    /// Whether to print the names of this host: true only for the first caller.
     pub fn is_first(&self, host: &[u8]) -> bool {
         match self.find(host) {
             Some(host) => !host.is_printed.swap(true, Ordering::SeqCst),

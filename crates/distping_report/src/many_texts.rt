@@ -1,4 +1,4 @@
-//! The texts of the lines that speak of several nodes.
+//! The texts of the lines about several nodes.
 
 ghost use Rattle.std.specs.Prelude.{◌≡◌, ◌++◌, IfOk, None, OnOk, Some, codes, decimal, string_bytes};
 ghost use Rattle.distping_report.specs.ManyTexts.{answers_line, counts_line, counts_text, left_out_line, milliseconds_text};
@@ -10,7 +10,7 @@ use dist_cluster::{LatencySummary, Summary, WordCount};
 use itoa::Buffer;
 use std::alloc::{AllocError, Global};
 
-/// The line of what a port mapper has in place of a node's name.
+/// The line of a text that a port mapper has in place of a node's name.
 pub fn left_out_line(alloc: Global, text: &[u8]) -> Result<String, AllocError>
     ensures { IfOk result (λ line. string_bytes line ≡ left_out_line text.now) }
 {
@@ -20,7 +20,7 @@ pub fn left_out_line(alloc: Global, text: &[u8]) -> Result<String, AllocError>
     Ok(line)
 }
 
-// Puts a number behind a text, with this before it.
+// Appends a number to a text, with `before` in front of it.
 fn push_number(text: &mut String, before: &str, number: u64) -> Result<(), AllocError>
     ensures { OnOk result (string_bytes text.new ≡ string_bytes text.old ++ before.now ++ decimal number) }
 {
@@ -29,7 +29,7 @@ fn push_number(text: &mut String, before: &str, number: u64) -> Result<(), Alloc
     text.push_str(room.format(number))
 }
 
-// Puts a word and how many have it behind a text, with this before it.
+// Appends a word and how many have it to a text, with `before` in front of them.
 fn push_count(text: &mut String, before: &str, count: WordCount) -> Result<(), AllocError>
     ensures { OnOk result (string_bytes text.new ≡ string_bytes text.old ++ before.now ++ count.word.now ++ codes " " ++ decimal count.count) }
 {
@@ -38,7 +38,7 @@ fn push_count(text: &mut String, before: &str, count: WordCount) -> Result<(), A
     push_number(text, " ", count.count)
 }
 
-// Puts words, and how many have each, behind a text: with this before the first, and a comma before each other.
+// Appends words and how many have each to a text, with `before` in front of the first, and a comma before each other one.
 fn push_counts(text: &mut String, before: &str, counts: &[WordCount]) -> Result<(), AllocError>
     ensures { OnOk result (string_bytes text.new ≡ string_bytes text.old ++ counts_text before.now counts.now) }
 {
@@ -51,7 +51,7 @@ fn push_counts(text: &mut String, before: &str, counts: &[WordCount]) -> Result<
     }
 }
 
-// Puts a line of how many there are, and how many of them have which word, behind a text.
+// Appends a line to a text that counts nodes or pairs, and those with each word.
 fn push_counts_line(
     text: &mut String,
     front: &str,
@@ -65,7 +65,7 @@ fn push_counts_line(
     text.push_str("\n")
 }
 
-/// The lines of how many nodes came to which verdict, and how many pairs have which word.
+/// The lines that say how many nodes have which verdict, and how many pairs which word.
 pub fn summary_lines(alloc: Global, summary: &Summary) -> Result<String, AllocError>
     ensures { IfOk result (λ text. string_bytes text ≡ summary_lines summary.now) }
 {
@@ -75,7 +75,7 @@ pub fn summary_lines(alloc: Global, summary: &Summary) -> Result<String, AllocEr
     Ok(text)
 }
 
-// Puts so many milliseconds behind a text, with this before them.
+// Appends a number of milliseconds to a text, with `before` in front of it.
 fn push_milliseconds(text: &mut String, before: &str, number: u64) -> Result<(), AllocError>
     ensures { OnOk result (string_bytes text.new ≡ string_bytes text.old ++ milliseconds_text before.now number) }
 {
@@ -83,7 +83,7 @@ fn push_milliseconds(text: &mut String, before: &str, number: u64) -> Result<(),
     text.push_str(" ms")
 }
 
-// Puts the least, the median and the worst of what answers took behind a text.
+// Appends the shortest, the median and the longest time that answers took to a text.
 fn push_spread(text: &mut String, summary: LatencySummary) -> Result<(), AllocError>
     ensures { OnOk result (string_bytes text.new ≡ string_bytes text.old ++ spread_text summary) }
 {
@@ -92,7 +92,7 @@ fn push_spread(text: &mut String, summary: LatencySummary) -> Result<(), AllocEr
     push_milliseconds(text, ", worst ", summary.worst)
 }
 
-// Puts so many rounds behind a text, with this before them.
+// Appends a number of rounds to a text, with `before` in front of it.
 fn push_rounds(text: &mut String, before: &str, rounds: u64) -> Result<(), AllocError>
     ensures { OnOk result (string_bytes text.new ≡ string_bytes text.old ++ (before.now ++ rounds_text rounds)) }
 {
@@ -100,7 +100,7 @@ fn push_rounds(text: &mut String, before: &str, rounds: u64) -> Result<(), Alloc
     text.push_str(" rounds")
 }
 
-// Puts how long the answers of so many rounds took behind a text.
+// Appends how long the answers took in this many rounds to a text.
 fn push_summary(text: &mut String, rounds: u64, summary: LatencySummary) -> Result<(), AllocError>
     ensures { OnOk result (string_bytes text.new ≡ string_bytes text.old ++ times_text rounds (Some summary)) }
 {
@@ -109,14 +109,14 @@ fn push_summary(text: &mut String, rounds: u64, summary: LatencySummary) -> Resu
     push_spread(text, summary)
 }
 
-// Puts that so many rounds had no answer behind a text.
+// Appends to a text that this many rounds had no answer.
 fn push_silence(text: &mut String, rounds: u64) -> Result<(), AllocError>
     ensures { OnOk result (string_bytes text.new ≡ string_bytes text.old ++ times_text rounds None) }
 {
     push_rounds(text, "no answer in ", rounds)
 }
 
-// Puts how long the answers of so many rounds took behind a text, where there were any.
+// Appends to a text how long the answers took in this many rounds, or that there were none.
 fn push_times(
     text: &mut String,
     rounds: u64,
@@ -130,7 +130,7 @@ fn push_times(
     }
 }
 
-/// The line of how long the answers of a node took that was watched.
+/// The line that says how long a watched node's answers took.
 pub fn answers_line(alloc: Global, answers: &Answers<'_>) -> Result<String, AllocError>
     ensures { IfOk result (λ line. string_bytes line ≡ answers_line answers.now) }
 {

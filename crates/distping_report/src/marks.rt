@@ -1,4 +1,4 @@
-//! Words and marks that lines of several kinds have.
+//! Words and marks that several kinds of lines share.
 
 ghost use Rattle.std.specs.Prelude.{◌≡◌};
 ghost use Rattle.dist_messages.specs.Spelling.{text_of};
@@ -7,19 +7,19 @@ ghost use Rattle.distping_report.specs.Texts.{mark_of};
 use dist_flags::Release;
 use dist_messages::Status;
 
-/// What a release is called in a line, and in an object of JSON.
-pub fn release_texts(release: Release) -> (&'static str, &'static str) {
+/// The name of a release in a line, and in a JSON object.
+pub fn release_text(release: Release) -> &'static str {
     match release {
-        Release::Before23 => ("before OTP 23", "before 23"),
-        Release::Otp23 => ("OTP 23", "23"),
-        Release::Otp24 => ("OTP 24", "24"),
-        Release::Otp25 => ("OTP 25 to 27", "25"),
-        Release::Otp28 => ("OTP 28", "28"),
-        Release::Otp29 => ("OTP 29 or newer", "29"),
+        Release::Before23 => "before OTP 23",
+        Release::Otp23 => "OTP 23",
+        Release::Otp24 => "OTP 24",
+        Release::Otp25 => "OTP 25 to 27",
+        Release::Otp28 => "OTP 28",
+        Release::Otp29 => "OTP 29 or newer",
     }
 }
 
-/// The status that a node sent, as it stands in the message.
+/// The status that a node sent, as it is in the message.
 pub fn status_word(status: Status) -> &'static str
     ensures { result.now ≡ text_of status }
 {
@@ -34,7 +34,7 @@ pub fn status_word(status: Status) -> &'static str
     }
 }
 
-/// The mark of a status of the program.
+/// The mark of an exit status.
 pub fn exit_mark(status: u8) -> &'static str
     ensures { result.now ≡ mark_of status }
 {

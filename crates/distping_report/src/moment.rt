@@ -6,7 +6,7 @@ use std::alloc::{AllocError, Global};
 use std::str;
 use std::time::{SystemTime, UNIX_EPOCH};
 
-/// The months, as a date of HTTP names them.
+/// The names of the months in an HTTP date.
 const MONTHS: [&[u8; 3]; 12] = [
     b"Jan", b"Feb", b"Mar", b"Apr", b"May", b"Jun", b"Jul", b"Aug", b"Sep", b"Oct", b"Nov", b"Dec",
 ];
@@ -22,7 +22,7 @@ pub fn now_seconds(rt: &HostRuntime) -> Result<u64, Fault> {
     }
 }
 
-// The number of a month of this name, from 1.
+// The number of the month with this name, counted from 1.
 fn month_number(name: &[u8]) -> usize {
     match MONTHS.iter().position(|month| month.as_slice() == name) {
         Some(place) => place + 1,
@@ -30,19 +30,19 @@ fn month_number(name: &[u8]) -> usize {
     }
 }
 
-// A part of the text of a date.
+// A part of a date, as text.
 fn part_of(bytes: &[u8]) -> &str {
     str::from_utf8(bytes).unwrap_or("?")
 }
 
-// The time of a date, as ISO 8601 has it. A date of HTTP is `Thu, 26 Nov 2026 15:04:05 GMT`.
+// An HTTP date, such as `Thu, 26 Nov 2026 15:04:05 GMT`, as ISO 8601 writes it.
 fn iso_text(alloc: Global, date: &[u8; 29]) -> Result<String, AllocError> {
     let (year, month) = (part_of(&date[12..16]), month_number(&date[8..11]));
     let (day, time) = (part_of(&date[5..7]), part_of(&date[17..25]));
     format!(in alloc; "{year}-{month:02}-{day}T{time}Z")
 }
 
-/// The time so many seconds after 1970 began, in UTC, as `2026-11-26T15:04:05Z`. Beyond the year 9999 it is the number of seconds.
+/// The time this many seconds after 1970 began, in UTC, as `2026-11-26T15:04:05Z`. After the year 9999 it is the number of seconds.
 pub fn utc_text(alloc: Global, seconds: u64) -> Result<String, AllocError> {
     match HttpDate::from_unix_secs(seconds) {
         Ok(date) => iso_text(alloc, &date.to_bytes()),

@@ -1,9 +1,9 @@
-//! A page in memory: what is said of a node that is dialled beside others stands there until all before it is printed.
+//! A page in memory. If several nodes are dialled at once, the lines of one wait here until all before them are printed.
 
 use std::alloc::{AllocError, Global};
 use std::cell::Cell;
 
-/// A page of text. Who writes on it has a reference alone, as to the screen.
+/// A page of text. It can be written through a shared reference, like the screen.
 #[derive(Drop)]
 pub struct Page {
     // Where memory for the text comes from.
@@ -20,7 +20,7 @@ impl Page {
         }
     }
 
-    /// Puts a text behind what stands there. That stays as it was where memory runs out.
+    /// Appends a text. If memory runs out, the page stays as it was.
     pub fn push(&self, text: &str) -> Result<(), AllocError> {
         let mut all = self.text.replace(String::new(self.alloc));
         let put = all.push_str(text);
@@ -28,7 +28,7 @@ impl Page {
         put
     }
 
-    /// What stands there.
+    /// Its text.
     pub fn into_text(self) -> String {
         self.text.into_inner()
     }

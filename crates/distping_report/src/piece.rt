@@ -1,4 +1,4 @@
-//! The pieces of a line: what the program says itself, and what somebody else gave, escaped.
+//! The pieces of a line: the program's own text, and escaped text from outside.
 
 ghost use Rattle.std.specs.Prelude.{◌≡◌, ◌++◌, OnOk, string_bytes};
 ghost use Rattle.std.specs.List.{flat_map};
@@ -11,29 +11,28 @@ use std::alloc::{AllocError, Global};
 use std::io::Write;
 use std::net::IpAddr;
 
-/// A piece of a line. What somebody else gave, another machine or the command line, is no text of the program: it comes into a
-/// line as a name or as foreign bytes alone, and so escaped.
+/// A piece of a line. Bytes from another machine or the command line can only be a name or foreign bytes, and so are escaped.
 #[derive(Clone, Copy)]
-pub enum Piece<'a> {
-    /// A text of the program itself.
+pub enum LinePiece<'a> {
+    /// The program's own text.
     Text(&'static str),
-    /// A name that somebody gave: between double quotes, and escaped.
+    /// A name from outside: escaped, and between double quotes.
     Name(&'a [u8]),
-    /// Other bytes that somebody gave: escaped.
+    /// Other bytes from outside: escaped.
     Foreign(&'a [u8]),
-    /// What is escaped already.
+    /// Text that is already escaped.
     Escaped(&'a str),
     /// A number in decimal digits.
     Number(u32),
     /// Flags in hexadecimal digits.
     Digits(Flags),
-    /// Flags by name, a blank before each.
+    /// The names of flags, with a blank before each.
     Names(Flags),
     /// An address without a port.
     Host(IpAddr),
 }
 
-// Puts a flag behind a text by name, a blank before it, where it is one of these flags.
+// Appends a blank and a flag's name to a text, if it is among these flags.
 fn push_flag(text: &mut String, flags: Flags, flag: Dflag) -> Result<(), AllocError>
     ensures { OnOk result (string_bytes text.new ≡ string_bytes text.old ++ flag_text flags.0 flag) }
 {
@@ -44,7 +43,7 @@ fn push_flag(text: &mut String, flags: Flags, flag: Dflag) -> Result<(), AllocEr
     Ok(())
 }
 
-// Puts those of all flags behind a text by name that are among these flags.
+// Appends the names of these flags to a text, in the order of `all`.
 fn push_flags(text: &mut String, flags: Flags, all: &[Dflag]) -> Result<(), AllocError>
     ensures { OnOk result (string_bytes text.new ≡ string_bytes text.old ++ flat_map (flag_text flags.0) all.now) }
 {
@@ -54,38 +53,38 @@ fn push_flags(text: &mut String, flags: Flags, all: &[Dflag]) -> Result<(), Allo
     Ok(())
 }
 
-/// Puts a name that somebody gave behind a text.
+/// Appends a name from outside to a text.
 pub fn push_name(alloc: Global, text: &mut String, name: &[u8]) -> Result<(), AllocError>
     ensures { OnOk result (string_bytes text.new ≡ string_bytes text.old ++ in_double_quotes name.now) }
 {
     text.push_str(&quote(alloc, name)?)
 }
 
-// Puts other bytes that somebody gave behind a text.
+// Appends other bytes from outside to a text.
 fn push_foreign(alloc: Global, text: &mut String, bytes: &[u8]) -> Result<(), AllocError>
     ensures { OnOk result (string_bytes text.new ≡ string_bytes text.old ++ escapes_of bytes.now) }
 {
     text.push_str(&escape(alloc, bytes)?)
 }
 
-/// Puts a piece behind a text.
-pub fn push_piece(alloc: Global, text: &mut String, piece: Piece<'_>) -> Result<(), AllocError>
+/// Appends a piece to a text.
+pub fn push_piece(alloc: Global, text: &mut String, piece: LinePiece<'_>) -> Result<(), AllocError>
     ensures { OnOk result (PutsPiece piece.entry (string_bytes text.old) (string_bytes text.new)) }
 {
     match piece {
-        Piece::Text(part) => text.push_str(part),
-        Piece::Name(bytes) => push_name(alloc, text, bytes),
-        Piece::Foreign(bytes) => push_foreign(alloc, text, bytes),
-        Piece::Escaped(part) => text.push_str(part),
-        Piece::Number(number) => write!(text, "{number}"),
-        Piece::Digits(flags) => write!(text, "{:x}", flags.0),
-        Piece::Names(flags) => push_flags(text, flags, &Dflag::all()),
-        Piece::Host(host) => write!(text, "{host}"),
+        LinePiece::Text(part) => text.push_str(part),
+        LinePiece::Name(bytes) => push_name(alloc, text, bytes),
+        LinePiece::Foreign(bytes) => push_foreign(alloc, text, bytes),
+        LinePiece::Escaped(part) => text.push_str(part),
+        LinePiece::Number(number) => write!(text, "{number}"),
+        LinePiece::Digits(flags) => write!(text, "{:x}", flags.0),
+        LinePiece::Names(flags) => push_flags(text, flags, &Dflag::all()),
+        LinePiece::Host(host) => write!(text, "{host}"),
     }
 }
 
-/// The pieces, one behind the other.
-pub fn join_pieces(alloc: Global, pieces: &[Piece<'_>]) -> Result<String, AllocError> {
+/// The pieces as one text.
+pub fn join_pieces(alloc: Global, pieces: &[LinePiece<'_>]) -> Result<String, AllocError> {
     let mut line = String::new(alloc);
     for piece in pieces {
         push_piece(alloc, &mut line, *piece)?;

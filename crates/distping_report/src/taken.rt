@@ -1,4 +1,4 @@
-//! What came of a connection that was taken.
+//! The result of a connection that was taken.
 
 ghost use Rattle.std.specs.Prelude.{◌≡◌};
 ghost use Rattle.distping_report.specs.TakenWords.{taken_cause, taken_status, taken_word, what_dials};
@@ -6,36 +6,36 @@ ghost use Rattle.distping_report.specs.TakenWords.{taken_cause, taken_status, ta
 use dist_probe::{Peer, Service};
 use std::net::SocketAddr;
 
-/// What came of a connection that was taken.
+/// The result of a connection that was taken.
 #[derive(Clone, Copy)]
 pub enum Taken {
     /// The digest in the reply is that of our cookie, and it was acknowledged.
     Up,
-    /// A reply came, and there is no cookie to compare its digest with.
+    /// A reply came, but there is no cookie to compare its digest with.
     Answered,
     /// The digest in the reply is not that of our cookie.
     WrongCookie,
-    /// The connection was closed, or broke, before a name.
+    /// The connection was closed, or broke, before a name arrived.
     NoName,
-    /// The connection was closed, or broke, upon our challenge.
+    /// The connection was closed, or broke, after our challenge.
     Left,
-    /// The same, by who has the name of a probe.
+    /// The same, from a node with the name of a probe.
     Stopped,
     /// The node asks for a name.
     WantsName,
-    /// Nobody dialled in time.
+    /// No node dialled in time.
     NoCaller,
-    /// Nothing whole came in time.
+    /// No whole message arrived in time.
     Silent,
-    /// A message came out of turn, an older form of the name among them, or a body that is none.
+    /// A message out of turn, among them an older form of the name, or a body that is not a message.
     Unexpected,
-    /// What dials is no node.
+    /// What dials is not a node.
     Foreign(Service),
     /// Memory ran out here.
     NoMemory,
 }
 
-// What dials, where it is no node.
+// What dials, if it is not a node.
 fn what_dials(service: Service) -> &'static str
     ensures { result.now ≡ what_dials service }
 {
@@ -68,7 +68,7 @@ impl Taken {
         }
     }
 
-    /// What it means, in a sentence without a full stop.
+    /// Its meaning, in a sentence without a full stop.
     pub fn cause(self) -> &'static str
         ensures { result.now ≡ taken_cause self }
     {
@@ -92,7 +92,7 @@ impl Taken {
         }
     }
 
-    /// The exit status: the place to look at, as that of a verdict.
+    /// The exit status, which says where to look, as that of a verdict does.
     pub fn status(self) -> u8
         ensures { result ≡ taken_status self }
     {
@@ -107,17 +107,17 @@ impl Taken {
     }
 }
 
-/// What was found of who dialled.
+/// What was found out about the node that dialled.
 #[derive(Drop)]
 pub struct Caller {
     /// The address that it dialled from.
     pub address: Option<SocketAddr>,
-    /// What it said of itself.
+    /// What it sent about itself.
     pub peer: Option<Peer>,
 }
 
 impl Caller {
-    /// Nothing so far.
+    /// Nothing found yet.
     pub fn nobody() -> Caller {
         Caller {
             address: None,

@@ -1,4 +1,4 @@
-//! What was seen of a node that is watched.
+//! What was observed of a watched node.
 
 ghost use Rattle.std.specs.Prelude.{◌≡◌};
 ghost use Rattle.std.specs.List.{before_first, position, position_or_len};
@@ -6,29 +6,29 @@ ghost use Rattle.distping_report.specs.Watched.{is_colon, word_in_verdict};
 
 use dist_cluster::LatencySummary;
 use dist_names::{ByteString, NodeName};
-use dist_probe::Verdict;
+use dist_probe::ProbeVerdict;
 
-/// What a probe of a watched node came to.
+/// The result of a probe of a watched node.
 #[derive(Clone, Copy)]
 pub struct Seen<'a> {
     /// The node.
     pub node: &'a NodeName,
-    /// The verdict upon it.
-    pub verdict: Verdict,
+    /// The verdict on it.
+    pub verdict: ProbeVerdict,
     /// How long the probe took, in milliseconds.
     pub latency: u64,
-    /// When it was done, in seconds since 1970.
+    /// When the probe was done, in seconds since 1970.
     pub at: u64,
 }
 
-/// What a watched node's answers took, in milliseconds.
+/// How long a watched node's answers took, in milliseconds.
 #[derive(Clone, Copy)]
 pub struct Answers<'a> {
     /// The node.
     pub node: &'a NodeName,
     /// How often it was probed.
     pub rounds: u64,
-    /// What its answers took, where it gave any.
+    /// The times of its answers, if it gave any.
     pub summary: Option<LatencySummary>,
 }
 
@@ -38,7 +38,7 @@ fn first_colon(text: &[u8]) -> Option<usize>
     text.iter().position(|byte| *byte == b':')
 }
 
-// Where the first colon of a text stands, or its length where there is none.
+// The place of a text's first colon, or its length if it has none.
 #[tactic(auto, using(dist_names::proofs::Places::place_or_length))]
 fn colon_place(text: &[u8]) -> usize
     ensures { result ≡ position_or_len is_colon text.now }
@@ -46,14 +46,14 @@ fn colon_place(text: &[u8]) -> usize
     first_colon(text).unwrap_or(text.len())
 }
 
-// What stands before the first colon of a text.
+// What comes before the first colon of a text.
 fn before_colon(text: &[u8]) -> &[u8]
     ensures { result.now ≡ before_first is_colon text.now }
 {
     &text[..colon_place(text)]
 }
 
-/// The word in the text of a verdict.
+/// The word of a verdict's text.
 pub fn verdict_word_in(text: &ByteString) -> &[u8]
     ensures { result.now ≡ word_in_verdict text.now }
 {

@@ -6,7 +6,7 @@ use Rattle.dist_program.specs.PortTexts.{port_error_status}
 use Rattle.distping_words.specs.declared.refusal.Refusal.{Refusal}
 use Rattle.distping_words.specs.declared.refusal.Refusal.TheVariants as refusal
 
--- 2 where the command line is at fault, else 1
+-- 2 if the command line is at fault, else 1
 abbrev pub fault_status : Fault → ℕ
 fault_status fault.BadCommandLine = 2
 fault_status fault.BadName = 2
@@ -18,7 +18,7 @@ fault_status fault.CountAlone = 2
 fault_status fault.ListenAlone = 2
 fault_status other = 1
 
--- the same of all that ends the program
+-- the same for all that ends the program early
 abbrev pub refusal_status : Refusal → ℕ
 refusal_status (refusal.BadMapperPort error) = port_error_status error
 refusal_status (refusal.NotPrivate file) = 1

@@ -13,18 +13,18 @@ use dist_program::CONNECT_SECONDS;
 use std::alloc::{AllocError, Global};
 use std::time::Duration;
 
-// The turns of a talk beside those that pass in quiet seconds. A port mapper writes each line of its names by itself, so as
-// many reads may be needed as it knows nodes. Our own choice.
+// How many turns a lookup or a talk may take beside one for each second. A port mapper writes each line of its names by itself, so it
+// may take one read for each node. Our own choice.
 const TURNS_IN_PLENTY: usize = 4096;
 
-/// What is done in place of dialling.
+/// What is done instead of dialling.
 #[derive(Drop)]
 pub enum Instead {
-    /// How the program is called is printed.
+    /// Print the help.
     Help,
-    /// Which version it is is printed.
+    /// Print the version.
     Version,
-    /// The words ask for nothing.
+    /// Refuse the words.
     Refusal(Refusal),
 }
 
@@ -40,10 +40,10 @@ impl From<AllocError> for Instead {
     }
 }
 
-/// Which cookie is to be tried.
+/// Which cookie is tried.
 #[derive(Clone, Copy)]
 pub enum CookieSource<'a> {
-    /// That of the user's home folder, where there is one.
+    /// That of the user's home folder, if it has one.
     Home,
     /// That of this file.
     File(&'a str),
@@ -51,12 +51,12 @@ pub enum CookieSource<'a> {
     Nowhere,
 }
 
-/// What is to be dialled, and how.
+/// What is dialled, and how.
 #[derive(Drop)]
 pub struct Wanted<'a> {
-    /// What is dialled: one at least unless it is listened, or a file names more.
+    /// The targets. There is at least one, unless the program listens or a file names more.
     pub targets: Vec<Target>,
-    /// The name that the probe gives itself, where one is given.
+    /// The name that the probe gives itself, if one is given.
     pub name: Option<NodeName>,
     /// The rest.
     pub choices: Choices<'a>,
@@ -71,39 +71,39 @@ pub struct Choices<'a> {
     pub flags: Flags,
     /// The port of the port mapper.
     pub mapper_port: u16,
-    /// The node's port, where the port mapper is not to be asked.
+    /// The node's port, if the port mapper is not asked.
     pub port: Option<u16>,
-    /// The host to connect to, where it is not that of the node's name.
+    /// The host to connect to, if it is not that of the node's name.
     pub address: Option<&'a str>,
-    /// How many seconds a connect, a lookup and a talk may take each, one at least.
+    /// The most seconds that a connect, a lookup and a talk may each take, at least one.
     pub seconds: u16,
-    /// The command line says so, and a connection is waited for as long.
+    /// Whether the command line gives this limit; then it also limits the wait for a connection.
     pub has_limit: bool,
-    /// The port at which one connection is taken, in place of dialling.
+    /// The port at which one connection is taken, instead of dialling.
     pub listen: Option<u16>,
-    /// An object of JSON is printed for each node, in place of the lines.
+    /// Whether a JSON object is printed for each node, instead of the lines.
     pub json: bool,
-    /// The cookie's file is read even where others than its owner may use it.
+    /// Whether the cookie's file is read even if others than its owner may use it.
     pub takes_any_file: bool,
     /// The file that names more nodes.
     pub roster: Option<&'a str>,
-    /// Each pair is printed, also those of more than two nodes against which nothing speaks.
+    /// Whether every pair is printed, also the good ones of more than two nodes.
     pub all_pairs: bool,
-    /// The nodes are probed again and again, and what changes is printed.
+    /// How often the nodes are probed to see what changes, if they are watched.
     pub watch: Option<Rhythm>,
 }
 
 /// How often nodes are probed that are watched.
 #[derive(Clone, Copy)]
 pub struct Rhythm {
-    /// How many seconds are between the beginnings of two rounds.
+    /// The seconds from the beginning of a round to that of the next.
     pub seconds: u16,
-    /// How many rounds there are, where the command line says so.
+    /// The number of rounds, if the command line gives one.
     pub count: Option<u16>,
 }
 
 impl Rhythm {
-    /// How many rounds there are: more than any run lasts, where the command line does not say.
+    /// The number of rounds; if none is given, more than any run lasts.
     pub fn rounds(self) -> u64 {
         match self.count {
             Some(count) => u64::from(count),
@@ -126,7 +126,7 @@ impl<'a> Choices<'a> {
         Duration::from_secs(u64::from(self.seconds))
     }
 
-    /// How many seconds a connection is waited for, where the command line says so.
+    /// How many seconds to wait for a connection, if the command line gives a limit.
     pub fn patience(&self) -> Option<u16> {
         if self.has_limit {
             Some(self.seconds)
@@ -135,17 +135,17 @@ impl<'a> Choices<'a> {
         }
     }
 
-    /// How many reads and writes a lookup or a talk may take. The clock ends it before: a quiet one waits for a second, and
-    /// beside those there are turns in plenty.
+    /// The most reads and writes of a lookup or a talk. The clock ends it earlier: a quiet turn takes a second, and there are turns to
+    /// spare for the others.
     pub fn turns(&self) -> usize {
         self.seconds as usize + TURNS_IN_PLENTY
     }
 }
 
-// The program's words that stand by themselves.
+// The options that take no value.
 const SWITCHES: [&str; 4] = ["no-cookie", "json", "cookie-unsafe", "all-pairs"];
 
-// The program's words that a value stands behind.
+// The options that take a value.
 const VALUES: [&str; 11] = [
     "name",
     "cookie",
@@ -160,7 +160,7 @@ const VALUES: [&str; 11] = [
     "count",
 ];
 
-// The program with the names of the nodes alone.
+// The command line with just the names of the nodes.
 fn bare<'a>(alloc: Global) -> Result<Command<'a>, AllocError> {
     let nodes = Arg::new(alloc, "node")
         .num_args(1..)
@@ -171,7 +171,7 @@ fn bare<'a>(alloc: Global) -> Result<Command<'a>, AllocError> {
         .arg(nodes)
 }
 
-// The program with one more word.
+// The command line with one more option.
 fn with_word<'a>(
     alloc: Global,
     program: Command<'a>,
@@ -181,7 +181,7 @@ fn with_word<'a>(
     program.arg(Arg::new(alloc, word).long(word).action(action))
 }
 
-// The program with more words, which are all given in this way.
+// The command line with more options, all made in this way.
 fn with_words<'a>(
     alloc: Global,
     bare: Command<'a>,
@@ -200,7 +200,7 @@ fn program<'a>(alloc: Global) -> Result<Command<'a>, AllocError> {
     with_words(alloc, program, &VALUES, ArgAction::Set)
 }
 
-// The flags of a list of names, else of hexadecimal digits.
+// The flags that a text names, or writes in hexadecimal digits.
 fn flags_of(text: &str) -> Option<Flags> {
     let mut flags = Flags(0);
     for word in text.split(',') {
@@ -212,7 +212,7 @@ fn flags_of(text: &str) -> Option<Flags> {
     Some(flags)
 }
 
-// The flags of a text, which are none of a node that asks for a name: the probe has one.
+// The flags that a text gives. `DFLAG_NAME_ME` is refused: the probe has a name.
 fn own_flags_of(alloc: Global, text: &str) -> Result<Flags, Refusal> {
     match flags_of(text) {
         Some(flags) if !flags.has(Flags::NAME_ME) => Ok(flags),
@@ -220,7 +220,7 @@ fn own_flags_of(alloc: Global, text: &str) -> Result<Flags, Refusal> {
     }
 }
 
-// What the probe announces: what OTP 23 to 29 take, unless the command line says otherwise.
+// The flags that the probe announces: those that OTP 23 to 29 accept, unless others are given.
 fn flags_in(alloc: Global, matches: &ArgMatches<'_>) -> Result<Flags, Refusal> {
     match matches.get_str("flags") {
         None => Ok(Release::Otp28.required()),
@@ -228,10 +228,10 @@ fn flags_in(alloc: Global, matches: &ArgMatches<'_>) -> Result<Flags, Refusal> {
     }
 }
 
-// The program's words whose value is a number.
+// The options whose value is a number.
 const NUMBERS: [&str; 6] = ["epmd-port", "port", "listen", "seconds", "watch", "count"];
 
-// A number of 16 bits that is not 0.
+// A number from 1 to 65,535.
 fn number_named(word: &str) -> Option<u16> {
     match number_16(word.as_bytes()) {
         Some(0) | None => None,
@@ -239,7 +239,7 @@ fn number_named(word: &str) -> Option<u16> {
     }
 }
 
-// A port, or another number from 1 to 65,535, where one is given.
+// The number from 1 to 65,535 of this option, if it is given.
 fn number_of(alloc: Global, matches: &ArgMatches<'_>, id: &str) -> Result<Option<u16>, Refusal> {
     let Some(word) = matches.get_str(id) else {
         return Ok(None);
@@ -250,7 +250,7 @@ fn number_of(alloc: Global, matches: &ArgMatches<'_>, id: &str) -> Result<Option
     }
 }
 
-// The numbers, each where it is given.
+// The numbers of all these options, each if it is given.
 fn numbers_in(alloc: Global, matches: &ArgMatches<'_>) -> Result<[Option<u16>; 6], Refusal> {
     let mut numbers = [None; 6];
     for at in 0..6 {
@@ -259,7 +259,7 @@ fn numbers_in(alloc: Global, matches: &ArgMatches<'_>) -> Result<[Option<u16>; 6
     Ok(numbers)
 }
 
-/// The name that these bytes are.
+/// The name that these bytes spell.
 pub fn parse_name(alloc: Global, bytes: &[u8]) -> Result<NodeName, Fault> {
     match NodeName::new(alloc, bytes) {
         Ok(name) => Ok(name),
@@ -268,7 +268,7 @@ pub fn parse_name(alloc: Global, bytes: &[u8]) -> Result<NodeName, Fault> {
     }
 }
 
-// The name that a word of the command line is.
+// The name that a word of the command line spells.
 fn name_in(alloc: Global, word: &str) -> Result<NodeName, Refusal> {
     match parse_name(alloc, word.as_bytes()) {
         Ok(name) => Ok(name),
@@ -286,7 +286,7 @@ fn bad_target(alloc: Global, word: &str) -> Refusal {
     }
 }
 
-// What a word of the command line names.
+// The target that a word of the command line names.
 fn target_in(alloc: Global, word: &str) -> Result<Target, Refusal> {
     match target_of(alloc, word.as_bytes()) {
         Ok(target) => Ok(target),
@@ -295,7 +295,7 @@ fn target_in(alloc: Global, word: &str) -> Result<Target, Refusal> {
     }
 }
 
-// What the words of the command line name.
+// The targets that the command line names.
 fn targets_in(alloc: Global, matches: &ArgMatches<'_>) -> Result<Vec<Target>, Refusal> {
     let mut targets = Vec::new(alloc);
     for word in matches.get_strs("node").unwrap_or(&[]) {
@@ -305,7 +305,7 @@ fn targets_in(alloc: Global, matches: &ArgMatches<'_>) -> Result<Vec<Target>, Re
     Ok(targets)
 }
 
-// The own name that is given.
+// The probe's own name, if one is given.
 fn own_name_in(alloc: Global, matches: &ArgMatches<'_>) -> Result<Option<NodeName>, Refusal> {
     match matches.get_str("name") {
         None => Ok(None),
@@ -322,7 +322,7 @@ fn cookie_in<'a>(matches: &ArgMatches<'a>) -> Result<CookieSource<'a>, Fault> {
     }
 }
 
-// Whether a port stands behind a host, as in `10.0.0.2:4369` and `[::1]:4369`.
+// Whether a host is followed by a port, as in `10.0.0.2:4369` and `[::1]:4369`.
 fn has_port(host: &str) -> bool {
     match host.rsplit_once(':') {
         Some((front, _)) => front.ends_with(']') || !front.contains(':'),
@@ -330,7 +330,7 @@ fn has_port(host: &str) -> bool {
     }
 }
 
-// The host to connect to, where one is given.
+// The host to connect to, if one is given.
 fn address_in<'a>(alloc: Global, matches: &ArgMatches<'a>) -> Result<Option<&'a str>, Refusal> {
     match matches.get_str("address") {
         Some(host) if has_port(host) => Err(bad_address(alloc, host)),
@@ -338,7 +338,7 @@ fn address_in<'a>(alloc: Global, matches: &ArgMatches<'a>) -> Result<Option<&'a 
     }
 }
 
-// How often nodes are probed, where they are watched.
+// How often nodes are probed, if they are watched.
 fn rhythm_in(watch: Option<u16>, count: Option<u16>) -> Result<Option<Rhythm>, Fault> {
     match (watch, count) {
         (Some(seconds), count) => Ok(Some(Rhythm { seconds, count })),
@@ -347,7 +347,7 @@ fn rhythm_in(watch: Option<u16>, count: Option<u16>) -> Result<Option<Rhythm>, F
     }
 }
 
-// What the parser matched beside names.
+// What the parser matched, without the names.
 fn choices_in<'a>(
     alloc: Global,
     matches: &ArgMatches<'a>,
@@ -388,12 +388,12 @@ fn read_in<'a>(
     })
 }
 
-// Whether one node alone is dialled.
+// Whether just one node is dialled.
 fn is_one_node(wanted: &Wanted<'_>) -> bool {
     matches!(wanted.targets.as_slice(), [Target::Node(_)]) && wanted.choices.roster.is_none()
 }
 
-// What does not go together where it is listened.
+// What contradicts `--listen`.
 fn listening_fault(wanted: &Wanted<'_>) -> Option<Fault> {
     let choices = &wanted.choices;
     let is_alone = wanted.targets.is_empty() && choices.roster.is_none() && choices.watch.is_none();
@@ -404,7 +404,7 @@ fn listening_fault(wanted: &Wanted<'_>) -> Option<Fault> {
     }
 }
 
-// What does not go together where nodes are dialled.
+// What contradicts dialling.
 fn dialling_fault(wanted: &Wanted<'_>) -> Option<Fault> {
     let choices = &wanted.choices;
     if wanted.targets.is_empty() && choices.roster.is_none() {
@@ -416,7 +416,7 @@ fn dialling_fault(wanted: &Wanted<'_>) -> Option<Fault> {
     }
 }
 
-// What does not go together.
+// What contradicts the rest.
 fn fault_in(wanted: &Wanted<'_>) -> Option<Fault> {
     if wanted.choices.listen.is_some() {
         listening_fault(wanted)
@@ -425,7 +425,7 @@ fn fault_in(wanted: &Wanted<'_>) -> Option<Fault> {
     }
 }
 
-// What the parser matched, where that goes together.
+// What the parser matched, unless its parts contradict each other.
 fn wanted_in<'a>(
     alloc: Global,
     matches: &ArgMatches<'a>,
@@ -438,7 +438,7 @@ fn wanted_in<'a>(
     }
 }
 
-// What is done where the parser matched nothing.
+// What is done if the parser matched nothing.
 fn instead_of(alloc: Global, error: &Error) -> Instead {
     match error.kind() {
         ErrorKind::DisplayHelp => Instead::Help,
@@ -448,7 +448,7 @@ fn instead_of(alloc: Global, error: &Error) -> Instead {
     }
 }
 
-/// What these words ask for. `usual_port` is the port mapper's port where they name none.
+/// What these words ask for. `usual_port` is the port mapper's port if they name none.
 pub fn wanted_of<'a>(
     alloc: Global,
     words: &'a [String],

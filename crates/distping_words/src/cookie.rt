@@ -1,4 +1,4 @@
-//! The cookie that is tried: that of the file which is named, else that of the home folder, where there is one.
+//! The cookie that is tried: that of the named file, or of the home folder, if it has one.
 
 use crate::command::{Choices, CookieSource};
 use crate::fault::Fault;
@@ -8,7 +8,7 @@ use dist_program::{CookieFault, cookie_at, home_cookie};
 use dist_secret::Cookie;
 use std::alloc::{AllocError, Global};
 
-// The refusal of a file that others may use.
+// The refusal of a file that others than its owner may use.
 fn not_private(alloc: Global, path: &str) -> Refusal {
     match quote(alloc, path.as_bytes()) {
         Ok(file) => Refusal::NotPrivate(file),
@@ -16,7 +16,7 @@ fn not_private(alloc: Global, path: &str) -> Refusal {
     }
 }
 
-// The refusal of a file that gives no cookie.
+// The refusal of a file without a cookie.
 fn refusal_of(alloc: Global, fault: CookieFault) -> Refusal {
     match fault {
         CookieFault::OpenFailed => Refusal::Fault(Fault::OpenFailed),
@@ -27,7 +27,7 @@ fn refusal_of(alloc: Global, fault: CookieFault) -> Refusal {
     }
 }
 
-// The cookie that is chosen.
+// The cookie that the options choose.
 fn chosen_cookie(rt: &HostRuntime, choices: &Choices<'_>) -> Result<Option<Cookie>, CookieFault> {
     match choices.cookie {
         CookieSource::Nowhere => Ok(None),
@@ -36,7 +36,7 @@ fn chosen_cookie(rt: &HostRuntime, choices: &Choices<'_>) -> Result<Option<Cooki
     }
 }
 
-/// The cookie of the file that is named, else of the home folder, where there is one.
+/// The cookie of the named file, or of the home folder, if it has one.
 pub fn cookie_of(rt: &HostRuntime, choices: &Choices<'_>) -> Result<Option<Cookie>, Refusal> {
     match chosen_cookie(rt, choices) {
         Ok(cookie) => Ok(cookie),

@@ -9,19 +9,19 @@ use std::alloc::{AllocError, AllocFailed};
 use std::io::ErrorKind;
 use std::{fmt, io};
 
-/// What ends the program before a verdict, beside what `Refusal` has. Its `Display` is what stands after `distping: ` on standard
-/// error.
+/// What ends the program before a verdict, beside the refusals with a text of their own. Its `Display` comes after `distping: ` on
+/// standard error.
 #[derive(Clone, Copy)]
 pub enum Fault {
-    /// One of the words of the command line is no UTF-8.
+    /// A word of the command line is not UTF-8.
     BadCommandLine,
     /// No node is named.
     NoNode,
-    /// `--cookie` and `--no-cookie` stand side by side.
+    /// Both `--cookie` and `--no-cookie` are given.
     TwoCookies,
-    /// A text that should be a node's name is none.
+    /// A text that should be a node's name is not one.
     BadName,
-    /// `--port` or `--address` stand beside several nodes.
+    /// `--port` or `--address` is given with several nodes.
     OneNodeAlone,
     /// The cookie's file could not be opened.
     OpenFailed,
@@ -37,15 +37,15 @@ pub enum Fault {
     RosterTooLong,
     /// There are more nodes than are dialled in one run.
     TooManyNodes,
-    /// `--count` stands without `--watch`.
+    /// `--count` is given without `--watch`.
     CountAlone,
     /// The system gave no time.
     NoTime,
-    /// The port could not be listened at, or no connection be taken, for this cause.
+    /// The program can't listen at the port, or take a connection, for this cause.
     ListenFailed(ErrorKind),
-    /// The host of `--address` gives no address to listen at.
+    /// The host of `--address` has no address to listen at.
     NoListenAddress,
-    /// `--listen` wants a name to listen under, and no other node.
+    /// `--listen` needs a name to listen as, and takes no nodes.
     ListenAlone,
     /// The output could not be written.
     WriteFailed,
@@ -93,7 +93,7 @@ impl<T: Drop> From<AllocFailed<T>> for Fault {
 }
 
 impl Fault {
-    // What is printed of it, in a word or a sentence.
+    // The word or sentence that is printed.
     fn text(self) -> &'static str {
         match self {
             Fault::BadCommandLine => "bad command line: a word is no UTF-8 (distping --help)",
@@ -121,7 +121,7 @@ impl Fault {
         }
     }
 
-    /// The exit status: 2 where the command line is at fault, else 1.
+    /// The exit status: 2 if the command line is at fault, else 1.
     pub fn status(self) -> u8
         ensures { result ≡ fault_status self }
     {

@@ -1,8 +1,7 @@
-//! What distping is asked for: the words of its command line, the file of names and the cookie that these name, and why it does not
-//! do it.
+//! What distping is asked for: the words of its command line, the files of names and of the cookie that they name, and why it refuses them.
 //!
-//! It reads these two files, and nothing else. No socket is opened here, nothing is printed but the line of a refusal, and what the
-//! words of a port mapper or of a node mean is no matter of it.
+//! It reads these two files, and nothing else. It opens no socket, prints nothing but the line of a refusal, and knows no messages of a
+//! port mapper or a node.
 #![tactic(auto)]
 
 mod command;

@@ -1,4 +1,4 @@
-//! What ends the program, with what another than the program wrote in the line that tells it.
+//! What ends the program early; some of it quotes the user's words in its line.
 
 ghost use Rattle.std.specs.Prelude.{◌≡◌};
 ghost use Rattle.distping_words.specs.Faults.{refusal_status};
@@ -9,14 +9,14 @@ use std::alloc::AllocError;
 use std::fmt;
 use std::io::Write;
 
-/// What ends the program before a verdict. Its `Display` is what stands after `distping: ` on standard error.
+/// What ends the program before a verdict. Its `Display` comes after `distping: ` on standard error.
 #[derive(Drop)]
 pub enum Refusal {
-    /// ERL_EPMD_PORT names no port.
+    /// ERL_EPMD_PORT is not a port.
     BadMapperPort(PortError),
-    /// Others than its owner may use the file of this name, which stands between double quotes and is safe to print.
+    /// Others than its owner may use the file with this name, which is quoted and safe to print.
     NotPrivate(String),
-    /// A word of the command line is bad: the sentence that says so, safe to print.
+    /// A word of the command line is bad: the sentence about it, safe to print.
     BadWord(String),
     /// Another fault.
     Fault(Fault),
@@ -49,8 +49,8 @@ impl Refusal {
         }
     }
 
-    /// Tells the refusal on standard error, and answers the exit status. Where it cannot be told nothing is lost but the text.
-    pub fn tell<E: Write>(&self, err: &mut E) -> u8
+    /// Prints the refusal on standard error, and returns the exit status. If it can't be printed, just the text is lost.
+    pub fn report_to<E: Write>(&self, err: &mut E) -> u8
         ensures { result ≡ refusal_status self.now }
     {
         report(err, "distping", self, self.status())

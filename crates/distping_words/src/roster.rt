@@ -1,4 +1,4 @@
-//! The file of names: a node or `@HOST` a line. A `#` begins a comment, and a line that names nothing is passed over.
+//! The file of names: a node or `@HOST` on each line. A `#` begins a comment; a line without a name is skipped.
 
 use crate::fault::Fault;
 use crate::refusal::Refusal;
@@ -9,18 +9,18 @@ use std::alloc::Global;
 use std::fs::File;
 use std::io::{ErrorKind, Read};
 
-/// The most bytes of a file of names: enough for as many names as are dialled, each with a comment of some hundred bytes. Our own
+/// The most bytes of a file of names: enough for as many names as are dialled, each with a comment of several hundred bytes. Our own
 /// choice.
 const MOST_BYTES: usize = 1 << 20;
 
-// Which line of which file.
+// A line of a file, by its number.
 #[derive(Clone, Copy)]
 struct Place<'a> {
     path: &'a str,
     number: u64,
 }
 
-// Appends what one read gives, and returns whether there may be more.
+// Appends the bytes of one read, and returns whether there may be more.
 fn read_piece<F: Read>(file: &mut F, bytes: &mut Vec<u8>) -> Result<bool, Fault> {
     let mut room = [0u8; 4096];
     match file.read(&mut room) {
@@ -34,7 +34,7 @@ fn read_piece<F: Read>(file: &mut F, bytes: &mut Vec<u8>) -> Result<bool, Fault>
     }
 }
 
-// All that a file has.
+// The whole file.
 fn read_all<F: Read>(alloc: Global, file: &mut F) -> Result<Vec<u8>, Fault> {
     let mut bytes = Vec::new(alloc);
     for _ in 0..u64::MAX {
@@ -48,7 +48,7 @@ fn read_all<F: Read>(alloc: Global, file: &mut F) -> Result<Vec<u8>, Fault> {
     Err(Fault::RosterTooLong)
 }
 
-// All that the file at this path has; `-` is standard input.
+// The whole file at this path; `-` is standard input.
 fn bytes_at(rt: &HostRuntime, path: &str) -> Result<Vec<u8>, Fault> {
     if path == "-" {
         return read_all(rt.alloc(), &mut rt.stdin());
@@ -59,7 +59,7 @@ fn bytes_at(rt: &HostRuntime, path: &str) -> Result<Vec<u8>, Fault> {
     }
 }
 
-/// One more target, of as many as are taken.
+/// Adds a target, unless there are too many.
 pub fn push_target(targets: &mut Vec<Target>, target: Target) -> Result<(), Fault> {
     if targets.len() >= MOST_NODES {
         return Err(Fault::TooManyNodes);
@@ -68,7 +68,7 @@ pub fn push_target(targets: &mut Vec<Target>, target: Target) -> Result<(), Faul
     Ok(())
 }
 
-// The target in a line that names one.
+// The target that a line names.
 fn target_in(alloc: Global, place: Place<'_>, word: &[u8]) -> Result<Target, Refusal> {
     match target_of(alloc, word) {
         Ok(target) => Ok(target),
@@ -77,7 +77,7 @@ fn target_in(alloc: Global, place: Place<'_>, word: &[u8]) -> Result<Target, Ref
     }
 }
 
-// One more target, where a line names one.
+// Adds the target of a line, if it names one.
 fn push_line(
     alloc: Global,
     targets: &mut Vec<Target>,
@@ -92,7 +92,7 @@ fn push_line(
     Ok(push_target(targets, target)?)
 }
 
-/// Puts what the lines of a file name behind the targets.
+/// Adds the targets that the lines of a file name.
 pub fn read_roster(rt: &HostRuntime, path: &str, targets: &mut Vec<Target>) -> Result<(), Refusal> {
     let bytes = bytes_at(rt, path)?;
     let mut number = 0u64;

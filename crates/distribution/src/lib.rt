@@ -97,7 +97,7 @@ pub use dist_core::{
 pub use dist_drive::{Desk, Draws, MemoryDesk, Outcome, Reached, drive, handshake, opening_for};
 pub use dist_epmd::{AliveReq, NodeInfo, PortInfo};
 pub use dist_epmd_calls::{LookupError, ask_names, lookup, register};
-pub use dist_flags::{Dflag, Release, Told, missing, told_by, with_mandatory};
+pub use dist_flags::{Dflag, Release, ReleaseShown, missing, release_shown, with_mandatory};
 pub use dist_frames::{Due, Frames, PacketError, Packets, Ticker, header, tick, write_packet};
 pub use dist_names::{ByteString, Creation, Flags, NameError, NodeName};
 pub use dist_peers::{EndId, Entry};

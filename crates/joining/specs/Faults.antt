@@ -3,7 +3,7 @@ use Rattle.std.specs.Prelude.{ℕ}
 use Rattle.joining.specs.declared.fault.Fault.{Fault}
 use Rattle.joining.specs.declared.fault.Fault.TheVariants as fault
 
--- 2 where the command line is at fault, 3 where the node was not joined, 4 where the link was lost, else 1
+-- 2 if the command line is at fault, 3 if the node was not joined, 4 if the link was lost, else 1
 abbrev pub fault_status : Fault → ℕ
 fault_status fault.BadCommandLine = 2
 fault_status (fault.BadWord sentence) = 2

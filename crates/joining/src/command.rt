@@ -13,42 +13,42 @@ const NET_TICKTIME: u16 = 60;
 
 /// What the command line asks for.
 #[derive(Drop)]
-pub enum Asked<'a> {
-    /// How the program is called.
+pub enum Invocation<'a> {
+    /// Print the help.
     Help,
-    /// Which version it is.
+    /// Print the version.
     Version,
-    /// To join a node.
-    Joins(Wanted<'a>),
+    /// Join a node.
+    Joins(JoinRequest<'a>),
 }
 
-/// Which node is to be joined, and how.
+/// The node to join, and how.
 #[derive(Drop)]
-pub struct Wanted<'a> {
+pub struct JoinRequest<'a> {
     /// The node's name.
     pub node: NodeName,
-    /// The own name, where one is given.
+    /// Our name, if one is given.
     pub name: Option<NodeName>,
     /// The rest.
-    pub choices: Choices<'a>,
+    pub choices: JoinChoices<'a>,
 }
 
 /// What is chosen beside names.
 #[derive(Clone, Copy)]
-pub struct Choices<'a> {
-    /// The host to connect to, where it is not that of the node's name.
+pub struct JoinChoices<'a> {
+    /// The host to connect to, if it is not that of the node's name.
     pub address: Option<&'a str>,
-    /// The cookie's file, where it is not that of the home folder.
+    /// The cookie's file, if it is not that of the home folder.
     pub cookie_file: Option<&'a str>,
-    /// Whether the file may be one that others than its owner can read.
+    /// Whether the file is read even if others than its owner may use it.
     pub is_unsafe: bool,
     /// The port of the port mapper.
     pub mapper_port: u16,
-    /// After how many seconds a silent peer is given up, one at least.
+    /// After how many seconds a silent peer is given up, at least one.
     pub net_ticktime: u16,
 }
 
-impl<'a> Choices<'a> {
+impl<'a> JoinChoices<'a> {
     /// The host to connect to for a node.
     pub fn host<'b>(&'b self, node: &'b NodeName) -> &'b str {
         match self.address {
@@ -58,23 +58,23 @@ impl<'a> Choices<'a> {
     }
 }
 
-// The program's words that take a value.
+// The options that take a value.
 const VALUES: [&str; 4] = ["name", "address", "epmd-port", "net-ticktime"];
 
-// So does this one, by which the other programs name the file of the cookie too, and its older form.
+// So does this one; the other programs also name the cookie's file by it. Its older form follows.
 const COOKIE: &str = "cookie";
 
 const COOKIE_FILE: &str = "cookie-file";
 
-// The program's word that takes none.
+// The option that takes no value.
 const UNSAFE: &str = "cookie-unsafe";
 
-// A word that takes a value.
+// An option that takes a value.
 fn value_arg<'a>(alloc: Global, word: &'a str) -> Arg<'a> {
     Arg::new(alloc, word).long(word).action(ArgAction::Set)
 }
 
-// The program with the node and the file of the cookie alone.
+// The command line with just the node and the cookie's file.
 fn bare_program<'a>(alloc: Global) -> Result<Command<'a>, AllocError> {
     let cookie = value_arg(alloc, COOKIE).alias(COOKIE_FILE)?;
     Command::new(alloc, "joining")
@@ -95,7 +95,7 @@ fn program<'a>(alloc: Global) -> Result<Command<'a>, AllocError> {
     Ok(program)
 }
 
-// A number of 16 bits that is not 0.
+// A number from 1 to 65,535.
 fn number_named(word: &str) -> Option<u16> {
     match number_16(word.as_bytes()) {
         Some(0) | None => None,
@@ -103,7 +103,7 @@ fn number_named(word: &str) -> Option<u16> {
     }
 }
 
-// The number from 1 to 65,535 behind this word, where one is given, else the usual one.
+// The number from 1 to 65,535 of this option, or the usual one if it is not given.
 fn number_of(alloc: Global, matches: &ArgMatches<'_>, id: &str, usual: u16) -> Result<u16, Fault> {
     let Some(word) = matches.get_str(id) else {
         return Ok(usual);
@@ -114,7 +114,7 @@ fn number_of(alloc: Global, matches: &ArgMatches<'_>, id: &str, usual: u16) -> R
     }
 }
 
-/// The name that these bytes are.
+/// The name that these bytes spell.
 pub fn name_of(alloc: Global, bytes: &[u8]) -> Result<NodeName, Fault> {
     match NodeName::new(alloc, bytes) {
         Ok(name) => Ok(name),
@@ -123,7 +123,7 @@ pub fn name_of(alloc: Global, bytes: &[u8]) -> Result<NodeName, Fault> {
     }
 }
 
-// The name that a word of the command line is.
+// The name that a word of the command line spells.
 fn name_in(alloc: Global, word: &str) -> Result<NodeName, Fault> {
     match name_of(alloc, word.as_bytes()) {
         Err(Fault::BadName) => Err(bad_name(alloc, word)),
@@ -131,7 +131,7 @@ fn name_in(alloc: Global, word: &str) -> Result<NodeName, Fault> {
     }
 }
 
-// The own name, where one is given.
+// Our name, if one is given.
 fn own_name_in(alloc: Global, matches: &ArgMatches<'_>) -> Result<Option<NodeName>, Fault> {
     match matches.get_str("name") {
         None => Ok(None),
@@ -139,15 +139,15 @@ fn own_name_in(alloc: Global, matches: &ArgMatches<'_>) -> Result<Option<NodeNam
     }
 }
 
-// What the parser matched beside names.
+// What the parser matched, without the names.
 fn choices_in<'a>(
     alloc: Global,
     matches: &ArgMatches<'a>,
     usual_port: u16,
-) -> Result<Choices<'a>, Fault> {
+) -> Result<JoinChoices<'a>, Fault> {
     let mapper_port = number_of(alloc, matches, "epmd-port", usual_port)?;
     let net_ticktime = number_of(alloc, matches, "net-ticktime", NET_TICKTIME)?;
-    Ok(Choices {
+    Ok(JoinChoices {
         address: matches.get_str("address"),
         cookie_file: matches.get_str(COOKIE),
         is_unsafe: matches.get_flag(UNSAFE),
@@ -161,37 +161,37 @@ fn wanted_in<'a>(
     alloc: Global,
     matches: &ArgMatches<'a>,
     usual_port: u16,
-) -> Result<Wanted<'a>, Fault> {
+) -> Result<JoinRequest<'a>, Fault> {
     let choices = choices_in(alloc, matches, usual_port)?;
     let name = own_name_in(alloc, matches)?;
     let Some(word) = matches.get_str("node") else {
         return Err(Fault::NamesNoNode);
     };
-    Ok(Wanted {
+    Ok(JoinRequest {
         node: name_in(alloc, word)?,
         name,
         choices,
     })
 }
 
-// What is asked for where the parser matched nothing.
-fn request_instead<'a>(alloc: Global, error: &Error) -> Result<Asked<'a>, Fault> {
+// What is asked for if the parser matched nothing.
+fn request_instead<'a>(alloc: Global, error: &Error) -> Result<Invocation<'a>, Fault> {
     match error.kind() {
-        ErrorKind::DisplayHelp => Ok(Asked::Help),
-        ErrorKind::DisplayVersion => Ok(Asked::Version),
+        ErrorKind::DisplayHelp => Ok(Invocation::Help),
+        ErrorKind::DisplayVersion => Ok(Invocation::Version),
         ErrorKind::OutOfMemory => Err(Fault::NoMemory),
         _ => Err(bad_words(alloc, error)),
     }
 }
 
-/// What these words ask for. `usual_port` is the port mapper's port, where they name none.
+/// What these words ask for. `usual_port` is the port mapper's port if they name none.
 pub fn request_of<'a>(
     alloc: Global,
     words: &'a [String],
     usual_port: u16,
-) -> Result<Asked<'a>, Fault> {
+) -> Result<Invocation<'a>, Fault> {
     match program(alloc)?.try_get_matches_from(words) {
-        Ok(matches) => Ok(Asked::Joins(wanted_in(alloc, &matches, usual_port)?)),
+        Ok(matches) => Ok(Invocation::Joins(wanted_in(alloc, &matches, usual_port)?)),
         Err(error) => request_instead(alloc, &error),
     }
 }

@@ -9,43 +9,42 @@ use std::alloc::{AllocError, AllocFailed};
 use std::io::ErrorKind;
 use std::{fmt, io};
 
-/// What ends the program otherwise than at the end of its input. Its `Display` is what stands after `joining: ` on standard error.
+/// What ends the program before the end of its input. Its `Display` comes after `joining: ` on standard error.
 #[derive(Drop)]
 pub enum Fault {
-    /// One of the words of the command line is no UTF-8.
+    /// A word of the command line is not UTF-8.
     BadCommandLine,
-    /// A word of the command line is bad: the sentence that says so, safe to print.
+    /// A word of the command line is bad: the sentence about it, safe to print.
     BadWord(String),
     /// No node is named.
     NamesNoNode,
-    /// ERL_EPMD_PORT names no port.
+    /// ERL_EPMD_PORT is not a port.
     BadMapperPort(PortError),
-    /// A text that should be a node's name is none.
+    /// A text that should be a node's name is not one.
     BadName,
     /// The cookie's file could not be opened.
     OpenFailed,
     /// The cookie's file is a pipe, a socket or a device.
     NotStored,
-    /// Others than its owner may use the cookie's file of this name, which stands between double quotes and is safe to print.
+    /// Others than its owner may use the cookie's file with this name, which is quoted and safe to print.
     NotPrivate(String),
     /// The cookie's file has no cookie.
     NoCookie(CookieError),
-    /// The node's host gives no address, for this cause.
+    /// The node's host has no address, for this cause.
     NoHost(HostError),
     /// The port mapper was not reached.
     NoMapper,
-    /// The port mapper does not know the node, or gave no answer.
+    /// The port mapper does not know the node, or did not answer.
     NotFound(LookupError),
     /// The node's port was not reached.
     NoNode,
-    /// The handshake did not come to its end, for this cause. Where the connection failed or nothing came, the message that was
-    /// awaited.
+    /// The handshake failed, for this cause. If the connection failed, or nothing came, also the message that was awaited.
     NotUp(Why, Option<Awaited>),
-    /// The link was up, and is lost, for this cause.
+    /// The link was up, and was lost, for this cause.
     Lost(Why),
     /// The system gave no random bytes, no time or no thread.
     SystemFailed,
-    /// The peer sends a packet that is longer than this program takes.
+    /// The peer sent a packet that is longer than this program accepts.
     LongPacket,
     /// The output could not be written.
     WriteFailed,
@@ -53,13 +52,13 @@ pub enum Fault {
     NoMemory,
 }
 
-// How far the way to a node went that found it: its name fits, and only its acknowledgement was awaited.
+// The progress of a dial that found the node: its name fits, and only the acknowledgement is missing.
 const FOUND: u8 = 8;
 
-// How far the way goes that a fault of this machine ends.
+// The progress that a fault of this machine counts as.
 const OWN: u8 = 9;
 
-/// The link is lost, since a read or a write failed.
+/// The fault of a lost link, if a read or a write failed.
 pub fn loss_fault(error: TurnError) -> Fault {
     Fault::Lost(match error {
         TurnError::Ended => Why::Ended,
@@ -69,7 +68,7 @@ pub fn loss_fault(error: TurnError) -> Fault {
     })
 }
 
-// What is printed of a handshake that did not come to its end. A node that finds another cookie sends nothing, and closes.
+// The text for a handshake that failed. A node with another cookie sends nothing, and closes.
 fn not_up_text(awaited: Option<Awaited>) -> &'static str {
     match awaited {
         Some(Awaited::Status) =>
@@ -82,7 +81,7 @@ fn not_up_text(awaited: Option<Awaited>) -> &'static str {
     }
 }
 
-// What is printed of a host that gives no address.
+// The text for a host without an address.
 fn no_host_text(error: HostError) -> &'static str {
     match error {
         HostError::NoName => "NoHost: the host's name has no address here",
@@ -93,8 +92,8 @@ fn no_host_text(error: HostError) -> &'static str {
     }
 }
 
-// How far a handshake got that ended for this cause, and where this was awaited: a node whose name fits sends its challenge, and
-// only then an acknowledgement is awaited.
+// The progress of a handshake that ended for this cause, while this was awaited. A node whose name fits sends its challenge; only then
+// is an acknowledgement awaited.
 fn reach_of_talk(why: Why, awaited: Option<Awaited>) -> u8 {
     match (awaited, why) {
         (Some(Awaited::Ack), _) | (None, Why::WrongDigest) => FOUND,
@@ -105,7 +104,7 @@ fn reach_of_talk(why: Why, awaited: Option<Awaited>) -> u8 {
 }
 
 impl Fault {
-    // What is told of it first.
+    // The first part of what is printed.
     fn text(&self) -> &str {
         match self {
             Fault::BadCommandLine => "bad command line: a word is no UTF-8 (joining --help)",
@@ -130,7 +129,7 @@ impl Fault {
         }
     }
 
-    /// The exit status: 2 where the command line is at fault, 3 where the node was not joined, 4 where the link was lost, else 1.
+    /// The exit status: 2 if the command line is at fault, 3 if the node was not joined, 4 if the link was lost, else 1.
     pub fn status(&self) -> u8
         ensures { result ≡ fault_status self.now }
     {
@@ -150,8 +149,8 @@ impl Fault {
         }
     }
 
-    // How far it was got on the way to a node, in the order of the way: the host's name, the port mapper, the registration, the
-    // node's port, its status, its challenge. A fault of this machine ends the way.
+    // How far a dial got, in the order of its steps: the host's name, the port mapper, the registration, the node's port, its status,
+    // its challenge. A fault of this machine counts as more than any of them.
     fn reach(&self) -> u8 {
         match self {
             Fault::NoHost(_) => 0,
@@ -164,13 +163,12 @@ impl Fault {
         }
     }
 
-    /// Whether the node itself was found, under its name, so that no further address of its host is tried: or a fault of this
-    /// machine ended the way.
+    /// Whether no further address is tried: the node itself was found, under its name, or there was a fault of this machine.
     pub fn is_found(&self) -> bool {
         FOUND <= self.reach()
     }
 
-    /// Of two faults the one that got further, or the first.
+    /// The fault that got further, or this one if both got equally far.
     pub fn or_further(self, other: Fault) -> Fault {
         if self.reach() < other.reach() {
             other

@@ -1,4 +1,4 @@
-//! The handshake of a dialled end whose connection is there.
+//! The handshake of a dialled end, after the connection is made.
 
 use crate::fault::Fault;
 use distribution::{
@@ -10,7 +10,7 @@ use std::alloc::Global;
 /// What a dialled end receives, in order.
 const RECEIVED: [Awaited; 3] = [Awaited::Status, Awaited::Challenge, Awaited::Ack];
 
-// A dialled end whose connection is there: what it sends first, and its challenge.
+// A dialled end whose connection is made: what it sends first, and its challenge.
 #[derive(Drop)]
 struct OpenEnd {
     id: EndId,
@@ -18,13 +18,13 @@ struct OpenEnd {
     challenge: u32,
 }
 
-/// The challenge of one connection. A dialled end sends one.
+/// The challenge of one connection. A dialled end sends just one.
 #[derive(Drop)]
-struct Challenge {
+struct LinkChallenge {
     number: u32,
 }
 
-impl Draws for Challenge {
+impl Draws for LinkChallenge {
     ghost use Rattle.std.specs.Prelude.{◌≡◌};
 
     ghost gives = { λ before number after. number ≡ before.number };
@@ -34,14 +34,13 @@ impl Draws for Challenge {
     }
 }
 
-// Gives the node the event that the connection is there. What the end sends first.
-fn open_end(alloc: Global, node: &mut Node, end_: EndId) -> Result<ByteString, Fault> {
+// Reports to the node that the connection is made. Returns what the end sends first.
+fn open(alloc: Global, node: &mut Node, end_: EndId) -> Result<ByteString, Fault> {
     Ok(node.step(alloc, &Event::Opened { end_, link: 0 }, 0)?.say)
 }
 
-// Which message was awaited where the connection failed: `handshake` has reported its loss, as the step behind those of the
-// frames. Where the turns ran out it reported nothing, and the end is open. Else the end was closed upon a message, and awaited
-// none.
+// The message that was awaited when the connection failed: `handshake` has reported the loss, as the step after those of the frames. If
+// the turns ran out it reported nothing, and the end is open. In any other case a message closed the end, which then awaits none.
 fn awaited_message(desk: &MemoryDesk, end_: EndId) -> Option<Awaited> {
     match desk.list().split_last() {
         Some(((Event::Lost { .. }, _, _), frames)) => RECEIVED.get(frames.len()).copied(),
@@ -49,7 +48,7 @@ fn awaited_message(desk: &MemoryDesk, end_: EndId) -> Option<Awaited> {
     }
 }
 
-// The fault of a handshake that ended so.
+// The fault of a handshake with this outcome.
 fn fault_of(desk: &MemoryDesk, end_: EndId, outcome: Outcome) -> Fault {
     match outcome {
         Outcome::Closed(Why::NoMemory) => Fault::NoMemory,
@@ -65,7 +64,7 @@ fn come_up<S: Stream>(
     desk: &mut MemoryDesk,
     end_: &OpenEnd,
 ) -> Result<(UpRecord, Vec<u8>), Fault> {
-    let mut challenge = Challenge {
+    let mut challenge = LinkChallenge {
         number: end_.challenge,
     };
     match handshake(
@@ -82,8 +81,8 @@ fn come_up<S: Stream>(
     }
 }
 
-/// Makes the handshake of a dialled end whose connection is there, for as long as the stream is not quiet for good. What is
-/// known of the peer, and the bytes that were read behind the last frame, with which the packets begin.
+/// Performs the handshake of a dialled end whose connection is made, until the stream falls quiet for good. Returns what is known of
+/// the peer, and the bytes read after the last frame, which belong to packets.
 pub fn shake_hands<S: Stream>(
     alloc: Global,
     stream: &mut S,
@@ -92,7 +91,7 @@ pub fn shake_hands<S: Stream>(
     challenge: u32,
 ) -> Result<(UpRecord, Vec<u8>), Fault> {
     let mut node = node;
-    let first = open_end(alloc, &mut node, end_)?;
+    let first = open(alloc, &mut node, end_)?;
     let mut desk = MemoryDesk::new(alloc, node, end_)?;
     let end_ = OpenEnd {
         id: end_,

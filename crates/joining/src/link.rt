@@ -1,5 +1,4 @@
-//! The link, once it is up: what comes is printed, a tick is sent where nothing was sent for a while, and a silent peer is given
-//! up.
+//! The link, once it is up: prints what arrives, sends a tick if nothing was sent for a while, and gives up a silent peer.
 
 use crate::fault::{Fault, loss_fault};
 use crate::printing::{hand_on, try_hand_on};
@@ -14,19 +13,19 @@ use std::time::{Clock, Instant};
 // The most bytes of one read.
 const PIECE: usize = 4096;
 
-// How many writes a tick may take.
+// The most writes of a tick.
 const TURNS_OF_A_TICK: usize = 10;
 
-/// What a link is kept with.
+/// What the link needs while it is kept.
 #[derive(Clone, Copy)]
 pub struct Keeping<'a, R: Resolving> {
-    /// The clock, and what may wait.
+    /// The clock, and the runtime for calls that may wait.
     pub rt: &'a R,
     /// Where memory for lines comes from.
     pub alloc: Global,
-    /// Where lines go.
+    /// Where lines are sent.
     pub lines: &'a Sender<String>,
-    /// Whether the program is to leave.
+    /// Whether the program should leave.
     pub ended: &'a AtomicBool,
 }
 
@@ -37,13 +36,13 @@ pub struct Link {
     pub stream: SocketStream,
     /// What is known of the peer.
     pub record: UpRecord,
-    /// The packets that come on it.
+    /// The packets that arrive on it.
     pub packets: Packets,
-    /// The line of the last packet, where there is no room for it yet. Until there is, nothing is read.
+    /// The line of the last packet, while there is no room for it. Until it is sent, nothing is read.
     pub waiting: Option<String>,
 }
 
-// How many milliseconds have gone by since then.
+// How many milliseconds have passed since `start`.
 fn millis_since<R: Clock>(rt: &R, start: &Instant) -> Result<u64, Fault> {
     match start.elapsed(rt) {
         Ok(elapsed) => Ok(u64::try_from(elapsed.as_millis()).unwrap_or(u64::MAX)),
@@ -52,7 +51,7 @@ fn millis_since<R: Clock>(rt: &R, start: &Instant) -> Result<u64, Fault> {
 }
 
 impl Link {
-    // Reads what has come, if something comes within a turn.
+    // Reads what arrives within one turn.
     fn read_piece(&mut self, ticker: &mut Ticker, now: u64) -> Result<(), Fault> {
         let mut room = [0u8; PIECE];
         let mut limited = Limited {
@@ -69,7 +68,7 @@ impl Link {
         }
     }
 
-    // Hands on the line that waits, and returns whether none waits any more.
+    // Sends the line that waits, if there is room. Returns whether none waits any more.
     fn hand_on_waiting<R: Resolving>(&mut self, with: &Keeping<'_, R>) -> Result<bool, Fault> {
         if let Some(line) = self.waiting.take() {
             self.waiting = try_hand_on(with.rt, with.lines, line)?;
@@ -77,7 +76,7 @@ impl Link {
         Ok(self.waiting.is_none())
     }
 
-    // Prints the next packet that came whole, unless it is a tick. Whether there was one, and no line waits.
+    // Prints the next whole packet, unless it is a tick. Returns whether there was one, and no line waited.
     fn print_packet<R: Resolving>(&mut self, with: &Keeping<'_, R>) -> Result<bool, Fault> {
         if !self.hand_on_waiting(with)? {
             return Ok(false);
@@ -93,7 +92,7 @@ impl Link {
         Ok(true)
     }
 
-    // Prints the packets that came whole, for as long as there is room for lines. A piece has fewer than it has bytes.
+    // Prints the whole packets, as long as there is room for lines. A piece has fewer packets than bytes.
     fn print_packets<R: Resolving>(&mut self, with: &Keeping<'_, R>) -> Result<(), Fault> {
         for _ in 0..PIECE {
             if !self.print_packet(with)? {
@@ -103,7 +102,7 @@ impl Link {
         Ok(())
     }
 
-    // Reads what has come, unless a line waits. Nobody is silent to whom nobody listens.
+    // Reads what arrives, unless a line waits. While nothing is read, the peer does not count as silent.
     fn listen<R: Resolving>(
         &mut self,
         with: &Keeping<'_, R>,
@@ -133,7 +132,7 @@ impl Link {
         }
     }
 
-    // Does what is due now. `start` is the time from which the ticker counts.
+    // Does what is due now. The ticker counts from `start`.
     fn take_turn<R: Resolving>(
         &mut self,
         with: &Keeping<'_, R>,
@@ -148,8 +147,8 @@ impl Link {
         }
     }
 
-    /// Keeps the link until `ended` says that the program is to leave, or the link is lost. `quarter` is a quarter of the time
-    /// after which a silent peer is given up, in milliseconds.
+    /// Keeps the link until `ended` is set, or the link is lost. `quarter` is a quarter of the time after which a silent peer is given
+    /// up, in milliseconds.
     pub fn stay<R: Resolving>(&mut self, with: &Keeping<'_, R>, quarter: u32) -> Result<(), Fault> {
         let Ok(start) = Instant::now(with.rt) else {
             return Err(Fault::SystemFailed);

@@ -1,7 +1,7 @@
-//! The program: joins a live Erlang node as a hidden node of its own, keeps the link until its input ends, prints each packet
-//! that comes, and leaves.
+//! The program: joins a live Erlang node as a hidden node, keeps the link until its input ends, prints each packet that arrives, and
+//! leaves.
 //!
-//! It is the example of docs/LIBRARY.md. What it stands on is proved; of itself the check says that it is safe and always
+//! It is the example of docs/LIBRARY.md. What it builds on is proved; of the program itself it is proved that it is safe and always
 //! terminates.
 #![tactic(auto)]
 
@@ -14,10 +14,10 @@ mod link;
 mod printing;
 mod refusing;
 
-use command::{Asked, Wanted, name_of, request_of};
+use command::{Invocation, JoinRequest, name_of, request_of};
 use cookie::cookie_of;
 use crossbeam_channel::{Sender, bounded};
-use dialling::{Dial, draw_number, join_node};
+use dialling::{NodeToJoin, draw_number, join_node};
 use dist_program::{CONNECT_SECONDS, Resolving, lookup_host, mapper_port, report, words_of};
 use distribution::{Cookie, Cookies, Creation, Flags, Limits, NodeName, Release, Setup, Version};
 use fault::Fault;
@@ -31,13 +31,13 @@ use std::sync::atomic::{AtomicBool, Ordering};
 use std::time::Duration;
 use std::{io, thread};
 
-/// How the program is called.
+/// The help.
 const HELP: &str =
     "usage: joining NODE [--name NAME] [--address HOST] [--cookie FILE] [--cookie-unsafe]
                     [--epmd-port N] [--net-ticktime N]
        joining --help | --version
 
-Joins a live Erlang node as a hidden node, at the first address of its host at which it is found, tells each packet that comes, and
+Joins a live Erlang node as a hidden node, at the first address of its host at which it is found, reports each packet that comes, and
 leaves at the end of its input.
 
   NODE               the node to join, NAME@HOST
@@ -65,8 +65,8 @@ fn main(rt: HostRuntime) -> ExitCode {
     })
 }
 
-// Does what the command line asks for, while one thread waits for the end of the input, and another one prints. The second handle is
-// the same: what may wait.
+// Does what the command line asks for, while one thread waits for the end of the input, and another one prints. `own` is the same
+// runtime, for calls that may wait.
 fn play<R: Resolving + Copy + Send + 'static>(rt: HostRuntime, own: R) -> Result<(), Fault> {
     let (ended, theirs) = marks(rt.alloc())?;
     let (lines, waiting) = bounded(rt.alloc(), MOST_WAITING)?;
@@ -84,20 +84,20 @@ fn play<R: Resolving + Copy + Send + 'static>(rt: HostRuntime, own: R) -> Result
     printed
 }
 
-// One mark twice: for who leaves once it is set, and for the thread that sets it at the end of the input.
+// Two handles to one mark: one for the program, which leaves once it is set, and one for the thread that sets it at the end of the input.
 fn marks(alloc: Global) -> Result<(Mark, Mark), AllocError> {
     let ended = Arc::new(alloc, AtomicBool::new(false))?;
     let theirs = Arc::try_clone(&ended)?;
     Ok((ended, theirs))
 }
 
-// Reads the input to its end, and says that it is there. What is read is of no meaning.
+// Reads the input to its end, and sets the mark. What is read is ignored.
 fn watch<R: Input + Drop>(rt: R, ended: &AtomicBool) {
     let _ = io::copy(&mut rt.reader(), &mut io::sink());
     ended.store(true, Ordering::SeqCst);
 }
 
-// Does what the command line asks for. The second handle is the same: what may wait for a thread.
+// Does what the command line asks for. `resolver` is the same runtime, for calls that may wait for a thread.
 fn perform<R: Resolving>(
     rt: &HostRuntime,
     resolver: &R,
@@ -107,9 +107,9 @@ fn perform<R: Resolving>(
     let words = words_of(rt)?;
     let mapper_port = mapper_port(rt)?;
     match request_of(rt.alloc(), &words, mapper_port)? {
-        Asked::Help => hand_text(rt, resolver, lines, HELP),
-        Asked::Version => hand_text(rt, resolver, lines, VERSION),
-        Asked::Joins(wanted) => join_and_stay(
+        Invocation::Help => hand_text(rt, resolver, lines, HELP),
+        Invocation::Version => hand_text(rt, resolver, lines, VERSION),
+        Invocation::Joins(wanted) => join_and_stay(
             rt,
             &wanted,
             &Keeping {
@@ -122,7 +122,7 @@ fn perform<R: Resolving>(
     }
 }
 
-// Prints a text of the program itself.
+// Prints the help or the version.
 fn hand_text<R: Resolving>(
     rt: &HostRuntime,
     resolver: &R,
@@ -132,22 +132,22 @@ fn hand_text<R: Resolving>(
     hand_on(resolver, lines, text.to_owned(rt.alloc())?)
 }
 
-// A name at the node's host, so that it is as long or short as the node's.
+// A name at the node's host, so that both names are long or both short.
 fn name_beside(alloc: Global, peer: &NodeName) -> Result<NodeName, Fault> {
     let mut text = Vec::from_slice(alloc, b"joining@")?;
     text.extend_from_slice(peer.host())?;
     name_of(alloc, &text)
 }
 
-// The own name: the one that is given, else one at the node's host.
-fn own_name(alloc: Global, wanted: &Wanted<'_>) -> Result<NodeName, Fault> {
+// Our name: the given one, or one at the node's host.
+fn own_name(alloc: Global, wanted: &JoinRequest<'_>) -> Result<NodeName, Fault> {
     match &wanted.name {
         Some(name) => Ok(name.try_clone(alloc)?),
         None => name_beside(alloc, &wanted.node),
     }
 }
 
-// What the node of this program is set up with: hidden, since its flags are without `PUBLISHED`.
+// The setup of this program's node: hidden, since its flags are without `DFLAG_PUBLISHED`.
 fn setup_of(alloc: Global, name: NodeName, cookie: Cookie, creation: u32) -> Setup {
     Setup {
         name,
@@ -161,8 +161,8 @@ fn setup_of(alloc: Global, name: NodeName, cookie: Cookie, creation: u32) -> Set
     }
 }
 
-// What the node of this program is set up with, upon these words.
-fn own_setup(rt: &HostRuntime, wanted: &Wanted<'_>) -> Result<Setup, Fault> {
+// The setup of this program's node, by these words.
+fn own_setup(rt: &HostRuntime, wanted: &JoinRequest<'_>) -> Result<Setup, Fault> {
     let alloc = rt.alloc();
     let creation = draw_number(rt)?;
     let name = own_name(alloc, wanted)?;
@@ -174,17 +174,21 @@ fn own_setup(rt: &HostRuntime, wanted: &Wanted<'_>) -> Result<Setup, Fault> {
 fn addresses_of<R: Resolving>(
     rt: &HostRuntime,
     resolver: &R,
-    wanted: &Wanted<'_>,
+    wanted: &JoinRequest<'_>,
 ) -> Result<Vec<SocketAddr>, Fault> {
     let limit = Duration::from_secs(u64::from(CONNECT_SECONDS));
     Ok(lookup_host(resolver, *rt, wanted.choices.host(&wanted.node), limit)?)
 }
 
 // Joins the node.
-fn join<R: Resolving>(rt: &HostRuntime, resolver: &R, wanted: &Wanted<'_>) -> Result<Link, Fault> {
+fn join<R: Resolving>(
+    rt: &HostRuntime,
+    resolver: &R,
+    wanted: &JoinRequest<'_>,
+) -> Result<Link, Fault> {
     let setup = own_setup(rt, wanted)?;
     let addresses = addresses_of(rt, resolver, wanted)?;
-    let dial = Dial {
+    let dial = NodeToJoin {
         rt,
         setup: &setup,
         peer: &wanted.node,
@@ -204,7 +208,7 @@ fn stay<R: Resolving>(with: &Keeping<'_, R>, link: &mut Link, quarter: u32) -> R
 // Joins the node, and keeps the link until the input ends.
 fn join_and_stay<R: Resolving>(
     rt: &HostRuntime,
-    wanted: &Wanted<'_>,
+    wanted: &JoinRequest<'_>,
     with: &Keeping<'_, R>,
 ) -> Result<(), Fault> {
     let mut link = join(rt, with.rt, wanted)?;

@@ -1,4 +1,4 @@
-//! What is printed. A thread of its own writes it, so that a standard output which nobody reads holds up no tick.
+//! A thread of its own writes what is printed, so that an output that is not read delays no tick.
 
 use crate::fault::Fault;
 use crossbeam_channel::{Receiver, SendError, Sender, TrySendError};
@@ -7,10 +7,10 @@ use std::alloc::{AllocError, Global};
 use std::io::Write;
 use std::sync::Wait;
 
-/// How many lines wait for the thread that writes them, at most: while these do, nothing is read off the link.
+/// The most lines that wait for the thread that writes them. While that many wait, nothing is read from the link.
 pub const MOST_WAITING: usize = 64;
 
-/// Hands a text on to the thread that writes it, and waits until there is room for it.
+/// Sends a text to the thread that writes it; waits until there is room.
 pub fn hand_on<R: Wait>(rt: &R, lines: &Sender<String>, text: String) -> Result<(), Fault> {
     match lines.send(rt, text) {
         Ok(()) => Ok(()),
@@ -19,7 +19,7 @@ pub fn hand_on<R: Wait>(rt: &R, lines: &Sender<String>, text: String) -> Result<
     }
 }
 
-/// Hands a text on where there is room for it, and else gives it back.
+/// Sends a text if there is room, or else gives it back.
 pub fn try_hand_on<R: Wait>(
     rt: &R,
     lines: &Sender<String>,
@@ -33,7 +33,7 @@ pub fn try_hand_on<R: Wait>(
     }
 }
 
-/// Writes each text that is handed on, until no more can come or one can't be written.
+/// Writes each text that is sent, until no more can come or one can't be written.
 pub fn write_lines<R: Wait, W: Write>(
     rt: &R,
     lines: &Receiver<String>,
@@ -49,7 +49,7 @@ pub fn write_lines<R: Wait, W: Write>(
     unreachable!()
 }
 
-// Puts the names of the flags behind a text, each behind a blank, to the end of the line.
+// Appends the names of the flags to a text, each after a blank, and ends the line.
 fn push_flags(text: &mut String, flags: Flags) -> Result<(), AllocError> {
     for flag in &Dflag::all() {
         if flags.has(flag.flags()) {
@@ -60,7 +60,7 @@ fn push_flags(text: &mut String, flags: Flags) -> Result<(), AllocError> {
     text.push_str("\n")
 }
 
-// The peer's name, and its creation where it is known, and the front of the line of flags.
+// The peer's name, its creation if that is known, and the beginning of the line of flags.
 fn name_text(alloc: Global, record: &UpRecord) -> Result<String, AllocError> {
     let peer = std::str::from_utf8(record.peer.bytes()).unwrap_or("?");
     match record.creation {
@@ -69,7 +69,7 @@ fn name_text(alloc: Global, record: &UpRecord) -> Result<String, AllocError> {
     }
 }
 
-/// The lines of a peer that is joined.
+/// The lines for a peer that was joined.
 pub fn up_text(alloc: Global, record: &UpRecord) -> Result<String, AllocError> {
     let mut text = name_text(alloc, record)?;
     push_flags(&mut text, record.common)?;

@@ -1,4 +1,4 @@
-//! Questions of a client.
+//! Questions of a client to the port mapper.
 
 use crate::digits::{bytes_in, node_of, put_bytes, put_node, put_number, put_word, word};
 use crate::streams::{limit_of, stream_of};
@@ -6,37 +6,37 @@ use dist_epmd_calls::{LookupError, ask_names, lookup, register};
 use dist_stream::FaultStream;
 use std::alloc::Global;
 
-/// Looks up `a`, registers it, or asks for all names: reports the answer, the bytes that were written, those that were not read,
-/// and the number of reads and writes.
-pub fn put_asked(alloc: Global, told: &mut String, case: &str, pieces: &str) -> Option<()> {
+/// Looks up `a`, registers it, or asks for all names. Reports the answer, the bytes that were written, those that were not read, and
+/// the number of reads and writes.
+pub fn put_asked(alloc: Global, printed: &mut String, case: &str, pieces: &str) -> Option<()> {
     let mut stream = stream_of(alloc, case, pieces)?;
-    put_answer(alloc, told, case, &mut stream)?;
-    put_traffic(alloc, told, &stream)
+    put_answer(alloc, printed, case, &mut stream)?;
+    put_traffic(alloc, printed, &stream)
 }
 
-fn put_traffic(alloc: Global, told: &mut String, stream: &FaultStream) -> Option<()> {
-    put_word(told, "said")?;
-    put_bytes(alloc, told, stream.output())?;
-    put_word(told, "left")?;
-    put_bytes(alloc, told, stream.unread())?;
-    put_word(told, "calls")?;
-    put_number(told, stream.calls())
+fn put_traffic(alloc: Global, printed: &mut String, stream: &FaultStream) -> Option<()> {
+    put_word(printed, "said")?;
+    put_bytes(alloc, printed, stream.output())?;
+    put_word(printed, "left")?;
+    put_bytes(alloc, printed, stream.unread())?;
+    put_word(printed, "calls")?;
+    put_number(printed, stream.calls())
 }
 
 fn put_answer(
     alloc: Global,
-    told: &mut String,
+    printed: &mut String,
     case: &str,
     stream: &mut FaultStream,
 ) -> Option<()> {
     match word(case, 0) {
-        "lookup" => look_up(alloc, told, case, stream),
-        "register" => register_node(alloc, told, case, stream),
-        _ => list(alloc, told, case, stream),
+        "lookup" => look_up(alloc, printed, case, stream),
+        "register" => register_node(alloc, printed, case, stream),
+        _ => list(alloc, printed, case, stream),
     }
 }
 
-// The name that is asked for or registered, in digits: `a`, or another where the row has the words `name NAME` at its end.
+// The name to ask for or to register, in digits: `a`, or another if the row ends with `name NAME`.
 fn name_in(case: &str) -> &str {
     if word(case, 4) == "name" {
         word(case, 5)
@@ -45,46 +45,51 @@ fn name_in(case: &str) -> &str {
     }
 }
 
-fn look_up(alloc: Global, told: &mut String, case: &str, stream: &mut FaultStream) -> Option<()> {
+fn look_up(
+    alloc: Global,
+    printed: &mut String,
+    case: &str,
+    stream: &mut FaultStream,
+) -> Option<()> {
     let name = bytes_in(alloc, name_in(case))?;
     match lookup(alloc, stream, &name, limit_of(case)) {
-        Ok(node) => put_node(alloc, told, &node),
-        Err(error) => put_refusal(told, error),
+        Ok(node) => put_node(alloc, printed, &node),
+        Err(error) => put_refusal(printed, error),
     }
 }
 
 fn register_node(
     alloc: Global,
-    told: &mut String,
+    printed: &mut String,
     case: &str,
     stream: &mut FaultStream,
 ) -> Option<()> {
     let node = node_of(alloc, name_in(case), "-")?;
     match register(alloc, stream, &node, limit_of(case)) {
-        Ok(creation) => put_creation(told, creation.0),
-        Err(error) => put_refusal(told, error),
+        Ok(creation) => put_creation(printed, creation.0),
+        Err(error) => put_refusal(printed, error),
     }
 }
 
-fn put_creation(told: &mut String, creation: u32) -> Option<()> {
-    put_word(told, "creation")?;
-    put_number(told, creation as u64)
+fn put_creation(printed: &mut String, creation: u32) -> Option<()> {
+    put_word(printed, "creation")?;
+    put_number(printed, creation as u64)
 }
 
-fn list(alloc: Global, told: &mut String, case: &str, stream: &mut FaultStream) -> Option<()> {
+fn list(alloc: Global, printed: &mut String, case: &str, stream: &mut FaultStream) -> Option<()> {
     match ask_names(alloc, stream, limit_of(case)) {
         Ok((port, text)) => {
-            put_number(told, port as u64)?;
-            put_bytes(alloc, told, text.as_slice())
+            put_number(printed, port as u64)?;
+            put_bytes(alloc, printed, text.as_slice())
         }
-        Err(error) => put_refusal(told, error),
+        Err(error) => put_refusal(printed, error),
     }
 }
 
-fn put_refusal(told: &mut String, error: LookupError) -> Option<()> {
-    put_word(told, error.name())?;
+fn put_refusal(printed: &mut String, error: LookupError) -> Option<()> {
+    put_word(printed, error.name())?;
     if let LookupError::Refused(code) = error {
-        return put_number(told, code as u64);
+        return put_number(printed, code as u64);
     }
     Some(())
 }

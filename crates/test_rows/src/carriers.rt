@@ -1,10 +1,10 @@
-//! What carries a script, and what comes of it.
+//! The input and the output of a script.
 
 use std::alloc::Global;
 use std::io;
 use std::io::{ErrorKind, Read, Write};
 
-/// Gives a script, and then ends, or is interrupted whenever it is read.
+/// Gives a script, and then ends; or every further read is interrupted.
 #[derive(Drop)]
 pub struct Source<'a> {
     rest: &'a [u8],
@@ -29,7 +29,7 @@ impl Read for Source<'_> {
     }
 }
 
-/// Takes what comes of a script. It may be one that cannot be flushed.
+/// Takes what a script prints. It may be an output that can't be flushed.
 #[derive(Drop)]
 pub struct Sink {
     taken: Vec<u8>,

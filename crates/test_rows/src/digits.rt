@@ -1,17 +1,17 @@
-//! The words of a row, bytes in hexadecimal digits, and what a node says of itself. What is reported is words with a blank behind
-//! each.
+//! The words of a row, bytes in hexadecimal digits, and a node as the port mapper knows it. Each word that is reported has a blank
+//! after it.
 
 use dist_epmd::NodeInfo;
 use dist_names::ByteString;
 use std::alloc::Global;
 use std::fmt::Write;
 
-/// The word at this place of a row; with too few words it is empty.
+/// The word at this place of a row; empty if the row has too few words.
 pub fn word(row: &str, place: usize) -> &str {
     row.split(' ').nth(place).unwrap_or("")
 }
 
-/// The bytes that digits write: parts joined by `+`, of which `78*255` is a byte this many times, and `-` is none.
+/// The bytes that digits write: parts joined by `+`; `78*255` is a byte repeated this many times, and `-` is no byte.
 pub fn bytes_in(alloc: Global, digits: &str) -> Option<Vec<u8>> {
     let mut bytes = Vec::new(alloc);
     put_parts(alloc, &mut bytes, digits)?;
@@ -43,26 +43,26 @@ fn put_often(bytes: &mut Vec<u8>, part: &[u8], times: usize) -> Option<()> {
 }
 
 /// Reports a word.
-pub fn put_word(told: &mut String, word: &str) -> Option<()> {
-    told.push_str(word).ok()?;
-    told.push_str(" ").ok()
+pub fn put_word(printed: &mut String, word: &str) -> Option<()> {
+    printed.push_str(word).ok()?;
+    printed.push_str(" ").ok()
 }
 
 /// Reports a number.
-pub fn put_number(told: &mut String, number: u64) -> Option<()> {
-    write!(told, "{number} ").ok()
+pub fn put_number(printed: &mut String, number: u64) -> Option<()> {
+    write!(printed, "{number} ").ok()
 }
 
-/// Reports bytes by the digits that write them.
-pub fn put_bytes(alloc: Global, told: &mut String, bytes: &[u8]) -> Option<()> {
+/// Reports bytes as digits.
+pub fn put_bytes(alloc: Global, printed: &mut String, bytes: &[u8]) -> Option<()> {
     if bytes.is_empty() {
-        return put_word(told, "-");
+        return put_word(printed, "-");
     }
     let digits = hex::encode(alloc, bytes).ok()?;
-    put_word(told, &digits)
+    put_word(printed, &digits)
 }
 
-/// The node at port 9001 whose name and extra bytes these digits write.
+/// A node at port 9001 with this name and these extra bytes, in digits.
 pub fn node_of(alloc: Global, name: &str, extra: &str) -> Option<NodeInfo> {
     Some(NodeInfo {
         port: 9001,
@@ -75,18 +75,18 @@ pub fn node_of(alloc: Global, name: &str, extra: &str) -> Option<NodeInfo> {
     })
 }
 
-/// Reports what a node says of itself: its five numbers, its name and its extra bytes.
-pub fn put_node(alloc: Global, told: &mut String, node: &NodeInfo) -> Option<()> {
+/// Reports a node: its five numbers, its name and its extra bytes.
+pub fn put_node(alloc: Global, printed: &mut String, node: &NodeInfo) -> Option<()> {
     let versions = [
         node.protocol as u64,
         node.highest as u64,
         node.lowest as u64,
     ];
-    put_number(told, node.port as u64)?;
-    put_number(told, node.node_type as u64)?;
+    put_number(printed, node.port as u64)?;
+    put_number(printed, node.node_type as u64)?;
     for version in versions {
-        put_number(told, version)?;
+        put_number(printed, version)?;
     }
-    put_bytes(alloc, told, node.name.as_slice())?;
-    put_bytes(alloc, told, node.extra.as_slice())
+    put_bytes(alloc, printed, node.name.as_slice())?;
+    put_bytes(alloc, printed, node.extra.as_slice())
 }

@@ -1,35 +1,35 @@
-//! Frames: `write BODY` frames a body; the other rows feed a new reader and ask it.
+//! Frames: `write BODY` frames a body; other rows feed a new reader, and query it.
 //!
-//! Their words are bytes that are fed; `link`, the switch to packets; `drop` of the body in front; and what is asked before
-//! `=` and its answer behind it: `next` and `front` a body or `none`, `skip` the number of packets that ended.
+//! Their words are bytes to feed; `link`, which switches to packets; `drop`, which drops the first body; and a query with its answer
+//! after `=`: `next` and `front` a body or `none`, `skip` the number of packets that ended.
 
 use crate::digits::{bytes_in, put_bytes, put_number, put_word, word};
 use crate::refusals::put_refused;
 use dist_frames::{Frames, write_short};
 use std::alloc::Global;
 
-/// Reports the length and the first bytes of the frame that is written; or the first word that goes otherwise, if one does.
-pub fn put_frames(alloc: Global, told: &mut String, case: &str, pieces: &str) -> Option<()> {
+/// Reports the length and the first bytes of the frame that is written; or the first word with another result, if there is one.
+pub fn put_frames(alloc: Global, printed: &mut String, case: &str, pieces: &str) -> Option<()> {
     if word(case, 0) == "write" {
-        return put_frame(alloc, told, word(case, 1));
+        return put_frame(alloc, printed, word(case, 1));
     }
     match first_wrong(alloc, case, pieces) {
-        Some(wrong) => put_word(told, wrong),
+        Some(wrong) => put_word(printed, wrong),
         None => Some(()),
     }
 }
 
-fn put_frame(alloc: Global, told: &mut String, body: &str) -> Option<()> {
+fn put_frame(alloc: Global, printed: &mut String, body: &str) -> Option<()> {
     let body = bytes_in(alloc, body)?;
     match write_short(alloc, &body) {
-        Ok(frame) => put_front(alloc, told, &frame),
-        Err(why) => put_refused(told, &why),
+        Ok(frame) => put_front(alloc, printed, &frame),
+        Err(why) => put_refused(printed, &why),
     }
 }
 
-fn put_front(alloc: Global, told: &mut String, frame: &[u8]) -> Option<()> {
-    put_number(told, frame.len() as u64)?;
-    put_bytes(alloc, told, frame.get(..16).unwrap_or(frame))
+fn put_front(alloc: Global, printed: &mut String, frame: &[u8]) -> Option<()> {
+    put_number(printed, frame.len() as u64)?;
+    put_bytes(alloc, printed, frame.get(..16).unwrap_or(frame))
 }
 
 fn first_wrong<'c>(alloc: Global, case: &'c str, pieces: &str) -> Option<&'c str> {
@@ -42,7 +42,7 @@ fn first_wrong<'c>(alloc: Global, case: &'c str, pieces: &str) -> Option<&'c str
     None
 }
 
-// Whether a reader answers so where a word asks it something, or can be fed its bytes.
+// Whether a reader answers a query as its word says, or can be fed the bytes of the word.
 fn is_so(alloc: Global, frames: &mut Frames, word: &str, pieces: &str) -> Option<bool> {
     if let Some((ask, wanted)) = word.split_once('=') {
         return answers_so(alloc, frames, ask, wanted);

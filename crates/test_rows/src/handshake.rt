@@ -1,5 +1,5 @@
-//! Handshake messages: `read SIDE BODY` reads a body that this side sends, the dialler (`D`) or the acceptor (`A`), and
-//! `write SIDE BODY OTHER` writes the message that was read as this other side would.
+//! Handshake messages: `read SIDE BODY` reads a body sent by this side, the dialler (`D`) or the acceptor (`A`); `write SIDE BODY
+//! OTHER` writes the message that was read, as the other side would.
 
 use crate::digits::{bytes_in, put_bytes, word};
 use crate::refusals::put_refused;
@@ -7,12 +7,12 @@ use dist_messages::{Message, Side, decode, encode};
 use std::alloc::Global;
 use std::fmt::Write;
 
-/// Reports the message in words, or the body that is written; or the refusal.
-pub fn put_message(alloc: Global, told: &mut String, case: &str) -> Option<()> {
+/// Reports the message in words, the body that is written, or the refusal.
+pub fn put_message(alloc: Global, printed: &mut String, case: &str) -> Option<()> {
     let body = bytes_in(alloc, word(case, 2))?;
     match decode(alloc, side_of(word(case, 1)), &body) {
-        Ok(message) => put_again(alloc, told, &message, word(case, 3)),
-        Err(why) => put_refused(told, &why),
+        Ok(message) => put_again(alloc, printed, &message, word(case, 3)),
+        Err(why) => put_refused(printed, &why),
     }
 }
 
@@ -24,24 +24,24 @@ fn side_of(word: &str) -> Side {
     }
 }
 
-fn put_again(alloc: Global, told: &mut String, message: &Message, side: &str) -> Option<()> {
+fn put_again(alloc: Global, printed: &mut String, message: &Message, side: &str) -> Option<()> {
     if side.is_empty() {
-        return put_words(alloc, told, message);
+        return put_words(alloc, printed, message);
     }
     match encode(alloc, side_of(side), message) {
-        Ok(body) => put_bytes(alloc, told, &body),
-        Err(why) => put_refused(told, &why),
+        Ok(body) => put_bytes(alloc, printed, &body),
+        Err(why) => put_refused(printed, &why),
     }
 }
 
-// The kind of a message, its flags, its challenge and its creation, each 0 where it has none, and its name or its digest.
-fn put_words(alloc: Global, told: &mut String, message: &Message) -> Option<()> {
+// Reports the kind of a message, its flags, its challenge and its creation, each 0 if it has none, and its name or its digest.
+fn put_words(alloc: Global, printed: &mut String, message: &Message) -> Option<()> {
     if let Message::Status(status) = message {
-        return write!(told, "status {status:?}").ok();
+        return write!(printed, "status {status:?}").ok();
     }
     let (kind, flags, challenge, creation) = numbers_of(message);
-    write!(told, "{kind} {flags:x} {challenge} {creation} ").ok()?;
-    put_back(alloc, told, back_of(message))
+    write!(printed, "{kind} {flags:x} {challenge} {creation} ").ok()?;
+    put_back(alloc, printed, back_of(message))
 }
 
 fn numbers_of(message: &Message) -> (&'static str, u64, u32, u32) {
@@ -69,7 +69,7 @@ fn numbers_of(message: &Message) -> (&'static str, u64, u32, u32) {
     }
 }
 
-// The name or the digest that a message has, if it has one.
+// The name or the digest of a message, if it has one.
 fn back_of(message: &Message) -> &[u8] {
     match message {
         Message::OldName { name, .. }
@@ -81,9 +81,9 @@ fn back_of(message: &Message) -> &[u8] {
     }
 }
 
-fn put_back(alloc: Global, told: &mut String, bytes: &[u8]) -> Option<()> {
+fn put_back(alloc: Global, printed: &mut String, bytes: &[u8]) -> Option<()> {
     if bytes.len() > 100 {
-        return write!(told, "of {} bytes", bytes.len()).ok();
+        return write!(printed, "of {} bytes", bytes.len()).ok();
     }
-    put_bytes(alloc, told, bytes)
+    put_bytes(alloc, printed, bytes)
 }

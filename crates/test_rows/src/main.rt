@@ -1,11 +1,10 @@
-//! Plays rows of bytes: what comes of names, cookies and their digests, frames, packets, handshake messages and the words of a
-//! command line, and of calls of a table of peers and of a watch; over streams in memory what a registry, a client or the codec
-//! of the port mapper makes of them, and what a probe makes of the bytes of a node and sends to it; and rows of scripts, with
-//! what they print. The rows are files in the folder that the program runs in.
+//! Plays rows of bytes: names, cookies and their digests, frames, packets, handshake messages, command lines, and calls of a table of
+//! peers and of a watch; over streams in memory the registry, a client and the codec of the port mapper, and a probe that talks with a
+//! node; and scripts, with what they print. The rows are files in the folder in which the program runs.
 //!
-//! What the rows expect is typed from the ERTS User's Guide (EPMD Protocol, Distribution Protocol), from captured handshakes,
-//! from other programs (digests) and from the rules of `docs/PROTOCOL.md`. Each file is played with its bytes in one piece
-//! and then byte by byte, but for the rows that say how their bytes come.
+//! What the rows expect is typed from the ERTS User's Guide (EPMD Protocol, Distribution Protocol), from captured handshakes, from
+//! other programs (digests) and from the rules of `docs/PROTOCOL.md`. Each file is played with its bytes in one piece and then byte by
+//! byte, except rows that name their pieces.
 #![tactic(auto)]
 
 mod asked;
@@ -32,7 +31,7 @@ use rows::Subject;
 use std::process::ExitCode;
 use std::{fs, io};
 
-/// The files of rows, and what they are about.
+/// The files of rows, and their subjects.
 const FILES: [(&str, Subject); 19] = [
     ("node_names", Subject::Names),
     ("cookies", Subject::Cookies),
@@ -55,7 +54,7 @@ const FILES: [(&str, Subject); 19] = [
     ("changes", Subject::Changes),
 ];
 
-/// Prints how many rows each file has, or the first row that goes otherwise.
+/// Prints how many rows each file has, or the first row with another result.
 fn main(rt: HostRuntime) -> ExitCode {
     for (name, subject) in FILES.iter() {
         if !matches!(is_file_so(&rt, name, *subject), Ok(true)) {

@@ -3,8 +3,8 @@
 use std::io;
 use std::io::{Error, ErrorKind, Read};
 
-/// Gives a text by calls in turn, and then by the last of them again and again, and counts the calls. A call gives at most this
-/// many bytes, ends (`E`) or fails (the others).
+/// Gives a text by a list of calls, repeats the last call forever, and counts the calls. A call gives at most this many bytes, ends
+/// (`E`) or fails (the others).
 #[derive(Drop)]
 pub struct Scripted<'t> {
     text: &'t [u8],
@@ -13,7 +13,7 @@ pub struct Scripted<'t> {
 }
 
 impl<'t> Scripted<'t> {
-    /// A reader of this text by these calls, with blanks between them.
+    /// A reader of this text with these calls, separated by blanks.
     pub fn new(text: &'t [u8], calls: &'t str) -> Scripted<'t> {
         let reads = 0;
         Scripted { text, calls, reads }
@@ -25,7 +25,7 @@ impl<'t> Scripted<'t> {
     }
 }
 
-// How many bytes a call gives at most, or how it fails.
+// The most bytes that a call gives, or how it fails.
 fn most_of(call: &str) -> Result<usize, ErrorKind> {
     match call {
         "E" => Ok(0),

@@ -1,4 +1,4 @@
-//! Messages that are read and written.
+//! Reads and writes messages of the port mapper.
 
 use crate::digits::{bytes_in, node_of, put_number, put_word, word};
 use dist_epmd::{
@@ -7,10 +7,10 @@ use dist_epmd::{
 };
 use std::alloc::Global;
 
-/// Reads the bytes of a row, `read MESSAGE BYTES`, and writes the message again: reports whether the bytes are the same, or why
-/// they are refused. The message is a `request`, or the answer to a registration, `alive`, to a lookup, `port`, or to a question
-/// for all `names`.
-pub fn put_read(alloc: Global, told: &mut String, case: &str) -> Option<()> {
+/// Reads the bytes of a row, `read MESSAGE BYTES`, and writes the message again. Reports whether the bytes are the same, or why they
+/// are refused. The message is a `request`, or the answer to a registration, `alive`, to a lookup, `port`, or to the question for all
+/// `names`.
+pub fn put_read(alloc: Global, printed: &mut String, case: &str) -> Option<()> {
     let bytes = bytes_in(alloc, word(case, 2))?;
     let written = match word(case, 1) {
         "request" => request_again(alloc, &bytes),
@@ -18,7 +18,7 @@ pub fn put_read(alloc: Global, told: &mut String, case: &str) -> Option<()> {
         "port" => answer_again(alloc, Asked::Port, &bytes),
         _ => answer_again(alloc, Asked::Names, &bytes),
     };
-    put_word(told, comparison(&written, &bytes))
+    put_word(printed, comparison(&written, &bytes))
 }
 
 fn comparison(written: &Result<Vec<u8>, EpmdError>, bytes: &[u8]) -> &'static str {
@@ -29,7 +29,7 @@ fn comparison(written: &Result<Vec<u8>, EpmdError>, bytes: &[u8]) -> &'static st
     }
 }
 
-// The bytes that are written of the request that was read.
+// The bytes of the request that was read, written again.
 fn request_again(alloc: Global, bytes: &[u8]) -> Result<Vec<u8>, EpmdError> {
     let request = decode_request(alloc, bytes)?;
     encode_request(alloc, &request)
@@ -40,14 +40,13 @@ fn answer_again(alloc: Global, asked: Asked, bytes: &[u8]) -> Result<Vec<u8>, Ep
     encode_answer(alloc, &answer)
 }
 
-/// Writes the message of a row, `long MESSAGE NAME EXTRA`: reports how many bytes it has, or why it is refused. The message is a
-/// `registration`, a `lookup` of the name alone, the answer to one, `node`, or such an answer with a result of `success` and
-/// no node.
-pub fn put_length(alloc: Global, told: &mut String, case: &str) -> Option<()> {
+/// Writes the message of a row, `long MESSAGE NAME EXTRA`. Reports how many bytes it has, or why it is refused. The message is a
+/// `registration`, a `lookup` of just the name, the answer to one, `node`, or such an answer with a result of `success` and no node.
+pub fn put_length(alloc: Global, printed: &mut String, case: &str) -> Option<()> {
     let node = node_of(alloc, word(case, 2), word(case, 3))?;
     match encode_named(alloc, word(case, 1), node) {
-        Ok(bytes) => put_number(told, bytes.len() as u64),
-        Err(error) => put_word(told, error.name()),
+        Ok(bytes) => put_number(printed, bytes.len() as u64),
+        Err(error) => put_word(printed, error.name()),
     }
 }
 

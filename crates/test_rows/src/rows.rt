@@ -1,5 +1,4 @@
-//! Files of rows. A line that begins with `#` is a comment; the others are `CASE => WANTED`, or a case alone where nothing is
-//! reported.
+//! Files of rows. A line that begins with `#` is a comment; any other is `CASE => WANTED`, or just a case if nothing is reported.
 
 use crate::asked::put_asked;
 use crate::changes::put_changes;
@@ -18,7 +17,7 @@ use crate::talks::put_talk;
 use dist_epmd::Registry;
 use std::alloc::Global;
 
-/// What the rows of a file are about. Each has a module that says what its rows are.
+/// The subject of a file's rows. The module of each says what its rows are.
 #[derive(Clone, Copy)]
 pub enum Subject {
     Names,
@@ -45,7 +44,7 @@ pub fn count(text: &str) -> usize {
     rows
 }
 
-/// The first row of a file that goes otherwise, if one does, and how its bytes came.
+/// The first row of a file with another result, if there is one, and the pieces in which its bytes came.
 pub fn first_wrong<'t>(
     alloc: Global,
     subject: Subject,
@@ -59,7 +58,7 @@ pub fn first_wrong<'t>(
     None
 }
 
-// The first that goes otherwise where the bytes come so, unless a row says how they come.
+// The first row with another result if bytes come in these pieces, unless a row names its own.
 fn first_wrong_in<'t>(
     alloc: Global,
     subject: Subject,
@@ -75,7 +74,7 @@ fn first_wrong_in<'t>(
     None
 }
 
-// Whether what is reported begins with the words that are wanted.
+// Whether what is reported begins with the wanted words.
 fn is_so(
     alloc: Global,
     subject: Subject,
@@ -84,62 +83,63 @@ fn is_so(
     pieces: &str,
 ) -> bool {
     let (case, wanted) = row.split_once(" => ").unwrap_or((row, ""));
-    let mut told = String::new(alloc);
-    tell(alloc, &mut told, subject, registry, case, pieces).is_some() && begins(&told, wanted)
+    let mut printed = String::new(alloc);
+    put_answer(alloc, &mut printed, subject, registry, case, pieces).is_some()
+        && begins(&printed, wanted)
 }
 
-fn begins(told: &str, wanted: &str) -> bool {
-    match told.strip_prefix(wanted) {
+fn begins(printed: &str, wanted: &str) -> bool {
+    match printed.strip_prefix(wanted) {
         Some(rest) => rest.is_empty() || rest.starts_with(' '),
         None => false,
     }
 }
 
-// Lets a case happen, and reports what comes of it. `None`, here and below: memory was refused, or the row is no row.
-fn tell(
+// Plays a case, and reports the result. `None`, here and below: memory was refused, or it is not a row.
+fn put_answer(
     alloc: Global,
-    told: &mut String,
+    printed: &mut String,
     subject: Subject,
     registry: &mut Registry,
     case: &str,
     pieces: &str,
 ) -> Option<()> {
     match subject {
-        Subject::Names => put_name(alloc, told, case),
-        Subject::Cookies => put_cookie(alloc, told, case, pieces),
-        Subject::Frames => put_frames(alloc, told, case, pieces),
-        Subject::Packets => put_packets(alloc, told, case, pieces),
-        Subject::PeerTable => put_calls(alloc, told, case),
-        Subject::Handshake => put_message(alloc, told, case),
-        Subject::Refusals => put_sentences(told),
-        Subject::PortMapper => tell_mapper(alloc, told, registry, case, pieces),
-        Subject::Talks => put_talk(alloc, told, case, pieces),
-        Subject::Orders => put_order(alloc, told, case),
-        Subject::Changes => put_changes(alloc, told, case),
+        Subject::Names => put_name(alloc, printed, case),
+        Subject::Cookies => put_cookie(alloc, printed, case, pieces),
+        Subject::Frames => put_frames(alloc, printed, case, pieces),
+        Subject::Packets => put_packets(alloc, printed, case, pieces),
+        Subject::PeerTable => put_calls(alloc, printed, case),
+        Subject::Handshake => put_message(alloc, printed, case),
+        Subject::Refusals => put_sentences(printed),
+        Subject::PortMapper => put_mapper_answer(alloc, printed, registry, case, pieces),
+        Subject::Talks => put_talk(alloc, printed, case, pieces),
+        Subject::Orders => put_order(alloc, printed, case),
+        Subject::Changes => put_changes(alloc, printed, case),
     }
 }
 
-// A case is a question of a client, bytes to `read`, a message that may be too `long`, or a call of a registry.
-fn tell_mapper(
+// A case is a question of a client, bytes to `read`, a message that may be too `long`, or a call of the registry.
+fn put_mapper_answer(
     alloc: Global,
-    told: &mut String,
+    printed: &mut String,
     registry: &mut Registry,
     case: &str,
     pieces: &str,
 ) -> Option<()> {
     match word(case, 0) {
-        "lookup" | "register" | "names" => put_asked(alloc, told, case, pieces),
-        "read" => put_read(alloc, told, case),
-        "long" => put_length(alloc, told, case),
-        _ => tell_registry(alloc, told, registry, case, pieces),
+        "lookup" | "register" | "names" => put_asked(alloc, printed, case, pieces),
+        "read" => put_read(alloc, printed, case),
+        "long" => put_length(alloc, printed, case),
+        _ => put_registry_answer(alloc, printed, registry, case, pieces),
     }
 }
 
-// A case is a new `registry` by its port and its first creation, a connection that is `closed`, or a request on the connection of
-// this number. With `closed` the name may stand that the connection is known to have registered.
-fn tell_registry(
+// A case is a new `registry` with its port and its first creation, a connection that is `closed`, or a request on the connection with
+// this number. After `closed` there may be the name that the connection is known to have registered.
+fn put_registry_answer(
     alloc: Global,
-    told: &mut String,
+    printed: &mut String,
     registry: &mut Registry,
     case: &str,
     pieces: &str,
@@ -147,7 +147,7 @@ fn tell_registry(
     match word(case, 0) {
         "registry" => *registry = new_registry(alloc, case)?,
         "closed" => close_connection(alloc, registry, case)?,
-        _ => return put_served(alloc, told, registry, case, pieces),
+        _ => return put_served(alloc, printed, registry, case, pieces),
     }
     Some(())
 }

@@ -1,14 +1,13 @@
-//! Rows of scripts: what each prints is compared with what was worked out by hand.
+//! Rows of scripts: what each prints is compared with a result worked out by hand.
 //!
-//! The rows stand in files of the folder `scripts`. A row is a line `=== NAME`, a script, a line `---`, and what the
-//! script prints; where it does not end with status 0, a line `status STATUS TOLD` with the status and what it prints on standard
-//! error. A script whose last line has no end has the `---` right behind it.
+//! The rows are in the files of the folder `scripts`. A row is a line `=== NAME`, a script, a line `---`, and what the script prints.
+//! If it does not end with status 0, there is a line `status STATUS TEXT`, with what it prints on standard error. If the last line of a
+//! script has no end, the `---` follows it directly.
 //!
-//! `, ` stands for the end of a line. In braces stands a name of the file `named`, and stands for what that file says of it;
-//! or `TEXT*COUNT`, for the text this often, in which `#` is the number of the time, from 0; or bytes in hexadecimal digits.
+//! `, ` is the end of a line. Between braces is a name in the file `named`, which is replaced by its text; or `TEXT*COUNT`, the text
+//! this many times, with `#` for the number of the time, counted from 0; or bytes in hexadecimal digits.
 //!
-//! Of the rows in `interrupted` each read behind the script is interrupted; of those in `unflushed` no flush of the output
-//! succeeds.
+//! In `interrupted`, each read after the script is interrupted; in `unflushed`, each flush of the output fails.
 
 use crate::carriers::{Sink, Source};
 use dist_script_play::enact;
@@ -34,7 +33,7 @@ const FILES: [&str; 14] = [
     "scripts/unflushed",
 ];
 
-/// Prints how many rows each file has. The first row that goes otherwise is an error, and is printed with what came.
+/// Prints how many rows each file has. The first row with another result is an error, and is printed with that result.
 pub fn play_files(rt: &HostRuntime) -> io::Result<()> {
     let named = fs::read_to_string(rt, "scripts/named")?;
     for file in FILES {
@@ -46,8 +45,7 @@ pub fn play_files(rt: &HostRuntime) -> io::Result<()> {
     Ok(())
 }
 
-// Plays the rows of a file, and returns how many there are. The first that goes otherwise is an error, and is printed with what
-// came.
+// Plays the rows of a file, and returns how many there are. The first row with another result is an error, and is printed with that result.
 fn play_all<W: Write>(
     alloc: Global,
     file: &str,
@@ -67,7 +65,7 @@ fn play_all<W: Write>(
     Ok(count)
 }
 
-// Whether a row goes as it says. What came otherwise is printed. `None`: memory was refused, or it is no row.
+// Whether a row has its result; another one is printed. `None`: memory was refused, or it is not a row.
 fn goes<W: Write>(alloc: Global, file: &str, named: &str, row: &str, out: &mut W) -> Option<bool> {
     let row = row.replace(alloc, ", ", "\n").ok()?;
     let (script, wanted) = row.as_str().split_once("---\n")?;
@@ -81,24 +79,24 @@ fn goes<W: Write>(alloc: Global, file: &str, named: &str, row: &str, out: &mut W
     Some(is_so)
 }
 
-// What comes of a script of a file, as a row says it.
+// The result of a script in a file, in the form of a row.
 fn play_script(alloc: Global, file: &str, script: &[u8]) -> Option<Vec<u8>> {
     let mut input = Source::new(script, file == "scripts/interrupted");
-    let (mut out, mut told) = (
+    let (mut out, mut printed) = (
         Sink::new(alloc, file == "scripts/unflushed"),
         Vec::new(alloc),
     );
-    let status = enact(alloc, &mut input, &mut out, &mut told);
-    if status == 0 && told.is_empty() {
+    let status = enact(alloc, &mut input, &mut out, &mut printed);
+    if status == 0 && printed.is_empty() {
         return Some(out.into_bytes());
     }
     let mut came = format!(in alloc; "status {status} ").ok()?.into_bytes();
-    came.extend_from_slice(&told).ok()?;
+    came.extend_from_slice(&printed).ok()?;
     came.extend_from_slice(&out.into_bytes()).ok()?;
     Some(came)
 }
 
-// A text in which what stands in braces is put in the place of each pair of them.
+// A text in which each pair of braces is replaced.
 fn expand_braces(alloc: Global, named: &str, text: &str) -> Option<Vec<u8>> {
     let mut all = Vec::new(alloc);
     for part in text.split('{') {
@@ -109,7 +107,7 @@ fn expand_braces(alloc: Global, named: &str, text: &str) -> Option<Vec<u8>> {
     Some(all)
 }
 
-// Adds what stands for the text between two braces; for none, nothing.
+// Appends what replaces a pair of braces with this text; nothing for an empty one.
 fn push_inner(alloc: Global, all: &mut Vec<u8>, named: &str, inner: &str) -> Option<()> {
     if let Some(meaning) = meaning(named, inner) {
         return all.extend_from_slice(meaning.as_bytes()).ok();
@@ -123,7 +121,7 @@ fn push_inner(alloc: Global, all: &mut Vec<u8>, named: &str, inner: &str) -> Opt
     }
 }
 
-// What a name stands for: a line of the file is `NAME=MEANING`.
+// The text of a name: a line of the file is `NAME=TEXT`.
 fn meaning<'n>(named: &'n str, name: &str) -> Option<&'n str> {
     for line in named.lines() {
         if let Some((known, meaning)) = line.split_once('=')
@@ -135,7 +133,7 @@ fn meaning<'n>(named: &'n str, name: &str) -> Option<&'n str> {
     None
 }
 
-// Adds a text this often, with the number of the time in the place of each `#`.
+// Appends a text this many times, with `#` replaced by the number of the time.
 fn push_often(alloc: Global, all: &mut Vec<u8>, text: &str, count: u32) -> Option<()> {
     for number in 0..count {
         let number = format!(in alloc; "{number}").ok()?;

@@ -1,7 +1,7 @@
-//! The stream of a row: `WHO BYTES PIECES LIMIT FAULT NUMBER`, of which the last four or two words may be missing.
+//! The stream of a row: `WHO BYTES PIECES LIMIT FAULT NUMBER`; the last two or four words may be missing.
 //!
-//! PIECES is `whole`, `bytes` for one byte each way, `deaf` where nothing comes, `mute` where nothing is taken, or how many
-//! bytes a write takes. The LIMIT is a number of turns. The FAULT is `read` or `write`: the one of this NUMBER fails.
+//! PIECES is `whole`, `bytes` for one byte each way, `deaf` if nothing arrives, `mute` if nothing can be written, or how many bytes a
+//! write takes. LIMIT is a number of turns. FAULT is `read` or `write`: the one with this NUMBER fails.
 
 use crate::digits::{bytes_in, word};
 use dist_stream::FaultStream;
@@ -12,7 +12,7 @@ pub fn limit_of(case: &str) -> usize {
     word(case, 3).parse::<usize>().unwrap_or(100_000)
 }
 
-/// The stream of a row, with these pieces where the row has none.
+/// The stream of a row, with these pieces if the row names none.
 pub fn stream_of(alloc: Global, case: &str, pieces: &str) -> Option<FaultStream> {
     let said = word(case, 2);
     let pieces = if said.is_empty() { pieces } else { said };
@@ -23,7 +23,7 @@ pub fn stream_of(alloc: Global, case: &str, pieces: &str) -> Option<FaultStream>
     Some(stream)
 }
 
-/// Lets the bytes of a stream come in these pieces.
+/// Lets the bytes of a stream arrive in these pieces.
 pub fn set_pieces(stream: &mut FaultStream, pieces: &str) -> Option<()> {
     let all = usize::MAX;
     let (heard, taken) = match pieces {
@@ -37,7 +37,7 @@ pub fn set_pieces(stream: &mut FaultStream, pieces: &str) -> Option<()> {
     stream.write_sizes.push(taken).ok()
 }
 
-/// Lets the read or the write of this number fail, or none.
+/// Lets the read or the write with this number fail, or none.
 pub fn set_fault(stream: &mut FaultStream, fault: &str, number: u64) {
     match fault {
         "read" => stream.fail_read = number,

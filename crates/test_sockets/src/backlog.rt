@@ -1,4 +1,4 @@
-//! Connections that nobody accepts.
+//! Connections that no process accepts.
 
 use distribution::connect;
 use std::io::ErrorKind;
@@ -6,10 +6,10 @@ use std::net::{Ipv4Addr, SocketAddr, TcpListener};
 use std::test::*;
 use std::time::Duration;
 
-// More connections than any listener here keeps waiting: 128 were asked for.
+// More connections than any listener here keeps waiting; 128 were asked for.
 const MANY: usize = 1000;
 
-// Why the first connection fails where nobody accepts one.
+// Why the first connection fails if none is accepted.
 fn first_failure(rt: &HostRuntime, address: &SocketAddr) -> Option<ErrorKind> {
     let turn = Duration::from_millis(10);
     let mut kept = Vec::new(rt.alloc());
@@ -22,7 +22,7 @@ fn first_failure(rt: &HostRuntime, address: &SocketAddr) -> Option<ErrorKind> {
     None
 }
 
-// A listener and its address.
+// A listener, and its address.
 fn listener(rt: &HostRuntime) -> Option<(TcpListener, SocketAddr)> {
     let listener = TcpListener::bind(rt, (Ipv4Addr::LOCALHOST, 0)).ok()?;
     let address = listener.local_addr().ok()?;
@@ -38,7 +38,7 @@ fn a_full_listener_is_given_up_in_time(rt: HostRuntime) {
     assert!(rt; failure == Some(ErrorKind::TimedOut), "{failure:?}");
 }
 
-// Whether a connection is made to a listener whose stream would have turns of no time.
+// Whether a connection is made if the turns of its stream would have no length.
 fn is_made(rt: &HostRuntime) -> Option<bool> {
     let (_listener, address) = listener(rt)?;
     let (limit, turn) = (Duration::from_secs(1), Duration::from_secs(0));

@@ -1,4 +1,4 @@
-//! The clients of a port mapper, each allocation failing in turn: `rt try --test --fail-alloc N`. With ample memory each call
+//! The clients of a port mapper, with each allocation failing in turn: `rt try --test --fail-alloc N`. With enough memory each call
 //! succeeds.
 
 use crate::memory::{LOOKUP, NAMES};
@@ -13,8 +13,7 @@ fn standing(clients: &Clients<u8>) -> (usize, bool) {
     (clients.len(), is_registered)
 }
 
-// Whether a client of this host or of another, which is answered or not, or for which memory runs out, has left, and everything
-// else stands.
+// Whether a client of this host or of another has left, answered or not, or out of memory, and nothing else has changed.
 fn leaves_alone(clients: &mut Clients<u8>, alloc: Global, is_local: bool, question: &[u8]) -> bool {
     let before = standing(clients);
     if let Ok(conn) = clients.open(alloc, 1, is_local, 9) {
@@ -23,14 +22,14 @@ fn leaves_alone(clients: &mut Clients<u8>, alloc: Global, is_local: bool, questi
     standing(clients) == before
 }
 
-// Lets a client register `a`. Whether it stays, and is registered, or leaves, and is not. `None`: memory was refused before.
+// Lets a client register `a`. Returns whether it stays and is registered, or leaves and is not. `None`: memory was refused before that.
 fn registers_or_leaves(clients: &mut Clients<u8>, alloc: Global) -> Option<bool> {
     let node = clients.open(alloc, 0, true, 9).ok()?;
     let is_registered = matches!(clients.hear(alloc, node, REGISTRATION), Ok(Turn::Stay(_)));
     Some(standing(clients) == (usize::from(is_registered), is_registered))
 }
 
-// The same, and whether each client after it leaves alone, and before it one of another host that registers.
+// The same; also whether each client after it changes nothing when it leaves, and before it one of another host that registers.
 fn each_leaves_alone(clients: &mut Clients<u8>, alloc: Global) -> Option<bool> {
     let is_other_kept_out = leaves_alone(clients, alloc, false, REGISTRATION);
     let mut is_so = registers_or_leaves(clients, alloc)? && is_other_kept_out;

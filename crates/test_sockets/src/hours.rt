@@ -1,22 +1,22 @@
-//! Links that are kept for an hour of given time: no clock, and nobody waits.
+//! Links that are kept for an hour of simulated time: there is no clock, and nothing waits.
 
 use dist_stream::FaultStream;
 use distribution::{Due, Limited, Packets, Ticker, tick};
 use std::alloc::Global;
 use std::test::*;
 
-// The most bytes of a packet that is taken.
+// The most bytes of a packet that is accepted.
 const MOST: usize = 1000;
 
-// A quarter of net_ticktime, as Erlang/OTP has it, in milliseconds.
+// A quarter of net_ticktime in Erlang/OTP, in milliseconds.
 const QUARTER: u32 = 15_000;
 
-// How far time goes on at once, in milliseconds, and how often: an hour.
+// A step of time, in milliseconds, and the number of steps: an hour.
 const STEP: u64 = 5_000;
 
 const STEPS: u64 = 720;
 
-// Sends a tick where one is due. `None` where the peer is to be given up, or the tick can't be sent.
+// Sends a tick if one is due. `None` if the peer should be given up, or the tick can't be sent.
 fn say(ticker: &mut Ticker, limited: &mut Limited<'_, FaultStream>, now: u64) -> Option<()> {
     match ticker.due(now) {
         Due::Nothing { .. } => Some(()),
@@ -28,7 +28,7 @@ fn say(ticker: &mut Ticker, limited: &mut Limited<'_, FaultStream>, now: u64) ->
     }
 }
 
-// Reads a piece, which ends one packet at most. Whether it ends one.
+// Reads a piece, which ends at most one packet. Returns whether it ends one.
 fn hear(packets: &mut Packets, limited: &mut Limited<'_, FaultStream>) -> Option<bool> {
     let mut room = [0u8; 64];
     let count = limited.read(&mut room).ok()?;
@@ -36,8 +36,8 @@ fn hear(packets: &mut Packets, limited: &mut Limited<'_, FaultStream>) -> Option
     Some(packets.next_packet().ok()?.is_some())
 }
 
-// An hour with a peer that sends these bytes, this many at once, and sends something every this many steps: how many ticks were
-// sent to it, and how many packets came.
+// An hour with a peer that sends these bytes, `size` of them in every step that is a multiple of `pace`. Returns how many ticks were
+// sent to it, and how many packets arrived.
 fn hour(alloc: Global, said: &[u8], size: usize, pace: u64) -> Option<(usize, usize)> {
     let mut stream = FaultStream::new(alloc, Vec::from_slice(alloc, said).ok()?);
     stream.read_sizes.push(size).ok()?;
@@ -46,7 +46,7 @@ fn hour(alloc: Global, said: &[u8], size: usize, pace: u64) -> Option<(usize, us
     Some((stream.output().len() / 4, came))
 }
 
-// How many packets came in the hour.
+// How many packets arrived in the hour.
 fn count_packets(stream: &mut FaultStream, packets: &mut Packets, pace: u64) -> Option<usize> {
     let mut limited = Limited { stream, left: 2000 };
     let mut ticker = Ticker::new(QUARTER, 0);

@@ -1,4 +1,4 @@
-//! A node that is joined, and left.
+//! Joins a node, and leaves it.
 
 use crate::sockets::{TURNS, both_ends};
 use distribution::{
@@ -13,11 +13,11 @@ use std::thread::Threads;
 
 /// A challenge that is always the same.
 #[derive(Drop)]
-struct Challenge {
+struct FixedChallenge {
     number: u32,
 }
 
-impl Draws for Challenge {
+impl Draws for FixedChallenge {
     ghost use Rattle.std.specs.Prelude.{◌≡◌};
 
     ghost gives = { λ before number after. number ≡ before.number };
@@ -46,23 +46,23 @@ fn node_of(alloc: Global, name: &str, cookie: &str, creation: u32) -> Option<Nod
 // The end of each node.
 const END: EndId = EndId(0);
 
-// Node b, to which a connection came.
+// Node b, with one connection that came to it.
 fn accepting_desk(alloc: Global, cookie: &str) -> Option<MemoryDesk> {
     let mut node = node_of(alloc, "b@127.0.0.1", cookie, 7)?;
     said_at(alloc, &mut node, &Event::Incoming { link: 0 })?;
     MemoryDesk::new(alloc, node, END).ok()
 }
 
-// Node b takes the connection, and drives it to its end.
+// Node b takes the connection, and drives its end until it is closed.
 fn take(alloc: Global, stream: SocketStream, cookie: &str) -> Option<Outcome> {
     let mut stream = stream;
     let mut desk = accepting_desk(alloc, cookie)?;
-    let mut challenge = Challenge { number: 41 };
+    let mut challenge = FixedChallenge { number: 41 };
     let stream = &mut stream;
     Some(drive(alloc, stream, &mut desk, &mut challenge, END, b"", TURNS))
 }
 
-// What a node's end is to send where the node is given this.
+// What a node's end sends after this event.
 fn said_at(alloc: Global, node: &mut Node, event: &Event) -> Option<ByteString> {
     match node.step(alloc, event, 0) {
         Ok(reply) => Some(reply.say),
@@ -76,14 +76,14 @@ fn dial(alloc: Global) -> Option<Event> {
     Some(Event::Dial { peer, opening })
 }
 
-// Lets a node dial node b. What its end sends first.
+// Lets a node dial node b. Returns what its end sends first.
 fn first_said(alloc: Global, node: &mut Node) -> Option<ByteString> {
     said_at(alloc, node, &dial(alloc)?)?;
     let opened = Event::Opened { end_: END, link: 0 };
     said_at(alloc, node, &opened)
 }
 
-// Node a that dials node b: a desk with its end, and what the end sends first.
+// Node a, which dials node b: a desk with its end, and what the end sends first.
 fn dialling_desk(alloc: Global, cookie: &str) -> Option<(MemoryDesk, ByteString)> {
     let mut node = node_of(alloc, "a@127.0.0.1", cookie, 6)?;
     let first = first_said(alloc, &mut node)?;
@@ -93,10 +93,10 @@ fn dialling_desk(alloc: Global, cookie: &str) -> Option<(MemoryDesk, ByteString)
     }
 }
 
-// Node a joins node b over the connection. The creation that it was given.
+// Node a joins node b over the connection. Returns the creation that it received.
 fn join(alloc: Global, stream: &mut SocketStream, cookie: &str) -> Option<Creation> {
     let (mut desk, first) = dialling_desk(alloc, cookie)?;
-    let mut challenge = Challenge { number: 42 };
+    let mut challenge = FixedChallenge { number: 42 };
     let first = first.as_slice();
     creation_in(handshake(alloc, stream, &mut desk, &mut challenge, END, first, TURNS))
 }
@@ -108,7 +108,7 @@ fn creation_in(reached: Reached) -> Option<Creation> {
     }
 }
 
-// The same; it sends a tick where it is up, and leaves.
+// The same; if it is up, it also sends a tick, and leaves.
 fn join_and_leave(alloc: Global, stream: SocketStream, cookie: &str) -> Option<Creation> {
     let mut stream = stream;
     let creation = join(alloc, &mut stream, cookie)?;
@@ -122,13 +122,13 @@ fn leave(stream: &mut SocketStream) -> Option<()> {
     stream.shut().ok()
 }
 
-// The cookies of the two nodes, the creation of b where a came up with it, and how b's end was closed.
+// The cookies of the two nodes, the creation of b if a came up with it, and why b's end was closed.
 const CASES: [(&str, &str, Option<Creation>, Why); 2] = [
     ("secret", "secret", Some(Creation(7)), Why::Ended),
     ("secret", "other", None, Why::WrongDigest),
 ];
 
-// How the end of node b ended, and the creation that node a was given, which have these cookies and this connection.
+// How node b's end was closed, and the creation that node a received, with these cookies and this connection.
 fn join_ends<R: Threads>(
     rt: &R,
     alloc: Global,
@@ -150,7 +150,10 @@ fn a_node_is_joined_and_left(rt: HostRuntime) {
         let Some(ends) = both_ends(&rt) else {
             panic!(rt; "no connection");
         };
-        let told = join_ends(&rt, rt.alloc(), ends, ours, theirs);
-        assert!(rt; told == (Some(Outcome::Closed(why)), creation), "{told:?}");
+        let reported = join_ends(&rt, rt.alloc(), ends, ours, theirs);
+        assert!(rt;
+            reported == (Some(Outcome::Closed(why)), creation),
+            "{reported:?}"
+        );
     }
 }

@@ -1,4 +1,4 @@
-//! A lookup at a port mapper of our own.
+//! Looks up a node at a port mapper of our own.
 
 use crate::sockets::{TURNS, both_ends};
 use dist_epmd::{Registry, Request};
@@ -21,7 +21,7 @@ fn node_b(alloc: Global) -> Option<Request> {
     }))
 }
 
-// Whether a registry takes node b.
+// Whether a registry accepts node b.
 fn takes_node_b(alloc: Global, registry: &mut Registry) -> bool {
     match node_b(alloc) {
         Some(request) => registry.ask(alloc, 1, &request).is_ok(),
@@ -29,8 +29,8 @@ fn takes_node_b(alloc: Global, registry: &mut Registry) -> bool {
     }
 }
 
-// Answers one request as a port mapper that knows node b, and ends its side of the connection, as it does behind an answer.
-// Whether it was answered.
+// Answers one request, as a port mapper that knows node b, and ends its side of the connection, as it does after an answer. Returns
+// whether the request was answered.
 fn answers(alloc: Global, stream: SocketStream) -> bool {
     let mut stream = stream;
     let mut registry = Registry::new(alloc, 4369, 1);
@@ -39,13 +39,13 @@ fn answers(alloc: Global, stream: SocketStream) -> bool {
         && stream.shut().is_ok()
 }
 
-// The port of this node, or the word of why none is known.
+// The port of this node, or the error word if it is not known.
 fn port_of(alloc: Global, stream: SocketStream, short: &str) -> Result<u16, LookupError> {
     let mut stream = stream;
     Ok(lookup(alloc, &mut stream, short.as_bytes(), TURNS)?.port)
 }
 
-// Whether a lookup of this node over a connection was answered, and what it found.
+// Whether a lookup of this node over a connection was answered, and its result.
 fn looked_up<R: Threads>(
     rt: &R,
     alloc: Global,
@@ -66,7 +66,7 @@ fn a_node_is_looked_up(rt: HostRuntime) {
         let Some(ends) = both_ends(&rt) else {
             panic!(rt; "no connection");
         };
-        let told = looked_up(&rt, rt.alloc(), ends, short);
-        assert!(rt; told == (true, wanted), "{short}: {told:?}");
+        let reported = looked_up(&rt, rt.alloc(), ends, short);
+        assert!(rt; reported == (true, wanted), "{short}: {reported:?}");
     }
 }

@@ -1,4 +1,4 @@
-//! Each allocation failing in turn: `rt try --test --fail-alloc N`. With ample memory each call succeeds.
+//! Each allocation fails in turn: `rt try --test --fail-alloc N`. With enough memory each call succeeds.
 
 use crate::served::REGISTRATION;
 use dist_epmd::{NodeInfo, Registry};
@@ -26,8 +26,8 @@ fn over(alloc: Global, input: &[u8]) -> Option<FaultStream> {
     Some(FaultStream::new(alloc, Vec::from_slice(alloc, input).ok()?))
 }
 
-// Serves a request: whether it is served so, or memory runs out and nothing is changed (a stream in memory fails to write where
-// memory runs out for it). `None`: memory runs out for the stream itself, here and below.
+// Serves a request. Returns whether it was served as wanted, or memory ran out and nothing changed (a stream in memory fails to write
+// if it runs out of memory). `None`, here and below: memory runs out for the stream itself.
 fn is_served(
     alloc: Global,
     registry: &mut Registry,
@@ -54,7 +54,7 @@ fn is_want_of_memory(error: LookupError) -> bool {
     matches!(error, LookupError::NoMemory | LookupError::WriteFailed)
 }
 
-// A registration of `a`, a lookup of it, and the question for all names: the connection, its frame, what becomes of it.
+// A registration of `a`, a lookup of it, and the question for all names: the connection, its frame, and how it is served.
 const REQUESTS: [(u64, &[u8], Served); 3] = [
     (1, REGISTRATION, Served::Registered),
     (2, LOOKUP, Served::Answered),
@@ -82,7 +82,7 @@ fn node_a(alloc: Global) -> Option<NodeInfo> {
     })
 }
 
-// Whether the question of this answer succeeds, or runs out of memory.
+// Whether the question with this answer succeeds, or runs out of memory.
 fn is_had(alloc: Global, answer: &[u8]) -> Option<bool> {
     let node = node_a(alloc)?;
     let mut stream = over(alloc, answer)?;
@@ -105,7 +105,7 @@ fn fault(
     }
 }
 
-// Whether each call, of the server's side and of a client's, succeeded or ran out of memory.
+// Whether each call, of the server and of a client, succeeded or ran out of memory.
 fn are_all_had(alloc: Global) -> Option<bool> {
     for answer in ANSWERS {
         if !is_had(alloc, answer)? {
@@ -115,12 +115,12 @@ fn are_all_had(alloc: Global) -> Option<bool> {
     are_served(alloc)
 }
 
-// One request alone is refused, so it is tried twice.
+// Only one request is refused, so it is tried twice.
 #[test]
 fn port_mapper_memory_refused(rt: HostRuntime) {
     let are_had = match are_all_had(rt.alloc()) {
         None => are_all_had(rt.alloc()),
-        told => told,
+        reported => reported,
     };
     assert_eq!(rt; are_had, Some(true));
 }

@@ -1,4 +1,4 @@
-//! The calls over sockets of the loopback: a socket that is quiet, peers that reset and half-close.
+//! The calls over sockets of the loopback: a quiet socket, and peers that reset and half-close.
 
 use dist_epmd::Registry;
 use dist_epmd_calls::{LookupError, Served, serve_registry};
@@ -14,7 +14,7 @@ pub const REGISTRATION: &[u8] = b"\x00\x0e\x78\x23\x29\x4d\x00\x00\x06\x00\x05\x
 // Its first bytes.
 const CUT: &[u8] = b"\x00\x0e\x78\x23\x29";
 
-// A client that has sent this, and the server's end of the connection.
+// A client that has sent these bytes, and the server's end of the connection.
 fn connection(rt: &HostRuntime, said: &[u8]) -> Option<(SocketStream, SocketStream)> {
     let listener = TcpListener::bind(rt, "127.0.0.1:0").ok()?;
     let client = client_of(rt, &listener, said)?;
@@ -29,7 +29,7 @@ fn client_of(rt: &HostRuntime, listener: &TcpListener, said: &[u8]) -> Option<Tc
     Some(client)
 }
 
-// What comes after quiet turns.
+// What is read after quiet turns.
 fn read_after_quiet(stream: &mut SocketStream, room: &mut [u8; 8]) -> Heard {
     let mut heard = Heard::Quiet;
     for _ in 0..1000 {
@@ -40,8 +40,7 @@ fn read_after_quiet(stream: &mut SocketStream, room: &mut [u8; 8]) -> Heard {
     heard
 }
 
-// What a server that waits for a millisecond at most receives at once, what it receives once its client sends something, and what
-// once the client is gone.
+// What a server reads that waits for at most a millisecond: at once, after its client has sent something, and after the client is gone.
 fn quiet_and_heard(rt: &HostRuntime) -> Option<([Heard; 3], [u8; 8])> {
     let (mut client, mut server) = connection(rt, b"")?;
     let wait = Some(Duration::from_millis(1));
@@ -63,15 +62,15 @@ fn a_socket_is_quiet_until_something_comes(rt: HostRuntime) {
     assert_eq!(rt; quiet_and_heard(&rt), Some((wanted, *b"abc\0\0\0\0\0")));
 }
 
-// Serves one request on connection 1, and returns whether `a` is registered then.
+// Serves one request on connection 1, and returns the result and whether `a` is then registered.
 fn serve_one(rt: &HostRuntime, server: &mut SocketStream) -> (Result<Served, LookupError>, bool) {
     let mut registry = Registry::new(rt.alloc(), 4369, 1);
     let served = serve_registry(rt.alloc(), server, &mut registry, 1, 100);
     (served, registry.port_please(b"a").is_some())
 }
 
-// What serving a client that resets leads to, and whether `a` is registered then. The client resets in the middle of the
-// request, or of the answer, since it leaves a byte unread.
+// The result of serving a client that resets, and whether `a` is then registered. The client resets in the middle of the request, or of
+// the answer, since it leaves a byte unread.
 fn after_reset(
     rt: &HostRuntime,
     said: &[u8],
@@ -85,9 +84,9 @@ fn after_reset(
 #[test]
 fn a_peer_that_resets_leaves_no_registration(rt: HostRuntime) {
     for said in [CUT, REGISTRATION] {
-        let told = after_reset(&rt, said);
+        let reported = after_reset(&rt, said);
         let is_lost = matches!(
-            told,
+            reported,
             Some((
                 Took::Bytes(1),
                 (
@@ -96,12 +95,12 @@ fn a_peer_that_resets_leaves_no_registration(rt: HostRuntime) {
                 )
             ))
         );
-        assert!(rt; is_lost, "{told:?}");
+        assert!(rt; is_lost, "{reported:?}");
     }
 }
 
-// What serving a client that half-closes leads to, whether `a` is registered then, and what the client receives once the socket
-// is given back and closed.
+// The result of serving a client that half-closes, whether `a` is then registered, and what the client reads after the socket was given
+// back and closed.
 fn after_half_close(
     rt: &HostRuntime,
     said: &[u8],

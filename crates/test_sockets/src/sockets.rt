@@ -4,7 +4,7 @@ use distribution::{SocketStream, connect};
 use std::net::{Ipv4Addr, TcpListener};
 use std::time::Duration;
 
-/// How many turns a call may take: 5 seconds of silence.
+/// The most turns of a call: 5 seconds of silence.
 pub const TURNS: usize = 500;
 
 /// How long a read or a write waits.

@@ -1,5 +1,5 @@
-//! What a node returns beforehand, and then for the step itself; a node whose steps are spent, and one that forgets why ends were
-//! closed; and the opening that the version of a peer asks for.
+//! What a node answers before a step, compared with the step itself; a node whose steps are used up; one that forgets why ends were
+//! closed; and the opening for a peer's version.
 
 use crate::setting::{CHALLENGE, event, number, setup_of, still_word, word};
 use dist_core::{Event, Node, Opening, Reply, StepError};
@@ -7,12 +7,12 @@ use dist_drive::opening_for;
 use dist_epmd::PortInfo;
 use dist_names::ByteString;
 use dist_peers::EndId;
-use dist_script::{Line, Script, script_of};
+use dist_script::{Script, ScriptLine, script_of};
 use std::alloc::Global;
 use std::test::*;
 
-// accepted_handshake; wrong_digest, at an end that comes up and at one that challenges it; dialled_handshake. Each line of bytes
-// is one frame.
+// accepted_handshake; wrong_digest, at an end that comes up and at one with a challenge; dialled_handshake. Each line of bytes is one
+// frame.
 const SCRIPTS: &str = "\
 node b@127.0.0.1 ABCDEFGHIJKLMNOPQRSTUVWXYZabcdefghijklmnopqrstuvwxyz0 101000104 6
 incoming 1
@@ -45,10 +45,10 @@ dial b@127.0.0.1 new
 ";
 
 // The event of a line, and its challenge.
-fn event_of_line(alloc: Global, line: &Line) -> Option<(Event, u32)> {
+fn event_of_line(alloc: Global, line: &ScriptLine) -> Option<(Event, u32)> {
     match line {
-        Line::Event(event) => Some((event.try_clone(alloc).ok()?, 0)),
-        Line::Bytes { end_, bytes, fresh } => {
+        ScriptLine::Event(event) => Some((event.try_clone(alloc).ok()?, 0)),
+        ScriptLine::Bytes { end_, bytes, fresh } => {
             let body = ByteString::from_slice(alloc, bytes.as_slice().get(2..)?).ok()?;
             Some((Event::Frame { end_: *end_, body }, *fresh))
         }
@@ -63,8 +63,8 @@ fn is_same(one: &Result<Reply, StepError>, other: &Result<Reply, StepError>) -> 
     }
 }
 
-// Whether the node returns beforehand what it then does, and a node of the same setup does so for a copy of the event.
-fn is_foretold(alloc: Global, node: &mut Node, twin: &mut Node, line: &Line) -> Option<bool> {
+// Whether the answer before a step equals the step, as does the step of a node of the same setup with a copy of the event.
+fn is_foretold(alloc: Global, node: &mut Node, twin: &mut Node, line: &ScriptLine) -> Option<bool> {
     let (event, fresh) = event_of_line(alloc, line)?;
     let copy = event.try_clone(alloc).ok()?;
     let answer = node.answer(alloc, &event, fresh);
@@ -73,7 +73,7 @@ fn is_foretold(alloc: Global, node: &mut Node, twin: &mut Node, line: &Line) -> 
     Some(copy == event && is_same(&answer, &reply) && is_same(&other, &reply))
 }
 
-// The first line of a script for which it is otherwise. The second node is made of a copy of the setup.
+// The first line of a script for which that is wrong. The second node is made from a copy of the setup.
 fn first_wrong(alloc: Global, script: &str) -> Option<Option<usize>> {
     let Script::Events { node, lines } = script_of(alloc, script.as_bytes()).ok()? else {
         return None;
@@ -95,7 +95,7 @@ fn answer_before_step(rt: HostRuntime) {
     }
 }
 
-// Gives a node an event: the refusal's name, or that it was taken.
+// Gives a node an event. Returns the name of the refusal, or `taken`.
 fn answer_word(alloc: Global, node: &mut Node, word: &str) -> Option<&'static str> {
     match node.step(alloc, &event(alloc, word)?, CHALLENGE) {
         Ok(_) => Some("taken"),
@@ -103,7 +103,7 @@ fn answer_word(alloc: Global, node: &mut Node, word: &str) -> Option<&'static st
     }
 }
 
-// How many of so many ticks a node takes.
+// How many of this many ticks a node accepts.
 fn ticks(alloc: Global, node: &mut Node, count: u32) -> Option<u32> {
     let tick = event(alloc, "tick")?;
     let mut taken = 0u32;
@@ -113,7 +113,7 @@ fn ticks(alloc: Global, node: &mut Node, count: u32) -> Option<u32> {
     Some(taken)
 }
 
-// Node b takes three steps and then ticks; what it says of one tick more, of the loss of its end, and of a connection that comes.
+// Node b takes three steps and then ticks. Returns how it answers one more tick, the loss of its end, and a connection.
 fn spend_steps(alloc: Global) -> Option<(u32, [&'static str; 3])> {
     let mut node = Node::new(alloc, setup_of(alloc, false)?);
     for word in ["incoming", "name", "reply"] {
@@ -132,8 +132,8 @@ fn steps_spent(rt: HostRuntime) {
     assert_eq!(rt; spend_steps(rt.alloc()), Some(wanted));
 }
 
-// How ends 0 and 1 stand, and which end is the oldest pending one, where 9 is none, once node b was given this. A number is
-// one below which the causes of ends that were closed are forgotten: then they were ended.
+// How ends 0 and 1 stand, and the oldest pending end, with 9 for none, after node b was given these words. A number forgets the causes
+// of the closed ends below it; they then count as `Ended`.
 const FORGOTTEN: &str = "\
 Replaced Pending 1 incoming incoming replaced
 Replaced Pending 1 incoming incoming replaced 0
@@ -153,7 +153,7 @@ fn do_or_forget(alloc: Global, node: &mut Node, word: &str) -> Option<()> {
     Some(())
 }
 
-// How ends 0 and 1 of a node stand, and which end is the oldest pending one.
+// How ends 0 and 1 of a node stand, and the oldest pending end.
 fn ends_of(node: &mut Node) -> (&'static str, &'static str, u64) {
     let oldest = match node.oldest_pending() {
         Some(id) => u64::from(id.0),

@@ -1,5 +1,5 @@
-//! Histories of two nodes under locks, and what the audit returns for them, as they were kept and altered in one place; and
-//! whether they follow the order to dial of a nodes file.
+//! Histories of two nodes under locks, and the result of their audit, unchanged and with one change; and whether they follow the dial
+//! order of a nodes file.
 
 use crate::runs::A_PEER;
 use crate::setting::{CHALLENGE, event, frame, setup_of, word};
@@ -14,9 +14,8 @@ use std::alloc::Global;
 use std::sync::{Arc, Wait};
 use std::test::*;
 
-// One handshake: whose step it is, and what its node is given. The frames of the status `ok` of node b, of its challenge and of
-// its acknowledgement stand in hexadecimal digits, with their length. Tickets of a: 0 dial, 1 opened, 4, 5, 7 frames. Of b:
-// 2 incoming, 3, 6 frames.
+// One handshake: the node of each step, and its event. The frames of node b's status `ok`, challenge and acknowledgement are in
+// hexadecimal digits, with their length. Tickets of a: 0 dial, 1 opened, 4, 5, 7 frames. Of b: 2 incoming, 3, 6 frames.
 const HANDSHAKE: &str = "\
 a dial
 a opened
@@ -29,20 +28,20 @@ a 001161d174ab98d277d9f5a5611c2c9f419d9f";
 
 // A node with its one seat.
 #[derive(Drop)]
-struct Side {
+struct SeatedNode {
     node: LockedNode,
     seats: Vec<Seat>,
 }
 
-fn side_of(alloc: Global, tickets: Arc<Tickets, Global>, is_a: bool) -> Option<Side> {
+fn side_of(alloc: Global, tickets: Arc<Tickets, Global>, is_a: bool) -> Option<SeatedNode> {
     let setup = setup_of(alloc, is_a)?;
     let (node, seats) = LockedNode::new(alloc, setup, tickets, 1).ok()?;
-    Some(Side { node, seats })
+    Some(SeatedNode { node, seats })
 }
 
 fn put_side(
     alloc: Global,
-    sides: &mut Vec<Side>,
+    sides: &mut Vec<SeatedNode>,
     tickets: &Arc<Tickets, Global>,
     is_a: bool,
 ) -> Option<()> {
@@ -51,29 +50,29 @@ fn put_side(
 }
 
 // Nodes a and b, which draw their tickets from one counter.
-fn put_both(alloc: Global, sides: &mut Vec<Side>) -> Option<()> {
+fn put_both(alloc: Global, sides: &mut Vec<SeatedNode>) -> Option<()> {
     let tickets = Arc::new(alloc, Tickets::new()).ok()?;
     put_side(alloc, sides, &tickets, true)?;
     put_side(alloc, sides, &tickets, false)
 }
 
-// What a node is given: a word, or a frame.
-fn event_or_frame(alloc: Global, told: &str) -> Option<Event> {
-    if told.starts_with('0') {
-        frame(alloc, told)
+// The event for a word, or for a frame in digits.
+fn event_or_frame(alloc: Global, noted: &str) -> Option<Event> {
+    if noted.starts_with('0') {
+        frame(alloc, noted)
     } else {
-        event(alloc, told)
+        event(alloc, noted)
     }
 }
 
-fn step(rt: &impl Wait, alloc: Global, side: &mut Side, told: &str) -> Option<()> {
-    let event = event_or_frame(alloc, told)?;
+fn step(rt: &impl Wait, alloc: Global, side: &mut SeatedNode, noted: &str) -> Option<()> {
+    let event = event_or_frame(alloc, noted)?;
     let seat = side.seats.first_mut()?;
     let _ = side.node.step(rt, seat, &event, CHALLENGE).ok()?;
     Some(())
 }
 
-fn play(rt: &impl Wait, alloc: Global, sides: &mut [Side], text: &str) -> Option<()> {
+fn play(rt: &impl Wait, alloc: Global, sides: &mut [SeatedNode], text: &str) -> Option<()> {
     for line in text.lines() {
         let place = usize::from(line.starts_with('b'));
         step(rt, alloc, sides.get_mut(place)?, word(line, 1))?;
@@ -81,19 +80,19 @@ fn play(rt: &impl Wait, alloc: Global, sides: &mut [Side], text: &str) -> Option
     Some(())
 }
 
-fn put_closed(all: &mut Vec<Closed>, side: Side) -> Option<()> {
+fn put_closed(all: &mut Vec<Closed>, side: SeatedNode) -> Option<()> {
     let closed = close(side.node.into_book(), side.seats).ok()?;
     all.push(closed).ok()
 }
 
-fn put_all_closed(all: &mut Vec<Closed>, sides: Vec<Side>) -> Option<()> {
+fn put_all_closed(all: &mut Vec<Closed>, sides: Vec<SeatedNode>) -> Option<()> {
     for side in sides {
         put_closed(all, side)?;
     }
     Some(())
 }
 
-// Adds the closed nodes a and b, after the steps of this text.
+// Adds the closed nodes a and b, after the steps in this text.
 fn put_played(rt: &impl Wait, alloc: Global, all: &mut Vec<Closed>, text: &str) -> Option<()> {
     let mut sides = Vec::new(alloc);
     put_both(alloc, &mut sides)?;
@@ -101,14 +100,14 @@ fn put_played(rt: &impl Wait, alloc: Global, all: &mut Vec<Closed>, text: &str) 
     put_all_closed(all, sides)
 }
 
-// The closed nodes a and b, after the steps of this text. `None`: memory was refused, or the text is wrong.
+// The closed nodes a and b, after the steps in this text. `None`: memory was refused, or the text is wrong.
 fn play_text(rt: &impl Wait, alloc: Global, text: &str) -> Option<Vec<Closed>> {
     let mut all = Vec::new(alloc);
     put_played(rt, alloc, &mut all, text)?;
     Some(all)
 }
 
-// What the audit returns: the refusal's name, or whether nodes 0 and 1 agree on connection 0, with the flags and the creations of
+// The result of the audit: the name of the refusal, or whether nodes 0 and 1 agree on connection 0, with the flags and the creations of
 // these setups.
 fn answer(alloc: Global, all: &[Closed]) -> &'static str {
     let world = match audit(alloc, all) {
@@ -128,7 +127,7 @@ fn answer(alloc: Global, all: &[Closed]) -> &'static str {
     }
 }
 
-// Alters the first byte. The same alteration once more undoes it.
+// Changes the first byte. The same change once more undoes it.
 fn flip(alloc: Global, text: &mut ByteString) -> Option<()> {
     let mut bytes = Vec::from_slice(alloc, text.as_slice()).ok()?;
     *bytes.first_mut()? ^= 1;
@@ -136,7 +135,7 @@ fn flip(alloc: Global, text: &mut ByteString) -> Option<()> {
     Some(())
 }
 
-// Alters the link of a connection that came, the body of a frame, or what was sent; or else sets the ticket.
+// Changes the link of a connection that came, the body of a frame, or what was sent; or else sets the ticket.
 fn alter(alloc: Global, line: &mut Line, what: &str) -> Option<()> {
     match (what, &mut line.event) {
         ("link", Event::Incoming { link }) => *link ^= 1024,
@@ -147,7 +146,7 @@ fn alter(alloc: Global, line: &mut Line, what: &str) -> Option<()> {
     Some(())
 }
 
-// The same of a line of a history, in place of the one that stands there.
+// Replaces a line of a history by a changed copy.
 fn put_altered(alloc: Global, shared: &mut SharedLine, what: &str) -> Option<()> {
     let mut line = shared.read().line().try_clone(alloc).ok()?;
     alter(alloc, &mut line, what)?;
@@ -163,7 +162,7 @@ fn leave_out(history: &mut Vec<SharedLine>) {
     let _ = history.pop();
 }
 
-// Alters a line of a history, `NODE LINE WHAT`, or leaves its last line out, `NODE LINE out`.
+// Changes a line of a history, `NODE LINE WHAT`, or removes the last line, `NODE LINE out`.
 fn alter_row(alloc: Global, all: &mut [Closed], row: &str) -> Option<()> {
     let history = &mut all.get_mut(number(row, 0)?)?.history;
     if row.ends_with("out") {
@@ -173,7 +172,7 @@ fn alter_row(alloc: Global, all: &mut [Closed], row: &str) -> Option<()> {
     put_altered(alloc, history.get_mut(number(row, 1)?)?, word(row, 2))
 }
 
-// Does what each line says, and reports the first for which the audit returns otherwise.
+// Does what each line says, and returns the first for which the audit has another result.
 fn first_wrong(alloc: Global, all: &mut [Closed], text: &'static str) -> Option<&'static str> {
     for line in text.lines() {
         let is_so = match line.split_once("? ") {
@@ -187,9 +186,9 @@ fn first_wrong(alloc: Global, all: &mut [Closed], text: &'static str) -> Option<
     None
 }
 
-// A ticket of the other node; two tickets exchanged; the link of the connection that came, a byte of a frame's body, and a
-// byte of what was sent last, each undone. Then each ticket twice as great and one more (shifted_tickets), the connection that
-// came one below that of `opened`, and one below that of the dial. Then the tickets as they were, without the last line.
+// A ticket of the other node; two tickets exchanged; the link of the connection that came, a byte of a frame's body, and a byte of what
+// was sent last, each undone. Then each ticket doubled plus one (shifted_tickets), that of the connection that came one below that of
+// `opened`, and one below that of the dial. Then the original tickets, without the last line.
 const ALTERED: &str = "\
 ? agreed
 0 2 3
@@ -227,7 +226,7 @@ const ALTERED: &str = "\
 0 4 out
 ? OtherReply";
 
-// What the histories of a handshake first do otherwise.
+// The first row with another result for the histories of a handshake.
 fn wrong<R: Wait>(rt: &R, alloc: Global) -> Option<&'static str> {
     match play_text(rt, alloc, HANDSHAKE) {
         Some(mut all) => first_wrong(alloc, &mut all, ALTERED),
@@ -240,8 +239,8 @@ fn audited_handshake(rt: HostRuntime) {
     assert_eq!(rt; wrong(&rt, rt.alloc()), None);
 }
 
-// What the audit returns for no history, for one node alone, to which a connection came that nobody dialled, and for nodes of which
-// one dialled the other again once its end was lost.
+// The result of the audit for no history, for one node alone with a connection that no node dialled, and for two nodes of which one
+// dialled the other again after its end was lost.
 fn small(rt: &impl Wait, alloc: Global) -> Option<(&'static str, &'static str, &'static str)> {
     let all = play_text(rt, alloc, "b incoming")?;
     let again = play_text(rt, alloc, "a dial\na ended\na dial")?;
@@ -258,7 +257,7 @@ fn small_audits(rt: HostRuntime) {
     assert_eq!(rt; small(&rt, rt.alloc()), wanted);
 }
 
-// Whether node a, which has one order to dial node b, is found to have followed it by these steps.
+// Whether node a, with one order to dial node b, counts as having followed it with these steps.
 const FOLLOWED: [(&str, bool); 3] = [
     ("a dial", true),
     ("b incoming", false),
@@ -279,20 +278,20 @@ fn an_order_is_followed_once(rt: HostRuntime) {
     }
 }
 
-// Whether an audit returns that both agree, or runs out of memory and the next audit of the same histories returns so.
+// Whether an audit finds that both agree, or runs out of memory and then finds it on the next try.
 fn is_agreed(rt: &impl Wait, alloc: Global) -> Option<bool> {
     let all = play_text(rt, alloc, HANDSHAKE)?;
-    let told = answer(alloc, &all);
-    Some(told == "agreed" || told == "NoMemory" && answer(alloc, &all) == "agreed")
+    let noted = answer(alloc, &all);
+    Some(noted == "agreed" || noted == "NoMemory" && answer(alloc, &all) == "agreed")
 }
 
-// Each request for memory refused in turn: where one is refused before the audit, all is done once more; else the audit says so,
+// Each request for memory is refused in turn. If one is refused before the audit, the test is repeated; else the audit reports it,
 // unless a vector that grows can do with less.
 #[test]
 fn audit_memory_refused(rt: HostRuntime) {
-    let told = match is_agreed(&rt, rt.alloc()) {
+    let noted = match is_agreed(&rt, rt.alloc()) {
         None => is_agreed(&rt, rt.alloc()),
-        told => told,
+        noted => noted,
     };
-    assert_eq!(rt; told, Some(true));
+    assert_eq!(rt; noted, Some(true));
 }

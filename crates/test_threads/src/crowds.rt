@@ -71,7 +71,7 @@ dial = [
   { from = "n0@h", to = "n3@h" }, { from = "n0@h", to = "n4@h" },
 ]"#;
 
-// Whether each of sixteen nodes is up with four. An order whose peer has dialled and is up already finds the node busy.
+// Whether each of sixteen nodes is up with four. An order is refused as busy if its peer has dialled before, and is up.
 fn are_all_up(text: &str) -> Option<bool> {
     let (orders, tables) = text.split_once("up")?;
     for order in orders.split_terminator(", ") {

@@ -1,4 +1,4 @@
-//! A desk in memory and the desk of a seat answer alike; and what is done with an end that its driver left open.
+//! A desk in memory and the desk of a seat give the same answers; and what is done with an end that its driver left open.
 
 use crate::drives::desk_of;
 use crate::seats::{Closing, closing_with, make_steps, seated_node};
@@ -11,9 +11,8 @@ use std::alloc::{AllocError, Global};
 use std::sync::Wait;
 use std::test::*;
 
-// What a desk of end 0 is given: an event of another end, one out of turn, a whole handshake, a frame behind it, two losses.
-// What any such desk returns, how long the newest reply's text is, and how the end stands then. A closed end is reported by its
-// cause.
+// The events for a desk of end 0: one of another end, one out of turn, a whole handshake, a frame after it, two losses. Then what any
+// such desk answers, the length of the newest reply's text, and how the end stands. For a closed end the answer is its cause.
 const ROWS: &str = "\
 another NoSuchEnd 0 Pending
 tick WrongPhase 0 Pending
@@ -23,7 +22,7 @@ name WrongPhase 19 Up
 ended taken 0 Ended
 replaced Ended 0 Ended";
 
-// That the event was taken, why the end is closed, or the refusal's name.
+// `taken`, why the end is closed, or the name of the refusal.
 fn answer_word(answer: Result<(), StepError>) -> &'static str {
     match answer {
         Ok(()) => "taken",
@@ -32,7 +31,7 @@ fn answer_word(answer: Result<(), StepError>) -> &'static str {
     }
 }
 
-// Whether a desk answers as its row says.
+// Whether a desk gives its row's answer.
 fn is_so<D: Desk>(alloc: Global, desk: &mut D, row: &str) -> Option<bool> {
     let answer = answer_word(desk.step(event(alloc, word(row, 0))?, CHALLENGE));
     let said = match desk.last() {
@@ -44,7 +43,7 @@ fn is_so<D: Desk>(alloc: Global, desk: &mut D, row: &str) -> Option<bool> {
     Some(are_words && said == number(word(row, 2), 9999))
 }
 
-// The first row in which a desk answers otherwise.
+// The first row with another answer.
 fn first_wrong<D: Desk>(alloc: Global, desk: &mut D) -> Option<usize> {
     for (place, row) in ROWS.lines().enumerate() {
         if is_so(alloc, desk, row) != Some(true) {
@@ -54,13 +53,13 @@ fn first_wrong<D: Desk>(alloc: Global, desk: &mut D) -> Option<usize> {
     None
 }
 
-// Of the desk in memory. `None`: memory was refused, here and below.
+// The same for the desk in memory. `None`, here and below: memory was refused.
 fn wrong_in_memory(alloc: Global) -> Option<Option<usize>> {
     let mut desk = desk_of(alloc, "accepted")?;
     Some(first_wrong(alloc, &mut desk))
 }
 
-// Of the desk of this seat, which comes back.
+// The same for the desk of this seat, which is returned.
 fn first_wrong_by_seat<R: Wait>(
     rt: &R,
     alloc: Global,
@@ -72,7 +71,7 @@ fn first_wrong_by_seat<R: Wait>(
     Some((wrong, desk.into_parts().0))
 }
 
-// Of the desk of a seat, to whose node the other seat gave a connection that came; and what `close` says then.
+// The same for the desk of a seat, after the other seat gave the node a connection; and the result of `close`.
 fn wrong_at_a_seat<R: Wait>(rt: &R, alloc: Global) -> Option<(Option<usize>, Closing)> {
     let (node, mut seats) = seated_node(alloc)?;
     let _ = make_steps(rt, alloc, &node, &mut seats, 1);
@@ -89,7 +88,7 @@ fn desks_answer_alike(rt: HostRuntime) {
     assert_eq!(rt; wrong, (Some(None), Some((None, Ok([4, 0, 0, 0])))));
 }
 
-// Drives end 0, for which no turn is left.
+// Drives end 0 with no turn left.
 fn drive_without_turns<R: Wait>(
     rt: &R,
     alloc: Global,
@@ -111,8 +110,8 @@ fn drive_without_turns<R: Wait>(
     )
 }
 
-// What becomes of end 0, once this many steps were made and its turns ran out, or it was not driven at all: how it stands, whether
-// it is over, and how many receipts the seat has got.
+// What becomes of end 0 after this many steps, if its turns ran out, or it was not driven at all: how it stands, whether it is over,
+// and how many receipts the seat got.
 fn left_open<R: Wait>(
     rt: &R,
     alloc: Global,
@@ -133,7 +132,7 @@ fn left_open<R: Wait>(
     Some((still_word(node.still(rt, EndId(0))), is_over, more))
 }
 
-// One that is not up is lost, and one that is up goes on.
+// An end that is not up is lost; one that is up goes on.
 #[test]
 fn ends_that_are_left_open(rt: HostRuntime) {
     let pending = left_open(&rt, rt.alloc(), 1, true);

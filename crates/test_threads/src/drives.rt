@@ -1,4 +1,4 @@
-//! Driven calls whose stream fails, ends, is cut or is quiet, calls that end at their limit, and calls that run out of memory.
+//! Calls that drive an end: their stream fails, ends, is cut or is quiet, their turns run out, or memory does.
 
 use crate::setting::{CHALLENGE, Rising, event, number, setup_of, still_word, word};
 use dist_core::Node;
@@ -7,7 +7,7 @@ use dist_peers::EndId;
 use std::alloc::Global;
 use std::test::*;
 
-// The frame of the name of node a, version 6, which a dialled end sent first.
+// The frame of the name of node a, version 6, which a dialled end has sent first.
 const NAME_OF_A: &[u8] =
     b"\x00\x1aN\x00\x00\x00\x04\x01\x00\x00\x04\x00\x00\x00\x05\x00\x0ba@127.0.0.1";
 
@@ -16,14 +16,14 @@ pub const NAME_AND_REPLY: &str = "\
 001a4e000000040100000400000005000b61403132372e302e302e31\
 001572075bcd15d174ab98d277d9f5a5611c2c9f419d9f";
 
-// The same, and a tick and a packet of 5 bytes behind it.
+// The same, with a tick and a packet of 5 bytes after it.
 const NAME_REPLY_AND_PACKETS: &str = "\
 001a4e000000040100000400000005000b61403132372e302e302e31\
 001572075bcd15d174ab98d277d9f5a5611c2c9f419d9f\
 00000000000000050102030405";
 
-// The same of a node that knows version 5 alone, written by hand from the ERTS User's Guide, Distribution Handshake: a tag, the
-// version 5, the flags 4 in four bytes, the name.
+// The same for a node that only knows version 5, written by hand from the ERTS User's Guide, Distribution Handshake: a tag, the version
+// 5, the flags 4 in four bytes, the name.
 const OLD_NAME_AND_REPLY: &str = "\
 00126e00050000000461403132372e302e302e31\
 001572075bcd15d174ab98d277d9f5a5611c2c9f419d9f";
@@ -33,7 +33,7 @@ const GREETING_AND_ACKNOWLEDGEMENT: &str = "\
 0003736f6b001e4e0000000101000104075bcd1500000006000b62403132372e302e302e31\
 001161d174ab98d277d9f5a5611c2c9f419d9f";
 
-// The same, and packets behind it.
+// The same, with packets after it.
 const GREETING_AND_PACKETS: &str = "\
 0003736f6b001e4e0000000101000104075bcd1500000006000b62403132372e302e302e31\
 001161d174ab98d277d9f5a5611c2c9f419d9f\
@@ -41,8 +41,7 @@ const GREETING_AND_PACKETS: &str = "\
 
 const STATUS_NOK: &str = "0004736e6f6b";
 
-// What the other side sends: `nok`, a whole `handshake`, one of a peer that knows `version_5` alone, or a handshake and `packets`
-// behind it.
+// What the other side sends: `nok`, a whole `handshake`, one of a peer that only knows `version_5`, or a handshake with `packets` after it.
 fn input_of(side: &str, what: &str) -> &'static str {
     match (side, what) {
         ("dialled", "nok") => STATUS_NOK,
@@ -54,7 +53,7 @@ fn input_of(side: &str, what: &str) -> &'static str {
     }
 }
 
-// Adds the sizes between commas; `-` is none. Whether there was memory.
+// Adds the sizes between commas; `-` is none. Returns whether there was memory.
 fn put_sizes(sizes: &mut Vec<usize>, text: &str, at: u64) -> bool {
     for size in text.split(',') {
         if size != "-" && sizes.push(number(size, at) as usize).is_err() {
@@ -75,7 +74,7 @@ fn stream_of(alloc: Global, row: &str, at: u64) -> Option<FaultStream> {
     if is_set { Some(stream) } else { None }
 }
 
-// Whether a node takes what it is given.
+// Whether a node accepts this event.
 fn takes(alloc: Global, node: &mut Node, word: &str) -> bool {
     match event(alloc, word) {
         Some(event) => node.step(alloc, &event, 0).is_ok(),
@@ -83,7 +82,7 @@ fn takes(alloc: Global, node: &mut Node, word: &str) -> bool {
     }
 }
 
-// Gives a node its events before the call. Whether it takes all.
+// Gives a node its events before the call. Returns whether it accepts all.
 fn begin(alloc: Global, node: &mut Node, side: &str) -> bool {
     match side {
         "dialled" => takes(alloc, node, "dial") && takes(alloc, node, "opened"),
@@ -93,8 +92,8 @@ fn begin(alloc: Global, node: &mut Node, side: &str) -> bool {
     }
 }
 
-/// The desk of the first end of node a, which `dialled` node b, or of node b, to which a connection came: one that is `gone`
-/// before the call, one that is `unknown` to its node, or else accepted.
+/// The desk of the first end: of node a, which `dialled` node b; or of node b, whose end is `gone` before the call, `unknown` to the
+/// node, or accepted.
 pub fn desk_of(alloc: Global, side: &str) -> Option<MemoryDesk> {
     let mut node = Node::new(alloc, setup_of(alloc, side == "dialled")?);
     if begin(alloc, &mut node, side) {
@@ -104,9 +103,9 @@ pub fn desk_of(alloc: Global, side: &str) -> Option<MemoryDesk> {
     }
 }
 
-// What is seen of a call: how it ended, which loss was reported, how the end stands; how many frames were handed on, bytes were
-// written, reads and writes were made, and entries its node has.
-type Seen = ([&'static str; 3], [u64; 4]);
+// What is seen of a call: how it ended, which loss was reported, how the end stands; and the numbers of frames given to the node, of
+// bytes written, of reads and writes, and of the node's entries.
+type CallSeen = ([&'static str; 3], [u64; 4]);
 
 fn outcome_word(outcome: Outcome) -> &'static str {
     match outcome {
@@ -115,7 +114,7 @@ fn outcome_word(outcome: Outcome) -> &'static str {
     }
 }
 
-// Which loss was reported at last, and how many frames were handed on.
+// The loss that was reported last, and how many frames were given to the node.
 fn loss_and_frames(desk: &MemoryDesk) -> (&'static str, u64) {
     let steps = desk.list().len() as u64;
     match desk.list().last() {
@@ -127,7 +126,7 @@ fn loss_and_frames(desk: &MemoryDesk) -> (&'static str, u64) {
     }
 }
 
-// Drives the end of the desk, which sent this first, with these numbers.
+// Drives the end of the desk, which has sent `first`, with these challenges.
 fn drive_and_see(
     alloc: Global,
     desk: &mut MemoryDesk,
@@ -135,20 +134,20 @@ fn drive_and_see(
     mut draws: Rising,
     first: &[u8],
     limit: usize,
-) -> Seen {
+) -> CallSeen {
     let outcome = drive(alloc, stream, desk, &mut draws, EndId(0), first, limit);
-    let (told, frames) = loss_and_frames(desk);
+    let (noted, frames) = loss_and_frames(desk);
     let still = still_word(desk.still(EndId(0)));
     let (written, entries) = (stream.output().len() as u64, desk.node().entries() as u64);
     (
-        [outcome_word(outcome), told, still],
+        [outcome_word(outcome), noted, still],
         [frames, written, stream.calls(), entries],
     )
 }
 
-// What is seen of the call of a row, with the row's number. A dialled end sent its name first, and its challenge is the number
-// of the second frame, where that of an accepted end is the number of the first.
-fn play_row(alloc: Global, row: &str, at: u64) -> Option<Seen> {
+// What is seen of the call of a row, played with this number. A dialled end has sent its name, and its challenge is the second number
+// drawn; that of an accepted end is the first.
+fn play_row(alloc: Global, row: &str, at: u64) -> Option<CallSeen> {
     let side = word(row, 0);
     let (first, number_of_first): (&[u8], u32) = if side == "dialled" {
         (NAME_OF_A, CHALLENGE - 1)
@@ -162,14 +161,13 @@ fn play_row(alloc: Global, row: &str, at: u64) -> Option<Seen> {
     Some(drive_and_see(alloc, &mut desk, &mut stream, draws, first, limit))
 }
 
-// The side; what it receives, and how many bytes of it; the most bytes of each read and of each write in turn, 0 where the stream
-// is quiet; which read and which write fails; the limit; from which number up to which the row is played, where `at` stands for
-// the number. Then what is seen: how the call ends, the loss that is reported, how the end stands, the frames that were handed
-// on, the bytes that were written, the reads and writes, the entries of the node.
+// The side; what it receives, and how many bytes of it; the most bytes of each read and of each write in turn, 0 for a quiet turn;
+// which read and which write fails; the limit; the numbers with which the row is played, `at` in its words. Then what is seen: how the
+// call ends, the loss that is reported, how the end stands, the frames given to the node, the bytes written, the reads and writes, the
+// entries of the node.
 //
-// Packets behind a handshake are not sent; what the last turn read is still handed on; the loss of the end that is gone was
-// reported to its node before the call, and that of one that its node doesn't know can be reported to nobody: its first frame
-// is refused.
+// Packets after a handshake are not given to the node; what the last turn read still is. The loss of the end that is gone was reported
+// to its node before the call. The loss of the unknown end can't be reported: its first frame is refused.
 const ROWS: &str = "\
 # drive_faults
 accepted handshake 999 28,23 - 0 0 100 0 1 Ended Ended Ended 2 56 5 0
@@ -211,8 +209,8 @@ accepted packets at 100 100 0 0 1000 51 65 Ended Ended Ended 2 56 any 0
 accepted packets 999 at,100 - 0 0 100 1 70 Ended Ended Ended 2 56 any 0
 dialled packets 999 at,100 - 0 0 100 1 70 Ended Ended Ended 3 51 any 0";
 
-// What has to be seen, where any number of reads and writes will do that is not said.
-fn wanted_row(row: &'static str, calls: u64) -> Seen {
+// What should be seen; `any` means any number of reads and writes.
+fn wanted_row(row: &'static str, calls: u64) -> CallSeen {
     let frames = number(word(row, 13), 0);
     let written = number(word(row, 14), 0);
     let entries = number(word(row, 16), 0);
@@ -222,7 +220,7 @@ fn wanted_row(row: &'static str, calls: u64) -> Seen {
     )
 }
 
-// Whether what has to be seen of a row is seen.
+// Whether a row, played with this number, gives what should be seen.
 fn is_so(alloc: Global, row: &'static str, at: u64) -> bool {
     match play_row(alloc, row, at) {
         Some(seen) => seen == wanted_row(row, seen.1[2]),
@@ -230,7 +228,7 @@ fn is_so(alloc: Global, row: &'static str, at: u64) -> bool {
     }
 }
 
-// The first number with which a row goes otherwise.
+// The first number with which a row gives another result.
 fn first_wrong(alloc: Global, row: &'static str) -> Option<u64> {
     for at in number(word(row, 8), 0)..number(word(row, 9), 0) {
         if !is_so(alloc, row, at) {
@@ -247,7 +245,7 @@ fn driven_calls_go_as_their_rows_say(rt: HostRuntime) {
     }
 }
 
-// What a handshake leaves of a stream, in hexadecimal digits, where its first read gives this many bytes.
+// What a handshake leaves unread of a stream, in hexadecimal digits, if its first read gives this many bytes.
 fn rest_of(alloc: Global, read: usize) -> Option<String> {
     let mut desk = desk_of(alloc, "accepted")?;
     let mut stream = FaultStream::new(alloc, hex::decode(alloc, NAME_REPLY_AND_PACKETS).ok()?);
@@ -259,7 +257,7 @@ fn rest_of(alloc: Global, read: usize) -> Option<String> {
     }
 }
 
-// The frames have 51 bytes: how many are read at first, and what is left of them behind the frames.
+// The frames have 51 bytes: how many the first read gives, and what it leaves after the frames.
 const RESTS: [(usize, &str); 4] = [
     (51, ""),
     (52, "00"),
@@ -275,9 +273,9 @@ fn a_handshake_leaves_what_came_behind_it(rt: HostRuntime) {
     }
 }
 
-// A driven call reports out of memory as it reports any fault, and the end is lost, for which it asks for none: where a request
-// is refused in the call, as `rt try --test --fail-alloc N` does for N = 1, 2, .., or to the stream itself, which then fails.
-// Where one is refused before the call there is nothing to be seen.
+// A call that runs out of memory reports it like any fault, and the end is lost, which takes no memory. A request is refused in the
+// call, as `rt try --test --fail-alloc N` does for N = 1, 2, .., or to the stream itself, which then fails. If one is refused before
+// the call, nothing is tested.
 #[test]
 fn memory_refused_in_a_call(rt: HostRuntime) {
     let row = "accepted packets 999 28,23 37,3 0 3 100";

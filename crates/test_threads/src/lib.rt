@@ -1,10 +1,9 @@
-//! Tests, from outside, of driven ends, of the queue of dial orders, and of nodes and registries under locks, of what the audit
-//! returns for histories, of several nodes where memory is refused or a setup changes, of what a node returns beforehand, and
-//! of what runs on sockets of this host leave, each audited: there every listener is at a port that the system chooses. What a
-//! script can say of a node or of several, bytes and names, and what is read and written of them, stand in the rows of
-//! `test_rows`.
+//! Tests, from outside, of driven ends, of the queue of dial orders, of nodes and registries under locks, of the audit's results for
+//! histories, of several nodes if memory is refused or a setup changes, and of what a node answers before a step; and of runs on
+//! sockets of this host, each audited. There, every listener is at a port that the system chooses. Scripts of one node or several,
+//! bytes and names, and what is read and written of them, are in the rows of `test_rows`.
 //!
-//! They stand in a crate of their own, so that no crate is proved a second time for its tests.
+//! They are a crate of their own, so that no crate is proved again for its tests.
 #![tactic(auto)]
 
 #[cfg(test)]

@@ -34,7 +34,7 @@ fn alive(answer: &Answer) -> Option<(u8, u32)> {
     }
 }
 
-// Registers node a as this connection.
+// Registers node a on this connection.
 fn register_a<R: Wait>(
     rt: &R,
     alloc: Global,
@@ -48,9 +48,9 @@ fn register_a<R: Wait>(
     }
 }
 
-// The connection whose node was registered, where the other was refused; else 0.
-fn first_of(told: (Option<(u8, u32)>, Option<(u8, u32)>)) -> u64 {
-    match told {
+// The connection whose node was registered, if the other was refused; else 0.
+fn first_of(noted: (Option<(u8, u32)>, Option<(u8, u32)>)) -> u64 {
+    match noted {
         (Some((0, 1)), Some((1, 0))) => 1,
         (Some((1, 0)), Some((0, 1))) => 2,
         _ => 0,
@@ -62,12 +62,12 @@ fn two_threads_register(rt: HostRuntime) {
     let alloc = rt.alloc();
     let registry = LockedRegistry::new(Registry::new(alloc, 4369, 1));
     let shared = &registry;
-    let told = thread::join(
+    let noted = thread::join(
         &rt,
         move || register_a(&rt, alloc, shared, 1),
         move || register_a(&rt, alloc, shared, 2),
     );
-    let first = first_of(told);
+    let first = first_of(noted);
     SharedMapper::new(&rt, shared).closed(first);
     let third = register_a(&rt, alloc, shared, 3);
     assert_eq!(rt; (first != 0, third), (true, Some((0, 2))));

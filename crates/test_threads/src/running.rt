@@ -1,7 +1,7 @@
-//! A run of nodes on a system with something wrong, and what it reports: the orders that made no dial, how many peers each node
-//! is up with, and what the audit says.
+//! A run of nodes on a faulty system, and its report: the orders that made no dial, with how many peers each node is up, and the result
+//! of the audit.
 
-use crate::system::{System, Wrong};
+use crate::system::{FaultySystem, Wrong};
 use dist_audit::audit;
 use dist_run::{Ran, RunError, run_plan};
 use dist_run_plan::plan_of;
@@ -41,7 +41,7 @@ fn report_of(alloc: Global, ran: &Ran) -> Option<String> {
     Some(text)
 }
 
-/// Runs the nodes of a text on a system with something wrong. What is no nodes file is reported as out of memory.
+/// Runs the nodes of a text on a faulty system. A text that is not a nodes file is reported as out of memory.
 pub fn run_of<R>(rt: &R, alloc: Global, wrong: Wrong, nodes: &str) -> Result<String, RunError>
 where
     R: Net<Listener = TcpListener, Stream = TcpStream>
@@ -54,7 +54,7 @@ where
     let Ok(plan) = plan_of(alloc, nodes) else {
         return Err(RunError::NoMemory);
     };
-    let system = System::new(rt, wrong);
+    let system = FaultySystem::new(rt, wrong);
     match run_plan(&system, alloc, &plan, &system) {
         Ok(ran) => report_of(alloc, &ran).ok_or(RunError::NoMemory),
         Err(error) => Err(error),

@@ -22,14 +22,14 @@ dial = [
   { from = "b@127.0.0.1", to = "a@127.0.0.1" },
 ]"#;
 
-// Node b asks for a flag that node a does not announce.
+// Node b requires a flag that node a does not announce.
 const ASKS_FOR_A_FLAG: &str = r#"node = [
   { name = "a@127.0.0.1", cookie = "secret", flags = "401000004" },
   { name = "b@127.0.0.1", cookie = "secret", flags = "101000104", required = "8" },
 ]
 dial = [{ from = "a@127.0.0.1", to = "b@127.0.0.1" }]"#;
 
-// Two nodes that dial one each.
+// Four nodes, of which two dial one each.
 const FOUR_NODES: &str = r#"turns = 2000
 node = [
   { name = "a@127.0.0.1", cookie = "secret", flags = "401000004" },
@@ -42,7 +42,7 @@ dial = [
   { from = "c@127.0.0.1", to = "d@127.0.0.1" },
 ]"#;
 
-// What is wrong with a system, and what the run of two nodes reports, one of which dials the other.
+// The fault of a system, and the report of the run of two nodes, one of which dials the other.
 const WRONGS: [(Wrong, &str); 11] = [
     (Wrong::NoRandomBytes, "ReadFailed"),
     (Wrong::NoListener(0), "ListenFailed"),
@@ -61,7 +61,7 @@ const WRONGS: [(Wrong, &str); 11] = [
 ];
 
 #[test]
-fn what_is_wrong_is_told(rt: HostRuntime) {
+fn what_is_wrong_is_reported(rt: HostRuntime) {
     for (wrong, wanted) in WRONGS {
         let ran = run_of(&rt, rt.alloc(), wrong, A_PEER);
         assert_eq!(rt; text_of(&ran), wanted, "{wrong:?}");
@@ -80,7 +80,7 @@ fn a_peer_without_a_required_flag_is_refused(rt: HostRuntime) {
     assert_eq!(rt; text_of(&ran), "up 0 0, audit holds");
 }
 
-// A body with one worker alone, or with one lock for both, has no second order that could go first.
+// With just one worker, or one lock for both, there is no second order that could go first.
 #[test]
 fn gated_workers(rt: HostRuntime) {
     let ran = run_of(&rt, rt.alloc(), Wrong::Overtakes, FOUR_NODES);
@@ -88,7 +88,7 @@ fn gated_workers(rt: HostRuntime) {
 }
 
 #[test]
-fn twenty_runs_of_one_file_tell_the_same(rt: HostRuntime) {
+fn twenty_runs_of_one_file_report_the_same(rt: HostRuntime) {
     let alloc = rt.alloc();
     for _ in 0..4 {
         let Ok(runs) = map_indices(

@@ -1,4 +1,4 @@
-//! Node b under a lock with two seats, which give it events in turn, and the queue of dial orders.
+//! Node b under a lock, with two seats that give it events in turn, and the queue of dial orders.
 
 use crate::setting::{CHALLENGE, event, setup_of};
 use dist_core::StepError;
@@ -20,7 +20,7 @@ pub fn seated_node(alloc: Global) -> Option<(LockedNode, Vec<Seat>)> {
     made.ok()
 }
 
-// Gives a node an event. Whether the step is made, and memory does not run out for it; `None`: it is refused for another reason,
+// Gives a node an event. Returns whether the step is made; `false` if it runs out of memory. `None`: it is refused for another reason,
 // or memory was refused before it.
 fn is_made<R: Wait>(
     rt: &R,
@@ -37,11 +37,11 @@ fn is_made<R: Wait>(
     }
 }
 
-// What the seats give in turn.
-const TOLD: [&str; 4] = ["incoming", "name", "reply", "incoming"];
+// The events that the seats give in turn.
+const NOTED: [&str; 4] = ["incoming", "name", "reply", "incoming"];
 
-/// Makes this many steps, the seats in turn, until one runs out of memory. How many were made, unless one was refused for another
-/// reason, or memory was refused before a step.
+/// Makes this many steps, the seats in turn, until one runs out of memory. Returns how many were made; `None` if one was refused for
+/// another reason, or memory was refused before a step.
 pub fn make_steps<R: Wait>(
     rt: &R,
     alloc: Global,
@@ -49,7 +49,7 @@ pub fn make_steps<R: Wait>(
     seats: &mut [Seat],
     most: usize,
 ) -> Option<usize> {
-    for (place, word) in TOLD.iter().take(most).enumerate() {
+    for (place, word) in NOTED.iter().take(most).enumerate() {
         let seat = seats.get_mut(place % 2)?;
         if !is_made(rt, alloc, node, seat, word)? {
             return Some(place);
@@ -58,8 +58,8 @@ pub fn make_steps<R: Wait>(
     Some(most)
 }
 
-/// What `close` says: how many lines the history has, how many entries the node, how many of its ends are up and how many are
-/// open, or the refusal.
+/// The result of `close`: the number of lines in the history, of entries of the node, of its ends that are up, and of those that are
+/// open; or the refusal.
 pub type Closing = Result<[usize; 4], CloseError>;
 
 fn counts_of(closed: &Closed) -> [usize; 4] {
@@ -68,7 +68,7 @@ fn counts_of(closed: &Closed) -> [usize; 4] {
     [lines, node.entries(), node.ups(), node.open_ends()]
 }
 
-/// What `close` says of this node and these seats.
+/// The result of `close` for this node and these seats.
 pub fn closing(node: LockedNode, seats: Vec<Seat>) -> Closing {
     match close(node.into_book(), seats) {
         Ok(closed) => Ok(counts_of(&closed)),
@@ -76,7 +76,7 @@ pub fn closing(node: LockedNode, seats: Vec<Seat>) -> Closing {
     }
 }
 
-/// What `close` says of this node and these seats, and one more.
+/// The result of `close` for this node, these seats, and one more.
 pub fn closing_with(node: LockedNode, mut seats: Vec<Seat>, seat: Seat) -> Option<Closing> {
     match seats.push(seat) {
         Ok(()) => Some(closing(node, seats)),
@@ -98,7 +98,7 @@ fn is_kept<R: Wait>(rt: &R, alloc: Global) -> Option<bool> {
     is_greeting(&seats)
 }
 
-// What `close` says after this many steps.
+// The result of `close` after 0 to 4 steps.
 const CLOSINGS: [[usize; 4]; 5] = [
     [0, 0, 0, 0],
     [1, 0, 0, 1],
@@ -107,7 +107,7 @@ const CLOSINGS: [[usize; 4]; 5] = [
     [4, 1, 1, 2],
 ];
 
-// Whether `close` says of the steps that were made what it has to. `None`: memory was refused before a step.
+// Whether `close` has the right result for the steps that were made. `None`: memory was refused before a step.
 fn is_closed<R: Wait>(rt: &R, alloc: Global) -> Option<bool> {
     let (node, mut seats) = seated_node(alloc)?;
     let made = make_steps(rt, alloc, &node, &mut seats, 4);
@@ -116,14 +116,14 @@ fn is_closed<R: Wait>(rt: &R, alloc: Global) -> Option<bool> {
     Some(closing == Ok(*wanted))
 }
 
-// Each request for memory of a node under a lock refused in turn, as `rt try --test --fail-alloc N` does for N = 1, 2, ..: a step
-// that runs out of memory leaves the node, its history and the seats as they were.
+// Each request for memory of a node under a lock is refused in turn, as `rt try --test --fail-alloc N` does for N = 1, 2, ..: a step
+// that runs out of memory leaves the node, its history and the seats unchanged.
 #[test]
 fn memory_refused_in_a_step(rt: HostRuntime) {
     assert!(rt; is_closed(&rt, rt.alloc()) != Some(false));
 }
 
-// The order that came back, or 0.
+// The order that was returned, or 0.
 fn refused_order(answer: Result<(), DialOrder>) -> u32 {
     match answer {
         Ok(()) => 0,
@@ -139,8 +139,8 @@ fn taken_order(answer: Option<DialOrder>) -> u32 {
     }
 }
 
-// The orders 4, 5 and 6 are put into a queue of two, three are taken, 7 is put and taken: what each call answers, and how
-// many orders are left.
+// The orders 4, 5 and 6 are put into a queue of two, three are taken, 7 is put and taken. Returns the result of each call, and how many
+// orders are left.
 fn orders_in_turn<R: Wait>(rt: &R, alloc: Global) -> Option<([u32; 8], u64)> {
     let (orders, mut put, mut one, two) = Orders::new(alloc, 2).ok()?;
     let answers = [
@@ -156,7 +156,7 @@ fn orders_in_turn<R: Wait>(rt: &R, alloc: Global) -> Option<([u32; 8], u64)> {
     Some((answers, orders.settle(rt, put, one, two)))
 }
 
-// The orders of a run with two dials, as the first worker takes them: the dials, and the last order of each worker.
+// The orders of a run with two dials, all taken by the first worker: the dials, and the last order of each worker.
 fn take_dispatched<R: Wait>(rt: &R, alloc: Global) -> Option<[u32; 5]> {
     let (orders, put, mut one, _) = Orders::new(alloc, 4).ok()?;
     let _ = dispatch(rt, &orders, put, 2);
@@ -169,7 +169,7 @@ fn take_dispatched<R: Wait>(rt: &R, alloc: Global) -> Option<[u32; 5]> {
     ])
 }
 
-// What `close` says after two steps where the second seat is missing.
+// The result of `close` after two steps, without the second seat.
 fn closing_with_one<R: Wait>(rt: &R, alloc: Global) -> Option<Closing> {
     let (node, mut seats) = seated_node(alloc)?;
     let _ = make_steps(rt, alloc, &node, &mut seats, 2);
@@ -187,7 +187,7 @@ fn seat_of_another<R: Wait>(rt: &R, alloc: Global) -> Option<Seat> {
     Some(seat)
 }
 
-// What `close` says after two steps where the second seat of another node stands in the place of the own one.
+// The result of `close` after two steps, with the second seat of another node instead of its own.
 fn closing_with_another<R: Wait>(rt: &R, alloc: Global) -> Option<Closing> {
     let (node, mut seats) = seated_node(alloc)?;
     let _ = make_steps(rt, alloc, &node, &mut seats, 2);

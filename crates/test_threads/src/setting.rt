@@ -1,4 +1,4 @@
-//! What the rows share: two nodes, what each sends in a handshake, what a node is given, and where challenges come from.
+//! What the rows share: two nodes, what each sends in a handshake, the events, and a source of challenges.
 
 use dist_core::{Event, Limits, Opening, Setup, Still, Version, Why};
 use dist_drive::Draws;
@@ -10,7 +10,7 @@ use std::alloc::Global;
 // The frame of the name of node a, version 6.
 const NAME_OF_A: &str = "001a4e000000040100000400000005000b61403132372e302e302e31";
 
-// The frame of its reply to the challenge 123456789.
+// The frame of node a's reply to the challenge 123456789.
 const REPLY: &str = "001572075bcd15d174ab98d277d9f5a5611c2c9f419d9f";
 
 /// The challenge of node b.
@@ -18,7 +18,7 @@ pub const CHALLENGE: u32 = 123456789;
 
 const COOKIE: &str = "ABCDEFGHIJKLMNOPQRSTUVWXYZabcdefghijklmnopqrstuvwxyz0";
 
-/// A number, and then each time the next one.
+/// This number, then the next one, and so on.
 #[derive(Drop)]
 pub struct Rising(pub u32);
 
@@ -36,7 +36,7 @@ fn name_of(alloc: Global, text: &str) -> Option<NodeName> {
     NodeName::new(alloc, text.as_bytes()).ok()
 }
 
-/// The setup of node a, or else of node b.
+/// The setup of node a, or of node b.
 pub fn setup_of(alloc: Global, is_a: bool) -> Option<Setup> {
     let (name, flags, creation) = if is_a {
         ("a@127.0.0.1", 0x401000004, 5)
@@ -55,7 +55,7 @@ pub fn setup_of(alloc: Global, is_a: bool) -> Option<Setup> {
     })
 }
 
-/// A frame of end 0, from the digits of its length and its body.
+/// The event of a frame for end 0, in digits: its length and its body.
 pub fn frame(alloc: Global, text: &str) -> Option<Event> {
     let body = hex::decode(alloc, text.get(4..)?).ok()?;
     let body = ByteString::from_vec(body);
@@ -65,9 +65,8 @@ pub fn frame(alloc: Global, text: &str) -> Option<Event> {
     })
 }
 
-/// What end 0 of a node is given, or its node: a dial to node b, that it is `opened`, that a connection is `incoming`, the
-/// `name` of node a and its `reply`, that the end has `ended` or is `replaced`, and else that a tick is due on end 0, or on
-/// `another`.
+/// The event for a word: `dial` of node b; end 0 is `opened`; a connection is `incoming`; the `name` of node a and its `reply`; end 0
+/// has `ended`, or is `replaced`; a tick is due on `another` end; for any other word, a tick is due on end 0.
 pub fn event(alloc: Global, word: &str) -> Option<Event> {
     match word {
         "dial" => dial(alloc),
@@ -116,7 +115,7 @@ pub fn word(row: &str, place: usize) -> &str {
     row.split(' ').nth(place).unwrap_or("")
 }
 
-/// The number that a word is, or else another.
+/// The number that a word is, or else `other`.
 pub fn number(word: &str, other: u64) -> u64 {
     word.parse::<u64>().unwrap_or(other)
 }

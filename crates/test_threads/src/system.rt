@@ -1,4 +1,4 @@
-//! The system that a run has its sockets, threads, clock and random bytes from, with what it refuses and what it cuts.
+//! The system from which a run gets its sockets, threads, clock and random bytes, with its faults.
 
 use dist_locked::{Gate, Moment};
 use std::io::{ErrorKind, Write};
@@ -10,16 +10,16 @@ use std::thread::Threads;
 use std::time::{Clock, Duration};
 use std::{io, thread};
 
-/// What is wrong with a system. The port mapper is the first to listen, then the nodes do.
+/// The fault of a system. The port mapper listens first, then the nodes do.
 #[derive(Clone, Copy, Debug, PartialEq, Eq)]
 pub enum Wrong {
     /// Nothing.
     Nothing,
     /// There are no random bytes.
     NoRandomBytes,
-    /// The listener of this number is refused.
+    /// The listener with this number is refused.
     NoListener(usize),
-    /// The connection of this number to the port mapper is refused.
+    /// The connection with this number to the port mapper is refused.
     NoMapper(usize),
     /// Each connection to a node is refused.
     NoPeer,
@@ -27,19 +27,19 @@ pub enum Wrong {
     Cuts,
     /// No end gets the event of its connection before both workers have a connection.
     Holds,
-    /// The second worker waits with its connection for that of the first, and the first with its own until the second has given
-    /// its node the event. Who waits in vain gives its connection up.
+    /// The second worker waits with its connection for that of the first; the first waits with its own until the second has given its
+    /// node the event. A worker that waits in vain gives up its connection.
     Overtakes,
-    /// No worker goes on at this moment.
+    /// Both workers stop at this moment.
     Shut(Moment),
-    /// Before the nodes, clients that send nothing, and clients that send what is no message, are at the first node and at
-    /// the port mapper, and stay.
+    /// Before the nodes connect, clients that send nothing, and clients that send garbage, connect to the first node and to the port
+    /// mapper, and stay.
     Strangers,
 }
 
-/// A system with something wrong.
+/// A system with a fault.
 #[derive(Drop)]
-pub struct System<'a, R> {
+pub struct FaultySystem<'a, R> {
     rt: &'a R,
     wrong: Wrong,
     mapper_port: AtomicUsize,
@@ -51,10 +51,10 @@ pub struct System<'a, R> {
     strangers: Mutex<Option<[TcpStream; 8]>>,
 }
 
-impl<'a, R> System<'a, R> {
-    /// This system, with that wrong.
-    pub fn new(rt: &'a R, wrong: Wrong) -> System<'a, R> {
-        System {
+impl<'a, R> FaultySystem<'a, R> {
+    /// This system, with this fault.
+    pub fn new(rt: &'a R, wrong: Wrong) -> FaultySystem<'a, R> {
+        FaultySystem {
             rt,
             wrong,
             mapper_port: AtomicUsize::new(0),
@@ -68,7 +68,7 @@ impl<'a, R> System<'a, R> {
     }
 }
 
-// How many there were so far.
+// Counts one more, and returns how many there were before.
 fn next(count: &AtomicUsize) -> usize {
     count.fetch_add(1, Ordering::SeqCst)
 }
@@ -77,12 +77,12 @@ fn connection_refusal<T>() -> io::Result<T> {
     Err(io::Error::from(ErrorKind::ConnectionRefused))
 }
 
-impl<'a, R: Net<Listener = TcpListener, Stream = TcpStream> + Wait> System<'a, R> {
+impl<'a, R: Net<Listener = TcpListener, Stream = TcpStream> + Wait> FaultySystem<'a, R> {
     fn mapper_port(&self) -> u16 {
         u16::try_from(self.mapper_port.load(Ordering::SeqCst)).unwrap_or(0)
     }
 
-    // A client that has sent this.
+    // A client that has sent these bytes.
     fn client(&self, port: u16, said: &[u8]) -> io::Result<TcpStream> {
         let mut socket = TcpStream::connect(self.rt, (Ipv4Addr::LOCALHOST, port))?;
         socket.write_all(said)?;
@@ -129,7 +129,7 @@ impl<'a, R: Net<Listener = TcpListener, Stream = TcpStream> + Wait> System<'a, R
     }
 }
 
-impl<'a, R: Net<Listener = TcpListener, Stream = TcpStream> + Wait> Net for System<'a, R> {
+impl<'a, R: Net<Listener = TcpListener, Stream = TcpStream> + Wait> Net for FaultySystem<'a, R> {
     type Stream = TcpStream;
 
     type Listener = TcpListener;
@@ -164,11 +164,11 @@ impl<'a, R: Net<Listener = TcpListener, Stream = TcpStream> + Wait> Net for Syst
     }
 }
 
-impl<'a, R: Threads> Threads for System<'a, R> {}
+impl<'a, R: Threads> Threads for FaultySystem<'a, R> {}
 
-impl<'a, R: Wait> Wait for System<'a, R> {}
+impl<'a, R: Wait> Wait for FaultySystem<'a, R> {}
 
-impl<'a, R: Clock> Clock for System<'a, R> {
+impl<'a, R: Clock> Clock for FaultySystem<'a, R> {
     fn monotonic(&self) -> io::Result<Duration> {
         self.rt.monotonic()
     }
@@ -182,7 +182,7 @@ impl<'a, R: Clock> Clock for System<'a, R> {
     }
 }
 
-impl<'a, R: RandomSource> RandomSource for System<'a, R> {
+impl<'a, R: RandomSource> RandomSource for FaultySystem<'a, R> {
     fn fill_bytes(&self, room: &mut [u8]) -> io::Result<()> {
         if self.wrong == Wrong::NoRandomBytes {
             return connection_refusal();
@@ -191,8 +191,8 @@ impl<'a, R: RandomSource> RandomSource for System<'a, R> {
     }
 }
 
-// Whether this many are there, or come while it looks for them. It looks ten million times at most, so that a system with no
-// thread for the other worker ends the run too.
+// Whether this many are there, or come while it looks. It looks ten million times at most, so that a run also ends if the system has no
+// thread for the other worker.
 fn are_there(count: &AtomicUsize, wanted: usize) -> bool {
     for _ in 0..10_000_000u32 {
         if count.load(Ordering::SeqCst) >= wanted {
@@ -203,7 +203,7 @@ fn are_there(count: &AtomicUsize, wanted: usize) -> bool {
     false
 }
 
-impl<'a, R> System<'a, R> {
+impl<'a, R> FaultySystem<'a, R> {
     // Waits for the other worker's connection.
     fn hold(&self, moment: Moment) -> bool {
         if moment == Moment::BeforeStep {
@@ -230,7 +230,7 @@ impl<'a, R> System<'a, R> {
     }
 }
 
-impl<'a, R> Gate for System<'a, R> {
+impl<'a, R> Gate for FaultySystem<'a, R> {
     fn at(&self, worker: u32, moment: Moment) -> bool {
         match self.wrong {
             Wrong::Holds => self.hold(moment),

@@ -1,6 +1,6 @@
 //! Two threads at one node under a lock: each makes steps of its own, or drives an end.
 //!
-//! A silent peer holds nobody up: no lock is held while a stream is read.
+//! A silent peer delays nothing: no lock is held while a stream is read.
 
 use crate::drives::NAME_AND_REPLY;
 use crate::seats::{Closing, closing, seated_node};
@@ -16,7 +16,7 @@ use std::thread;
 use std::thread::Threads;
 use std::time::{Clock, Duration};
 
-// A stream over memory. Where it has no bytes its read waits until end 1 is up, and looks at most a thousand times.
+// A stream in memory. When it has no bytes, its read waits until end 1 is up, and looks at most a thousand times.
 #[derive(Drop)]
 struct Patient<'a, R: Wait + Clock> {
     rt: &'a R,
@@ -50,7 +50,7 @@ fn looks_until_up<R: Wait + Clock>(rt: &R, node: &LockedNode) -> u64 {
     1000
 }
 
-// Drives an end whose peer sends this. The seat, and whether the stream looked in vain.
+// Drives an end whose peer sends this. Returns the seat, and how often the stream looked.
 fn drive_patiently<R: Wait + Clock>(
     rt: &R,
     alloc: Global,
@@ -71,7 +71,7 @@ fn drive_patiently<R: Wait + Clock>(
     Some((driven.seat, stream.looks))
 }
 
-// The end of a connection that comes.
+// The end of a new connection.
 fn end_of<R: Wait>(rt: &R, node: &LockedNode, seat: &mut Seat, link: u64) -> Option<EndId> {
     match node.step(rt, seat, &Event::Incoming { link }, 0) {
         Ok((_, reply)) => Some(reply.end_),
@@ -79,7 +79,7 @@ fn end_of<R: Wait>(rt: &R, node: &LockedNode, seat: &mut Seat, link: u64) -> Opt
     }
 }
 
-// Gives the node this many connections that come. The seat, and after how many of the steps the end was pending.
+// Gives the node this many connections. Returns the seat, and after how many of the steps the end was pending.
 fn come<R: Wait>(rt: &R, node: &LockedNode, mut seat: Seat, links: u64) -> (Seat, u64) {
     let mut pending = 0u64;
     for link in 0..links {
@@ -94,7 +94,7 @@ fn come<R: Wait>(rt: &R, node: &LockedNode, mut seat: Seat, links: u64) -> (Seat
 // What a thread does with its seat.
 #[derive(Clone, Copy)]
 enum Work {
-    // A hundred connections come.
+    // It gives the node a hundred connections.
     Comes,
     // It drives end 0, whose peer is silent.
     IsSilent,
@@ -116,7 +116,7 @@ fn do_work<R: Wait + Clock>(
     }
 }
 
-// This many connections come, and then two threads work, each with a seat: what each counted, and what `close` says.
+// Gives the node this many connections; then two threads work, each with a seat. Returns what each counted, and the result of `close`.
 fn by_two<R: Threads + Wait + Clock + Sync>(
     rt: &R,
     alloc: Global,
@@ -130,7 +130,7 @@ fn by_two<R: Threads + Wait + Clock + Sync>(
     Some((ones, twos, closing(node, seats)))
 }
 
-// Two threads work, each with a seat, which they put back: what each counted.
+// Two threads work, each with a seat, which it puts back. Returns what each counted.
 fn work_at_once<R: Threads + Wait + Clock + Sync>(
     rt: &R,
     alloc: Global,
@@ -165,9 +165,9 @@ fn two_threads_on_one_node(rt: HostRuntime) {
 #[test]
 fn silent_peer(rt: HostRuntime) {
     let seen = by_two(&rt, rt.alloc(), 2, (Work::IsSilent, Work::ShakesHands));
-    let told = match seen {
+    let noted = match seen {
         Some((looks, _, closing)) => Some((looks < 1000, closing)),
         None => None,
     };
-    assert_eq!(rt; told, Some((true, Ok([5, 1, 1, 1]))), "{seen:?}");
+    assert_eq!(rt; noted, Some((true, Ok([5, 1, 1, 1]))), "{seen:?}");
 }

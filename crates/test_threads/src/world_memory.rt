@@ -1,11 +1,11 @@
-//! A run that is cut off since memory runs out.
+//! A run that stops when memory runs out.
 use dist_script::{Script, script_of};
 use dist_script_lines::{print_agreements, print_nodes};
 use dist_world::{Happening, Stopped, World};
 use std::alloc::Global;
 use std::test::*;
 
-// Two dials that cross. The first node limits who may connect, so that a list of names is copied as it begins.
+// Two dials that cross. The first node limits which nodes may connect, so that its list of names is copied when it begins.
 const CROSSING: &str = "\
 node a@127.0.0.1 ABCDEFGHIJKLMNOPQRSTUVWXYZabcdefghijklmnopqrstuvwxyz0 401000004 5 allow b@127.0.0.1
 node b@127.0.0.1 ABCDEFGHIJKLMNOPQRSTUVWXYZabcdefghijklmnopqrstuvwxyz0 101000104 6
@@ -42,7 +42,7 @@ a@127.0.0.1 up 0 common 0000000001000004 creation 5
 agree a@127.0.0.1 b@127.0.0.1 conn 1 common 0000000001000004 creations 5 6
 ";
 
-// A world in which nothing happened, and what is to happen in it.
+// A world in which nothing has happened, and a list of happenings.
 fn crossing(alloc: Global) -> Option<(World, Vec<Happening>)> {
     match script_of(alloc, CROSSING.as_bytes()).ok()? {
         Script::Happenings { nodes, lines } => Some((World::new(alloc, nodes).ok()?, lines)),
@@ -50,7 +50,7 @@ fn crossing(alloc: Global) -> Option<(World, Vec<Happening>)> {
     }
 }
 
-// Lets the list happen; where it is cut off since memory runs out, the rest too.
+// Lets the list happen. If memory runs out before its end, also lets the rest happen.
 fn run_to_end(alloc: Global, world: &mut World, list: &[Happening]) -> Option<usize> {
     match world.run(alloc, list) {
         Ok(applied) => Some(applied),
@@ -58,7 +58,7 @@ fn run_to_end(alloc: Global, world: &mut World, list: &[Happening]) -> Option<us
     }
 }
 
-// Whether a world shows two nodes that crossed.
+// Whether a world shows that two nodes crossed.
 fn shows_the_crossing(alloc: Global, world: &World) -> Option<bool> {
     let mut out = Vec::new(alloc);
     print_nodes(world, &mut out).ok()?;
@@ -73,12 +73,12 @@ fn a_crossing_stands(alloc: Global) -> Option<bool> {
     shows_the_crossing(alloc, &world)
 }
 
-// One request alone is refused, so it is tried twice.
+// Only one request is refused, so it is tried twice.
 #[test]
 fn a_world_stands_after_what_was_done_whatever_request_for_memory_is_refused(rt: HostRuntime) {
     let stands = match a_crossing_stands(rt.alloc()) {
         None => a_crossing_stands(rt.alloc()),
-        told => told,
+        noted => noted,
     };
     assert_eq!(rt; stands, Some(true));
 }

@@ -1,4 +1,4 @@
-//! Worlds: what two nodes agree on is the same from either side, and a node changes its cookies and whom it allows.
+//! Worlds: what two nodes agree on is the same from both sides; and a node changes its cookies and which nodes may connect.
 
 use crate::setting::{number, word};
 use dist_core::{Change, NameList};
@@ -15,8 +15,8 @@ node b@127.0.0.1 ABCDEFGHIJKLMNOPQRSTUVWXYZabcdefghijklmnopqrstuvwxyz0 101000104
 node c@127.0.0.1 ABCDEFGHIJKLMNOPQRSTUVWXYZabcdefghijklmnopqrstuvwxyz0 101000104 8
 ";
 
-// After how many of their fronts two nodes agree, and what happens: crossing_dials, dialled_name_reached_other_node,
-// restart_of_a_peer, stale_name_of_given_up_attempt, stale_crossing_name.
+// At how many moments two nodes agree, and what happens: crossing_dials, dialled_name_reached_other_node, restart_of_a_peer,
+// stale_name_of_given_up_attempt, stale_crossing_name.
 const WORLDS: &str = "\
 1 begin 0 5, begin 1 6, dial 0 b@127.0.0.1 new, dial 1 a@127.0.0.1 new, reach 0 0 1, reach 1 0 0, opened 0 0, opened 1 0, accept 0, accept 1, \
     deliver 1 1 999, take 1 1 1, deliver 0 1 999, take 0 1 7, deliver 0 0 999, take 0 0 0, deliver 1 0 999, take 1 0 0, take 1 0 8, \
@@ -34,7 +34,7 @@ const WORLDS: &str = "\
     accept 1, deliver 1 1 999, take 1 1 11, deliver 0 0 999, take 0 0 0, take 0 0 12, accept 0, deliver 0 1 999, take 0 1 13, deliver 1 1 999, \
     take 1 1 0";
 
-// A world of three nodes in which nothing happened, and what is to happen in it.
+// A world of three nodes in which nothing has happened, and a list of happenings.
 fn world_of(alloc: Global, text: &str) -> Option<(World, Vec<Happening>)> {
     let lines = text.replace(alloc, ", ", "\n").ok()?;
     let script = format!(in alloc; "{NODES}{lines}\n").ok()?;
@@ -44,17 +44,17 @@ fn world_of(alloc: Global, text: &str) -> Option<(World, Vec<Happening>)> {
     }
 }
 
-// What the second of two nodes has to report of what the first reports.
-fn mirror_of(told: Agreement) -> Agreement {
+// What the second of two nodes should report, by the report of the first.
+fn mirror_of(noted: Agreement) -> Agreement {
     Agreement {
-        conn: told.conn,
-        common: told.common,
-        creation_a: told.creation_b,
-        creation_b: told.creation_a,
+        conn: noted.conn,
+        common: noted.common,
+        creation_a: noted.creation_b,
+        creation_b: noted.creation_a,
     }
 }
 
-// Whether two nodes agree. `None`: one side reports otherwise than the other.
+// Whether two nodes agree. `None`: the two sides report differently.
 fn agree(world: &World, a: usize, b: usize) -> Option<bool> {
     match (world.both_up(a, b), world.both_up(b, a)) {
         (None, None) => Some(false),
@@ -72,7 +72,7 @@ fn pairs(world: &World) -> Option<u32> {
     Some(count)
 }
 
-// How often a pair agrees while this happens.
+// How often a pair agrees: at the beginning, and after each happening.
 fn fronts(alloc: Global, text: &str) -> Option<u32> {
     let (mut world, happenings) = world_of(alloc, text)?;
     let mut count = pairs(&world)?;
@@ -95,12 +95,12 @@ fn agreement_is_symmetric(rt: HostRuntime) {
     }
 }
 
-// How many of these happenings apply, whether nodes a and b agree then, and which end was closed last, for which cause. Beside
-// the lines of scripts there are `reset NODE cookie PEER COOKIE`, `reset NODE usual COOKIE` and `reset NODE allow PEER`.
+// How many of these happenings apply, whether nodes a and b then agree, and for which cause an end was last closed. Beside the lines of
+// scripts there are `reset NODE cookie PEER COOKIE`, `reset NODE usual COOKIE` and `reset NODE allow PEER`.
 //
-// A handshake hinders no change of a cookie, and comes up under the new one or not at all. The cookie of a peer that is up stays;
-// such a peer may be given the cookie that it has as its own, and then the usual one changes. A list of the peers that may connect
-// concerns later names alone. No node that is halted changes anything. Without COOKIE the peer's own one is taken away.
+// A handshake prevents no change of a cookie, and comes up under the new one or not at all. While a peer is up, its cookie stays; it
+// may get the same cookie as its own, and then the usual one may change. A list of the peers that may connect only affects later names.
+// A halted node changes nothing. Without COOKIE, the peer's own one is removed.
 const CHANGES: &str = "\
 4 false - begin 0 5, begin 1 6, reset 0 cookie b@127.0.0.1 secret, reset 1 usual secret
 4 false - dial 0 b@127.0.0.1 new, reach 0 0 1, opened 0 0, accept 0
@@ -124,7 +124,7 @@ fn cookie_of(alloc: Global, text: &str) -> Option<Cookie> {
     Cookie::from_bytes(alloc, text.as_bytes()).ok()
 }
 
-// What is changed by `reset`.
+// The change that `reset` makes.
 fn change_of(alloc: Global, text: &str) -> Option<Change> {
     let (what, value) = (word(text, 2), word(text, 3));
     if what == "usual" {
@@ -164,7 +164,7 @@ fn count_of_applied(alloc: Global, world: &mut World, text: &str) -> Option<u64>
     Some(count)
 }
 
-// What is seen once the happenings of a row are tried, as the row has it.
+// Whether the happenings of a row, tried one after the other, have the row's result.
 fn is_row_seen(alloc: Global, world: &mut World, row: &str) -> Option<bool> {
     let count = count_of_applied(alloc, world, row.splitn(4, ' ').nth(3)?)?;
     let closed = match world.last_closed() {
@@ -175,7 +175,7 @@ fn is_row_seen(alloc: Global, world: &mut World, row: &str) -> Option<bool> {
     Some(count == number(word(row, 0), 99) && agrees == word(row, 1) && closed == word(row, 2))
 }
 
-// The first row that goes otherwise.
+// The first row with another result.
 fn first_wrong(alloc: Global) -> Option<Option<&'static str>> {
     let (mut world, _) = world_of(alloc, "")?;
     for row in CHANGES.lines() {

@@ -2,8 +2,8 @@
 ghost use Rattle.std.specs.Prelude.{◌≡◌, Ok, slice_get, IfOk};
 ghost use Rattle.std.specs.Option.{option_map};
 ghost use Rattle.dist_world_model.specs.World.{running};
-ghost use Rattle.dist_world_model.specs.Happenings.{tell, tell_node, without_closing, begin, halt, reset};
-ghost use Rattle.dist_world_model.specs.Happenings.{reach, tell_opened, accept, deliver, take_frame, world_after, applied_at};
+ghost use Rattle.dist_world_model.specs.Happenings.{notify, notify_node, without_closing, begin, halt, reset};
+ghost use Rattle.dist_world_model.specs.Happenings.{reach, notify_opened, accept, deliver, take_frame, world_after, applied_at};
 ghost use Rattle.dist_world.specs.Doing.{Did, Happened};
 
 use crate::scene::{Scene, setup_at};
@@ -55,14 +55,14 @@ fn room_of(alloc: Global, event: Event) -> Vec<u8> {
 
 impl Scene {
     // An incarnation gets an event.
-    fn tell(
+    fn notify(
         &mut self,
         alloc: Global,
         place: usize,
         event: &Event,
         fresh: u32,
     ) -> Result<bool, AllocError>
-        ensures { Did result (tell (without_closing self.old) place event.now fresh) self.old self.new }
+        ensures { Did result (notify (without_closing self.old) place event.now fresh) self.old self.new }
     {
         let occasion = Occasion {
             alloc,
@@ -70,7 +70,7 @@ impl Scene {
             event,
             fresh,
         };
-        match self.lives.tell(&mut self.conns, place, &occasion)? {
+        match self.lives.notify(&mut self.conns, place, &occasion)? {
             None => Ok(false),
             Some((who, made)) => {
                 self.last_closed = closed_at(who, made.closed);
@@ -80,11 +80,11 @@ impl Scene {
     }
 
     // The running incarnation of a node gets an event.
-    fn tell_node(&mut self, alloc: Global, node: usize, event: &Event) -> Result<bool, AllocError>
-        ensures { Did result (tell_node (without_closing self.old) node event.now) self.old self.new }
+    fn notify_node(&mut self, alloc: Global, node: usize, event: &Event) -> Result<bool, AllocError>
+        ensures { Did result (notify_node (without_closing self.old) node event.now) self.old self.new }
     {
         match self.running(node) {
-            Some(place) => self.tell(alloc, place, event, 0),
+            Some(place) => self.notify(alloc, place, event, 0),
             None => Ok(false),
         }
     }
@@ -167,7 +167,7 @@ impl Scene {
 
     // An end that has a connection gets the event of it.
     fn open(&mut self, alloc: Global, node: usize, id: EndId) -> Result<bool, AllocError>
-        ensures { Did result (tell_opened (without_closing self.old) node id) self.old self.new }
+        ensures { Did result (notify_opened (without_closing self.old) node id) self.old self.new }
     {
         let Some(place) = self.running(node) else {
             return Ok(false);
@@ -178,7 +178,7 @@ impl Scene {
                     end_: id,
                     link: conn as u64,
                 };
-                self.tell(alloc, place, &event, 0)
+                self.notify(alloc, place, &event, 0)
             }
             None => Ok(false),
         }
@@ -192,16 +192,16 @@ impl Scene {
         let Some(target) = self.conns.unaccepted_target(conn) else {
             return Ok(false);
         };
-        let told = {
+        let notified = {
             let occasion = Occasion {
                 alloc,
                 clock: self.clock,
                 event: &Event::Incoming { link: conn as u64 },
                 fresh: 0,
             };
-            self.lives.tell(&mut self.conns, target, &occasion)
+            self.lives.notify(&mut self.conns, target, &occasion)
         };
-        match told? {
+        match notified? {
             None => Ok(false),
             Some((who, made)) => {
                 self.conns.accept(conn, made.end_);
@@ -259,9 +259,9 @@ impl Scene {
             event: &event,
             fresh,
         };
-        let told = self.lives.tell(&mut self.conns, place, &occasion);
+        let notified = self.lives.notify(&mut self.conns, place, &occasion);
         self.room = room_of(alloc, event);
-        match told? {
+        match notified? {
             None => Ok(false),
             Some((who, made)) => {
                 self.conns.take(conn, side);
@@ -279,13 +279,13 @@ impl Scene {
         peer: &NodeName,
         opening: Opening,
     ) -> Result<bool, AllocError>
-        ensures { Did result (tell_node (without_closing self.old) node (Event.Dial peer.now opening)) self.old self.new }
+        ensures { Did result (notify_node (without_closing self.old) node (Event.Dial peer.now opening)) self.old self.new }
     {
         let event = Event::Dial {
             peer: peer.try_clone(alloc)?,
             opening,
         };
-        self.tell_node(alloc, node, &event)
+        self.notify_node(alloc, node, &event)
     }
 
     // One happening, but for the clock.
@@ -301,7 +301,7 @@ impl Scene {
                 opening,
             } => self.dial(alloc, *node, peer, *opening),
             Happening::Tick { node, end_ } => {
-                self.tell_node(alloc, *node, &Event::Tick { end_: *end_ })
+                self.notify_node(alloc, *node, &Event::Tick { end_: *end_ })
             }
             Happening::Reach { node, end_, target } => self.reach(alloc, *node, *end_, *target),
             Happening::Opened { node, end_ } => self.open(alloc, *node, *end_),
@@ -313,7 +313,7 @@ impl Scene {
                     end_: *end_,
                     why: *why,
                 };
-                self.tell_node(alloc, *node, &event)
+                self.notify_node(alloc, *node, &event)
             }
             Happening::Reset { node, change } => self.reset(alloc, *node, change),
         }

@@ -1,18 +1,17 @@
-//! The lines that speak of several nodes: where they come from, what can be said of each two of them, what they came to, and what
-//! changes where they are watched.
+//! The lines about several nodes: where their names come from, what can be said of each pair, a summary, and the changes of watched nodes.
 
 use crate::left_out::LeftOut;
-use crate::lines::Lines;
+use crate::lines::LineSink;
 use crate::many_texts::{answers_line, left_out_line, summary_lines};
 use crate::marks::exit_mark;
-use crate::piece::Piece;
+use crate::piece::LinePiece;
 use crate::watched::Answers;
 use dist_cluster::{Pairing, Summary};
 use dist_names::{Flags, NodeName};
-use dist_probe::Verdict;
+use dist_probe::ProbeVerdict;
 use distping_words::Fault;
 
-// The mark before what can be said of two nodes.
+// The mark before a pair's line.
 fn pairing_mark(pairing: Pairing) -> &'static str {
     match pairing {
         Pairing::Agree => "✓",
@@ -21,34 +20,38 @@ fn pairing_mark(pairing: Pairing) -> &'static str {
     }
 }
 
-// What stands between a verdict and the word of the one before, where there is one.
+// The text between a verdict and the word of the one before, if there was one.
 fn before_text(before: &[u8]) -> &'static str {
     if before.is_empty() { "" } else { ", was " }
 }
 
-impl Lines<'_> {
-    /// Which node is dialled, where there are several, or of which host the nodes are asked for.
+impl LineSink<'_> {
+    /// Prints which node is dialled, or which host is asked for its nodes.
     pub fn put_heading(self, word: &[u8]) -> Result<(), Fault> {
-        self.put(&[Piece::Text("-- "), Piece::Name(word), Piece::Text("\n")])
-    }
-
-    /// The port mapper knows so many names.
-    pub fn put_known(self, mapper_port: u16, count: u32) -> Result<(), Fault> {
         self.put(&[
-            Piece::Text("✓  epmd      port "),
-            Piece::Number(u32::from(mapper_port)),
-            Piece::Text(" answers: nodes that are registered there: "),
-            Piece::Number(count),
-            Piece::Text("\n"),
+            LinePiece::Text("-- "),
+            LinePiece::Name(word),
+            LinePiece::Text("\n"),
         ])
     }
 
-    /// What the port mapper has in a line is no node's name.
+    /// Prints how many nodes the port mapper knows.
+    pub fn put_known(self, mapper_port: u16, count: u32) -> Result<(), Fault> {
+        self.put(&[
+            LinePiece::Text("✓  epmd      port "),
+            LinePiece::Number(u32::from(mapper_port)),
+            LinePiece::Text(" answers: nodes that are registered there: "),
+            LinePiece::Number(count),
+            LinePiece::Text("\n"),
+        ])
+    }
+
+    /// Prints a text that the port mapper has in place of a node's name.
     pub fn put_left_out(self, text: &[u8]) -> Result<(), Fault> {
         self.put_made(left_out_line(self.alloc, text))
     }
 
-    /// So much of what the port mapper says is left out.
+    /// Prints how much of the port mapper's answer was left out.
     pub fn put_more_left_out(self, left_out: LeftOut) -> Result<(), Fault> {
         if left_out.lines > 0 {
             self.put_count(
@@ -70,17 +73,21 @@ impl Lines<'_> {
         Ok(())
     }
 
-    // A number between two texts.
+    // Prints a number between two texts.
     pub fn put_count(
         self,
         front: &'static str,
         count: u32,
         back: &'static str,
     ) -> Result<(), Fault> {
-        self.put(&[Piece::Text(front), Piece::Number(count), Piece::Text(back)])
+        self.put(&[
+            LinePiece::Text(front),
+            LinePiece::Number(count),
+            LinePiece::Text(back),
+        ])
     }
 
-    // What can be said of two nodes, in a line.
+    // Prints the line of a pair of nodes.
     fn put_pair_line<'x>(
         self,
         first: &'x NodeName,
@@ -88,20 +95,20 @@ impl Lines<'_> {
         pairing: Pairing,
     ) -> Result<(), Fault> {
         self.put(&[
-            Piece::Text(pairing_mark(pairing)),
-            Piece::Text("  pair      "),
-            Piece::Name(first.bytes()),
-            Piece::Text(" and "),
-            Piece::Name(second.bytes()),
-            Piece::Text(": "),
-            Piece::Text(pairing.name()),
-            Piece::Text(": "),
-            Piece::Text(pairing.cause()),
-            Piece::Text("\n"),
+            LinePiece::Text(pairing_mark(pairing)),
+            LinePiece::Text("  pair      "),
+            LinePiece::Name(first.bytes()),
+            LinePiece::Text(" and "),
+            LinePiece::Name(second.bytes()),
+            LinePiece::Text(": "),
+            LinePiece::Text(pairing.name()),
+            LinePiece::Text(": "),
+            LinePiece::Text(pairing.cause()),
+            LinePiece::Text("\n"),
         ])
     }
 
-    /// What can be said of two nodes.
+    /// Prints what can be said of two nodes.
     pub fn put_pair(
         self,
         first: &NodeName,
@@ -118,7 +125,7 @@ impl Lines<'_> {
         }
     }
 
-    // The flags that one of two nodes lacks, where it lacks any.
+    // Prints the flags that one of two nodes lacks, if it lacks any.
     fn put_lacks(self, front: &'static str, flags: Flags) -> Result<(), Fault> {
         if flags.0 == 0 {
             return Ok(());
@@ -126,36 +133,36 @@ impl Lines<'_> {
         self.put_flags(front, flags)
     }
 
-    /// How many nodes came to which verdict, and how many pairs have which word.
+    /// Prints how many nodes have which verdict, and how many pairs which word.
     pub fn put_summary(self, summary: &Summary) -> Result<(), Fault> {
         self.put_made(summary_lines(self.alloc, summary))
     }
 
-    /// The verdict upon a node that is watched, at this time, and which one it had before.
+    /// Prints the verdict on a watched node at this time, and the one before.
     pub fn put_change<'x>(
         self,
         time: &'x str,
         node: &'x NodeName,
-        verdict: Verdict,
+        verdict: ProbeVerdict,
         before: &'x [u8],
     ) -> Result<(), Fault> {
         self.put(&[
-            Piece::Escaped(time),
-            Piece::Text(" "),
-            Piece::Text(exit_mark(verdict.status())),
-            Piece::Text("  "),
-            Piece::Name(node.bytes()),
-            Piece::Text(": "),
-            Piece::Text(verdict.name()),
-            Piece::Text(before_text(before)),
-            Piece::Foreign(before),
-            Piece::Text(": "),
-            Piece::Text(verdict.cause()),
-            Piece::Text("\n"),
+            LinePiece::Escaped(time),
+            LinePiece::Text(" "),
+            LinePiece::Text(exit_mark(verdict.status())),
+            LinePiece::Text("  "),
+            LinePiece::Name(node.bytes()),
+            LinePiece::Text(": "),
+            LinePiece::Text(verdict.name()),
+            LinePiece::Text(before_text(before)),
+            LinePiece::Foreign(before),
+            LinePiece::Text(": "),
+            LinePiece::Text(verdict.cause()),
+            LinePiece::Text("\n"),
         ])
     }
 
-    /// How long the answers of a node took that was watched.
+    /// Prints how long a watched node's answers took.
     pub fn put_answers(self, answers: &Answers<'_>) -> Result<(), Fault> {
         self.put_made(answers_line(self.alloc, answers))
     }

@@ -1,29 +1,28 @@
-//! The lines of the steps of a probe, and of a connection that is taken.
+//! The lines of the steps of a probe, and of a connection that was taken.
 
-use crate::lines::Lines;
-use crate::marks::{release_texts, status_word};
-use crate::piece::Piece;
+use crate::lines::LineSink;
+use crate::marks::{release_text, status_word};
+use crate::piece::LinePiece;
 use crate::shown::{count_lines, split_shown};
 use dist_epmd::PortInfo;
 use dist_epmd_calls::LookupError;
-use dist_flags::{Dflag, Release, Told, is_refused_by_all, oldest_refusal, told_by};
+use dist_flags::{Dflag, Release, ReleaseShown, is_refused_by_all, oldest_refusal, release_shown};
 use dist_messages::Status;
 use dist_names::{Flags, NodeName, escape_lines};
-use dist_probe::{Peer, Unreached, Verdict, style_of};
+use dist_probe::{Peer, ProbeVerdict, Unreached, style_of};
 use distping_words::Fault;
 use std::net::SocketAddr;
 
-// What stands before the release that the flags show, and the release.
-fn told_texts(flags: Flags) -> (&'static str, &'static str) {
-    let (before, release) = match told_by(flags) {
-        Told::Just(release) => (": ", release),
-        Told::UpTo(release) => (": up to those of ", release),
+// The text before the release that the flags show, and the release.
+fn shown_texts(flags: Flags) -> (&'static str, &'static str) {
+    let (before, release) = match release_shown(flags) {
+        ReleaseShown::Just(release) => (": ", release),
+        ReleaseShown::UpTo(release) => (": up to those of ", release),
     };
-    let (text, _) = release_texts(release);
-    (before, text)
+    (before, release_text(release))
 }
 
-// Which release refuses a node, before the flags that it lacks.
+// The text before the flags for which a release refuses a node.
 fn refusal_text(release: Release) -> &'static str {
     match release {
         Release::Before23 | Release::Otp23 =>
@@ -35,7 +34,7 @@ fn refusal_text(release: Release) -> &'static str {
     }
 }
 
-// How a lookup failed, behind the port of the port mapper.
+// How a lookup failed; the text follows the port of the port mapper.
 fn lookup_text(error: LookupError) -> &'static str {
     match error {
         LookupError::NotThere => "no node of this name is registered",
@@ -57,7 +56,7 @@ fn status_mark(status: Status) -> &'static str {
     }
 }
 
-// Whether a peer is hidden, behind its name and before its creation.
+// Whether a peer is hidden; the text comes between its name and its creation.
 fn kind_of(flags: Flags) -> &'static str {
     if flags.has(Dflag::Published.flags()) {
         ", published, creation "
@@ -66,17 +65,18 @@ fn kind_of(flags: Flags) -> &'static str {
     }
 }
 
-// What became of the cookie, in the line of that step. Empty where none was tried.
-fn cookie_text(verdict: Verdict) -> &'static str {
+// The line of the cookie; empty if none was tried.
+fn cookie_text(verdict: ProbeVerdict) -> &'static str {
     match verdict {
-        Verdict::Up => "✓  cookie    the node took our digest, and its own is right\n",
-        Verdict::WrongCookie => "✗  cookie    the node closed the connection upon our digest\n",
-        Verdict::WrongAck => "✗  cookie    the node's digest is wrong\n",
+        ProbeVerdict::Up => "✓  cookie    the node took our digest, and its own is right\n",
+        ProbeVerdict::WrongCookie =>
+            "✗  cookie    the node closed the connection upon our digest\n",
+        ProbeVerdict::WrongAck => "✗  cookie    the node's digest is wrong\n",
         _ => "",
     }
 }
 
-// What stands before and behind an address of this kind of a host.
+// The texts before and after an address of this kind.
 fn address_texts(is_ipv4: bool, has_ipv4: bool) -> (&'static str, &'static str) {
     if is_ipv4 {
         ("✓  host      ", "\n")
@@ -93,18 +93,18 @@ fn address_texts(is_ipv4: bool, has_ipv4: bool) -> (&'static str, &'static str) 
     }
 }
 
-impl Lines<'_> {
-    /// A warning where the two names could not dial each other.
+impl LineSink<'_> {
+    /// Warns if nodes with these two names never dial each other.
     pub fn put_styles(self, own: &NodeName, node: &NodeName) -> Result<(), Fault> {
         if style_of(own.bytes()) == style_of(node.bytes()) {
             return Ok(());
         }
-        self.put(&[Piece::Text(
+        self.put(&[LinePiece::Text(
             "!  names     one host part has a dot, the other has none: nodes of -name and of -sname never dial each other\n",
         )])
     }
 
-    /// The host has this address, and one of IPv4 at least or none.
+    /// Prints an address of the host; `has_ipv4` says whether one of its addresses is of IPv4.
     pub fn put_address(
         self,
         host: &str,
@@ -113,48 +113,48 @@ impl Lines<'_> {
     ) -> Result<(), Fault> {
         let (front, hint) = address_texts(address.is_ipv4(), has_ipv4);
         self.put(&[
-            Piece::Text(front),
-            Piece::Foreign(host.as_bytes()),
-            Piece::Text(" is "),
-            Piece::Host(address.ip()),
-            Piece::Text(hint),
+            LinePiece::Text(front),
+            LinePiece::Foreign(host.as_bytes()),
+            LinePiece::Text(" is "),
+            LinePiece::Host(address.ip()),
+            LinePiece::Text(hint),
         ])
     }
 
-    /// The address of a name is one of this machine itself.
+    /// Prints that the address of a name is this machine's own.
     pub fn put_own_address(self) -> Result<(), Fault> {
-        self.put(&[Piece::Text(
+        self.put(&[LinePiece::Text(
             "   host      that address is this machine itself: the name leads to no other host from here\n",
         )])
     }
 
-    /// The node was found by way of `--address`, which nodes do not go.
+    /// Prints that the node was found by way of `--address`, which nodes don't use.
     pub fn put_other_way(self, node: &NodeName) -> Result<(), Fault> {
         self.put(&[
-            Piece::Text("!  address   nodes do not know --address: they dial what "),
-            Piece::Name(node.host()),
-            Piece::Text(" resolves to, which was not tried\n"),
+            LinePiece::Text("!  address   nodes do not know --address: they dial what "),
+            LinePiece::Name(node.host()),
+            LinePiece::Text(" resolves to, which was not tried\n"),
         ])
     }
 
-    /// The port mapper has this registration.
+    /// Prints the registration that the port mapper has.
     pub fn put_registration(self, mapper_port: u16, info: &PortInfo) -> Result<(), Fault> {
         self.put(&[
-            Piece::Text("✓  epmd      port "),
-            Piece::Number(u32::from(mapper_port)),
-            Piece::Text(" answers: "),
-            Piece::Name(info.name.as_slice()),
-            Piece::Text(" listens at port "),
-            Piece::Number(u32::from(info.port)),
-            Piece::Text(", versions "),
-            Piece::Number(u32::from(info.lowest)),
-            Piece::Text(" to "),
-            Piece::Number(u32::from(info.highest)),
-            Piece::Text("\n"),
+            LinePiece::Text("✓  epmd      port "),
+            LinePiece::Number(u32::from(mapper_port)),
+            LinePiece::Text(" answers: "),
+            LinePiece::Name(info.name.as_slice()),
+            LinePiece::Text(" listens at port "),
+            LinePiece::Number(u32::from(info.port)),
+            LinePiece::Text(", versions "),
+            LinePiece::Number(u32::from(info.lowest)),
+            LinePiece::Text(" to "),
+            LinePiece::Number(u32::from(info.highest)),
+            LinePiece::Text("\n"),
         ])
     }
 
-    /// A place was not reached.
+    /// Prints that a place was not reached.
     pub fn put_unreached(
         self,
         step: &'static str,
@@ -162,31 +162,33 @@ impl Lines<'_> {
         place: Unreached,
     ) -> Result<(), Fault> {
         self.put(&[
-            Piece::Text("✗  "),
-            Piece::Text(step),
-            Piece::Text(" port "),
-            Piece::Number(u32::from(port)),
-            Piece::Text(": "),
-            Piece::Text(place.text()),
-            Piece::Text("\n"),
+            LinePiece::Text("✗  "),
+            LinePiece::Text(step),
+            LinePiece::Text(" port "),
+            LinePiece::Number(u32::from(port)),
+            LinePiece::Text(": "),
+            LinePiece::Text(place.text()),
+            LinePiece::Text("\n"),
         ])
     }
 
-    /// The lookup went wrong.
+    /// Prints why the lookup failed.
     pub fn put_no_answer(self, mapper_port: u16, error: LookupError) -> Result<(), Fault> {
         self.put(&[
-            Piece::Text("✗  epmd      port "),
-            Piece::Number(u32::from(mapper_port)),
-            Piece::Text(": "),
-            Piece::Text(lookup_text(error)),
-            Piece::Text("\n"),
+            LinePiece::Text("✗  epmd      port "),
+            LinePiece::Number(u32::from(mapper_port)),
+            LinePiece::Text(": "),
+            LinePiece::Text(lookup_text(error)),
+            LinePiece::Text("\n"),
         ])
     }
 
-    /// The port mapper knows these names, which stand in lines: as many as are shown, and how many more there are.
+    /// Prints the names that the port mapper knows, one on a line: as many as are shown, and how many more there are.
     pub fn put_names(self, names: &[u8]) -> Result<(), Fault> {
         if names.is_empty() {
-            return self.put(&[Piece::Text("   epmd      no node at all is registered there\n")]);
+            return self.put(&[LinePiece::Text(
+                "   epmd      no node at all is registered there\n",
+            )]);
         }
         let (shown, others) = split_shown(names);
         self.put_shown(shown)?;
@@ -200,75 +202,75 @@ impl Lines<'_> {
         )
     }
 
-    /// The port mapper says more than is taken of its answer.
+    /// Prints that the port mapper's answer is longer than what is read.
     pub fn put_cut(self) -> Result<(), Fault> {
-        self.put(&[Piece::Text(
+        self.put(&[LinePiece::Text(
             "!  epmd      the answer has more than 65535 bytes: what stands behind them is left out\n",
         )])
     }
 
-    /// The names that the port mapper knows are printed once.
+    /// Prints that the port mapper's names are printed with another node of the host.
     pub fn put_listed(self) -> Result<(), Fault> {
-        self.put(&[Piece::Text(
+        self.put(&[LinePiece::Text(
             "   epmd      what is registered there is printed with another node of this host\n",
         )])
     }
 
-    // The names in these lines.
+    // Prints these lines of names.
     fn put_shown(self, names: &[u8]) -> Result<(), Fault> {
         let text = escape_lines(self.alloc, names)?;
         for line in text.lines() {
             self.put(&[
-                Piece::Text("   epmd      "),
-                Piece::Escaped(line),
-                Piece::Text("\n"),
+                LinePiece::Text("   epmd      "),
+                LinePiece::Escaped(line),
+                LinePiece::Text("\n"),
             ])?;
         }
         Ok(())
     }
 
-    /// The node's port took the connection.
+    /// Prints that the node's port accepted the connection.
     pub fn put_connected(self, address: &SocketAddr, port: u16) -> Result<(), Fault> {
         self.put(&[
-            Piece::Text("✓  connect   "),
-            Piece::Host(address.ip()),
-            Piece::Text(" port "),
-            Piece::Number(u32::from(port)),
-            Piece::Text("\n"),
+            LinePiece::Text("✓  connect   "),
+            LinePiece::Host(address.ip()),
+            LinePiece::Text(" port "),
+            LinePiece::Number(u32::from(port)),
+            LinePiece::Text("\n"),
         ])
     }
 
-    /// The status that the node sent upon the own name.
+    /// Prints the status with which the node answered our name.
     pub fn put_status(self, own: &NodeName, flags: Flags, status: Status) -> Result<(), Fault> {
         self.put(&[
-            Piece::Text(status_mark(status)),
-            Piece::Text("  name      said "),
-            Piece::Name(own.bytes()),
-            Piece::Text(" with flags "),
-            Piece::Digits(flags.announced()),
-            Piece::Text("; the node says "),
-            Piece::Text(status_word(status)),
-            Piece::Text("\n"),
+            LinePiece::Text(status_mark(status)),
+            LinePiece::Text("  name      said "),
+            LinePiece::Name(own.bytes()),
+            LinePiece::Text(" with flags "),
+            LinePiece::Digits(flags.announced()),
+            LinePiece::Text("; the node says "),
+            LinePiece::Text(status_word(status)),
+            LinePiece::Text("\n"),
         ])
     }
 
-    // The line of what a node said of itself.
+    // Prints the line of what a node sent about itself.
     fn put_peer_line(self, peer: &Peer) -> Result<(), Fault> {
-        let (before, release) = told_texts(peer.flags);
+        let (before, release) = shown_texts(peer.flags);
         self.put(&[
-            Piece::Text("✓  node      "),
-            Piece::Name(peer.name.as_slice()),
-            Piece::Text(kind_of(peer.flags)),
-            Piece::Number(peer.creation.0),
-            Piece::Text(", flags "),
-            Piece::Digits(peer.flags),
-            Piece::Text(before),
-            Piece::Text(release),
-            Piece::Text("\n"),
+            LinePiece::Text("✓  node      "),
+            LinePiece::Name(peer.name.as_slice()),
+            LinePiece::Text(kind_of(peer.flags)),
+            LinePiece::Number(peer.creation.0),
+            LinePiece::Text(", flags "),
+            LinePiece::Digits(peer.flags),
+            LinePiece::Text(before),
+            LinePiece::Text(release),
+            LinePiece::Text("\n"),
         ])
     }
 
-    // The flags for which a release refuses a node, where it lacks any.
+    // Prints the flags for which a release refuses a node, if it lacks any.
     fn put_objection(self, release: Release, flags: Flags) -> Result<(), Fault> {
         let lacking = release.objection(flags);
         if lacking.0 == 0 {
@@ -277,8 +279,8 @@ impl Lines<'_> {
         self.put_flags(refusal_text(release), lacking)
     }
 
-    // The oldest release that refuses a node with these flags. What OTP 25 refuses, newer ones do too; OTP 23 and 24 refuse nodes that
-    // OTP 25 takes for DFLAG_MANDATORY_25_DIGEST. Where all refuse it, the verdict says so.
+    // Prints the oldest release that refuses a node with these flags. What OTP 25 refuses, newer ones refuse too. OTP 23 and 24 refuse
+    // nodes that OTP 25 accepts for `DFLAG_MANDATORY_25_DIGEST`. If all releases refuse it, the verdict says so.
     fn put_refusal(self, flags: Flags) -> Result<(), Fault> {
         match oldest_refusal(flags) {
             Some(Release::Otp23) if !is_refused_by_all(flags) => {
@@ -291,35 +293,35 @@ impl Lines<'_> {
         }
     }
 
-    /// What the node said of itself.
+    /// Prints what the node sent about itself.
     pub fn put_peer(self, peer: &Peer) -> Result<(), Fault> {
         self.put_peer_line(peer)?;
         self.put_flags("   flags    ", peer.flags)?;
         self.put_refusal(peer.flags)
     }
 
-    /// What became of the cookie.
-    pub fn put_cookie(self, verdict: Verdict) -> Result<(), Fault> {
-        self.put(&[Piece::Text(cookie_text(verdict))])
+    /// Prints the result for the cookie.
+    pub fn put_cookie(self, verdict: ProbeVerdict) -> Result<(), Fault> {
+        self.put(&[LinePiece::Text(cookie_text(verdict))])
     }
 
-    /// A connection is waited for.
+    /// Prints that it waits for a connection.
     pub fn put_listening(self, port: u16, name: &NodeName) -> Result<(), Fault> {
         self.put(&[
-            Piece::Text("✓  listen    port "),
-            Piece::Number(u32::from(port)),
-            Piece::Text(", as "),
-            Piece::Name(name.bytes()),
-            Piece::Text(": waiting for one connection\n"),
+            LinePiece::Text("✓  listen    port "),
+            LinePiece::Number(u32::from(port)),
+            LinePiece::Text(", as "),
+            LinePiece::Name(name.bytes()),
+            LinePiece::Text(": waiting for one connection\n"),
         ])
     }
 
-    /// A connection was taken.
+    /// Prints that a connection was taken.
     pub fn put_taken(self, address: &SocketAddr) -> Result<(), Fault> {
         self.put(&[
-            Piece::Text("✓  taken     from "),
-            Piece::Host(address.ip()),
-            Piece::Text("\n"),
+            LinePiece::Text("✓  taken     from "),
+            LinePiece::Host(address.ip()),
+            LinePiece::Text("\n"),
         ])
     }
 }

@@ -1,7 +1,7 @@
 use Rattle.std.proofs.Common.{◌≡◌, ◌++◌, drop}
-use Rattle.dist_audit.specs.Lines.{told_from, lines_by_node}
+use Rattle.dist_audit.specs.Lines.{lines_from, lines_by_node}
 use Rattle.dist_audit.proofs.lines.lines_by_node.Given as goal
 
 -- with those that are left it is the whole
 abbrev pub invariant-loop-node : goal.invariant-loop-node
-invariant-loop-node l = l.lines.items ++ told_from l.node (drop l.node l.closed) ≡ lines_by_node l.closed
+invariant-loop-node l = l.lines.items ++ lines_from l.node (drop l.node l.closed) ≡ lines_by_node l.closed

@@ -1,7 +1,7 @@
 -- The words so far were counted.
 use Rattle.std.proofs.Common.{◌≡◌, map, take}
-use Rattle.dist_cluster.specs.Summary.{how_many, tallied, told_counts}
+use Rattle.dist_cluster.specs.Summary.{how_many, tallied, shown_counts}
 use Rattle.dist_cluster.proofs.summary.tally_pairs.Given as goal
 
 abbrev pub invariant-loop-word : goal.invariant-loop-word
-invariant-loop-word l = told_counts l.tallies.items ≡ tallied (how_many l.halves) (map (λ word. word.now) (take l.word-index l.words))
+invariant-loop-word l = shown_counts l.tallies.items ≡ tallied (how_many l.halves) (map (λ word. word.now) (take l.word-index l.words))

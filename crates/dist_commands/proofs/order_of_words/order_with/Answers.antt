@@ -21,7 +21,7 @@ returns-in-Err-clause-bad c = λ e order asks.
     let kinds : HasKind (fault_of program_app texts) c.in-Err.error = subst (λ a. HasKind (fault_of a texts) c.in-Err.error) app_is (c.in-Err.ensures.kinds (ap is_simple_and_free app_is ∙ is_read_freely)) in
     let none : HasKind [] c.in-Err.error = subst (λ ks. HasKind ks c.in-Err.error) asks.0 kinds in
     elim none [
-      | inl memory ↦ not_bad c.refusal.result (c.refusal.ensures memory) (search rules)
+      | inl memory ↦ not_bad c.order_error.result (c.order_error.ensures memory) (search rules)
       | inr among ↦ absurd among
     ]
 

@@ -1,7 +1,7 @@
 use Rattle.std.proofs.Common.{◌∙◌, ap, ℕ, rules, eqb}
 use Rattle.std.specs.Map.{lookup}
 use Rattle.std.proofs.lemmas.Map.Made.{filter_same_pairs}
-use Rattle.dist_core_ends.specs.declared.slots.Row.{Row}
+use Rattle.dist_core_ends.specs.declared.slots.EndPlace.{EndPlace}
 use Rattle.dist_core_ends.specs.Places.{stays_kept}
 use Rattle.dist_core_ends.proofs.Places.{places-kept}
 use Rattle.dist_core_ends.proofs.past_rows.keep_open.Goals as goal
@@ -9,5 +9,5 @@ use Rattle.dist_core_ends.proofs.past_rows.keep_open.Goals as goal
 pub returns : goal.returns
 returns c q =
     let es = c.args.places.now.entries in
-    ap (lookup (eqb q)) (filter_same_pairs _ (λ (e : ℕ × Row). stays_kept c.args.below e.0 e.1) _ (λ k v b w f t. search rules) _ _ c.retain.ensures.filtered)
+    ap (lookup (eqb q)) (filter_same_pairs _ (λ (e : ℕ × EndPlace). stays_kept c.args.below e.0 e.1) _ (λ k v b w f t. search rules) _ _ c.retain.ensures.filtered)
     ∙ places-kept c.args.below es c.retain.ensures.was_unique q

@@ -1,5 +1,5 @@
 use Rattle.std.proofs.Common.{◌∙◌, List, Some, ap, sym, subst, set}
-use Rattle.dist_core_ends.specs.declared.slots.Row.{Row}
+use Rattle.dist_core_ends.specs.declared.slots.EndPlace.{EndPlace}
 use Rattle.dist_core_ends.specs.declared.known.End.TheVariants as ends
 use Rattle.dist_core_ends.specs.Keeping.{ends_of_rows, AreKept}
 use Rattle.dist_core_ends.proofs.Keeping.{has-slot, emptied-shown, emptied, finds-closed, same-cause, set-same}
@@ -10,12 +10,12 @@ empty-closed-requires c = has-slot c.args.rows.now.items c.args.slots.now c.args
 
 pub returns-in-Slot-clause-ends : goal.returns-in-Slot-clause-ends
 returns-in-Slot-clause-ends c =
-    ap (λ (rs : List Row). ends_of_rows rs c.empty-closed.new.slots.slots) c.close.ensures
+    ap (λ (rs : List EndPlace). ends_of_rows rs c.empty-closed.new.slots.slots) c.close.ensures
     ∙ emptied-shown c.args.rows.now.items c.args.slots.now.slots c.empty-closed.new.slots.slots c.requires.kept c.args.i c.in-Slot.slot c.args.why (c.at.ensures ∙ ap Some c.in-Slot.is) (c.empty-closed.ensures.empty.0)
 
 pub returns-in-Slot-clause-kept : goal.returns-in-Slot-clause-kept
 returns-in-Slot-clause-kept c =
-    let P : List Row → Type 0 = λ rs. AreKept rs c.empty-closed.new.slots.slots in
+    let P : List EndPlace → Type 0 = λ rs. AreKept rs c.empty-closed.new.slots.slots in
     subst P (sym c.close.ensures) (emptied c.args.rows.now.items c.args.slots.now.slots c.empty-closed.new.slots.slots c.requires.kept c.args.i c.in-Slot.slot c.args.why (c.at.ensures ∙ ap Some c.in-Slot.is) (c.empty-closed.ensures.empty.0) (c.empty-closed.ensures.empty.1))
 
 pub returns-in_default-clause-ends : goal.returns-in_default-clause-ends

@@ -1,5 +1,5 @@
 use Rattle.std.proofs.Common.{[], ◌∙◌, List, None, Option, Some, arith, ap, sym, subst, set}
-use Rattle.dist_core_ends.specs.declared.slots.Row.{Row}
+use Rattle.dist_core_ends.specs.declared.slots.EndPlace.{EndPlace}
 use Rattle.dist_core_ends.specs.declared.known.End.{End}
 use Rattle.dist_core_ends.specs.declared.known.End.TheVariants as ends
 use Rattle.dist_core_ends.specs.Keeping.{ends_of_rows, AreKept}
@@ -25,13 +25,13 @@ returns-in-Slot-clause-peers c =
 pub returns-in-Slot-clause-ends : goal.returns-in-Slot-clause-ends
 returns-in-Slot-clause-ends c =
     let es = ends_of_rows c.args.rows.now.items c.args.slots.now.slots in
-    ap (λ (rs : List Row). ends_of_rows rs c.empty-closed.new.slots.slots) c.close.ensures
+    ap (λ (rs : List EndPlace). ends_of_rows rs c.empty-closed.new.slots.slots) c.close.ensures
     ∙ emptied-shown c.args.rows.now.items c.args.slots.now.slots c.empty-closed.new.slots.slots c.requires.kept c.args.id.0 c.in-Slot.slot c.args.why (c.at.ensures ∙ ap Some c.in-Slot.is) (c.empty-closed.ensures.empty.0)
     ∙ put-within es c.args.id.0 (ends.Closed c.args.why) (omega (arith, c.requires.place, shown-length c.args.rows.now.items c.args.slots.now.slots))
 
 pub returns-in-Slot-clause-kept : goal.returns-in-Slot-clause-kept
 returns-in-Slot-clause-kept c =
-    let P : List Row → Type 0 = λ rs. AreKept rs c.empty-closed.new.slots.slots in
+    let P : List EndPlace → Type 0 = λ rs. AreKept rs c.empty-closed.new.slots.slots in
     subst P (sym c.close.ensures) (emptied c.args.rows.now.items c.args.slots.now.slots c.empty-closed.new.slots.slots c.requires.kept c.args.id.0 c.in-Slot.slot c.args.why (c.at.ensures ∙ ap Some c.in-Slot.is) (c.empty-closed.ensures.empty.0) (c.empty-closed.ensures.empty.1))
 
 pub returns-in_default-clause-peers : goal.returns-in_default-clause-peers

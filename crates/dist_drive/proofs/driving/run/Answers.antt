@@ -1,9 +1,10 @@
-use Rattle.std.proofs.Common.{Bool, rules, refl, sym, ap, subst, ◌∙◌}
+use Rattle.std.proofs.Common.{◌≡◌, ℕ, Bool, true, rules, refl, sym, ap, subst, ◌∙◌}
+use Rattle.std.specs.Prelude.{IfErr}
 use Rattle.dist_frames.specs.Reader.{Reader, to_come}
 use Rattle.dist_drive.specs.declared.outcome.Ending.{Ending}
 use Rattle.dist_drive.specs.Driven.{Start, IsOnlyGone, LeavesUnread, Carries}
-use Rattle.dist_drive.specs.Running.{Place, Runs, after_step}
-use Rattle.dist_drive.proofs.Shown.{first_cut, begins_so, gone_unread, not_refused}
+use Rattle.dist_drive.specs.Running.{Place, Runs, Goes, after_step}
+use Rattle.dist_drive.proofs.Shown.{first_cut, begins_so, gone_unread, not_refused, at_err}
 use Rattle.dist_drive.proofs.Keeping.{none_linked}
 use Rattle.dist_drive.proofs.driving.run.Goals as goal
 
@@ -14,8 +15,8 @@ returns-in-Err-clause-carries g c =
     let cut = subst P (sym c.ending_of_stream.ensures) (first_cut g.D.Desk.facts g.W.Draws.gives start _ c.write_all.new.self.left c.in-Err.error c.in-Err.ensures.says) in
     subst (λ s. Carries g.D.Desk.facts g.W.Draws.gives start (record { stream = g.S.Stream.meaning s; desk = c.args.desk.now; draws = c.args.draws.now }) c.ending_of_stream.result) (search rules) cut
 
-pub loop-up-init : goal.loop-up-init
-loop-up-init g c =
+pub loop-frames-init : goal.loop-frames-init
+loop-frames-init g c =
     let start : Start g.row.D.Denot g.row.W.Denot = record { end_ = c.args.end_; first = c.args.first.now; limit = c.args.limit; stream = g.S.Stream.meaning c.args.stream.now; desk = c.args.desk.now; draws = c.args.draws.now } in
     let place : Place g.row.D.Denot g.row.W.Denot = record { stream = g.S.Stream.meaning c.write_all.new.self.stream.now; left = c.write_all.new.self.left; desk = c.args.desk.now; draws = c.args.draws.now } in
     record {
@@ -27,49 +28,64 @@ loop-up-init g c =
       loan = refl;
     }
 
-pub returns-in-Err-turn-clause-carries : goal.returns-in-Err-turn-clause-carries
-returns-in-Err-turn-clause-carries g c =
+pub returns-in_err-turn-clause-carries : goal.returns-in_err-turn-clause-carries
+returns-in_err-turn-clause-carries g c =
     let start : Start g.row.D.Denot g.row.W.Denot = record { end_ = c.args.end_; first = c.args.first.now; limit = c.args.limit; stream = g.S.Stream.meaning c.args.stream.now; desk = c.args.desk.now; draws = c.args.draws.now } in
-    let carried = c.in-Err-turn.ensures.ends c.loop-up.invariant.none _ refl c.loop-up.invariant.runs in
-    subst (λ s. Carries g.D.Desk.facts g.W.Draws.gives start (record { stream = g.S.Stream.meaning s; desk = c.turn.new.desk; draws = c.turn.new.draws }) c.in-Err-turn.ending) (search rules) carried
+    let carried = c.in_err-turn.ensures.ends c.loop-frames.invariant.none _ refl c.loop-frames.invariant.runs in
+    subst (λ s. IfErr c.from_residual.result (Carries g.D.Desk.facts g.W.Draws.gives start (record { stream = g.S.Stream.meaning s; desk = c.turn.new.desk; draws = c.turn.new.draws }))) (search rules)
+    (at_err (Carries g.D.Desk.facts g.W.Draws.gives start (record { stream = g.S.Stream.meaning c.turn.new.limited.stream.now; desk = c.turn.new.desk; draws = c.turn.new.draws })) c.from_residual.result c.in_err-turn.field-0.0 c.from_residual.ensures.1 carried)
 
-pub loop-up-preserved-then-up : goal.loop-up-preserved-then-up
-loop-up-preserved-then-up g c =
+pub returns-in_err-turn-clause-gone : goal.returns-in_err-turn-clause-gone
+returns-in_err-turn-clause-gone g c = λ only.
+    let kept = c.loop-frames.invariant.gone only in
+    let noted = c.turn.ensures.gone (subst (λ d. IsOnlyGone g.D.Desk.facts d c.args.end_) (sym kept.0) only) in
+    subst (λ s. IfErr c.from_residual.result (LeavesUnread c.args.first.now (g.S.Stream.meaning c.args.stream.now) (g.S.Stream.meaning s))) (search rules)
+    (at_err (LeavesUnread c.args.first.now (g.S.Stream.meaning c.args.stream.now) (g.S.Stream.meaning c.turn.new.limited.stream.now)) c.from_residual.result c.in_err-turn.field-0.0 c.from_residual.ensures.1
+    (gone_unread c.args.first.now (g.S.Stream.meaning c.args.stream.now) (g.S.Stream.meaning c.loop-frames.limited.stream.now) (g.S.Stream.meaning c.turn.new.limited.stream.now) noted.0.0 c.in_err-turn.field-0.0 (sym c.in_err-turn.was ∙ noted.0.1) noted.1 (kept.1, kept.2, kept.3)))
+
+pub returns-then-until_up-clause-up : goal.returns-then-until_up-clause-up
+returns-then-until_up-clause-up g c =
     let start : Start g.row.D.Denot g.row.W.Denot = record { end_ = c.args.end_; first = c.args.first.now; limit = c.args.limit; stream = g.S.Stream.meaning c.args.stream.now; desk = c.args.desk.now; draws = c.args.draws.now } in
     let place : Place g.row.D.Denot g.row.W.Denot = record { stream = g.S.Stream.meaning c.turn.new.limited.stream.now; left = c.turn.new.limited.left; desk = c.turn.new.desk; draws = c.turn.new.draws } in
-    let on = (c.in-Ok.ensures.runs c.loop-up.invariant.none _ refl c.loop-up.invariant.runs).runs in
+    let goes = subst (λ (b : Bool). Goes g.D.Desk.facts g.W.Draws.gives start place c.turn.new.frames b) c.if-branch.true (c.in_ok-turn.ensures.runs c.loop-frames.invariant.none _ refl c.loop-frames.invariant.runs) in
+    subst (λ s. (left : ℕ) × Goes g.D.Desk.facts g.W.Draws.gives start (record { stream = g.S.Stream.meaning s; left = left; desk = c.turn.new.desk; draws = c.turn.new.draws }) c.turn.new.frames true) (search rules) (c.turn.new.limited.left, goes)
+
+pub returns-then-until_up-clause-not_gone : goal.returns-then-until_up-clause-not_gone
+returns-then-until_up-clause-not_gone g c = λ only.
+    let kept = c.loop-frames.invariant.gone only in
+    let noted = c.turn.ensures.gone (subst (λ d. IsOnlyGone g.D.Desk.facts d c.args.end_) (sym kept.0) only) in
+    not_refused c.in_ok-turn.field-0 _ (sym c.in_ok-turn.was ∙ noted.0.1)
+
+pub loop-frames-preserved-then-branch : goal.loop-frames-preserved-then-branch
+loop-frames-preserved-then-branch g c =
+    let start : Start g.row.D.Denot g.row.W.Denot = record { end_ = c.args.end_; first = c.args.first.now; limit = c.args.limit; stream = g.S.Stream.meaning c.args.stream.now; desk = c.args.desk.now; draws = c.args.draws.now } in
+    let place : Place g.row.D.Denot g.row.W.Denot = record { stream = g.S.Stream.meaning c.turn.new.limited.stream.now; left = c.turn.new.limited.left; desk = c.turn.new.desk; draws = c.turn.new.draws } in
+    let on = (c.in_ok-turn.ensures.runs c.loop-frames.invariant.none _ refl c.loop-frames.invariant.runs).runs in
     record {
-      runs = subst (λ (r : Reader). Runs g.D.Desk.facts g.W.Draws.gives start place r) (ap (λ (b : Bool). after_step b c.turn.new.frames) c.if-up.true ∙ sym c.to_linked.ensures) on;
+      runs = subst (λ (r : Reader). Runs g.D.Desk.facts g.W.Draws.gives start place r) (ap (λ (b : Bool). after_step b c.turn.new.frames) c.if-branch.true ∙ sym c.to_linked.ensures) on;
       none = ap to_come c.to_linked.ensures ∙ none_linked c.turn.new.frames;
-      base = c.turn.ensures.base ∙ c.loop-up.invariant.base;
-      serves = c.turn.ensures.serves ∙ c.loop-up.invariant.serves;
+      base = c.turn.ensures.base ∙ c.loop-frames.invariant.base;
+      serves = c.turn.ensures.serves ∙ c.loop-frames.invariant.serves;
       gone = λ only.
-          let kept = c.loop-up.invariant.gone only in
-          let told = c.turn.ensures.gone (subst (λ d. IsOnlyGone g.D.Desk.facts d c.args.end_) (sym kept.0) only) in
-          absurd (not_refused c.in-Ok.up _ (sym c.in-Ok.is ∙ told.0.1));
-      loan = c.turn.ensures.loan ∙ c.loop-up.invariant.loan;
+          let kept = c.loop-frames.invariant.gone only in
+          let noted = c.turn.ensures.gone (subst (λ d. IsOnlyGone g.D.Desk.facts d c.args.end_) (sym kept.0) only) in
+          absurd (not_refused c.in_ok-turn.field-0 _ (sym c.in_ok-turn.was ∙ noted.0.1));
+      loan = c.turn.ensures.loan ∙ c.loop-frames.invariant.loan;
     }
 
-pub loop-up-preserved : goal.loop-up-preserved
-loop-up-preserved g c =
+pub loop-frames-preserved : goal.loop-frames-preserved
+loop-frames-preserved g c =
     let start : Start g.row.D.Denot g.row.W.Denot = record { end_ = c.args.end_; first = c.args.first.now; limit = c.args.limit; stream = g.S.Stream.meaning c.args.stream.now; desk = c.args.desk.now; draws = c.args.draws.now } in
     let place : Place g.row.D.Denot g.row.W.Denot = record { stream = g.S.Stream.meaning c.turn.new.limited.stream.now; left = c.turn.new.limited.left; desk = c.turn.new.desk; draws = c.turn.new.draws } in
-    let on = (c.in-Ok.ensures.runs c.loop-up.invariant.none _ refl c.loop-up.invariant.runs).runs in
+    let on = (c.in_ok-turn.ensures.runs c.loop-frames.invariant.none _ refl c.loop-frames.invariant.runs).runs in
     record {
-      runs = subst (λ (r : Reader). Runs g.D.Desk.facts g.W.Draws.gives start place r) (ap (λ (b : Bool). after_step b c.turn.new.frames) c.if-up.false) on;
-      none = sym (ap to_come (ap (λ (b : Bool). after_step b c.turn.new.frames) c.if-up.false)) ∙ c.in-Ok.ensures.all;
-      base = c.turn.ensures.base ∙ c.loop-up.invariant.base;
-      serves = c.turn.ensures.serves ∙ c.loop-up.invariant.serves;
+      runs = subst (λ (r : Reader). Runs g.D.Desk.facts g.W.Draws.gives start place r) (ap (λ (b : Bool). after_step b c.turn.new.frames) c.if-branch.false) on;
+      none = sym (ap to_come (ap (λ (b : Bool). after_step b c.turn.new.frames) c.if-branch.false)) ∙ c.in_ok-turn.ensures.all;
+      base = c.turn.ensures.base ∙ c.loop-frames.invariant.base;
+      serves = c.turn.ensures.serves ∙ c.loop-frames.invariant.serves;
       gone = λ only.
-          let kept = c.loop-up.invariant.gone only in
-          let told = c.turn.ensures.gone (subst (λ d. IsOnlyGone g.D.Desk.facts d c.args.end_) (sym kept.0) only) in
-          absurd (not_refused c.in-Ok.up _ (sym c.in-Ok.is ∙ told.0.1));
-      loan = c.turn.ensures.loan ∙ c.loop-up.invariant.loan;
+          let kept = c.loop-frames.invariant.gone only in
+          let noted = c.turn.ensures.gone (subst (λ d. IsOnlyGone g.D.Desk.facts d c.args.end_) (sym kept.0) only) in
+          absurd (not_refused c.in_ok-turn.field-0 _ (sym c.in_ok-turn.was ∙ noted.0.1));
+      loan = c.turn.ensures.loan ∙ c.loop-frames.invariant.loan;
     }
-
-pub returns-in-Err-turn-clause-gone : goal.returns-in-Err-turn-clause-gone
-returns-in-Err-turn-clause-gone g c = λ only.
-    let kept = c.loop-up.invariant.gone only in
-    let told = c.turn.ensures.gone (subst (λ d. IsOnlyGone g.D.Desk.facts d c.args.end_) (sym kept.0) only) in
-    subst (λ s. LeavesUnread c.args.first.now (g.S.Stream.meaning c.args.stream.now) (g.S.Stream.meaning s) c.in-Err-turn.ending) (search rules)
-    (gone_unread c.args.first.now (g.S.Stream.meaning c.args.stream.now) (g.S.Stream.meaning c.loop-up.limited.stream.now) (g.S.Stream.meaning c.turn.new.limited.stream.now) told.0.0 c.in-Err-turn.ending (sym c.in-Err-turn.is ∙ told.0.1) told.1 (kept.1, kept.2, kept.3))

@@ -4,11 +4,11 @@ use Rattle.dist_epmd.specs.declared.message.Request.TheVariants as request
 use Rattle.dist_epmd.specs.Layout.{written_request}
 use Rattle.dist_epmd.specs.Reading.{read_answer}
 use Rattle.dist_epmd_calls.specs.Asking.{AsksFor, Settles, names_meant}
-use Rattle.dist_epmd_calls.proofs.Asks.{told, answer_of, refusal_of}
+use Rattle.dist_epmd_calls.proofs.Asks.{reported, answer_of, refusal_of}
 use Rattle.dist_epmd_calls.proofs.ask.ask_names.Goals as goal
 
 pub returns-in_err-bytes : goal.returns-in_err-bytes
-returns-in_err-bytes g c = subst (AsksFor request.Names _ _ _ names_meant) (sym (told c.from_residual.ensures.1)) (refusal_of asked.Names (written_request request.Names) _ _ _ names_meant _ c.in_err-bytes.ensures)
+returns-in_err-bytes g c = subst (AsksFor request.Names _ _ _ names_meant) (sym (reported c.from_residual.ensures.1)) (refusal_of asked.Names (written_request request.Names) _ _ _ names_meant _ c.in_err-bytes.ensures)
 
 pub returns : goal.returns
 returns g c =

@@ -1,17 +1,17 @@
 use Rattle.std.proofs.Common.{rules, sym, subst, refl}
 use Rattle.dist_epmd_calls.specs.Asking.{Registers}
-use Rattle.dist_epmd_calls.proofs.Asks.{told}
+use Rattle.dist_epmd_calls.proofs.Asks.{reported}
 use Rattle.dist_epmd_calls.proofs.Registering.{registers_in_part, registers_unheard, registers_whole}
 use Rattle.dist_epmd_calls.proofs.registration.exchange.Goals as goal
 
 pub returns-in_err-write_all : goal.returns-in_err-write_all
 returns-in_err-write_all g c =
-    let part = subst (Registers _ _ _ _) (sym (told c.from_residual.ensures.1)) (registers_in_part c.in_err-write_all.field-0.0 c.in_err-write_all.ensures.says) in
+    let part = subst (Registers _ _ _ _) (sym (reported c.from_residual.ensures.1)) (registers_in_part c.in_err-write_all.field-0.0 c.in_err-write_all.ensures.says) in
     subst (λ s. Registers (g.S.Stream.meaning c.args.stream.now) (g.S.Stream.meaning s) c.args.limit c.args.frame.now c.from_residual.result) (search rules) part
 
 pub returns-in_err-len : goal.returns-in_err-len
 returns-in_err-len g c =
-    let unheard = subst (Registers _ _ _ _) (sym (told c.from_residual-in_err-len.ensures.1)) (registers_unheard c.in_err-len.field-0.0 c.in_ok-write_all.ensures.says c.in_err-len.ensures.hears) in
+    let unheard = subst (Registers _ _ _ _) (sym (reported c.from_residual-in_err-len.ensures.1)) (registers_unheard c.in_err-len.field-0.0 c.in_ok-write_all.ensures.says c.in_err-len.ensures.hears) in
     subst (λ s. Registers (g.S.Stream.meaning c.args.stream.now) (g.S.Stream.meaning s) c.args.limit c.args.frame.now c.from_residual-in_err-len.result) (search rules) unheard
 
 pub returns : goal.returns

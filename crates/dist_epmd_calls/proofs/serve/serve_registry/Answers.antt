@@ -1,12 +1,12 @@
 use Rattle.std.proofs.Common.{rules, sym, subst}
 use Rattle.dist_epmd_calls.specs.Serving.{Serves}
-use Rattle.dist_epmd_calls.proofs.Asks.{told}
+use Rattle.dist_epmd_calls.proofs.Asks.{reported}
 use Rattle.dist_epmd_calls.proofs.Serves.{serves_none, serves_asked}
 use Rattle.dist_epmd_calls.proofs.serve.serve_registry.Goals as goal
 
 pub returns-in_err-request : goal.returns-in_err-request
 returns-in_err-request g c =
-    let none = subst (Serves _ _ _ _ _ _ _ _) (sym (told c.from_residual.ensures.1)) (serves_none c.in_err-request.field-0.0 c.in_err-request.ensures.hears) in
+    let none = subst (Serves _ _ _ _ _ _ _ _) (sym (reported c.from_residual.ensures.1)) (serves_none c.in_err-request.field-0.0 c.in_err-request.ensures.hears) in
     subst (λ s. Serves g.M.Mapper.allows g.M.Mapper.leaves c.args.conn c.args.limit (g.S.Stream.meaning c.args.stream.now) (g.S.Stream.meaning s) c.args.mapper.now c.args.mapper.now c.from_residual.result) (search rules) none
 
 pub returns : goal.returns

@@ -18,7 +18,7 @@ returns c = record {
     read_back = c.what_is_said_is_read.ensures.read;
     announced = c.announced_flags_fit.ensures;
     digest_len = c.length_of_digest.ensures;
-    versions = c.flags_tell_versions.ensures;
+    versions = c.flags_show_versions.ensures;
     halves = c.low_halves_suffice.ensures;
   };
   row = c.steps_are_rows.ensures;

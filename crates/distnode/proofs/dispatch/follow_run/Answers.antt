@@ -11,4 +11,4 @@ returns-in-Ok-clause-refused g c =
 
 -- it could not be opened
 pub returns-in-Err-clause-ended : goal.returns-in-Err-clause-ended
-returns-in-Err-clause-ended g c = λ one. run_unopened _ _ _ _ c.tell.ensures.line
+returns-in-Err-clause-ended g c = λ one. run_unopened _ _ _ _ c.report_to.ensures.line

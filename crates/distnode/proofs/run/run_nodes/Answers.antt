@@ -12,7 +12,7 @@ returns-in-Ok-clause-refused g c =
 
 pub returns-in-Err-clause-refused : goal.returns-in-Err-clause-refused
 returns-in-Err-clause-refused g c =
-    λ one. inr (nothing_of c.in-Err.fault _ (g.W.Write.contents c.args.out.now) (g.W.Write.contents c.perform.new.out) c.tell.ensures.status c.in-Err.ensures.err one)
+    λ one. inr (nothing_of c.in-Err.fault _ (g.W.Write.contents c.args.out.now) (g.W.Write.contents c.perform.new.out) c.report_to.ensures.status c.in-Err.ensures.err one)
 
 -- the audit refused, and standard error was left alone
 pub returns-in-Ok-clause-ended : goal.returns-in-Ok-clause-ended
@@ -22,19 +22,19 @@ returns-in-Ok-clause-ended g c =
 -- the fault that was reported
 pub returns-in-Err-clause-ended : goal.returns-in-Err-clause-ended
 returns-in-Err-clause-ended g c =
-    λ one. inr (record { cause = c.in-Err.fault; stops = c.in-Err.ensures.stopped; status_is = sym c.tell.ensures.status ∙ one; line = c.tell.ensures.line })
+    λ one. inr (record { cause = c.in-Err.fault; stops = c.in-Err.ensures.stopped; status_is = sym c.report_to.ensures.status ∙ one; line = c.report_to.ensures.line })
 
 -- with status 2 it is a bad nodes file
 pub returns-in-Err-clause-bad : goal.returns-in-Err-clause-bad
 returns-in-Err-clause-bad g c =
-    λ two. (is_bad c.args.text.now (g.W.Write.contents c.args.out.now) (g.W.Write.contents c.perform.new.out) c.in-Err.fault c.in-Err.ensures.stopped (sym c.tell.ensures.status ∙ two)).1
+    λ two. (is_bad c.args.text.now (g.W.Write.contents c.args.out.now) (g.W.Write.contents c.perform.new.out) c.in-Err.fault c.in-Err.ensures.stopped (sym c.report_to.ensures.status ∙ two)).1
 
 pub returns-in-Err-clause-bad_out : goal.returns-in-Err-clause-bad_out
 returns-in-Err-clause-bad_out g c =
-    λ two. (is_bad c.args.text.now (g.W.Write.contents c.args.out.now) (g.W.Write.contents c.perform.new.out) c.in-Err.fault c.in-Err.ensures.stopped (sym c.tell.ensures.status ∙ two)).2
+    λ two. (is_bad c.args.text.now (g.W.Write.contents c.args.out.now) (g.W.Write.contents c.perform.new.out) c.in-Err.fault c.in-Err.ensures.stopped (sym c.report_to.ensures.status ∙ two)).2
 
 pub returns-in-Err-clause-bad_line : goal.returns-in-Err-clause-bad_line
 returns-in-Err-clause-bad_line g c =
-    λ two. subst (λ f. PutsFront (fault_line f) (g.E.Write.contents c.args.err.now) (g.E.Write.contents c.tell.new.err))
-    (is_bad c.args.text.now (g.W.Write.contents c.args.out.now) (g.W.Write.contents c.perform.new.out) c.in-Err.fault c.in-Err.ensures.stopped (sym c.tell.ensures.status ∙ two)).0
-    c.tell.ensures.line
+    λ two. subst (λ f. PutsFront (fault_line f) (g.E.Write.contents c.args.err.now) (g.E.Write.contents c.report_to.new.err))
+    (is_bad c.args.text.now (g.W.Write.contents c.args.out.now) (g.W.Write.contents c.perform.new.out) c.in-Err.fault c.in-Err.ensures.stopped (sym c.report_to.ensures.status ∙ two)).0
+    c.report_to.ensures.line

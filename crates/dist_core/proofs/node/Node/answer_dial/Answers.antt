@@ -1,6 +1,6 @@
 use Rattle.dist_core.specs.declared.event.Event.TheVariants as event
-use Rattle.dist_core.proofs.Kept.{told-so}
+use Rattle.dist_core.proofs.Kept.{reported-so}
 use Rattle.dist_core.proofs.node.Node.answer_dial.Goals as goal
 
 pub returns : goal.returns
-returns c = told-so c.args.self.now (event.Dial c.args.peer.now c.args.opening) _ c.in_ok-effect.effect _ c.in_ok-effect.ensures c.into_reply.ensures
+returns c = reported-so c.args.self.now (event.Dial c.args.peer.now c.args.opening) _ c.in_ok-effect.effect _ c.in_ok-effect.ensures c.into_reply.ensures

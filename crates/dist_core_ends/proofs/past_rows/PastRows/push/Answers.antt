@@ -3,7 +3,7 @@ use Rattle.std.specs.Prelude.{nat_eq}
 use Rattle.std.specs.HashMap.{get, Updates}
 use Rattle.dist_core_ends.specs.declared.why.Why.{Why}
 use Rattle.dist_core_ends.specs.declared.why.Why.TheVariants as why
-use Rattle.dist_core_ends.specs.declared.slots.Row.{Row}
+use Rattle.dist_core_ends.specs.declared.slots.EndPlace.{EndPlace}
 use Rattle.dist_core_ends.specs.Places.{RowList, rows_from, row_by, all_causes, AreWithin}
 use Rattle.dist_core_ends.proofs.Places.{rows-length, rows-more, all-length, all-more, within-more, done}
 use Rattle.dist_core_ends.proofs.past_rows.PastRows.push.Goals as goal
@@ -43,7 +43,7 @@ returns-in-Slot-clause-rows c =
     let u = done (Updates nat_eq c.self.inside.places c.insert-added.new.self n (Some c.args.row)) c.insert-added.result c.unwrap.result c.unwrap.ensures c.insert-added.ensures.updates in
     ap (λ (xs : List Why). rows_from g 0 (all_causes b xs)) more
     ∙ ap (rows_from g 0) (all-more b ws why.Ended)
-    ∙ rows-more f g (all_causes b ws) n why.Ended c.args.row (omega (arith, c.len.ensures, all-length b ws)) (ap (λ (o : Option Row). row_by o why.Ended) (u.1)) (u.2)
+    ∙ rows-more f g (all_causes b ws) n why.Ended c.args.row (omega (arith, c.len.ensures, all-length b ws)) (ap (λ (o : Option EndPlace). row_by o why.Ended) (u.1)) (u.2)
     ∙ ap (λ (r : RowList). r.items ++ c.args.row ∷ []) c.self.view_is
 
 pub returns-in-Closed-clause-rows : goal.returns-in-Closed-clause-rows
@@ -54,7 +54,7 @@ returns-in-Closed-clause-rows c =
     let all = all_causes b ws in
     let more : c.push_reserved-in-Closed.new.self.items ≡ ws ++ c.in-Closed.why ∷ [] = c.push_reserved-in-Closed.ensures.items in
     let none : f (length all) ≡ None = c.self.invariant.beyond (length all) (omega (arith, all-length b ws)) in
-    let here : row_by (f (length all)) c.in-Closed.why ≡ c.args.row = ap (λ (o : Option Row). row_by o c.in-Closed.why) none ∙ sym c.in-Closed.is in
+    let here : row_by (f (length all)) c.in-Closed.why ≡ c.args.row = ap (λ (o : Option EndPlace). row_by o c.in-Closed.why) none ∙ sym c.in-Closed.is in
     ap (λ (xs : List Why). rows_from f 0 (all_causes b xs)) more
     ∙ ap (rows_from f 0) (all-more b ws c.in-Closed.why)
     ∙ rows-more f f all (length all) c.in-Closed.why c.args.row refl here (λ q d. refl)

@@ -1,5 +1,5 @@
 use Rattle.std.proofs.Common.{◌∙◌, ◌++◌, arith, ap, set}
-use Rattle.dist_core_ends.specs.declared.slots.Row.TheVariants as row
+use Rattle.dist_core_ends.specs.declared.slots.EndPlace.TheVariants as row
 use Rattle.dist_core_ends.specs.Places.{RowList}
 use Rattle.dist_core_ends.proofs.Recent.{set-left, set-right}
 use Rattle.dist_core_ends.proofs.rows.Rows.close.Goals as goal

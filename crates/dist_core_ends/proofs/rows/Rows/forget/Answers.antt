@@ -1,5 +1,5 @@
 use Rattle.std.proofs.Common.{◌≤◌, ◌∙◌, ◌+◌, ◌++◌, ◌^◌, arith, ap, length, length-append}
-use Rattle.dist_core_ends.specs.declared.slots.Row.{Row}
+use Rattle.dist_core_ends.specs.declared.slots.EndPlace.{EndPlace}
 use Rattle.dist_core_ends.specs.Keeping.{rows_forgotten}
 use Rattle.dist_core_ends.specs.Places.{RowList}
 use Rattle.dist_core_ends.proofs.Recent.{forgotten-length, forgotten-both}
@@ -9,9 +9,9 @@ pub invariant_of-self : goal.invariant_of-self
 invariant_of-self c =
     let past = c.self.inside.past.items in
     let recent = c.self.inside.recent.items in
-    let before : length past + length recent ≤ 2 ^ 32 = omega (arith, c.self.invariant.1, length-append {A = Row} past recent) in (
+    let before : length past + length recent ≤ 2 ^ 32 = omega (arith, c.self.invariant.1, length-append {A = EndPlace} past recent) in (
       omega (arith, c.self.invariant.0, ap length c.forget.ensures, forgotten-length c.args.below past),
-      omega (arith, before, ap length c.forget.ensures, ap length c.forget_first.ensures, forgotten-length c.args.below past, forgotten-length c.saturating_sub.result recent, length-append {A = Row} c.forget.new.self.items c.forget_first.new.rows.items),
+      omega (arith, before, ap length c.forget.ensures, ap length c.forget_first.ensures, forgotten-length c.args.below past, forgotten-length c.saturating_sub.result recent, length-append {A = EndPlace} c.forget.new.self.items c.forget_first.new.rows.items),
     )
 
 pub returns : goal.returns

@@ -1,4 +1,4 @@
-use Rattle.dist_epmd_server.proofs.Telling.{sent_on, all_on}
+use Rattle.dist_epmd_server.proofs.Reporting.{sent_on, all_on}
 use Rattle.dist_epmd_server.proofs.owed.Owed.go_on.Goals as goal
 
 pub returns-clause-sent : goal.returns-clause-sent

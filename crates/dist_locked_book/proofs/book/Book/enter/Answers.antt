@@ -21,7 +21,7 @@ invariant_of-self-2 c =
     subst (λ (l : Line). step n v c.args.entry.fresh ≡ Ok (l.reply, m)) (sym lines.0) c.in_ok-lines.ensures.step in
     let more : is_loss v ≡ false → len + open_count n + 2 ≤ cap = λ h. omega (arith, opened, c.in-Ok.ensures.room (c.is_lost.ensures ∙ h)) in
     let room = room-step c.open_ends_after_a_step.ensures.most c.open_ends_after_a_step.ensures.loss n v c.args.entry.fresh line.reply m len cap c.open_ends-open_ends.ensures.legal made (omega (arith, opened, c.make_room.ensures.kept)) more in
-    let told : step n line.event line.fresh ≡ Ok (line.reply, m) =
+    let reported : step n line.event line.fresh ≡ Ok (line.reply, m) =
     subst (λ (l : Line). step n l.event l.fresh ≡ Ok (l.reply, m)) (sym lines.0) c.in_ok-lines.ensures.step in
     let items = c.push_reserved.ensures.items ∙ (λ i. c.make_room.ensures.same.0 i ++ lines.2 i ∷ []) in
-    (legal-push c.a_step_keeps.ensures.setup n c.self.inside.history.items _ line line.reply m c.self.invariant.0 (ap reply_of told) told items, omega (arith, room, c.push_reserved.ensures.len, c.push_reserved.ensures.capacity))
+    (legal-push c.a_step_keeps.ensures.setup n c.self.inside.history.items _ line line.reply m c.self.invariant.0 (ap reply_of reported) reported items, omega (arith, room, c.push_reserved.ensures.len, c.push_reserved.ensures.capacity))

@@ -18,7 +18,7 @@ pub returns-in-1 : goal.returns-in-1
 returns-in-1 c =
     let s : SoFar = the_view c.self.inside in
     let few : length c.self.inside.nodes.items ≡ 1 = omega (arith, c.len.ensures, c.self.inside.nodes.ok.0, c.in-1.is) in
-    rw (← c.self.view_is) (by_step c.tell.result _ _ c.tell.new.self (behind_one s (words_of c.args.text.now) (λ rest e. c.if-skip.ensures.1 rest (c.new-words.ensures ∙ e)) few ∙ ap (with_event (record s { has_lines = true })) (sym (c.if-skip.ensures.0 ∙ c.new-words.ensures))) c.tell.ensures)
+    rw (← c.self.view_is) (by_step c.take_event.result _ _ c.take_event.new.self (behind_one s (words_of c.args.text.now) (λ rest e. c.if-skip.ensures.1 rest (c.new-words.ensures ∙ e)) few ∙ ap (with_event (record s { has_lines = true })) (sym (c.if-skip.ensures.0 ∙ c.new-words.ensures))) c.take_event.ensures)
 
 pub returns-in_default : goal.returns-in_default
 returns-in_default c =

@@ -30,7 +30,7 @@ use Rattle.std_heap.specs.contracts.Global as Heap
 use Rattle.std.proofs.raw_atomic.Walks.{proved_at, leaves}
 use Rattle.distnode_c.proofs.AsDeskBox.{E, Whole}
 use Rattle.distnode_c.specs.KeptDesk.{kept_desk}
-use Rattle.distnode_c.specs.declared.desk.Desk.{Desk}
+use Rattle.distnode_c.specs.declared.desk.RegistryDesk.{RegistryDesk}
 use Rattle.distnode_c.specs.contracts.desk_slot.DeskSlot.{the_row as R}
 use Rattle.distnode_c.proofs.desk_slot.DeskSlot.TheLaws.{lowers}
 use Rattle.distnode_c.specs.contracts.desk_slot.DeskSlot.take_parts as f
@@ -47,7 +47,7 @@ take_parts_spec 𝓤 𝓛 𝓜 𝓡 wired =
     f.Key.name code.function (code.unfolded 𝓤 𝓛.H 𝓜 𝓡 wired) (λ z are.
     let κs = z.0.0 in let qs = z.0.1 in let s = z.0.3.0 in let a = z.0.3.1.0 in let b = s.ref_ptr.0 in let o = s.ref_ptr.1 in let h = s.now in
     let Post : Val → SProp 𝓤 = (walk_of 𝓛 f.ended stayed c).post z in let Run : List Val → SProp 𝓤 = λ ws. WpFn 𝓤 H 𝓣.C 𝓣.Λ code.function ws Post in
-    let Had : Type 0 = (x : Desk) × (h.desk ≡ Some x) in
+    let Had : Type 0 = (x : RegistryDesk) × (h.desk ≡ Some x) in
     qed 𝓛 (((‵ (flft κs.0 qs.0) ⊛ ‵ ftrue) ⊛ ‵ (owns (types_at f.ended.signature.params κs) z.0.3 z.0.4)) ∷ raw (fact 𝓤 Had) ∷ []) ∵
     move ! (1 ∷ []) $ heard ! Had (λ some. let x = some.0 in split ! $ split ! $ move ! (2 ∷ []) $ fsplit ! $ move ! (1 ∷ []) $ fsplit ! $
     -- [the handle; nothing; the reference; the token; nothing]
@@ -57,7 +57,7 @@ take_parts_spec 𝓤 𝓛 𝓜 𝓡 wired =
     enter ! 𝓣.C 𝓣.Λ code.function Vs Post $ alloc_all ! (λ l. pass_all ! refl ((tt, tt), (fa, tt)) $
     fsplit3 ! $ move ! (1 ∷ 2 ∷ 3 ∷ []) $ opens ! tt R b o (λ us. move ! (1 ∷ []) $ peeks ! R (Is R) (shows 𝓛 R) h us (λ is. fsplit ! $ move ! (1 ∷ []) $
     -- [what is kept; the fields; the cell; the open borrow, in three entries; the reference's first part; the handle]
-    rewrite ! 0 (λ (t : Option Desk). ‵ (kept_desk h.at t)) some.1 refl $
+    rewrite ! 0 (λ (t : Option RegistryDesk). ‵ (kept_desk h.at t)) some.1 refl $
     in_a_block ! h.at (λ p. kept_desk p (Some x)) (fst∗ 𝓤 (never 𝓤) (sem 𝓛 (token E.al a (bare (layout E.row)) null_ptr))) (λ b' o' e. fsplit ! $
     let W : Val = vstruct (vcons (vptr b' o') vnil) in
     let is_word : us ≡ W ∷ [] = lowers.val_is h us is ∙ ap (λ (p : Ptr). lowers.lowered (record h { at = p }) ∷ []) e in
