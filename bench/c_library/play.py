@@ -57,17 +57,17 @@ class Play:
             if event == "bytes":
                 self.bytes(int(words[0]), bytes.fromhex(words[1]), int(words[2]))
             elif event == "incoming":
-                self.told(self.node.incoming())
+                self.take_reply(self.node.incoming())
                 self.ends += 1
             elif event == "dial":
-                self.told(self.node.dial(words[0].encode(), words[1] == "new"))
+                self.take_reply(self.node.dial(words[0].encode(), words[1] == "new"))
                 self.ends += 1
             elif event == "opened":
-                self.told(self.node.opened(int(words[0])))
+                self.take_reply(self.node.opened(int(words[0])))
             elif event == "tick":
-                self.told(self.node.tick(int(words[0])))
+                self.take_reply(self.node.tick(int(words[0])))
             elif event == "lost":
-                self.told(self.node.lost(int(words[0]), {word(it): it for it in dn.Why}[words[1]]))
+                self.take_reply(self.node.lost(int(words[0]), {word(it): it for it in dn.Why}[words[1]]))
             else:
                 raise ValueError(event)
         except dn.Refused as refused:
@@ -84,9 +84,9 @@ class Play:
             self.held[end] = self.held.get(end, b"") + came[place : place + self.size]
             while end not in self.closed | self.ups and (reply := self.node.received(end, self.held[end], challenge)):
                 self.held[end] = self.held[end][reply.taken :]
-                self.told(reply)
+                self.take_reply(reply)
 
-    def told(self, reply):
+    def take_reply(self, reply):
         closed = "-"
         if reply.closed:
             closed = f"{reply.closed[0]} {word(reply.closed[1])}"

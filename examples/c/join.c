@@ -153,7 +153,7 @@ static void close_told(const dn_reply *reply) {
     if (it) close_link(it, reply->closed);
 }
 
-/* What dn_node_dial and dn_node_incoming answer: an end that made room is told with every code. Now and then the node forgets
+/* What dn_node_dial and dn_node_incoming answer: an end that made room is reported with every code. Now and then the node forgets
  * why ends were closed, and gives that memory back. */
 static uint32_t newcomer(uint32_t code, const dn_reply *reply) {
     close_told(reply);

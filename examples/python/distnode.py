@@ -248,7 +248,7 @@ class Node:
         r = _Reply()
         code = call(c.byref(self._node), *given, c.byref(r))
         if code:
-            # (an end that made room is told with every code)
+            # (an end that made room is reported with every code)
             raise Refused(Code(code), _closed(r))
         return r
 

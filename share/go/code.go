@@ -6,7 +6,7 @@ import "C"
 // Code is a call's answer that is no success: its number in the header, which has its meaning. It is an error.
 type Code uint32
 
-// The codes that a program tells apart.
+// The codes that a program distinguishes.
 const (
 	NotANode   Code = C.DN_NOT_A_NODE  // it was let go
 	NoMemory   Code = C.DN_NO_MEMORY   // the same call does its work once there is some
@@ -31,7 +31,7 @@ func (c Code) Error() string {
 	})
 }
 
-// Why is why an end is closed. The caller tells a loss with one of the first five.
+// Why is why an end is closed. The caller reports a loss with one of the first five.
 type Why uint32
 
 // The causes, as the header has them.
@@ -78,7 +78,7 @@ func word(call func(room *C.uint8_t, most C.size_t, length *C.size_t) C.uint32_t
 	return string(room[:length])
 }
 
-// copied is what a call copies into a room: once more with the length that it tells, where the first room is too short.
+// copied is what a call copies into a room: once more with the length that it returns, where the first room is too short.
 func copied(most int, call func(room *C.uint8_t, most C.size_t, length *C.size_t) C.uint32_t) ([]byte, error) {
 	room := make([]byte, most+1)
 	var length C.size_t

@@ -52,7 +52,7 @@ func PortRequest(alive []byte) ([]byte, error) {
 	})
 }
 
-// PortAnswer is what the port mapper tells of a node, in all that it said, and whether it knows one.
+// PortAnswer is what the port mapper says of a node, and whether it knows one.
 func PortAnswer(data []byte) (info Info, known bool, err error) {
 	came, length := bytesOf(data)
 	var result C.uint32_t
@@ -77,7 +77,7 @@ type Registry struct {
 type Served struct {
 	Say        []byte // what is to be written on its connection
 	Taken      int    // how many bytes were taken
-	Registered bool   // the connection is to be kept, and Closed told of its end; else it is to be closed once Say was written
+	Registered bool   // the connection is to be kept, and its end reported by Closed; else it is to be closed once Say was written
 }
 
 // NewRegistry makes a registry without nodes, of the port mapper at this port. The first node that is accepted gets the creation first.
@@ -118,7 +118,7 @@ func (r *Registry) Asked(connection uint64, data []byte) (Served, error) {
 	return Served{say, int(it.taken), it.registered != 0}, err
 }
 
-// Closed tells that a connection is closed: what was registered on it is dropped.
+// Closed reports that a connection is closed: what was registered on it is dropped.
 func (r *Registry) Closed(connection uint64) error {
 	if r.registry == nil {
 		return NotANode

@@ -1,7 +1,7 @@
 // Package distnode is the handshake of Erlang's distribution protocol over libdistnode, whose steps are proved to be those of its
 // definition: a node, the registry of a port mapper, and the port mapper's messages.
 //
-// There are no sockets, no clock and no random numbers in here: the caller owns them, tells what happened, and does what the reply says.
+// There are no sockets, no clock and no random numbers in here: the caller owns them, reports what happened, and does what the reply says.
 // cmd/join is a whole program; docs/C_LIBRARY.md of the sources has the order of calls.
 package distnode
 
@@ -45,7 +45,7 @@ type Reply struct {
 	Up          bool   // this end came up: what follows on its connection is the caller's
 	Common      uint64 // where it came up: the flags that both announced
 	Creation    uint32 // where it came up: the peer's creation
-	HasCreation bool   // a peer of version 5 tells none
+	HasCreation bool   // a peer of version 5 has none
 }
 
 // Peer is a peer that is up.
@@ -54,7 +54,7 @@ type Peer struct {
 	End         uint32
 	Common      uint64 // the flags that both announced
 	Creation    uint32
-	HasCreation bool // a peer of version 5 tells none
+	HasCreation bool // a peer of version 5 has none
 }
 
 // Node is a node, which one goroutine uses at a time: others under a lock. Free lets it go.
@@ -148,7 +148,7 @@ func (n *Node) SetUsualCookie(cookie []byte) error {
 	return done(C.dn_node_usual_cookie(n.node, secret, secretLength))
 }
 
-// replied makes a call and reads its reply but for what it says, and how many bytes those are. An end that made room is told
+// replied makes a call and reads its reply but for what it says, and how many bytes those are. An end that made room is reported
 // beside an error too.
 func (n *Node) replied(call func(reply *C.dn_reply) C.uint32_t) (Reply, int, error) {
 	if n.node == nil {
@@ -176,19 +176,19 @@ func (n *Node) step(call func(reply *C.dn_reply) C.uint32_t) (Reply, error) {
 	return reply, err
 }
 
-// Dial tells that the node is to connect to this peer: the reply has a new end. Closed and Other tell an end that was given up
+// Dial reports that the node is to connect to this peer: the reply has a new end. Closed and Other name an end that was given up
 // to make room, beside an error too. isNew opens by the name N of version 6, else by n.
 func (n *Node) Dial(peer []byte, isNew bool) (Reply, error) {
 	name, length := bytesOf(peer)
 	return n.step(func(reply *C.dn_reply) C.uint32_t { return C.dn_node_dial(n.node, name, length, number(isNew), reply) })
 }
 
-// Opened tells that the connection of a dialled end is there.
+// Opened reports that the connection of a dialled end is there.
 func (n *Node) Opened(end uint32) (Reply, error) {
 	return n.step(func(reply *C.dn_reply) C.uint32_t { return C.dn_node_opened(n.node, C.uint32_t(end), reply) })
 }
 
-// Incoming tells that a connection was accepted: the reply has a new end. Closed and Other tell an end that was given up to
+// Incoming reports that a connection was accepted: the reply has a new end. Closed and Other name an end that was given up to
 // make room, beside an error too.
 func (n *Node) Incoming() (Reply, error) {
 	return n.step(func(reply *C.dn_reply) C.uint32_t { return C.dn_node_incoming(n.node, reply) })
@@ -231,14 +231,14 @@ func (n *Node) ReadyBody(end uint32, body []byte, challenge uint32) (Reply, erro
 	return reply, err
 }
 
-// Lost tells that the connection of an end is lost or given up.
+// Lost reports that the connection of an end is lost or given up.
 func (n *Node) Lost(end uint32, why Why) (Reply, error) {
 	return n.step(func(reply *C.dn_reply) C.uint32_t {
 		return C.dn_node_lost(n.node, C.uint32_t(end), C.uint32_t(why), reply)
 	})
 }
 
-// Tick tells that a tick is due on an end that is up.
+// Tick reports that a tick is due on an end that is up.
 func (n *Node) Tick(end uint32) (Reply, error) {
 	return n.step(func(reply *C.dn_reply) C.uint32_t { return C.dn_node_tick(n.node, C.uint32_t(end), reply) })
 }
@@ -252,7 +252,7 @@ func (n *Node) Forget(below uint32) error {
 	return done(C.dn_node_forget(n.node, C.uint32_t(below)))
 }
 
-// Bodies tells the frames that the newest step says, each without its length, and each to be written by itself. A tick is none
+// Bodies returns the frames that the newest step says, each without its length, and each to be written by itself. A tick is none
 // of them: there an empty packet is to be written.
 func (n *Node) Bodies() ([][]byte, error) {
 	if n.node == nil {
@@ -286,14 +286,14 @@ func (n *Node) peer(call func(peer *C.dn_peer, room *C.uint8_t) C.uint32_t) (Pee
 	return Peer{name, uint32(it.id), uint64(it.common), uint32(it.creation), it.has_creation != 0}, nil
 }
 
-// PeerOf tells the peer that is up on an end; the error is NoSuch where there is none.
+// PeerOf returns the peer that is up on an end; the error is NoSuch where there is none.
 func (n *Node) PeerOf(end uint32) (Peer, error) {
 	return n.peer(func(peer *C.dn_peer, room *C.uint8_t) C.uint32_t {
 		return C.dn_node_peer_of(n.node, C.uint32_t(end), peer, room, longestName)
 	})
 }
 
-// Peers tells the peers that are up, in the order of their names.
+// Peers returns the peers that are up, in the order of their names.
 func (n *Node) Peers() ([]Peer, error) {
 	var peers []Peer
 	var last []byte

@@ -64,7 +64,7 @@ type End struct {
 	Peer  []byte // its peer's name, also before it is up; else empty
 }
 
-// Status tells the status that the newest step said, and the one that it heard: so it is known why a peer said no.
+// Status returns the status that the newest step sent, and the one that it received: so it is known why a peer said no.
 func (n *Node) Status() (said, heard Status, err error) {
 	if n.node == nil {
 		return StatusNone, StatusNone, NotANode
@@ -74,7 +74,7 @@ func (n *Node) Status() (said, heard Status, err error) {
 	return Status(isSaid), Status(isHeard), err
 }
 
-// Entry tells the ends that hold a peer.
+// Entry returns the ends that hold a peer.
 func (n *Node) Entry(peer []byte) (Entry, error) {
 	if n.node == nil {
 		return Entry{}, NotANode
@@ -85,7 +85,7 @@ func (n *Node) Entry(peer []byte) (Entry, error) {
 	return Entry{State(it.state), uint32(it.up), uint32(it.pending)}, err
 }
 
-// End tells how an end stands, and who its peer is, also before it is up.
+// End returns how an end stands, and who its peer is, also before it is up.
 func (n *Node) End(end uint32) (End, error) {
 	if n.node == nil {
 		return End{}, NotANode
@@ -98,7 +98,7 @@ func (n *Node) End(end uint32) (End, error) {
 	return End{Phase(it.phase), Why(it.why), append([]byte(nil), room[:it.peer]...)}, nil
 }
 
-// Oldest tells the end that has been open and not up for the longest, the next to make room; the error is NoSuch where each
+// Oldest returns the end that has been open and not up for the longest, the next to make room; the error is NoSuch where each
 // open end is up.
 func (n *Node) Oldest() (uint32, error) {
 	if n.node == nil {

@@ -132,7 +132,7 @@ func (j *joined) newEnd(reply distnode.Reply, err error) (uint32, error) {
 	return reply.End, err
 }
 
-// close closes the connection of an end that a reply tells as closed: the goroutine that reads from it sees that it ended. The
+// close closes the connection of an end that a reply reports as closed: the goroutine that reads from it sees that it ended. The
 // caller holds the lock.
 func (j *joined) close(reply distnode.Reply) {
 	if conn, is := j.conns[reply.Other]; is && reply.Closed != 0 {
@@ -256,7 +256,7 @@ func (l *link) comeUp() (distnode.Peer, error) {
 	}
 }
 
-// dropPackets drops what is whole of the packets that came, and tells whether a tick was among them.
+// dropPackets drops what is whole of the packets that came, and returns whether a tick was among them.
 func (l *link) dropPackets() (isTick bool) {
 	for len(l.held) >= 4 {
 		size := int(binary.BigEndian.Uint32(l.held))
@@ -295,7 +295,7 @@ func (l *link) keep(until time.Time) distnode.Why {
 	return distnode.GaveUp
 }
 
-// lose gives the end up, and tells why it is closed: another step may have closed it before.
+// lose gives the end up, and returns why it is closed: another step may have closed it before.
 func (l *link) lose(why distnode.Why) distnode.Why {
 	l.all.Lock()
 	defer l.all.Unlock()

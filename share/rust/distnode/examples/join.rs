@@ -211,7 +211,7 @@ impl Link {
         }
     }
 
-    /// Drops what is whole of the packets that came, and tells whether a tick was among them.
+    /// Drops what is whole of the packets that came, and returns whether a tick was among them.
     fn drop_packets(&mut self) -> bool {
         let mut is_tick = false;
         while let Some(head) = self.held.first_chunk::<4>() {
@@ -254,7 +254,7 @@ impl Link {
         Ok(Why::GaveUp)
     }
 
-    /// Gives the end up, and tells why it is closed: another step may have closed it before.
+    /// Gives the end up, and returns why it is closed: another step may have closed it before.
     fn lose(&self, why: Why) -> Why {
         let mut all = self.all();
         all.close(Some((self.end, why)));

@@ -64,7 +64,7 @@ impl std::error::Error for Error {}
 #[derive(Clone, Copy, Debug, PartialEq, Eq, Hash)]
 pub struct Refused {
     pub error: Error,
-    /// The end that was given up to make room all the same, and why: its connection is to be closed, as where a reply tells it.
+    /// The end that was given up to make room all the same, and why: its connection is to be closed, as where a reply reports it.
     pub closed: Option<(u32, Why)>,
 }
 
@@ -85,7 +85,7 @@ pub(crate) fn done(code: u32) -> Result<(), Error> {
     }
 }
 
-/// Why an end is closed. The caller tells a loss with one of the first five.
+/// Why an end is closed. The caller reports a loss with one of the first five.
 #[derive(Clone, Copy, Debug, PartialEq, Eq, Hash)]
 #[repr(u32)]
 pub enum Why {
@@ -160,7 +160,7 @@ fn word(call: impl Fn(&mut [u8; 16], &mut usize) -> u32) -> String {
     }
 }
 
-/// What a call copies into a room: once more with the length that it tells, where the first room is too short.
+/// What a call copies into a room: once more with the length that it returns, where the first room is too short.
 pub(crate) fn copied(
     most: usize,
     call: impl Fn(&mut [u8], &mut usize) -> u32,

@@ -68,7 +68,7 @@ pub fn port_request(alive: &[u8]) -> Result<Vec<u8>, Error> {
     })
 }
 
-/// What the port mapper tells of a node, in all that it said; `None` where it knows none.
+/// What the port mapper says of a node; `None` where it knows none.
 pub fn port_answer(bytes: &[u8]) -> Result<Option<Info>, Error> {
     let (mut result, mut it) = (0, sys::dn_info::default());
     // SAFETY: as in `alive_request`.

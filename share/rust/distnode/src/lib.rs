@@ -1,7 +1,7 @@
 //! The handshake of Erlang's distribution protocol over libdistnode, whose steps are proved to be those of its definition: a node, the
 //! registry of a port mapper, and the port mapper's messages.
 //!
-//! There are no sockets, no clock and no random numbers in here: the caller owns them, tells what happened, and does what the reply
+//! There are no sockets, no clock and no random numbers in here: the caller owns them, reports what happened, and does what the reply
 //! says. `examples/join.rs` is a whole program; docs/C_LIBRARY.md of the sources has the order of calls.
 
 mod code;

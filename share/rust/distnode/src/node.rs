@@ -86,7 +86,7 @@ impl Reply {
     }
 }
 
-/// The end that a reply tells as closed, and why.
+/// The end that a reply reports as closed, and why.
 fn closed_end(it: &sys::dn_reply) -> Option<(u32, Why)> {
     Why::of(it.closed).map(|why| (it.closed_id, why))
 }
@@ -201,7 +201,7 @@ impl Node {
         self.reply(&it)
     }
 
-    /// A step that gives out an end, whose reply tells with every code which end made room.
+    /// A step that gives out an end, whose reply says with every code which end made room.
     fn newcomer(
         &mut self,
         call: impl FnOnce(&mut sys::dn_node, &mut sys::dn_reply) -> u32,
@@ -214,7 +214,7 @@ impl Node {
             .map_err(|error| Refused { error, closed })
     }
 
-    /// The node is to connect to this peer: the reply has a new end, and may tell another that made room for it; so may the
+    /// The node is to connect to this peer: the reply has a new end, and may name another that made room for it; so may the
     /// refusal. `is_new` opens by the name `N` of version 6, else by `n`.
     pub fn dial(&mut self, peer: &[u8], is_new: bool) -> Result<Reply, Refused> {
         // SAFETY: as in `allow`.
@@ -229,7 +229,7 @@ impl Node {
         self.step(|node, reply| unsafe { sys::dn_node_opened(node, end, reply) })
     }
 
-    /// A connection was accepted: the reply has a new end, and may tell another that made room for it; so may the refusal.
+    /// A connection was accepted: the reply has a new end, and may name another that made room for it; so may the refusal.
     pub fn incoming(&mut self) -> Result<Reply, Refused> {
         // SAFETY: as in `allow`.
         self.newcomer(|node, reply| unsafe { sys::dn_node_incoming(node, reply) })
@@ -282,7 +282,7 @@ impl Node {
         Ok(Some(Reply::of(&it, Vec::new())))
     }
 
-    /// What `received_body` would answer, as `ready` tells what `received` would.
+    /// What `received_body` would answer, as `ready` returns what `received` would.
     pub fn ready_body(&mut self, end: u32, body: &[u8], challenge: u32) -> Result<Reply, Error> {
         let mut it = sys::dn_reply::default();
         let node: *mut sys::dn_node = &mut *self.0;

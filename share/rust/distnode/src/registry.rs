@@ -14,7 +14,7 @@ pub struct Served {
     pub say: Vec<u8>,
     /// How many bytes were taken.
     pub taken: usize,
-    /// The connection is to be kept, and `closed` told of its end; else it is to be closed once the answer was written.
+    /// The connection is to be kept, and its end reported by `closed`; else it is to be closed once the answer was written.
     pub is_registered: bool,
 }
 
