@@ -9,7 +9,8 @@ use Rattle.dist_messages.specs.declared.message.Message.{Message}
 use Rattle.dist_messages.specs.declared.message.Message.TheVariants as message
 use Rattle.dist_messages.specs.declared.message_error.MessageError.{MessageError}
 use Rattle.dist_messages.specs.declared.message_error.MessageError.TheVariants.{Long}
-use Rattle.dist_messages.specs.Reading.{◌>>=◌, number_at, bytes_at, old_name, new_name, old_challenge, new_challenge, complement, reply, ack, read, has_name_tag}
+use Rattle.dist_names.specs.Fields.{number_at, bytes_at}
+use Rattle.dist_messages.specs.Reading.{◌>>=◌, old_name, new_name, old_challenge, new_challenge, complement, reply, ack, read, has_name_tag}
 use Rattle.dist_c_guest.specs.Statuses.{status_in, status_of}
 
 abbrev none : Option Status

@@ -5,7 +5,7 @@ use Rattle.std.proofs.lemmas.Bool.{eqb-true, false≢true}
 use Rattle.std.proofs.lemmas.Nat.{and_assoc, and_mask, and_mod}
 use Rattle.std.specs.Int.{w16, w32, w64, to_be_bytes}
 use Rattle.dist_names.specs.Flags.{has_all, low_half}
-use Rattle.dist_messages.proofs.FieldLaws.{number_again, wide32, wide64}
+use Rattle.dist_names.proofs.Fields.{number_again, wide32, wide64}
 use Rattle.dist_messages.specs.declared.message.Message.{Message}
 use Rattle.dist_messages.specs.declared.message.Message.TheVariants as message
 use Rattle.dist_messages.specs.Canonical.{canonical, written_version}

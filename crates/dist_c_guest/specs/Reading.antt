@@ -2,7 +2,7 @@
 use Rattle.std.specs.Prelude.{ℕ, ◌==◌, bit_or, if◌then◌else◌, List, ◌++◌, take, drop, slice_index, [], Option, Some, None}
 use Rattle.std.specs.Int.{Width, w32, w64, to_be_bytes}
 use Rattle.dist_names.specs.Flags.{has_all, low_half}
-use Rattle.dist_messages.specs.Reading.{number_at}
+use Rattle.dist_names.specs.Fields.{number_at}
 use Rattle.dist_c_guest.specs.declared.reading.Reading.{Reading}
 
 -- bodies are read as they came, and no forms are kept

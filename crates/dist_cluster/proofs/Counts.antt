@@ -1,4 +1,4 @@
--- Words that are counted one behind the other.
+-- Words that are counted one after the other.
 use Rattle.std.proofs.Common.{◌≡◌, ℕ, ◌==◌, Bool, true, false, List, [], ◌∷◌, ◌++◌, if◌then◌else◌, map, refl, sym, ap, ◌∙◌}
 use Rattle.std.specs.Borrow.{Bor}
 use Rattle.std.proofs.lemmas.List.{map-append}
@@ -15,7 +15,7 @@ tallied-append count (word ∷ words) b = elim (count word == 0) as (λ (v : Boo
 abbrev pub words_of : List (Bor (List ℕ)) → List (List ℕ)
 words_of words = map (λ word. word.now) words
 
--- one word more was counted
+-- one more word was counted
 pub one_more : (count : List ℕ → ℕ) (before : List (Bor (List ℕ))) (word : Bor (List ℕ)) (k : ℕ) (old new : List (List ℕ × ℕ)) → k ≡ count word.now → old ≡ tallied count (words_of before) → new ≡ old ++ tallied (λ (w : List ℕ). k) (word.now ∷ []) → new ≡ tallied count (words_of (before ++ word ∷ []))
 one_more count before word k old new same so_far is =
     let one : tallied (λ (w : List ℕ). k) (word.now ∷ []) ≡ tallied count (word.now ∷ []) = ap (λ (n : ℕ). tallied (λ (w : List ℕ). n) (word.now ∷ [])) same in

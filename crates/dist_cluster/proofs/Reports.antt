@@ -13,7 +13,7 @@ use Rattle.dist_cluster.proofs.Watches.{Agrees, agree-more, differs, none-shown,
 abbrev pub change_at : Moment → VerdictChange
 change_at m = change_from (verdict_before m) m.seen
 
--- what is reported of an observation, by whether its verdict is another
+-- what is reported of an observation, by whether its verdict differs
 abbrev pub reported_if : Bool → Option (List ℕ) → Observation → List VerdictChange
 reported_if b before o = option_to_list (cond b (Some (change_from before o)) None)
 
@@ -48,9 +48,9 @@ reports-from (o ∷ os) shown past fits agree =
 pub reports-changes : (targets : ℕ) (history : List Observation) → AreOfTargets targets history → reports (watching targets) history ≡ changes history
 reports-changes targets history fits = reports-from history (watching targets) [] (all-fit targets history fits) (none-shown targets)
 
--- ---- what was reported last is shown
+-- ---- each target shows its last report
 
--- what was reported last of each target is what it shows
+-- each target shows the verdict in its last report
 abbrev pub Shows : List VerdictChange → Verdicts → Type 0
 Shows reported shown = (t : ℕ) → last_reported t reported ≡ verdict_of shown t
 

@@ -101,9 +101,9 @@ worst-all x xs =
       bound = worst-above (x ∷ xs) empty_tally;
     }
 
--- ---- the last few
+-- ---- the last few latencies
 
--- the last few of the last few and one more are those of all and one more
+-- the last few of some last few and one more are the last few of all and one more
 few-more : (n : ℕ) (past : List ℕ) (x : ℕ) → last_few n (last_few n past ++ x ∷ []) ≡ last_few n (past ++ x ∷ [])
 few-more n past x =
     let k : ℕ = length past - n in

@@ -1,4 +1,4 @@
--- What the targets showed last, by what was observed.
+-- What the targets showed last is what was observed last.
 use Rattle.std.proofs.Common.{◌≡◌, ◌≢◌, ℕ, ◌<◌, Bool, true, false, not, eqb, List, [], ◌∷◌, ◌++◌, Option, Some, None, length, get_or, set, replicate}
 use Rattle.std.proofs.Common.{refl, sym, ap, ◌∙◌, inl, inr, arith}
 use Rattle.std.specs.Cmp.Lexicographic.{pointwise, same_text, other_text}
@@ -20,7 +20,7 @@ not-true : (b : Bool) → not b ≡ true → false ≡ b
 not-true true h = absurd (false≢true h)
 not-true false h = refl
 
--- a verdict that is not another is the one before
+-- a verdict that does not differ is the one before
 pub known : (before : Option (List ℕ)) (verdict : List ℕ) → is_other before verdict ≡ false → before ≡ Some verdict
 known None verdict h = absurd (false≢true (sym h))
 known (Some before) verdict h = ap Some (same_text before verdict (not-false (pointwise eqb before verdict) h))
@@ -31,19 +31,19 @@ some-same a b e = cc
 none-some : (b : List ℕ) → ◌≡◌ {A = Option (List ℕ)} None (Some b) → ⊥
 none-some b e = cc
 
--- one that is another is not the one before
+-- a verdict that differs is not the one before
 pub differs : (before : Option (List ℕ)) (verdict : List ℕ) → is_other before verdict ≡ true → before ≢ Some verdict
 differs None verdict h e = none-some verdict e
 differs (Some before) verdict h e = other_text before verdict (not-true (pointwise eqb before verdict) h) (some-same before verdict e)
 
--- ---- what is shown after one more
+-- ---- what is shown after one more observation
 
 pub stays : (shown : Verdicts) (seen : Observation) → is_other (verdict_of shown seen.target) seen.verdict ≡ false → after_one shown seen ≡ shown
 stays shown seen h =
     let e : get_or shown seen.target None ≡ Some seen.verdict = known (get_or shown seen.target None) seen.verdict h in
     ap (λ (v : Option (List ℕ)). set shown seen.target v) (sym e) ∙ set-get_or shown seen.target None
 
--- where it is the one that was shown
+-- where the verdict is the one that was shown, nothing changes
 pub stays-known : (shown : Verdicts) (seen : Observation) (same : Bool) → same ≡ not (is_other (verdict_of shown seen.target) seen.verdict) → same ≡ true
     → shown ≡ after_one shown seen
 stays-known shown seen same is holds =
@@ -70,7 +70,7 @@ none-shown targets t =
 
 -- ---- what is shown is what was observed last
 
--- each target shows what was observed last of it
+-- each target shows the verdict that was observed of it last
 abbrev pub Agrees : Verdicts → List Observation → Type 0
 Agrees shown past = (t : ℕ) → verdict_of shown t ≡ last_observed t past
 

@@ -1,4 +1,4 @@
--- The lines in which a port mapper gives its names.
+-- The lines in which a port mapper lists its names.
 --
 -- The ERTS User's Guide (EPMD Protocol) gives them as `name NAME at port PORT`, each with a line feed.
 use Rattle.std.specs.Prelude.{ℕ, ◌-◌, List, length, take, take_while, reverse, drop, codes, nat_eq}

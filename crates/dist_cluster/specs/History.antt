@@ -1,4 +1,4 @@
--- What there is to report of observations one after the other: it speaks of the whole history, and of no watch.
+-- What has to be reported of a list of observations: this speaks of the whole history, and not of a watch.
 use Rattle.std.specs.Prelude.{◌==◌, ℕ, ◌<◌, Bool, List, [], ◌∷◌, ◌++◌, Option, Some, None, map, filter, option_map, option_to_list}
 use Rattle.std.specs.List.{AllByRecursion}
 use Rattle.dist_cluster.specs.declared.change.Observation.{Observation}
@@ -20,7 +20,7 @@ pub record Moment : Type 0 where
   pub before : List Observation
   pub seen : Observation
 
--- each observation with those before it, where these came before all of them
+-- each observation with those before it, where the first list comes before all of the second
 abbrev pub moments_after : List Observation → List Observation → List Moment
 moments_after before [] = []
 moments_after before (o ∷ os) = record { before = before; seen = o } ∷ moments_after (before ++ o ∷ []) os

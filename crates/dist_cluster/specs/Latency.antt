@@ -16,7 +16,7 @@ pub record Tally : Type 0 where
   -- the last ones, the oldest first
   pub recent : List ℕ
 
--- that of no latencies: the least is the greatest number of 64 bits, and the worst is 0
+-- no latencies: the least is then the greatest number of 64 bits, and the worst is 0
 abbrev pub empty_tally : Tally
 empty_tally = record { count = 0; least = 2 ^ 64 - 1; worst = 0; recent = [] }
 
@@ -24,7 +24,7 @@ empty_tally = record { count = 0; least = 2 ^ 64 - 1; worst = 0; recent = [] }
 abbrev pub last_few : ℕ → List ℕ → List ℕ
 last_few n xs = drop (length xs - n) xs
 
--- what is kept once one more is noted
+-- what is kept once one more latency is noted
 abbrev pub with_latency : Tally → ℕ → Tally
 with_latency t latency = record {
   count = min (t.count + 1) (2 ^ 64 - 1);
@@ -33,12 +33,12 @@ with_latency t latency = record {
   recent = last_few most_kept (t.recent ++ latency ∷ []);
 }
 
--- THE MEDIAN of some numbers: the one in the middle once they are sorted; of an even number of them, the lower of the two there
+-- THE MEDIAN of some numbers: the middle one once they are sorted; of an even number of them, the lower of the two in the middle
 abbrev pub IsMedian : List ℕ → ℕ → Type 0
 IsMedian xs median =
     (sorted : List ℕ) × IsPermutation xs sorted × IsNonDecreasing sorted × (slice_get sorted ((length sorted - 1) / 2) ≡ Some median)
 
--- a summary says what is kept, and the median of the last ones
+-- the summary says what is kept, and the median of the last latencies
 pub record Summarizes (s : LatencySummary) (t : Tally) : Type 0 where
   pub count : s.count ≡ t.count
   pub least : s.least ≡ t.least
@@ -47,7 +47,7 @@ pub record Summarizes (s : LatencySummary) (t : Tally) : Type 0 where
 
 -- ---- all latencies
 
--- what is kept once these are noted in turn
+-- what is kept once these latencies are noted in turn
 abbrev pub after_latencies : Tally → List ℕ → Tally
 after_latencies t [] = t
 after_latencies t (x ∷ xs) = after_latencies (with_latency t x) xs
@@ -60,12 +60,12 @@ tally_of xs = after_latencies empty_tally xs
 abbrev pub FitWord : List ℕ → Type 0
 FitWord xs = AllByRecursion (λ x. x < 2 ^ 64) xs
 
--- it is one of them, and none is less
+-- the number is one of these, and none of them is less
 pub record IsLeast (xs : List ℕ) (least : ℕ) : Type 0 where
   pub member : Contains xs least
   pub bound : AllByRecursion (λ x. least ≤ x) xs
 
--- it is one of them, and none is greater
+-- the number is one of these, and none of them is greater
 pub record IsGreatest (xs : List ℕ) (greatest : ℕ) : Type 0 where
   pub member : Contains xs greatest
   pub bound : AllByRecursion (λ x. x ≤ greatest) xs

@@ -12,18 +12,18 @@ use Rattle.dist_cluster.specs.declared.pairs.Half.{Half}
 use Rattle.dist_cluster.specs.declared.pairs.Pairing.{Pairing}
 use Rattle.dist_cluster.specs.declared.pairs.Pairing.TheVariants as pairing
 
--- which flags the first lacks of those that the second's release asks for
+-- which flags the first node lacks of those that the second node's release requires
 abbrev pub lacks : Flags → Flags → Flags
 lacks first second = record { 0 = missing first.0 (required_by (release_of second.0)) }
 
--- what the cookies show: certain is a difference alone, where one takes what the other does not
+-- what the cookies show: both nodes accept the one that was tried, or one accepts and one refuses it, or nothing is known
 abbrev pub behind_cookies : ProbeVerdict → ProbeVerdict → Pairing
 behind_cookies verdict.Up verdict.Up = pairing.Agree
 behind_cookies verdict.Up verdict.WrongCookie = pairing.OtherCookies
 behind_cookies verdict.WrongCookie verdict.Up = pairing.OtherCookies
 behind_cookies first second = pairing.Unsure
 
--- what the flags show, and behind them the cookies
+-- what the flags show, and where they show nothing, the cookies
 abbrev pub behind_flags : Option Flags → Option Flags → Pairing → Pairing
 behind_flags (Some first) (Some second) cookies = if ((lacks first second).0 == 0) && ((lacks second first).0 == 0) then cookies
     else pairing.LacksFlags (lacks first second) (lacks second first)
@@ -34,7 +34,7 @@ same_style style.Long style.Long = true
 same_style style.Short style.Short = true
 same_style first second = false
 
--- the first that holds: one name, a long and a short one, one that was not reached, missing flags, other cookies
+-- the first that holds: the same name, a long and a short one, one node not reached, missing flags, different cookies
 abbrev pub pairing_of : Half → Half → Pairing
 pairing_of first second =
     if same_name first.node.now second.node.now then pairing.SameName else
@@ -61,7 +61,7 @@ pair_cause pairing.OtherCookies = codes "they have different cookies: one takes 
 pair_cause pairing.Unsure = codes "names and flags agree; not both took our cookie, so theirs are not compared"
 pair_cause pairing.Agree = codes "names, flags and cookie agree"
 
--- something speaks against the two: the pair has a status of its own
+-- something is wrong with the pair, so that it has a status of its own
 abbrev pub is_bad : Pairing → Bool
 is_bad pairing.NotReached = false
 is_bad pairing.Unsure = false

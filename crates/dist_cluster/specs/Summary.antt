@@ -1,4 +1,4 @@
--- How many nodes came to which verdict, and how many pairs of them to which word.
+-- How many nodes came to each verdict, and how many pairs of nodes to each word.
 use Rattle.std.specs.Prelude.{◌≡◌, ℕ, ◌+◌, ◌-◌, ◌*◌, ◌/◌, ◌^◌, ◌==◌, Bool, List, [], ◌∷◌, codes, count_by, length, map, min, if◌then◌else◌}
 use Rattle.dist_names.specs.Order.{same_name}
 use Rattle.dist_probe.specs.Words.{verdict_word}
@@ -7,7 +7,7 @@ use Rattle.dist_cluster.specs.declared.pairs.Half.{Half}
 use Rattle.dist_cluster.specs.declared.summary.Summary.{Summary}
 use Rattle.dist_cluster.specs.declared.summary.WordCount.{WordCount}
 
--- the verdict upon a node has this word
+-- the verdict on the node has this word
 abbrev pub comes_to : List ℕ → Half → Bool
 comes_to word half = same_name (verdict_word half.verdict) word
 
@@ -15,12 +15,12 @@ comes_to word half = same_name (verdict_word half.verdict) word
 abbrev pub makes_pair : List ℕ → Half → Half → Bool
 makes_pair word first second = same_name (pair_word (pairing_of first second)) word
 
--- how many pass a test, of each element with each one behind it
+-- how many pass a test: each element is paired with each one behind it
 abbrev pub pair_count : (Half → Half → Bool) → List Half → ℕ
 pair_count p [] = 0
 pair_count p (first ∷ rest) = count_by (p first) rest + pair_count p rest
 
--- how many pairs have this word, up to the greatest number of 64 bits
+-- how many pairs have this word, at most the greatest number of 64 bits
 abbrev pub how_many : List Half → List ℕ → ℕ
 how_many halves word = min (pair_count (makes_pair word) halves) (2 ^ 64 - 1)
 
@@ -39,24 +39,24 @@ pair_words =
     codes "SameName" ∷ codes "LongAndShort" ∷ codes "NotReached" ∷ codes "LacksFlags" ∷ codes "OtherCookies" ∷ codes "Unsure"
     ∷ codes "Agree" ∷ []
 
--- the words that some have, and how many have each
+-- those of the words that occur, and how many have each
 abbrev pub tallied : (List ℕ → ℕ) → List (List ℕ) → List (List ℕ × ℕ)
 tallied count [] = []
 tallied count (word ∷ words) = if count word == 0 then tallied count words else (word, count word) ∷ tallied count words
 
--- what counts say: each word, and how many have it
+-- what the counts say: each word, and how many have it
 abbrev pub shown_counts : List WordCount → List (List ℕ × ℕ)
 shown_counts counts = map (λ c. (c.word.now, c.count)) counts
 
--- which verdicts the nodes came to, and how many to each
+-- which verdicts the nodes came to, and how many nodes to each
 abbrev pub verdict_counts : List Half → List (List ℕ × ℕ)
 verdict_counts halves = tallied (λ word. count_by (comes_to word) halves) verdict_words
 
--- which words their pairs have, and how many have each
+-- which words the pairs have, and how many pairs have each
 abbrev pub pair_counts : List Half → List (List ℕ × ℕ)
 pair_counts halves = tallied (how_many halves) pair_words
 
--- WHAT ALL NODES CAME TO: how many there are, and how many pairs they make (of at most 2^32 nodes), each with the words that some have
+-- WHAT ALL NODES CAME TO: how many they are, and how many pairs they make (of at most 2^32 nodes), each with the words that occur
 pub record Summarizes (halves : List Half) (s : Summary) : Type 0 where
   pub nodes : s.nodes ≡ length halves
   pub verdicts : shown_counts s.verdicts.items ≡ verdict_counts halves

@@ -12,7 +12,7 @@ use Rattle.dist_cluster.specs.declared.targets.Target.TheVariants as target
 abbrev pub usual_prefix : List ℕ
 usual_prefix = codes "distping"
 
--- the word that names all nodes of a host: what stands behind that in the probe's usual name there
+-- the word for all nodes of a host: the probe's usual name there, from the @ on
 abbrev pub group_word : Group → List ℕ
 group_word group = unwrap_or (behind_prefix usual_prefix group.own) []
 
@@ -20,12 +20,12 @@ group_word group = unwrap_or (behind_prefix usual_prefix group.own) []
 abbrev pub is_hash : ℕ → Bool
 is_hash byte = byte == 0x23
 
--- a word that names all nodes of a host
+-- the word names all nodes of a host
 abbrev pub begins_with_at : List ℕ → Bool
 begins_with_at [] = false
 begins_with_at (byte ∷ rest) = byte == 0x40
 
--- the name that a word has to give: its own, or the probe's usual one at that host
+-- the name that a word leads to: the word itself, or the probe's usual name at that host
 abbrev pub name_behind : List ℕ → List ℕ
 name_behind word = if begins_with_at word then usual_prefix ++ word else word
 
@@ -34,12 +34,12 @@ abbrev pub RefusedOr : Bool → NameError → Result (List ℕ) NameError → Ty
 RefusedOr true error expected = ⊤
 RefusedOr false error expected = expected ≡ Err error
 
--- THE NAME THAT THESE BYTES ARE, or why they are none, unless memory ran out.
+-- THE NAME THAT THESE BYTES ARE, or why they are not one, unless memory ran out.
 abbrev pub Names : Result (List ℕ) NameError → List ℕ → Type 0
 Names (Ok name) bytes = name_of_bytes bytes ≡ Ok name
 Names (Err error) bytes = RefusedOr (is_name_memory_error error) error (name_of_bytes bytes)
 
--- the same of a target, which is a group or a node
+-- the same for a target, which is a group or a node
 abbrev pub NamesTarget : Result Target NameError → List ℕ → Bool → Type 0
 NamesTarget (Ok (target.Node name)) bytes is_group = (name_of_bytes bytes ≡ Ok name) × (is_group ≡ false)
 NamesTarget (Ok (target.Group group)) bytes is_group = (name_of_bytes bytes ≡ Ok group.own) × (is_group ≡ true)

@@ -4,11 +4,11 @@ use Rattle.std.specs.Cmp.Lexicographic.{pointwise}
 use Rattle.dist_cluster.specs.declared.change.Observation.{Observation}
 use Rattle.dist_cluster.specs.declared.change.VerdictChange.{VerdictChange}
 
--- the verdict that each target showed last, where anything was seen of it
+-- the verdict that each target showed last, where it was observed at all
 abbrev pub Verdicts : Type 0
 Verdicts = List (Option (List ℕ))
 
--- a watch of this many targets, of which nothing was seen
+-- a watch of this many targets, without observations
 abbrev pub watching : ℕ → Verdicts
 watching targets = replicate targets None
 
@@ -16,11 +16,11 @@ watching targets = replicate targets None
 abbrev pub verdict_of : Verdicts → ℕ → Option (List ℕ)
 verdict_of shown target = slice_index_or shown target None
 
--- the same after one more observation
+-- the verdicts after one more observation
 abbrev pub after_one : Verdicts → Observation → Verdicts
 after_one shown seen = slice_set shown seen.target (Some seen.verdict)
 
--- the verdict is not the one before, or there was none before
+-- the verdict differs from the one before, or there was none before
 abbrev pub is_other : Option (List ℕ) → List ℕ → Bool
 is_other None verdict = true
 is_other (Some before) verdict = not (pointwise ◌==◌ before verdict)

@@ -1,4 +1,4 @@
-//! What was seen of a target, and what is reported of it.
+//! What was seen of a target, and the change that is reported.
 
 use dist_names::ByteString;
 
@@ -7,13 +7,13 @@ use dist_names::ByteString;
 pub struct Observation {
     /// The target's position in the caller's list, from 0.
     pub target: usize,
-    /// When it was seen, by the caller's clock and in the caller's unit. The watch only hands it on.
+    /// When it was seen, by the caller's clock and in the caller's unit. The watch only passes it on.
     pub at: u64,
     /// The verdict as it is printed. Two verdicts are the same where their bytes are.
     pub verdict: ByteString,
 }
 
-/// A verdict that is not the one before it.
+/// A verdict that differs from the one before it.
 #[derive(Drop)]
 pub struct VerdictChange {
     /// The target's position in the caller's list, from 0.

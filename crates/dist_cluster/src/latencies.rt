@@ -23,8 +23,8 @@ pub struct LatencySummary {
     pub worst: u64,
 }
 
-/// The latencies of one target, in whatever unit the caller notes them. Which answers count, as those of a node that is up, is the
-/// caller's choice.
+/// The latencies of one target, in whatever unit the caller notes them. The caller chooses which answers count, for instance those
+/// of a node that is up.
 #[derive(Drop)]
 pub struct Latencies {
     // Where memory for the latencies comes from.
@@ -76,7 +76,7 @@ impl Latencies {
         Ok(())
     }
 
-    /// The summary of what was noted. `None` where nothing was.
+    /// The summary of what was noted. `None` where nothing was noted.
     pub fn summary(&self) -> Result<Option<LatencySummary>, AllocError>
         ensures { IfOk result (λ summary. MatchOption summary (self.now.recent ≡ []) (λ s. Summarizes s self.now)) }
     {

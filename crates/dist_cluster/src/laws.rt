@@ -14,14 +14,14 @@ pub fn each_change_is_reported_once()
         reports (watching targets) history ≡ changes history }
 {}
 
-/// Of each target the last verdict that was reported is the last one that was observed: whoever reads the reports alone knows how
+/// For each target the last verdict that was reported is the last one that was observed: whoever reads only the reports knows how
 /// things stand.
 pub fn reports_show_how_things_stand()
     ensures { (targets target : ℕ) (history : List Observation) → AreOfTargets targets history →
         last_reported target (reports (watching targets) history) ≡ last_observed target history }
 {}
 
-/// The verdict before, in a report, is the one that was reported last of that target, and the new verdict is another.
+/// The old verdict in a report is the one that was reported last of that target, and the new verdict differs from it.
 pub fn each_change_differs()
     ensures before { (targets : ℕ) (history : List Observation) (early late : List VerdictChange) (change : VerdictChange) → AreOfTargets targets history →
         reports (watching targets) history ≡ early ++ change ∷ late → change.before ≡ last_reported change.target early }

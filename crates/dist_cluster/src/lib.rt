@@ -1,9 +1,9 @@
-//! What is to be said of many nodes at once: which nodes the words of a command line and the lines of a port mapper name, what can be
-//! said of each two of them, how many came to which verdict, and of nodes that are probed again and again the changes alone, and how
+//! What can be said of many nodes at once: which nodes the words of a command line and the lines of a port mapper name, what can be
+//! said of each two of them, how many came to each verdict; and where nodes are probed again and again, only the changes, and how
 //! long the answers took.
 //!
-//! No sockets, no clock, no text of its own but the words of pairs. Whoever probes says what was seen, of which node and when; a
-//! `Watch` answers whether that is a change. A `Latencies` keeps what a summary of one node needs, in memory that does not grow.
+//! No sockets, no clock, no text of its own except the words of pairs. The caller probes, and says what was seen, of which node
+//! and when; a `Watch` answers whether that is a change. A `Latencies` keeps what a summary of one node needs, in constant memory.
 #![tactic(auto)]
 
 mod change;

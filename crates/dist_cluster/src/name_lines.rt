@@ -1,4 +1,4 @@
-//! The lines in which a port mapper gives the names that it knows.
+//! The lines in which a port mapper lists the names that it knows.
 
 ghost use Rattle.std.specs.Prelude.{◌≡◌};
 ghost use Rattle.std.specs.Option.{option_copied};

@@ -9,7 +9,7 @@ use dist_flags::{missing, release_of};
 use dist_names::{Flags, NodeName};
 use dist_probe::{ProbeVerdict, style_of};
 
-/// What a probe left of one node.
+/// What a probe found out about one node.
 #[derive(Clone, Copy)]
 pub struct Half<'a> {
     /// Its name.
@@ -23,23 +23,23 @@ pub struct Half<'a> {
 /// What can be said of two nodes from outside: the first of these that holds.
 #[derive(Clone, Copy)]
 pub enum Pairing {
-    /// Both have one name.
+    /// Both have the same name.
     SameName,
     /// One has a long name, the other a short one.
     LongAndShort,
-    /// One of the two at least did not send its flags.
+    /// At least one of the two did not send its flags.
     NotReached,
-    /// The first lacks flags that the second's release asks for, or the other way round.
+    /// The first lacks flags that the second's release requires, or the other way round.
     LacksFlags(Flags, Flags),
-    /// One takes the cookie that was tried, and the other does not.
+    /// One accepts the cookie that was tried, and the other does not.
     OtherCookies,
-    /// Nothing stands between the two, and the cookie was not taken by both.
+    /// Nothing was found against the pair, and not both accepted the cookie.
     Unsure,
-    /// Nothing stands between the two, and both take one cookie.
+    /// Nothing was found against the pair, and both accept the same cookie.
     Agree,
 }
 
-// Which flags the first lacks of those that the second's release asks for.
+// Which flags the first lacks of those that the second's release requires.
 fn lacks(first: Flags, second: Flags) -> Flags
     ensures { result ≡ lacks first second }
 {
@@ -58,7 +58,7 @@ fn behind_cookies(first: ProbeVerdict, second: ProbeVerdict) -> Pairing
     }
 }
 
-// What the flags show, and behind them the cookies.
+// What the flags show, and where they show nothing, the cookies.
 fn behind_flags(first: Option<Flags>, second: Option<Flags>, cookies: Pairing) -> Pairing
     ensures { result ≡ behind_flags first second cookies }
 {
@@ -88,7 +88,7 @@ pub fn pairing_of(first: &Half<'_>, second: &Half<'_>) -> Pairing
 }
 
 impl Pairing {
-    /// Its word.
+    /// The pairing's word.
     pub fn name(self) -> &'static str
         ensures { result.now ≡ pair_word self }
     {
@@ -120,7 +120,7 @@ impl Pairing {
         }
     }
 
-    /// Whether something speaks against the two: not where they agree, nor where nothing is known.
+    /// Whether something is wrong with the pair: not where the two agree, nor where nothing is known.
     pub fn is_bad(self) -> bool
         ensures cases { result ≡ is_bad self }
         ensures status { IsTrue result ↔ (pair_status self ≢ 0) }
@@ -128,7 +128,7 @@ impl Pairing {
         self.status() != 0
     }
 
-    /// The exit status: 0 where nothing speaks against the pair, else the place to look at, as that of a verdict.
+    /// The exit status: 0 where nothing is wrong with the pair, else the place to look at, like that of a verdict.
     pub fn status(self) -> u8
         ensures { result ≡ pair_status self }
     {

@@ -1,4 +1,4 @@
-//! What is said of many nodes in few words: how many came to which verdict, and how many pairs to which word.
+//! What is said of many nodes in few words: how many came to each verdict, and how many pairs to each word.
 
 ghost use Rattle.std.specs.Prelude.{◌≡◌, ◌∷◌, ◌++◌, ◌^◌, ◌-◌, ◌*◌, ◌/◌, [], IfOk, OnOk, map, min, count_by};
 ghost use Rattle.dist_cluster.specs.Summary.{Summarizes, comes_to, how_many, makes_pair, pair_count, tallied, shown_counts};
@@ -53,7 +53,7 @@ const PAIRS: [&str; 7] = [
 pub struct WordCount {
     /// The word.
     pub word: &'static str,
-    /// How many have it, one at least.
+    /// How many have it, at least one.
     pub count: u64,
 }
 
@@ -91,7 +91,7 @@ fn count_verdicts(halves: &[Half<'_>], word: &str) -> usize
     halves.iter().filter(|half| comes_to(half, word)).count()
 }
 
-// With how many others a node makes a pair of this word.
+// How many of the others make a pair of this word with a node.
 fn count_with(first: &Half<'_>, others: &[Half<'_>], word: &str) -> usize
     ensures { result ≡ count_by (makes_pair word.now first.now) others.now }
 {
@@ -101,7 +101,7 @@ fn count_with(first: &Half<'_>, others: &[Half<'_>], word: &str) -> usize
         .count()
 }
 
-// How many pairs of this word the nodes make, up to the greatest number of 64 bits.
+// How many pairs of this word the nodes make, at most the greatest number of 64 bits.
 fn count_pairs(halves: &[Half<'_>], word: &str) -> u64
     ensures { result ≡ min (pair_count (makes_pair word.now) halves.now) (2 ^ 64 - 1) }
 {
@@ -114,7 +114,7 @@ fn count_pairs(halves: &[Half<'_>], word: &str) -> u64
     }
 }
 
-// One more word, where some have it.
+// Adds a word, where some have it.
 fn push_tally(
     tallies: &mut Vec<WordCount>,
     word: &'static str,
@@ -143,7 +143,7 @@ fn tally_verdicts(
     Ok(tallies)
 }
 
-// Which of these words the pairs have that the nodes make.
+// Which of these words the nodes' pairs have.
 fn tally_pairs(
     alloc: Global,
     halves: &[Half<'_>],
@@ -158,7 +158,7 @@ fn tally_pairs(
     Ok(tallies)
 }
 
-// How many pairs so many nodes make, of at most 2^32 nodes.
+// How many pairs this many nodes make, where they are at most 2^32.
 fn pairs_among(nodes: u64) -> u64
     ensures { result ≡ min (nodes * (nodes - 1)) (2 ^ 64 - 1) / 2 }
 {

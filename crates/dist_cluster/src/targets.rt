@@ -9,7 +9,7 @@ ghost use Rattle.dist_cluster.specs.Targets.{Names, NamesTarget, begins_with_at,
 use dist_names::{NameError, NodeName};
 use std::alloc::Global;
 
-/// The most nodes that are dialled in one run. Each two of them are compared. Our own choice.
+/// The most nodes that are dialled in one run, since each two of them are compared. Our own choice.
 pub const MOST_NODES: usize = 1024;
 
 /// What stands before the `@` in the probe's usual name.
@@ -32,7 +32,7 @@ pub struct Group {
 }
 
 impl Group {
-    /// The word that names it, `@HOST`.
+    /// The word that names this group, `@HOST`.
     pub fn word(&self) -> &[u8]
         ensures { result.now ≡ group_word self.now }
     {
@@ -42,7 +42,7 @@ impl Group {
         }
     }
 
-    /// The name of a node at that host, from the part before its `@`, or why it is none.
+    /// The name of a node at that host, from the part before its `@`, or why that makes no name.
     pub fn member(&self, alloc: Global, short: &[u8]) -> Result<NodeName, NameError>
         ensures { Names result (short.now ++ 0x40 ∷ host_of self.now.own) }
     {
@@ -52,7 +52,7 @@ impl Group {
     }
 }
 
-// The name that these bytes are, one behind the other.
+// The name that these two pieces make, one behind the other.
 #[tactic(auto, using(crate::proofs::Naming::named))]
 fn name_of_parts(alloc: Global, front: &[u8], back: &[u8]) -> Result<NodeName, NameError>
     ensures { Names result (front.now ++ back.now) }
@@ -62,7 +62,7 @@ fn name_of_parts(alloc: Global, front: &[u8], back: &[u8]) -> Result<NodeName, N
     NodeName::new(alloc, &bytes)
 }
 
-// Whether a word names a host, and all nodes there.
+// Whether a word names all nodes of a host.
 fn begins_with_at(word: &[u8]) -> bool
     ensures { result ≡ begins_with_at word.now }
 {
@@ -77,7 +77,6 @@ fn group_of(alloc: Global, word: &[u8]) -> Result<Target, NameError>
     Ok(Target::Group(Group { own }))
 }
 
-// The node that a word names.
 #[tactic(auto, using(crate::proofs::Naming::named))]
 fn named_node(alloc: Global, word: &[u8]) -> Result<Target, NameError>
     ensures { NamesTarget result word.now false }
@@ -86,7 +85,7 @@ fn named_node(alloc: Global, word: &[u8]) -> Result<Target, NameError>
     Ok(Target::Node(name))
 }
 
-/// What a word names: `NAME@HOST`, or `@HOST`. The refusals are those of the node's name, else of the probe's usual name at that
+/// What a word names: `NAME@HOST`, or `@HOST`. The refusals are those of the node's name, or of the probe's usual name at that
 /// host.
 pub fn target_of(alloc: Global, word: &[u8]) -> Result<Target, NameError>
     ensures { NamesTarget result (name_behind word.now) (begins_with_at word.now) }
@@ -119,7 +118,7 @@ fn before_hash(line: &[u8]) -> &[u8]
     &line[..hash_place(line)]
 }
 
-/// The word in a line of a file: what stands before the first `#`, without blanks at its ends. It is empty where the line names
+/// The word in a line of a file: what stands before the first `#`, without blanks at either end. It is empty where the line names
 /// nothing.
 pub fn word_in(line: &[u8]) -> &[u8]
     ensures { IsTrimAscii (before_first is_hash line.now) result.now }

@@ -9,7 +9,7 @@ use dist_names::ByteString;
 use std::alloc::{AllocError, Global};
 use std::marker::Model;
 
-/// A watch of targets. Contracts see it as the list of the verdicts that the targets showed last.
+/// A watch of targets. Contracts see the list of the verdicts that the targets showed last.
 #[derive(Drop)]
 pub struct Watch {
     // Where verdicts that are kept are copied to.
@@ -26,7 +26,7 @@ impl Model for Watch {
 }
 
 impl Watch {
-    /// A watch of this many targets, of which nothing was seen.
+    /// A watch of this many targets, without observations.
     pub fn new(alloc: Global, targets: usize) -> Result<Watch, AllocError>
         ensures { IfOk result (λ watch. watch ≡ watching targets) }
     {
@@ -44,7 +44,7 @@ impl Watch {
         self.verdicts.len()
     }
 
-    /// The verdict that a target showed last. `None` where nothing was seen of it, or there is no such target.
+    /// The verdict that a target showed last. `None` where it was not observed, or there is no such target.
     pub fn verdict(&self, target: usize) -> Option<&ByteString>
         ensures { option_copied result ≡ verdict_of self.now target }
     {
@@ -67,7 +67,7 @@ impl Watch {
 
         ensures stranger { (result ≡ Err WatchError.NoSuchTarget) ↔ (length self.old ≤ seen.target) }
 
-        // Memory runs out at a change alone.
+        // Memory runs out only at a change.
         ensures memory { result ≡ Err WatchError.NoMemory → IsSome (report (verdict_of self.old seen.target) seen) }
         ensures err { OnErr result (self.new ≡ self.old) }
     {

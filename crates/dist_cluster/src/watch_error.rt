@@ -1,4 +1,4 @@
-//! Why an observation is not taken.
+//! Why an observation is rejected.
 
 ghost use Rattle.std.specs.Prelude.{◌≡◌};
 ghost use Rattle.dist_cluster.specs.declared.watch_error.WatchError.TheVariants.{NoMemory};
@@ -6,7 +6,7 @@ ghost use Rattle.dist_cluster.specs.declared.watch_error.WatchError.TheVariants.
 use std::alloc::AllocError;
 use thiserror::Error;
 
-/// Why an observation is not taken: the first reason in this order. The watch stays as it was.
+/// Why an observation is rejected: the first reason in this order. The watch stays as it was.
 #[derive(Clone, Copy, Debug, PartialEq, Eq, Error)]
 pub enum WatchError {
     /// The watch has no target at that position. The caller's fault.

@@ -1,4 +1,4 @@
--- What follows from the definition of the step for a call that gives what it gives.
+-- What follows from the definition of the step for a call that returns what the definition gives.
 use Rattle.std.specs.Prelude.{IsTrue}
 use Rattle.std.proofs.Common.{◌≡◌, ◌≢◌, ℕ, true, Option, Some, None, Result, Ok, Err, IfOk, IsOk, refl, sym, ap, ◌∙◌, subst, slice_get}
 use Rattle.dist_peers.specs.declared.entry.EndId.{EndId}
@@ -65,7 +65,7 @@ loss-ready (event.Frame x b) r h f = absurd cc
 loss-ready (event.Tick x) r h f = absurd cc
 
 module _ (n : NodeState) where
-  -- what an end that is not open has done to an event that names it
+  -- what an event that names an end that is not open leads to
   stopped : (v : Event) (fresh : ℕ) (x : EndId) (o : Option End) (e : StepError) → end_of v ≡ Some x → slice_get n.ends x.0 ≡ o → ((f : End → Result Effect StepError) → at_end o f ≡ Err e) → effect_of n v fresh ≡ Err e
   unfolding effect_of
   stopped (event.Dial p k) fresh x o e is at h = absurd cc

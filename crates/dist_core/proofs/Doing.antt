@@ -21,7 +21,6 @@ unfolding effect_of
 dial-effect n p o fresh = refl
 
 module _ (n : NodeState) (v : Event) (fresh : ℕ) (f : Effect) (is : effect_of n v fresh ≡ Ok f) (one : cost_of v ≡ 1) where
-  -- what the definition gives can be done
   pub can-do : length n.ends ≤ n.steps → n.steps ≤ (let l = limits_of n in l.steps) → length n.ends ≤ (let l = limits_of n in l.ends) → CanDo n f
   can-do few bounded left =
       let h = of_ok (λ (g : Effect). (n.steps + cost_of v ≤ (let l = limits_of n in l.steps)) × (length (ends_after n.ends g) ≤ length n.ends + cost_of v)) _ _ is (counts n bounded v fresh) in

@@ -16,7 +16,7 @@ use Rattle.dist_core.specs.declared.event.Event.TheVariants as event
 use Rattle.dist_core.specs.declared.reply.Reply.{Reply}
 use Rattle.dist_core.specs.declared.step_error.StepError.{StepError}
 
--- what was kept is the reply
+-- where the reply is kept, it is returned
 pub returned : (q : Result Reply StepError) (s : Result (Reply × NodeState) StepError) (old new : NodeState) → KeepsStep (λ r k. k ≡ r) q s old new → IsStep q s old new
 returned (Ok k) s old new h = subst (λ (r : Reply). s ≡ Ok (r, new)) (sym h.1) h.2
 returned (Err e) s old new h = h
@@ -34,11 +34,11 @@ pub tick-effect : (n : NodeState) (id : EndId) (fresh : ℕ) → effect_of n (ev
 unfolding effect_of
 tick-effect n id fresh = refl
 
--- by it the step is known
+-- from it the step is known
 pub whole : (n : NodeState) (w v : Event) (fresh : ℕ) (s : Result Effect StepError) → w ≡ v → effect_of n v fresh ≡ s → step_result n v s ≡ step n w fresh
 whole n w v fresh s same is = ap (step_result n v) (sym is) ∙ ap (λ (e : Event). step n e fresh) (sym same)
 
--- the reply of a step is that of its effect
+-- the reply of a step is the reply of its effect
 pub reported-so : (n : NodeState) (v : Event) (s : Result Effect StepError) (f : Effect) (r : Reply) → s ≡ Ok f → r ≡ f.reply → reply_of (step_result n v s) ≡ Ok r
 reported-so n v s f r is same = ap (λ (s : Result Effect StepError). reply_of (step_result n v s)) is ∙ ap (λ (r : Reply). Ok r) (sym same)
 
@@ -55,7 +55,7 @@ kept-done keeps n v s f is one (Err e) new h =
     let made : IsOk (step_result n v s) = subst (λ (q : Result Effect StepError). IsOk (step_result n v q)) (sym is) refl in
     (subst (λ (x : StepError). Refuses x (step_result n v s)) (sym h.0) made, h.1)
 
--- what is so of the reply to a loss is so however the loss is written
+-- what holds of the reply to a loss holds by whatever names the loss is written
 pub same-loss : (P : Reply → Type 0) (v : Event) (id x : EndId) (why w : Why) → v ≡ event.Lost id why → v ≡ event.Lost x w → P (loss_reply x w) → P (loss_reply id why)
 same-loss P v id x why w a b =
     let same : ◌≡◌ {A = Event} (event.Lost x w) (event.Lost id why) = sym b ∙ a in

@@ -45,7 +45,7 @@ loss_gone es (event.Incoming link) e h unknown gone lost = absurd cc
 loss_gone es (event.Frame x body) e h unknown gone lost = absurd cc
 loss_gone es (event.Tick x) e h unknown gone lost = absurd cc
 
--- a loss that is answered
+-- a loss for which a reply was returned
 pub answer_gone : (es : List End) (v : Event) (r : Result Reply StepError) → IsTrue (is_loss v)
     → ((x : EndId) → end_of v ≡ Some x → slice_get es x.0 ≡ None → r ≡ bad error.NoSuchEnd)
     → ((x : EndId) (w : Why) → end_of v ≡ Some x → slice_get es x.0 ≡ Some (ends.Closed w) → r ≡ bad (error.Gone w))
@@ -72,7 +72,7 @@ answer_silent (event.Tick x) r h silent = absurd cc
 err_is : (e f : StepError) → (let r : Result Effect StepError = Err e in r) ≡ Err f → f ≡ e
 err_is e f h = cc
 
--- no end is found there but one that was never given out, or is closed
+-- where nothing can be done at an end, it was never given out or is closed
 pub gone_at : (o : Option End) (e : StepError) → ((f : End → Result Effect StepError) → at_end o f ≡ Err e) → IsGone e
 gone_at (Some (ends.Closed w)) e h = subst IsGone (err_is e (error.Gone w) (sym (h (λ _. Err error.NoSuchEnd)))) tt
 gone_at None e h = subst IsGone (err_is e error.NoSuchEnd (sym (h (λ _. Err error.NoSuchEnd)))) tt
@@ -86,6 +86,5 @@ open_at (ends.Attempt a) x r opened h = cc
 open_at (ends.Up k) x r opened h = cc
 open_at (ends.Closed w) x r opened h = cc
 
--- an end that is open is found
 pub open_found : (o : Option End) (e : End) (x : Effect) (r : StepError) → o ≡ Some e → is_open e ≡ true → ((f : End → Result Effect StepError) → at_end o f ≡ Err r) → ⊥
 open_found o e x r at opened h = open_at e x r opened (sym (ap (λ (p : Option End). at_end p (λ _. Ok x)) at) ∙ h (λ _. Ok x))

@@ -1,4 +1,4 @@
--- A step gives out no end beyond the limit.
+-- A step gives out no end above the limit.
 use Rattle.std.proofs.Common.{◌≡◌, ℕ, ◌<◌, ◌≤◌, Bool, true, false, ◌||◌, length, Some, arith, ap, sym, subst, slice_get}
 use Rattle.std.proofs.lemmas.Option.{slice_get_within}
 use Rattle.std.proofs.lemmas.Bool.Decides.{nat_tests}
@@ -21,13 +21,13 @@ module _ (n : NodeState) where
   abbrev Numbered : Effect → Type 0
   Numbered f = length (ends_after n.ends f) ≤ (let l = limits_of n in l.ends)
 
-  -- an end that is there is changed
+  -- an end that exists is changed
   pub stays : (f : Effect) (id : EndId) (e : End) → f.reply.end_ ≡ id → slice_get n.ends id.0 ≡ Some e → length n.ends ≤ (let l = limits_of n in l.ends) → Numbered f
   stays f id e is at h =
       let within : f.reply.end_.0 < length n.ends = let P : EndId → Type 0 = λ x. x.0 < length n.ends in subst P (sym is) (slice_get_within n.ends id.0 e at) in
       omega (arith, h, length-other (put_end n.ends f.reply.end_.0 f.this) f.other, length-within n.ends f.reply.end_.0 f.this within)
 
-  -- one more is given out
+  -- one more end is given out
   more : (f : Effect) → (is_spent n || is_given_out n) ≡ false → Numbered f
   more f h =
       let g : is_given_out n ≡ false = last-no (is_spent n) (is_given_out n) h in

@@ -24,7 +24,7 @@ put-same es i e h =
     ∙ ap (set es i) (sym (get_or_from_slice_get es i e e h))
     ∙ set-get_or es i e
 
--- what a tick of an end that is up gives
+-- what a tick of an end that is up leads to
 pub ticks : (n : NodeState) (id : EndId) (r : UpRecord) → slice_get n.ends id.0 ≡ Some (ends.Up r) → is_spent n ≡ false → step_result n (event.Tick id) (at_end (slice_get n.ends id.0) (tick_effect n id)) ≡ Ok (record { end_ = id; say = tick_text; closed = None; up = None; note = note.Nothing }, record { setup = n.setup; steps = n.steps + 1; ends = n.ends })
 ticks n id r at sp =
     ap (λ o. step_result n (event.Tick id) (at_end o (tick_effect n id))) at

@@ -1,4 +1,4 @@
--- Whether a peer of the entries from a place on has no cookie of its own.
+-- Whether a peer among the entries from a place on has no cookie of its own.
 use Rattle.std.proofs.Common.{◌≡◌, ℕ, zero, suc, ◌+◌, true, false, ◌||◌, List, [], ◌∷◌, drop, refl, sym, ap, ◌∙◌, arith, slice_get}
 use Rattle.std.specs.List.{list_any}
 use Rattle.dist_names.specs.Order.{Name}

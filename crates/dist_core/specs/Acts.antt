@@ -1,4 +1,4 @@
--- Runs of a node that is given events, whose setup is changed, that forgets, and that begins anew: all that is ever done to a node.
+-- Runs of a node that gets events, changes its setup, forgets, and begins anew: all that is ever done to a node.
 use Rattle.std.specs.Prelude.{ℕ, ◌==◌, if◌then◌else◌, List, [], ◌∷◌, count_by, Result, Ok, Err}
 use Rattle.dist_core_ends.specs.Ends.{is_open}
 use Rattle.dist_core_ends.specs.Forgetting.{without_causes_below}
@@ -12,16 +12,16 @@ use Rattle.dist_core.specs.Step.{step}
 
 -- what is done to a node
 pub data Act : Type 0 where
-  -- a step, of an event and the challenge that was drawn for it
+  -- a step, for an event and the challenge that was drawn for it
   Steps : (event : Event) → (fresh : ℕ) → Act
   -- a change of its setup
   Changes : (changed : Change) → Act
-  -- it is forgotten why the ends below a number were closed
+  -- it forgets why the ends below a number were closed
   Forgets : (below : ℕ) → Act
   -- it begins anew, where no end is open
   Renews : Act
 
--- a change that is refused leaves the node
+-- a change that is refused leaves the node as it is
 abbrev pub changed_or : NodeState → Result NodeState ChangeError → NodeState
 changed_or n (Ok m) = m
 changed_or n (Err e) = n

@@ -9,22 +9,22 @@ use Rattle.dist_core.specs.declared.step_error.StepError.TheVariants as error
 use Rattle.dist_core.specs.Node.{NodeState}
 use Rattle.dist_core.specs.Step.{at_end}
 
--- a refusal is the definition's; memory runs out only where the definition refuses nothing
+-- the refusal is that of the definition; memory runs out only where the definition refuses nothing
 abbrev pub Refuses : {X : Type 0} → StepError → Result X StepError → Type 0
 Refuses error.NoMemory s = IsOk s
 Refuses e s = s ≡ Err e
 
--- a call of step gave what the definition gives; a refusal changed nothing
+-- a call of step returned what the definition gives; a refusal changed nothing
 abbrev pub IsStep : Result Reply StepError → Result (Reply × NodeState) StepError → NodeState → NodeState → Type 0
 IsStep (Ok r) s old new = s ≡ Ok (r, new)
 IsStep (Err e) s old new = Refuses e s × (new ≡ old)
 
--- what is found at an open end, or the refusal where there is none
+-- what is found is an open end, or the refusal where there is none
 abbrev pub FindsOpen : Result (Bor End) StepError → Option End → Type 0
 FindsOpen (Ok e) o = (o ≡ Some e.now) × ((f : End → Result Effect StepError) → at_end o f ≡ f e.now)
 FindsOpen (Err r) o = (r ≢ error.NoMemory) × ((f : End → Result Effect StepError) → at_end o f ≡ Err r)
 
--- a call gave the effect that the definition gives, or refused
+-- a call returned the effect that the definition gives, or a refusal
 abbrev pub Gives : Result Effect StepError → Result Effect StepError → Type 0
 Gives (Ok f) s = s ≡ Ok f
 Gives (Err e) s = Refuses e s
@@ -34,7 +34,7 @@ abbrev pub reply_of : Result (Reply × NodeState) StepError → Result Reply Ste
 reply_of (Ok x) = Ok x.0
 reply_of (Err e) = Err e
 
--- a call gave the reply that the definition gives, or refused
+-- a call returned the reply that the definition gives, or a refusal
 abbrev pub GivesReply : Result Reply StepError → Result (Reply × NodeState) StepError → Type 0
 GivesReply (Ok r) s = reply_of s ≡ Ok r
 GivesReply (Err e) s = Refuses e s

@@ -21,11 +21,11 @@ setup_after s (Cookie p own) = with_own_cookie s p own
 setup_after s (UsualCookie cookie) = keyed_usually s cookie
 setup_after s (Allow names) = letting_in s names
 
--- the node after a change: all its ends, and how many steps it made, are what they were
+-- the node after a change: all its ends, and how many steps it made, stay as they were
 abbrev pub after_change : NodeState → Change → NodeState
 after_change n v = record n { setup = setup_after n.setup v }
 
--- an end is up with the peer of an entry, and it has no cookie of its own
+-- an end is up with the peer of an entry, and that peer has no cookie of its own
 abbrev pub has_usual : Setup → Name × Entry → Bool
 has_usual s row = is_some (up_id row.1) && not (has_own_cookie s row.0)
 
@@ -38,14 +38,14 @@ is_usual_row s (Some row) = has_usual s row
 abbrev pub is_usual_in_use : NodeState → Bool
 is_usual_in_use n = list_any (has_usual n.setup) (map.entries (table_of n.ends))
 
--- an end is up, as an entry has it
+-- the entry has an end that is up
 abbrev pub is_up : Option Entry → Bool
 is_up None = false
 is_up (Some e) = is_some (up_id e)
 
--- AN END IS UP UNDER A COOKIE THAT THE CHANGE WOULD TAKE FROM ITS PEER. A handshake is no use of a cookie: each of its digests is
--- made and checked with the cookie that the peer has at that time, so after the change it comes up under the new one or not at
--- all. Whether a peer may connect is asked once, when its name comes: so a change of the names concerns no end that is there.
+-- AN END IS UP UNDER A COOKIE THAT THE CHANGE WOULD TAKE FROM ITS PEER. A handshake does not count as use of a cookie: its digests
+-- are made and checked with the cookie that the peer has at that time, so after the change it comes up under the new one or not at
+-- all. Whether a peer may connect is asked once, when its name comes: so a change of the names affects no end that exists.
 abbrev pub is_in_use : NodeState → Change → Bool
 is_in_use n (Cookie p own) = is_up (entry_in n.ends p) && rekeys n.setup.cookies p own
 is_in_use n (UsualCookie cookie) = is_usual_in_use n
@@ -61,8 +61,8 @@ finds_no_room n (Allow names) = false
 abbrev pub change : NodeState → Change → Result NodeState ChangeError
 change n v = if is_in_use n v then Err error.InUse else (if finds_no_room n v then Err error.Full else Ok (after_change n v))
 
--- A call made the definition's change, or refused as it does, or ran out of memory where it refuses nothing. A refusal changed
--- nothing.
+-- A call made the definition's change, or refused it as the definition does, or ran out of memory where the definition refuses nothing.
+-- A refusal changed nothing.
 abbrev pub IsChange : {T : Type 0} → Result T ChangeError → Result NodeState ChangeError → NodeState → NodeState → Type 0
 IsChange (Ok x) s old new = s ≡ Ok new
 IsChange (Err error.InUse) s old new = (s ≡ Err error.InUse) × (new ≡ old)

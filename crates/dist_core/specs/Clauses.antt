@@ -1,4 +1,4 @@
--- What the clauses of a step say: which end an event names, what is returned for a loss, and what may close an end that is up.
+-- What the clauses of a step say: which end an event names, the replies to a loss and a tick, and what may close an end that is up.
 use Rattle.std.specs.Prelude.{◌≡◌, ℕ, true, List, Some, Ok, slice_get, Option, None, []}
 use Rattle.dist_messages.specs.Reading.{read}
 use Rattle.dist_messages.specs.declared.message.Side.TheVariants.{Dialler}
@@ -16,7 +16,7 @@ use Rattle.dist_core.specs.declared.reply.Reply.{Reply}
 use Rattle.dist_core.specs.declared.reply.Note.TheVariants as note
 use Rattle.dist_core.specs.Node.{NodeState}
 
--- the event is a reply that carries the digest of the own cookie and the challenge of the end on which it came
+-- the event is a reply with the digest of the own cookie and of the challenge that was sent on the end on which it came
 pub record IsRightReply (n : NodeState) (v : Event) : Type 0 where
   pub id : EndId
   pub body : List ℕ
@@ -47,14 +47,14 @@ end_of (event.Frame x body) = Some x
 end_of (event.Lost x w) = Some x
 end_of (event.Tick x) = Some x
 
--- what is returned where nothing is sent, and nothing else is reported
+-- the reply where nothing is sent, and nothing else is reported
 abbrev pub silent_reply : EndId → Reply
 silent_reply x = record { end_ = x; say = []; closed = None; up = None; note = note.Nothing }
 
--- what is returned for a tick
+-- the reply to a tick
 abbrev pub tick_reply : EndId → Reply
 tick_reply x = record { end_ = x; say = tick_text; closed = None; up = None; note = note.Nothing }
 
--- what is returned for a loss
+-- the reply to a loss
 abbrev pub loss_reply : EndId → Why → Reply
 loss_reply x w = record { end_ = x; say = []; closed = Some (x, w); up = None; note = note.Nothing }

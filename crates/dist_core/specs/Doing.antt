@@ -1,4 +1,4 @@
--- That a node can do an effect as a step that counts, and the node after it. No public contract speaks of them.
+-- Whether a node can do an effect as a step that counts, and the node after it. No public contract speaks of them.
 use Rattle.std.specs.Prelude.{◌≡◌, ◌≤◌, ◌+◌, length, false, Some, slice_get}
 use Rattle.dist_peers.specs.declared.entry.EndId.{EndId}
 use Rattle.dist_core_ends.specs.declared.known.End.TheVariants as ends
@@ -15,7 +15,7 @@ pub record CanDo (n : NodeState) (f : Effect) : Type 0 where
   pub bounded : n.steps + 1 ≤ (let l = limits_of n in l.steps)
   pub numbered : length (ends_after n.ends f) ≤ (let l = limits_of n in l.ends)
 
--- the node after it
+-- the node after this effect
 abbrev pub node_with : NodeState → Effect → NodeState
 node_with n f = record { setup = n.setup; steps = n.steps + 1; ends = ends_after n.ends f }
 

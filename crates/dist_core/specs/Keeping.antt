@@ -16,7 +16,7 @@ use Rattle.dist_core.specs.Node.{NodeState}
 use Rattle.dist_core.specs.Answers.{Refuses}
 use Rattle.dist_core.specs.Doing.{node_with}
 
--- what was kept is the reply that the definition gives, or the call refused as the definition does; a refusal changed nothing
+-- what was kept is the reply of the definition, or the call refused as the definition does; a refusal changed nothing
 abbrev pub KeepsStep : {K : Type 0} → (Reply → K → Type 0) → Result K StepError → Result (Reply × NodeState) StepError → NodeState → NodeState → Type 0
 KeepsStep keeps (Ok k) s old new = (r : Reply) × keeps r k × (s ≡ Ok (r, new))
 KeepsStep keeps (Err e) s old new = Refuses e s × (new ≡ old)

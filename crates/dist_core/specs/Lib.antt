@@ -1,7 +1,6 @@
 pub mod Node
 pub mod Effects
 pub mod Accepted
-pub mod Arrival
 pub mod Dialled
 pub mod Step
 pub mod Answers

@@ -8,7 +8,7 @@ use Rattle.dist_core.specs.declared.reply.Note.TheVariants as note
 use Rattle.dist_core.specs.declared.step_error.StepError.{StepError}
 use Rattle.dist_core.specs.declared.step_error.StepError.TheVariants as error
 
--- the test whether an event reports a loss
+-- whether an event reports a loss
 abbrev pub is_loss : Event → Bool
 is_loss (event.Lost id w) = true
 is_loss (event.Dial p o) = false
@@ -22,7 +22,7 @@ abbrev pub cause_of_loss : Event → Option Why
 cause_of_loss (event.Lost id w) = Some w
 cause_of_loss e = None
 
--- The reply sends nothing, brings nothing up and notes nothing, as every reply to a loss.
+-- The reply sends nothing, brings nothing up and notes nothing, like every reply to a loss.
 abbrev pub IsSilent : Reply → Type 0
 IsSilent r = (r.say ≡ []) × (r.up ≡ None) × (r.note ≡ note.Nothing)
 

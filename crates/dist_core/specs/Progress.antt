@@ -1,4 +1,4 @@
--- What becomes of an attempt, as its effect says it.
+-- What becomes of an attempt, as an effect.
 use Rattle.std.specs.Prelude.{◌≡◌, ℕ, ◌+◌, List, Some, Result, Ok, Err, IsSome, slice_get}
 use Rattle.dist_peers.specs.declared.entry.EndId.{EndId}
 use Rattle.dist_peers.specs.Table.{replaced_by}
@@ -24,19 +24,19 @@ effect_by es id a (progress.Replies say to) = goes_on id say (ends.Attempt (at_s
 effect_by es id a (progress.Rises say r) = comes_up id say r (replaced_by (entry_in es r.peer))
 effect_by es id a (progress.Shuts say w) = shuts id say w note.Nothing
 
--- the attempt holds its peer on, and in the same way, or comes up with it, or is closed
+-- the attempt goes on holding its peer in the same way, or comes up with it, or is closed
 abbrev pub HoldsOn : Attempt → Progress → Type 0
 HoldsOn a (progress.Goes say to) = kind_in to.phase ≡ kind_in a.phase
 HoldsOn a (progress.Replies say to) = kind_in to.phase ≡ kind_in a.phase
 HoldsOn a (progress.Rises say r) = (a.peer ≡ r.peer) × IsSome (kind_in a.phase)
 HoldsOn a (progress.Shuts say w) = Unit {0}
 
--- a call gave what makes the effect that the definition gives, or refused
+-- a call returned the progress whose effect the definition gives, or a refusal
 abbrev pub GivesBy : (Progress → Effect) → Result Progress StepError → Result Effect StepError → Type 0
 GivesBy f (Ok p) s = s ≡ Ok (f p)
 GivesBy f (Err e) s = Refuses e s
 
--- what can be done to the attempt of end id
+-- this progress is possible for the attempt of end id
 pub record CanProgress (es : List End) (id : EndId) (p : Progress) : Type 0 where
   pub attempt : Attempt
   pub at_ : slice_get es id.0 ≡ Some (ends.Attempt attempt)
@@ -44,6 +44,6 @@ pub record CanProgress (es : List End) (id : EndId) (p : Progress) : Type 0 wher
   pub own : List ℕ
   pub fits : AreLegal es → (let f = effect_by es id attempt p in change.Fits own es (table_of es) f.reply.end_ f.this f.other)
 
--- the node after it
+-- the node after this progress
 abbrev pub node_by : NodeState → EndId → Attempt → Progress → NodeState
 node_by n id a p = record { setup = n.setup; steps = n.steps + 1; ends = ends_after n.ends (effect_by n.ends id a p) }

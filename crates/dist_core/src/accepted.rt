@@ -2,7 +2,7 @@
 ghost use Rattle.std.specs.Prelude.{◌≡◌, List, IfOk, true, false, Ok, Err, Some, None, slice_get};
 ghost use Rattle.dist_messages.specs.Views.{message_of};
 ghost use Rattle.dist_core_ends.specs.Ends.{entry_in};
-ghost use Rattle.dist_core.specs.Effects.{superseded_in, superseded_end, supersedes, held_back};
+ghost use Rattle.dist_core.specs.Effects.{superseded_end, supersedes, held_back};
 ghost use Rattle.dist_core.specs.Progress.{effect_by, HoldsOn};
 ghost use Rattle.dist_core.specs.Accepted.{in_await_true, in_await_complement, in_await_reply, name_taken, verdict_text};
 
@@ -19,7 +19,7 @@ use dist_names::{ByteString, Flags, NodeName};
 use dist_peers::{EndId, Verdict};
 use std::alloc::{AllocError, Global};
 
-// What stands for an end that a crossing name supersedes.
+// What becomes of an end that a crossing name supersedes.
 fn doomed_or_closed(alloc: Global, end: &End) -> Result<End, AllocError>
     ensures { IfOk result (λ e. e ≡ superseded_end (Some end.now)) }
 {
@@ -33,7 +33,7 @@ fn doomed_or_closed(alloc: Global, end: &End) -> Result<End, AllocError>
     }
 }
 
-// The same, of the end of this number.
+// The same for the end of this number.
 fn superseded_end(alloc: Global, ends: &Ends, id: EndId) -> Result<End, AllocError>
     ensures { IfOk result (λ e. e ≡ superseded_end (slice_get ends.now id.0)) }
 {
@@ -43,7 +43,7 @@ fn superseded_end(alloc: Global, ends: &Ends, id: EndId) -> Result<End, AllocErr
     }
 }
 
-// What is sent to a name that crossed an own dial, what is kept of it, and the name once more, to be noted.
+// What is sent to a name that crossed an own dial, the attempt that it begins, and the name once more, for the note.
 #[derive(Drop)]
 struct NameAnswer {
     say: ByteString,
@@ -51,7 +51,7 @@ struct NameAnswer {
     peer: NodeName,
 }
 
-// The attempt of a name supersedes another end.
+// The attempt that a name begins supersedes another end.
 fn supersedes(id: EndId, answer: NameAnswer, x: EndId, crossed: End) -> Effect
     ensures { answer.peer ≡ answer.attempt.peer → result ≡ supersedes id answer.say answer.attempt x crossed }
 {
@@ -68,7 +68,7 @@ fn supersedes(id: EndId, answer: NameAnswer, x: EndId, crossed: End) -> Effect
     }
 }
 
-// The attempt of a name crossed an own dial, which gives way.
+// The attempt that a name begins crossed an own dial, which is given up.
 fn crosses(
     alloc: Global,
     ends: &Ends,
@@ -83,7 +83,7 @@ fn crosses(
     Ok(supersedes(id, answer, x, crossed))
 }
 
-// The attempt waits for `true` before the challenge is sent.
+// The attempt, waiting for `true` before it sends the challenge.
 fn wait_for_true(attempt: Attempt) -> Attempt
     ensures { result ≡ held_back attempt }
 {
@@ -95,7 +95,7 @@ fn wait_for_true(attempt: Attempt) -> Attempt
 }
 
 // What is noted of a name that passed all checks and dooms no end.
-pub fn note_of_name(peer: NodeName) -> Note
+fn note_of_name(peer: NodeName) -> Note
     ensures { result ≡ Note.NameTaken peer None }
 {
     Note::NameTaken { peer, dooms: None }
@@ -112,25 +112,20 @@ fn answer_to_name(
 {
     let (form, fresh) = (attempt.form, attempt.challenge);
     match verdict {
-        Verdict::Ok
-        | Verdict::Replaces {
-            drops: _,
-            alive: false,
-        } => { greeting(alloc, setup, Status::Ok, form, fresh) }
-        Verdict::OkSimultaneous { drops: _ } => {
+        Verdict::Ok | Verdict::Replaces { alive: false, .. } => {
+            greeting(alloc, setup, Status::Ok, form, fresh)
+        }
+        Verdict::OkSimultaneous { .. } => {
             greeting(alloc, setup, Status::OkSimultaneous, form, fresh)
         }
         Verdict::Nok => status_frame(alloc, Status::Nok),
-        Verdict::Alive
-        | Verdict::Replaces {
-            drops: _,
-            alive: true,
-        } => { status_frame(alloc, Status::Alive) }
+        Verdict::Alive | Verdict::Replaces { alive: true, .. } => {
+            status_frame(alloc, Status::Alive)
+        }
     }
 }
 
 impl Node {
-    // The effect of a verdict.
     pub(crate) fn effect_of_verdict(
         &self,
         alloc: Global,
@@ -200,7 +195,6 @@ pub fn in_await_true(
     }
 }
 
-// The end awaits the complement.
 pub fn in_await_complement(
     alloc: Global,
     setup: &Setup,
@@ -229,7 +223,6 @@ pub fn in_await_complement(
     Ok(Progress::Goes { say, to })
 }
 
-// The end awaits the reply.
 pub fn in_await_reply(
     alloc: Global,
     setup: &Setup,

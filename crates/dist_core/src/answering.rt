@@ -1,5 +1,5 @@
-//! What a step would return, worked out without the step.
-ghost use Rattle.std.specs.Prelude.{◌≡◌, ◌≢◌, ℕ, ◌+◌, ◌^◌, ◌<◌, IfOk, IfErr, OnOk, Ok, Err, Some, None, IsTrue, slice_get};
+//! The reply that a step would have, without making the step.
+ghost use Rattle.std.specs.Prelude.{◌≡◌, ◌≢◌, ℕ, ◌+◌, ◌^◌, ◌<◌, IfOk, IfErr, OnOk, Ok, Err, IsTrue, slice_get};
 ghost use Rattle.dist_core_ends.specs.declared.known.Attempt.{Attempt};
 ghost use Rattle.dist_core_ends.specs.Ends.{entry_in};
 ghost use Rattle.dist_core.specs.Answers.{GivesReply, Refuses};
@@ -23,7 +23,7 @@ use dist_names::{ByteString, NodeName};
 use dist_peers::{EndId, replaced_end};
 use std::alloc::Global;
 
-// The reply of a step of which it is known what becomes of its attempt.
+// The reply of a step whose progress of its attempt is known.
 fn reply_of_progress(ends: &Ends, id: EndId, progress: Progress) -> Reply
     ensures { (a : Attempt) → let f = effect_by ends.now id a progress in result ≡ f.reply }
 {
@@ -43,7 +43,7 @@ fn reply_of_progress(ends: &Ends, id: EndId, progress: Progress) -> Reply
 }
 
 impl Node {
-    // An answer, with what is shown of it at once.
+    // The reply or the refusal, by the kind of event.
     pub(crate) fn answer_by_effect(
         &self,
         alloc: Global,
@@ -140,7 +140,7 @@ impl Node {
         Ok(reply_of_end(id, ByteString::new(alloc), why))
     }
 
-    // The reply to a tick, where one is taken.
+    // The reply to a tick, where the end takes one.
     #[tactic(auto, using(crate::proofs::Ticks::ticks))]
     pub(crate) fn reply_to_tick(&self, alloc: Global, id: EndId) -> Result<Reply, StepError>
         ensures ok { IfOk result (λ r. step_result self.now (Event.Tick id) (at_end (slice_get self.now.ends id.0) (tick_effect self.now id))

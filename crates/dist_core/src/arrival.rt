@@ -1,37 +1,25 @@
-//! What a frame is to an end that awaits a name, before anything is done.
+//! What a frame does to an end that awaits a name.
 ghost use Rattle.std.specs.Prelude.{◌≡◌, IfOk, true, Ok, Err, Some, None};
-ghost use Rattle.dist_peers.specs.declared.entry.EndId.{EndId};
 ghost use Rattle.dist_messages.specs.Reading.{read};
 ghost use Rattle.dist_messages.specs.Views.{message_of};
-ghost use Rattle.dist_core_ends.specs.Ends.{entry_in, table_of};
-ghost use Rattle.dist_core_ends.specs.declared.known.End.TheVariants as ends;
+ghost use Rattle.dist_core_ends.specs.declared.known.End.{End};
 ghost use Rattle.dist_core_setup.specs.Rules.{is_good};
 ghost use Rattle.dist_core_setup.specs.Saying.{status_text};
 ghost use Rattle.dist_core.specs.Effects.{shuts, closes};
 ghost use Rattle.dist_core.specs.Accepted.{in_await_name, name_came};
-ghost use Rattle.dist_core.specs.Arrival.{effect_on};
-ghost use Rattle.dist_core.specs.Step.{message_effect};
+ghost use Rattle.dist_core.specs.Answers.{Gives};
+ghost use Rattle.dist_core.specs.Step.{framed_from, message_effect};
 
 use crate::effect::{Effect, closes, reply_phase, shuts};
 use crate::node::Node;
 use crate::reply::Note;
+use crate::step_error::StepError;
 use dist_core_ends::{Attempt, Why};
 use dist_core_setup::{form_of_old, good_name, is_refused, knows_six, required_of, status_frame};
 use dist_messages::{Form, MessageView, Side, Status, read_in_place};
 use dist_names::{ByteString, Creation, Flags, NodeName};
 use dist_peers::EndId;
 use std::alloc::{AllocError, Global};
-
-/// What a frame is to an end that awaits a name. A word of the contracts: no public call takes or gives it.
-#[derive(Drop)]
-pub enum Arrival {
-    /// A name that passed all checks. It begins this attempt, where its verdict lets it.
-    Named(Attempt),
-    /// A name that is refused.
-    Refused,
-    /// No name: the end is closed, and sends nothing.
-    Closes(Why),
-}
 
 // What a message with a name says beside the name, and in which form it is answered.
 #[derive(Clone, Copy)]
@@ -42,28 +30,47 @@ struct Introduction {
 }
 
 impl Node {
-    // What a frame is to an end that awaits a name.
-    pub(crate) fn arrival_of_frame(
+    // What a frame does. It stays a call of its own, so that other events don't clear the room that this takes.
+    #[inline(never)]
+    pub(crate) fn effect_of_first_frame(
         &self,
         alloc: Global,
+        id: EndId,
+        body: &ByteString,
+        fresh: u32,
+    ) -> Result<Effect, StepError>
+        ensures { Gives result (framed_from self.now id fresh body.now End.Unnamed (Some Side.Dialler)) }
+    {
+        if self.is_spent() {
+            return Err(StepError::Spent);
+        }
+        self.effect_of_first_body(alloc, id, fresh, body)
+            .map_err(|_| StepError::NoMemory)
+    }
+
+    fn effect_of_first_body(
+        &self,
+        alloc: Global,
+        id: EndId,
         fresh: u32,
         body: &ByteString,
-    ) -> Result<Arrival, AllocError>
-        ensures { (id : EndId) → IfOk result (λ v. effect_on self.now id v ≡ message_effect self.now id fresh ends.Unnamed (read Side.Dialler body.now)) }
+    ) -> Result<Effect, AllocError>
+        ensures { IfOk result (λ f. f ≡ message_effect self.now id fresh End.Unnamed (read Side.Dialler body.now)) }
     {
         match read_in_place(Side::Dialler, body.as_slice()) {
-            Ok(message) => self.arrival_of_message(alloc, fresh, &message),
-            Err(_) => Ok(Arrival::Closes(Why::Malformed)),
+            Ok(message) => self.effect_of_introduction(alloc, id, fresh, &message),
+            Err(_) => Ok(closes(alloc, id, Why::Malformed)),
         }
     }
 
-    fn arrival_of_message(
+    fn effect_of_introduction(
         &self,
         alloc: Global,
+        id: EndId,
         fresh: u32,
         message: &MessageView,
-    ) -> Result<Arrival, AllocError>
-        ensures { (id : EndId) → IfOk result (λ v. effect_on self.now id v ≡ in_await_name self.now id fresh (message_of message.now)) }
+    ) -> Result<Effect, AllocError>
+        ensures { IfOk result (λ f. f ≡ in_await_name self.now id fresh (message_of message.now)) }
     {
         match message {
             MessageView::NewName {
@@ -76,7 +83,7 @@ impl Node {
                     flags: *flags,
                     creation: Some(*creation),
                 };
-                self.arrival_of_name(alloc, fresh, came, *name)
+                self.effect_of_name(alloc, id, fresh, came, *name)
             }
             MessageView::OldName { flags, name } => {
                 let flags = Flags(*flags as u64);
@@ -86,61 +93,55 @@ impl Node {
                     flags,
                     creation: None,
                 };
-                self.arrival_of_name(alloc, fresh, came, *name)
+                self.effect_of_name(alloc, id, fresh, came, *name)
             }
-            _ => Ok(Arrival::Closes(Why::Unexpected)),
+            _ => Ok(closes(alloc, id, Why::Unexpected)),
         }
     }
 
-    fn arrival_of_name(
+    fn effect_of_name(
         &self,
         alloc: Global,
+        id: EndId,
         fresh: u32,
         came: Introduction,
         name: &[u8],
-    ) -> Result<Arrival, AllocError>
-        ensures { (id : EndId) → IfOk result (λ v. effect_on self.now id v ≡ name_came self.now id fresh came.form came.flags came.creation name.now) }
+    ) -> Result<Effect, AllocError>
+        ensures { IfOk result (λ f. f ≡ name_came self.now id fresh came.form came.flags came.creation name.now) }
     {
         match good_name(alloc, name)? {
-            Some(peer) => Ok(self.arrival_of_good_name(fresh, came, peer)),
-            None => Ok(Arrival::Refused),
+            Some(peer) => self.effect_of_good_name(alloc, id, fresh, came, peer),
+            None => refuses(alloc, id),
         }
     }
 
-    // The same of bytes in which `good_name` found a name.
-    fn arrival_of_good_name(&self, fresh: u32, came: Introduction, peer: NodeName) -> Arrival
+    // The same for bytes in which `good_name` found a name.
+    fn effect_of_good_name(
+        &self,
+        alloc: Global,
+        id: EndId,
+        fresh: u32,
+        came: Introduction,
+        peer: NodeName,
+    ) -> Result<Effect, AllocError>
         requires { is_good peer ≡ true }
-        ensures { (id : EndId) → effect_on self.now id result ≡ name_came self.now id fresh came.form came.flags came.creation peer }
+        ensures { IfOk result (λ f. f ≡ name_came self.now id fresh came.form came.flags came.creation peer) }
     {
         let required = required_of(self.setup(), came.form);
         let full = self.is_full_for(&peer);
         if is_refused(self.setup(), required, full, came.flags, &peer) {
-            return Arrival::Refused;
+            return refuses(alloc, id);
         }
-        Arrival::Named(Attempt {
+        let attempt = Attempt {
             peer,
             form: came.form,
             phase: reply_phase(came.form),
             challenge: fresh,
             flags: came.flags,
             creation: came.creation,
-        })
-    }
-
-    // What it does.
-    pub(crate) fn effect_of_arrival(
-        &self,
-        alloc: Global,
-        id: EndId,
-        arrival: Arrival,
-    ) -> Result<Effect, AllocError>
-        ensures { IfOk result (λ f. f ≡ effect_on self.now id arrival) }
-    {
-        match arrival {
-            Arrival::Named(attempt) => self.rule_on_name(alloc, id, attempt),
-            Arrival::Refused => refuses(alloc, id),
-            Arrival::Closes(why) => Ok(closes(alloc, id, why)),
-        }
+        };
+        let verdict = self.verdict(&attempt.peer, id);
+        self.effect_of_verdict(alloc, id, attempt, verdict)
     }
 }
 

@@ -8,27 +8,16 @@ use dist_core_ends::{UpRecord, Why};
 use dist_names::ByteString;
 use dist_peers::EndId;
 
-// The end that was replaced, and why it was closed.
-fn closing(replaced: Option<EndId>) -> Option<(EndId, Why)>
-    ensures { result ≡ option_map (λ x. (x, Why.Replaced)) replaced }
-{
-    match replaced {
-        Some(x) => Some((x, Why::Replaced)),
-        None => None,
-    }
-}
-
 // The reply of a step that brings its end up.
 pub fn reply_of_rise(id: EndId, say: ByteString, came: UpRecord, replaced: Option<EndId>) -> Reply
     ensures { result ≡ record { end_ = id; say = say; closed = option_map (λ x. (x, Why.Replaced)) replaced; up = Some came; note = Note.Nothing } }
 {
-    Reply {
-        end_: id,
-        say,
-        closed: closing(replaced),
-        up: Some(came),
-        note: Note::Nothing,
+    let mut reply = reply_that_says(id, say);
+    reply.up = Some(came);
+    if let Some(x) = replaced {
+        reply.closed = Some((x, Why::Replaced));
     }
+    reply
 }
 
 // The reply of a step that closes its end.

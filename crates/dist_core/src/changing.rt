@@ -1,13 +1,13 @@
 //! Changes of a node's setup, between two steps: its cookies, and which peers may connect.
 //!
-//! An Erlang node makes them at any time (`erlang:set_cookie/1,2`, `net_kernel:allow/1`), also of the cookie of a node that is
-//! connected, whose connection it keeps. Here the cookie of a peer isn't changed while an end is up with it (our own choice): so the
-//! record of each end that is up holds the digest of the cookie that the node has for that peer now, over all steps and changes. A
-//! handshake doesn't hinder a change: whoever said a name and shows no cookie would else keep every cookie from being changed. What
-//! it has left to say and to check is said and checked with the new one.
+//! An Erlang node makes them at any time (`erlang:set_cookie/1,2`, `net_kernel:allow/1`). It may change the cookie of a connected
+//! node, and keeps the connection. Here the cookie of a peer isn't changed while an end is up with it (our own choice): so the
+//! record of each end that is up holds the digest of the cookie that the node has for that peer now, after all steps and changes. A
+//! handshake doesn't hinder a change: else a stranger that sends a name and shows no cookie could keep every cookie from being
+//! changed. What a handshake still has to send and to check is sent and checked with the new cookie.
 //!
-//! A change is no event of a step. An event has a reply, concerns one of the ends, counts as a step, and stands in books and in
-//! what auditors are given; a change has no reply, concerns no end that is there, and isn't counted.
+//! A change is not an event of a step. An event has a reply, concerns one of the ends, counts as a step, and stands in books and in
+//! what auditors get; a change has no reply, concerns no end that exists, and isn't counted.
 ghost use Rattle.std.specs.Prelude.{◌≡◌, IfErr, IfOk, slice_get};
 ghost use Rattle.std.specs.FinMap as map;
 ghost use Rattle.dist_core_ends.specs.Ends.{entry_in, table_of};
@@ -38,7 +38,7 @@ pub enum ChangeError {
 /// What is changed of a node's setup.
 #[derive(Drop)]
 pub enum Change {
-    /// The cookie that this peer has of its own; with none, the usual one is its cookie from then on.
+    /// The cookie that this peer has of its own; without one, the usual cookie is the peer's from then on.
     Cookie {
         peer: NodeName,
         cookie: Option<Cookie>,
@@ -94,11 +94,11 @@ impl Node {
         }
     }
 
-    /// Keeps a cookie for this peer, in place of one that it has of its own; or takes that away, where there is no cookie: then the
-    /// usual one is the peer's from then on. No other peer's cookie changes. To take one away takes no memory.
+    /// Keeps a cookie for this peer, in place of one that it has of its own. Where no cookie is given, takes that one away: then the
+    /// usual cookie is the peer's from then on. No other peer's cookie changes. To take one away takes no memory.
     ///
     /// Refused as `InUse` where an end is up with the peer and this isn't the cookie that it has, then `Full`, then `NoMemory`. So a
-    /// peer that is up can be given the usual cookie as its own, before the usual one changes.
+    /// peer that is up can get the usual cookie as its own, before the usual cookie changes.
     pub fn set_cookie(&mut self, peer: NodeName, cookie: Option<Cookie>) -> Result<(), ChangeError>
         ensures { IsChange result (change self.old (Change.Cookie peer cookie)) self.old self.new }
     {
@@ -128,7 +128,7 @@ impl Node {
 
     /// Changes the cookie of every peer that has none of its own. It takes no memory, and walks all entries.
     ///
-    /// Refused as `InUse` alone: where an end is up with a peer that has no cookie of its own.
+    /// Refused only as `InUse`: where an end is up with a peer that has no cookie of its own.
     pub fn set_usual_cookie(&mut self, cookie: Cookie) -> Result<(), ChangeError>
         ensures change { IsChange result (change self.old (Change.UsualCookie cookie)) self.old self.new }
         ensures alone { IfErr result (λ error. error ≡ ChangeError.InUse) }
@@ -140,11 +140,11 @@ impl Node {
         Ok(())
     }
 
-    /// Changes which peers may connect: these, or all where there is no list; and gives back the list that stood before. It takes
+    /// Changes which peers may connect: these, or all where there is no list; and returns the list that it replaces. It takes
     /// no memory, and is never refused.
     ///
-    /// It concerns the names that come later alone: a peer that is connected stays so, and one whose name came goes on. Whoever
-    /// wants it gone reports its end as lost. A dial is not bound by the list.
+    /// It concerns only names that come later: a peer that is connected stays so, and a handshake whose name came goes on. To end
+    /// one of these, report its end as lost. A dial is not bound by the list.
     pub fn set_allow(&mut self, allow: Option<NameList>) -> Option<NameList>
         ensures changed { self.new ≡ after_change self.old (Change.Allow allow) }
         ensures before { result ≡ self.old.setup.allow }
@@ -164,7 +164,7 @@ impl Node {
         false
     }
 
-    // The same of the entry at this place.
+    // The same for the entry at this place.
     fn is_usual_at(&self, i: usize) -> bool
         ensures { result ≡ is_usual_row self.now.setup (slice_get (map.entries (table_of self.now.ends)) i) }
     {

@@ -1,5 +1,5 @@
 //! Equal copies.
-ghost use Rattle.std.specs.Prelude.{◌≡◌, [], IfOk, IsOk, Ok, Err, Some, None, IsTrue};
+ghost use Rattle.std.specs.Prelude.{◌≡◌, IfOk, IsOk, Ok, Some, None, IsTrue};
 ghost use Rattle.dist_core.specs.Losses.{IsSilent, is_loss};
 
 use crate::event::Event;
@@ -8,7 +8,7 @@ use dist_core_ends::UpRecord;
 use std::alloc::{AllocError, Global};
 
 impl Note {
-    /// An equal note. That of nothing takes no memory.
+    /// An equal note. A copy of `Nothing` takes no memory.
     pub fn try_clone(&self, alloc: Global) -> Result<Note, AllocError>
         ensures same { IfOk result (λ copy. copy ≡ self.now) }
         ensures nothing { self.now ≡ Note.Nothing → IsOk result }
@@ -35,7 +35,7 @@ fn copied_up(alloc: Global, up: &Option<UpRecord>) -> Result<Option<UpRecord>, A
 }
 
 impl Reply {
-    /// An equal reply. That of a silent one, as to a loss, takes no memory.
+    /// An equal reply. A copy of a silent one, as to a loss, takes no memory.
     pub fn try_clone(&self, alloc: Global) -> Result<Reply, AllocError>
         ensures same { IfOk result (λ copy. copy ≡ self.now) }
         ensures silent { IsSilent self.now → IsOk result }
@@ -51,7 +51,7 @@ impl Reply {
 }
 
 impl Event {
-    /// An equal event. That of a loss takes no memory.
+    /// An equal event. A copy of a loss takes no memory.
     pub fn try_clone(&self, alloc: Global) -> Result<Event, AllocError>
         ensures same { IfOk result (λ copy. copy ≡ self.now) }
         ensures loss { IsTrue (is_loss self.now) → IsOk result }

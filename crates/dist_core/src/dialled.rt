@@ -1,5 +1,5 @@
 //! What each message does to a dialled end.
-ghost use Rattle.std.specs.Prelude.{◌≡◌, List, IfOk, Ok, Err, Some, None};
+ghost use Rattle.std.specs.Prelude.{◌≡◌, List, IfOk, Ok, Some, None};
 ghost use Rattle.dist_peers.specs.declared.entry.EndId.{EndId};
 ghost use Rattle.dist_core_ends.specs.declared.known.End.{End};
 ghost use Rattle.dist_messages.specs.Views.{message_of};
@@ -18,7 +18,6 @@ use dist_messages::{Form, MessageView, Status};
 use dist_names::{ByteString, Creation, Flags};
 use std::alloc::{AllocError, Global};
 
-// The end awaits the status.
 pub fn in_await_status(
     alloc: Global,
     attempt: &Attempt,
@@ -63,7 +62,7 @@ pub fn in_doomed(alloc: Global, message: &MessageView) -> Result<Progress, Alloc
     }
 }
 
-// What a challenge that is understood says, in which form it is answered, and which flags are asked for.
+// What a challenge that is understood says, in which form it is answered, and which flags are required.
 #[derive(Clone, Copy)]
 struct Challenge<'a> {
     name: &'a [u8],
@@ -74,7 +73,7 @@ struct Challenge<'a> {
     creation: Option<Creation>,
 }
 
-// A challenge is answered.
+// Answers a challenge.
 fn send_reply(
     alloc: Global,
     setup: &Setup,
@@ -102,7 +101,7 @@ fn send_reply(
     Ok(Progress::Replies { say, to })
 }
 
-// A challenge is answered, where it is of the name that was dialled and has the flags that are asked for.
+// Answers a challenge, where it is of the name that was dialled and has the flags that are required.
 fn answer_challenge(
     alloc: Global,
     setup: &Setup,
@@ -124,7 +123,6 @@ fn answer_challenge(
     send_reply(alloc, setup, fresh, attempt, came)
 }
 
-// The end awaits the challenge.
 pub fn in_await_challenge(
     alloc: Global,
     setup: &Setup,
@@ -173,7 +171,6 @@ pub fn in_await_challenge(
     }
 }
 
-// The end awaits the acknowledgement.
 pub fn in_await_ack(
     alloc: Global,
     setup: &Setup,

@@ -1,8 +1,9 @@
 //! What a step does, before it is done.
-ghost use Rattle.std.specs.Prelude.{◌≡◌, IfOk, Ok, Err, Some, None};
+ghost use Rattle.std.specs.Prelude.{◌≡◌, IfOk, Ok, Some, None};
 ghost use Rattle.dist_core.specs.Effects.{form_of, reply_phase, goes_on, shuts, shuts_other, closes, record_of};
 ghost use Rattle.dist_core_ends.specs.Ends.{kind_in};
 
+use crate::node::reply_that_says;
 use crate::reply::{Note, Reply};
 use dist_core_ends::{Attempt, End, Kind, Phase, UpRecord, Why};
 use dist_core_setup::{Setup, announced_by};
@@ -11,7 +12,7 @@ use dist_names::ByteString;
 use dist_peers::EndId;
 use std::alloc::{AllocError, Global};
 
-/// What a step does. A word of the contracts: no public call takes or gives it.
+/// What a step does. It is used in contracts: no public call takes or returns it.
 #[derive(Drop)]
 pub struct Effect {
     /// What is returned.
@@ -23,15 +24,11 @@ pub struct Effect {
 }
 
 impl Effect {
-    // What is returned, where the step is not made.
+    // The reply, where the step is not made.
     pub fn into_reply(self) -> Reply
         ensures { result ≡ self.reply }
     {
-        let Effect {
-            reply,
-            this: _,
-            other: _,
-        } = self;
+        let Effect { reply, .. } = self;
         reply
     }
 }
@@ -39,14 +36,10 @@ impl Effect {
 pub fn goes_on(id: EndId, say: ByteString, this: End, note: Note) -> Effect
     ensures { result ≡ goes_on id say this note }
 {
+    let mut reply = reply_that_says(id, say);
+    reply.note = note;
     Effect {
-        reply: Reply {
-            end_: id,
-            say,
-            closed: None,
-            up: None,
-            note,
-        },
+        reply,
         this,
         other: None,
     }
@@ -66,7 +59,7 @@ pub fn closes(alloc: Global, id: EndId, why: Why) -> Effect
     shuts(id, ByteString::new(alloc), why, Note::Nothing)
 }
 
-// Another end is closed, for this cause.
+// The end becomes this, and another end is closed for this cause.
 pub fn shuts_other(id: EndId, say: ByteString, this: End, other: (EndId, Why), note: Note) -> Effect
     ensures { result ≡ shuts_other id say this other.0 other.1 note }
 {
@@ -78,7 +71,6 @@ pub fn shuts_other(id: EndId, say: ByteString, this: End, other: (EndId, Why), n
 
 // ---- attempts
 
-// The same attempt in another phase.
 pub fn attempt_in(alloc: Global, attempt: &Attempt, phase: Phase) -> Result<Attempt, AllocError>
     ensures { IfOk result (λ a. a ≡ record attempt.now { phase = phase }) }
 {
@@ -96,7 +88,7 @@ pub fn reply_phase(form: Form) -> Phase
     }
 }
 
-// The form of a handshake that is to be opened so.
+// The form of a handshake that is asked to open in this way.
 pub fn form_of(opening: Opening) -> Form
     ensures { result ≡ form_of opening }
 {

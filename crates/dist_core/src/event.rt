@@ -1,4 +1,4 @@
-//! The events that a node is given.
+//! The events that a node gets.
 ghost use Rattle.std.specs.Prelude.{◌≡◌};
 ghost use Rattle.dist_core.specs.Clauses.{end_of};
 ghost use Rattle.dist_core.specs.Losses.{is_loss, cause_of_loss};
@@ -8,8 +8,8 @@ use dist_messages::Opening;
 use dist_names::{ByteString, NodeName};
 use dist_peers::EndId;
 
-/// An event that a node is given. A `link` is a number by which whoever carries a connection knows it; the node keeps none. Our
-/// own choice: an Erlang node has a process for each connection, and messages between them, in place of events.
+/// An event that a node gets. A `link` is a number by which whoever carries a connection knows it; the node does not keep it. Our
+/// own choice: an Erlang node has no events, but a process for each connection, and messages between them.
 #[derive(Debug, Drop, PartialEq, Eq)]
 pub enum Event {
     /// The node is to connect to this peer. A new end is given out.

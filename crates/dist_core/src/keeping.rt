@@ -1,12 +1,9 @@
-//! Steps whose reply is kept before they are made: so that no memory is wanted for it once they are.
+//! Steps whose reply is kept before they are made: so that a step that was made needs no further memory for its reply.
 ghost use Rattle.std.specs.Prelude.{◌≡◌, ◌≢◌, ℕ, ◌≤◌, ◌+◌, IfOk, IfErr, OnOk, OnErr, Err, Some, slice_get};
 ghost use Rattle.dist_messages.specs.declared.message.Side.TheVariants.{Dialler};
 ghost use Rattle.dist_core_ends.specs.declared.known.Attempt.{Attempt};
 ghost use Rattle.dist_core_ends.specs.Ends.{entry_in};
 ghost use Rattle.dist_core.specs.declared.reply.Reply.{Reply};
-ghost use Rattle.dist_core.specs.Accepted.{name_taken};
-ghost use Rattle.dist_core.specs.Answers.{Refuses};
-ghost use Rattle.dist_core.specs.Arrival.{effect_on};
 ghost use Rattle.dist_core.specs.Clauses.{loss_reply};
 ghost use Rattle.dist_core.specs.Doing.{CanDo};
 ghost use Rattle.dist_core.specs.Keeping.{KeepsDone, KeepsStep, RisesWith, with_rise};
@@ -14,8 +11,6 @@ ghost use Rattle.dist_core.specs.Node.{ends_after, limits_of};
 ghost use Rattle.dist_core.specs.Progress.{CanProgress, effect_by, node_by};
 ghost use Rattle.dist_core.specs.Step.{at_end, came_in, dial_effect, framed_from, opening_effect, sender_to, step, step_result, tick_effect};
 
-use crate::accepted::note_of_name;
-use crate::arrival::Arrival;
 use crate::attempts::{reply_of_end, reply_of_rise};
 use crate::effect::Effect;
 use crate::event::Event;
@@ -25,23 +20,22 @@ use crate::progress::Progress;
 use crate::reply::{Note, Reply};
 use crate::step_error::StepError;
 use dist_core_ends::{Attempt, End, Ends, Why};
-use dist_core_setup::greeting;
-use dist_messages::{Opening, Status};
+use dist_messages::Opening;
 use dist_names::{ByteString, NodeName};
-use dist_peers::{EndId, Verdict, replaced_end};
+use dist_peers::{EndId, replaced_end};
 use std::alloc::{AllocError, Global};
 
-/// Where the reply of a step is put before the step is made: for a caller that shares it with others, as a line of a history.
+/// Where the reply of a step is put before the step is made: for a caller that shares the reply, as in a line of a history.
 pub trait Keeper {
     ghost use Rattle.std.specs.Prelude.{◌≡◌, IfOk, IsOk};
     ghost use Rattle.dist_core.specs.declared.reply.Reply.{Reply};
 
-    /// What is made of a reply.
+    /// What a reply is kept as.
     type Kept: Drop;
 
     ghost keeps: { Self → Reply → Self.Kept → Type 0 };
 
-    /// Which replies take no memory to keep.
+    /// Which replies can be kept without memory.
     ghost is_ready_for: { Self → Reply → Type 0 };
 
     /// Keeps a reply. Where memory runs out, the step is not made.
@@ -54,7 +48,7 @@ pub trait Keeper {
         ensures { (reply : Reply) → keeps self.now reply kept.now → result.now ≡ reply };
 }
 
-// The reply itself, which is returned: for a step that nobody else keeps.
+// Returns the reply itself: for a step whose reply nobody else keeps.
 #[derive(Clone, Copy)]
 pub struct Returned;
 
@@ -78,7 +72,7 @@ impl Keeper for Returned {
     }
 }
 
-// Keeps the reply of what becomes of the attempt of an end, and then does it.
+// Keeps the reply of a step at an attempt, and then does what becomes of the attempt.
 #[inline(always)]
 fn put_kept_progress<K: Keeper>(
     ends: &mut Ends,
@@ -142,10 +136,10 @@ impl Node {
         event: &Event,
         fresh: u32,
     ) -> Result<K::Kept, StepError>
-        // What was kept is the reply of the definition's step, and the node afterwards is the definition's, or the refusal is.
+        // What was kept is the reply of the definition's step, and the node afterwards is the definition's; or the refusal is.
         ensures step { KeepsStep (K.keeps keeper.now) result (step self.old event.now fresh) self.old self.new }
 
-        // A loss takes no memory but for its reply.
+        // A loss takes no memory, except perhaps for its reply.
         ensures loss { (x : EndId) (w : Why) → event.now ≡ Event.Lost x w → K.is_ready_for keeper.now (loss_reply x w) → result ≢ Err StepError.NoMemory }
     {
         match event {
@@ -158,7 +152,6 @@ impl Node {
         }
     }
 
-    // A dial.
     fn keep_dial<K: Keeper>(
         &mut self,
         alloc: Global,
@@ -169,14 +162,12 @@ impl Node {
         ensures { KeepsStep (K.keeps keeper.now) result (step_result self.old (Event.Dial peer.now opening)
             (dial_effect self.old peer.now opening (entry_in self.old.ends peer.now))) self.old self.new }
     {
-        self.show_legal();
-        // This shows what every node keeps.
+        // Its clause says what holds of every node.
         let _ = self.counted_steps();
         let effect = self.effect_of_dial(alloc, peer, opening)?;
         self.keep_effect(alloc, keeper, effect)
     }
 
-    // A connection came.
     fn keep_incoming<K: Keeper>(
         &mut self,
         alloc: Global,
@@ -185,8 +176,7 @@ impl Node {
     ) -> Result<K::Kept, StepError>
         ensures { KeepsStep (K.keeps keeper.now) result (step_result self.old (Event.Incoming _link) (came_in self.old)) self.old self.new }
     {
-        self.show_legal();
-        // This shows what every node keeps.
+        // Its clause says what holds of every node.
         let _ = self.counted_steps();
         let effect = self.effect_of_incoming(alloc)?;
         self.keep_effect(alloc, keeper, effect)
@@ -203,8 +193,7 @@ impl Node {
         ensures { KeepsStep (K.keeps keeper.now) result (step_result self.old (Event.Opened id _link)
             (at_end (slice_get self.old.ends id.0) (opening_effect self.old id))) self.old self.new }
     {
-        self.show_legal();
-        // This shows what every node keeps.
+        // Its clause says what holds of every node.
         let _ = self.counted_steps();
         let End::Attempt(attempt) = open_end(&self.ends, id)? else {
             return Err(StepError::WrongPhase);
@@ -251,7 +240,6 @@ impl Node {
         Ok(kept)
     }
 
-    // A frame came.
     fn keep_frame<K: Keeper>(
         &mut self,
         alloc: Global,
@@ -263,8 +251,7 @@ impl Node {
         ensures { KeepsStep (K.keeps keeper.now) result (step_result self.old (Event.Frame id body.now)
             (at_end (slice_get self.old.ends id.0) (λ e. framed_from self.old id fresh body.now e (sender_to e)))) self.old self.new }
     {
-        self.show_legal();
-        // This shows what every node keeps.
+        // Its clause says what holds of every node.
         let _ = self.counted_steps();
         let end = open_end(&self.ends, id)?;
         match end {
@@ -277,7 +264,7 @@ impl Node {
         }
     }
 
-    // A step of which it is known what becomes of its attempt.
+    // A step at an attempt, where it is known what becomes of the attempt.
     #[inline(always)]
     fn keep_progress<K: Keeper>(
         &mut self,
@@ -293,7 +280,7 @@ impl Node {
         ensures node { OnOk result ((a : Attempt) → slice_get self.old.ends id.0 ≡ Some (End.Attempt a) → self.new ≡ node_by self.old id a progress) }
         ensures err { IfErr result (λ e. (e ≡ StepError.NoMemory) × (self.new ≡ self.old)) }
     {
-        // This shows that the steps can be counted.
+        // Its clause says that the steps can be counted.
         let _ = self.most_steps();
         let Ok(kept) = put_kept_progress(&mut self.ends, alloc, keeper, id, progress) else {
             return Err(StepError::NoMemory);
@@ -316,71 +303,13 @@ impl Node {
         ensures { KeepsStep (K.keeps keeper.now) result (step_result self.old (Event.Frame id body.now)
             (framed_from self.old id fresh body.now End.Unnamed (Some Dialler))) self.old self.new }
     {
-        self.show_legal();
-        // This shows what every node keeps.
+        // Its clause says what holds of every node.
         let _ = self.counted_steps();
-        if self.is_spent() {
-            return Err(StepError::Spent);
-        }
-        let Ok(arrival) = self.arrival_of_frame(alloc, fresh, body) else {
-            return Err(StepError::NoMemory);
-        };
-        self.keep_arrival(alloc, keeper, id, arrival)
-    }
-
-    // Does what the first frame does. Most are of a name to which nothing stands in the way.
-    fn keep_arrival<K: Keeper>(
-        &mut self,
-        alloc: Global,
-        keeper: &K,
-        id: EndId,
-        arrival: Arrival,
-    ) -> Result<K::Kept, StepError>
-        requires { CanDo self.old (effect_on self.old id arrival) }
-        ensures { KeepsDone (K.keeps keeper.now) (effect_on self.old id arrival) result self.old self.new }
-    {
-        match arrival {
-            Arrival::Named(attempt) => self.keep_name(alloc, keeper, id, attempt),
-            other => self.keep_rare_arrival(alloc, keeper, id, other),
-        }
-    }
-
-    // A name that isn't refused has its verdict.
-    fn keep_name<K: Keeper>(
-        &mut self,
-        alloc: Global,
-        keeper: &K,
-        id: EndId,
-        attempt: Attempt,
-    ) -> Result<K::Kept, StepError>
-        requires { CanDo self.old (effect_on self.old id (Arrival.Named attempt)) }
-        ensures { KeepsDone (K.keeps keeper.now) (effect_on self.old id (Arrival.Named attempt)) result self.old self.new }
-    {
-        match self.verdict(&attempt.peer, id) {
-            Verdict::Ok => self.keep_welcome(alloc, keeper, id, attempt),
-            _ => self.keep_rare_arrival(alloc, keeper, id, Arrival::Named(attempt)),
-        }
-    }
-
-    // The same by its effect.
-    #[inline(never)]
-    fn keep_rare_arrival<K: Keeper>(
-        &mut self,
-        alloc: Global,
-        keeper: &K,
-        id: EndId,
-        arrival: Arrival,
-    ) -> Result<K::Kept, StepError>
-        requires { CanDo self.old (effect_on self.old id arrival) }
-        ensures { KeepsDone (K.keeps keeper.now) (effect_on self.old id arrival) result self.old self.new }
-    {
-        let Ok(effect) = self.effect_of_arrival(alloc, id, arrival) else {
-            return Err(StepError::NoMemory);
-        };
+        let effect = self.effect_of_first_frame(alloc, id, body, fresh)?;
         self.keep_effect(alloc, keeper, effect)
     }
 
-    // An effect that can be had.
+    // Does an effect that the node can have.
     #[inline(always)]
     fn keep_effect<K: Keeper>(
         &mut self,
@@ -397,40 +326,5 @@ impl Node {
         };
         self.change_ends(keeper.reply(&kept), this, other)?;
         Ok(kept)
-    }
-
-    // A name of a peer that has no entry.
-    fn keep_welcome<K: Keeper>(
-        &mut self,
-        alloc: Global,
-        keeper: &K,
-        id: EndId,
-        attempt: Attempt,
-    ) -> Result<K::Kept, StepError>
-        requires { CanDo self.old (name_taken self.old.setup self.old.ends id attempt Verdict.Ok) }
-        ensures { KeepsDone (K.keeps keeper.now) (name_taken self.old.setup self.old.ends id attempt Verdict.Ok) result self.old self.new }
-    {
-        let Ok(reply) = self.reply_of_welcome(alloc, id, &attempt) else {
-            return Err(StepError::NoMemory);
-        };
-        let (this, other) = (End::Attempt(attempt), None);
-        self.keep_effect(alloc, keeper, Effect { reply, this, other })
-    }
-
-    // The reply to it.
-    #[inline(always)]
-    fn reply_of_welcome(
-        &self,
-        alloc: Global,
-        id: EndId,
-        attempt: &Attempt,
-    ) -> Result<Reply, AllocError>
-        ensures { IfOk result (λ r. r ≡ (let f = name_taken self.now.setup self.now.ends id attempt.now Verdict.Ok in f.reply)) }
-    {
-        let (form, fresh) = (attempt.form, attempt.challenge);
-        let say = greeting(alloc, &self.setup, Status::Ok, form, fresh)?;
-        let mut reply = reply_that_says(id, say);
-        reply.note = note_of_name(attempt.peer.try_clone(alloc)?);
-        Ok(reply)
     }
 }

@@ -1,9 +1,9 @@
-//! A node's handshakes, as a machine that is given events and returns replies: which ends it has, who is connected to whom, and
+//! A node's handshakes, as a machine that gets events and returns replies: which ends it has, who is connected to whom, and
 //! what is sent on each. `Node::step` takes one event and one number that was drawn, and returns one reply.
 //!
 //! No input or output, no clock, no randomness, no threads: whoever reads a socket or draws a challenge hands it in.
-//! Once an end is up, the packets on its connection are the caller's. Of an end that was closed the node keeps the
-//! cause alone, until `Node::forget` lets that go too.
+//! Once an end is up, the packets on its connection are the caller's. Of an end that was closed the node keeps only
+//! the cause, until `Node::forget` drops that too.
 //!
 //! Between two steps the setup can change: the cookies of peers with which no end is up, and which names may connect. If no end is open,
 //! the node can begin anew (`Node::renew`).

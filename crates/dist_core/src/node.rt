@@ -1,10 +1,10 @@
 //! A node, and its steps.
-ghost use Rattle.std.specs.Prelude.{◌≡◌, ◌≢◌, ℕ, ◌≤◌, ◌<◌, ◌+◌, ◌^◌, ◌||◌, List, [], ◌∷◌, length, option_copied, slice_get, count_by};
+ghost use Rattle.std.specs.Prelude.{◌≡◌, ◌≢◌, ℕ, ◌≤◌, ◌<◌, ◌+◌, ◌^◌, ◌||◌, [], length, option_copied, slice_get, count_by};
 ghost use Rattle.std.specs.Prelude.{IfOk, IfErr, IsTrue, IsOk, OnOk, OnErr, true, false, Ok, Err, Some, None};
 ghost use Rattle.std.specs.Option.{option_map};
 ghost use Rattle.dist_peers.specs.Table.{up_behind};
 ghost use Rattle.std.specs.FinMap as map;
-ghost use Rattle.dist_core_ends.specs.Ends.{AreLegal, Finds, FindsUp, entry_in, table_of, is_open, is_dialing, claim_of};
+ghost use Rattle.dist_core_ends.specs.Ends.{AreLegal, Finds, FindsUp, entry_in, table_of, is_open, is_dialing};
 ghost use Rattle.dist_core_ends.specs.Ends.{oldest_pending, oldest_unnamed, record_in, up_from, up_pair, up_ids, still_of, awaited_of};
 ghost use Rattle.dist_core_ends.specs.Forgetting.{without_causes_below};
 ghost use Rattle.dist_core.specs.Node.{NodeState, ends_after, is_crowded, is_full_for, is_given_out, is_spent, limits_of, new_id};
@@ -12,24 +12,21 @@ ghost use Rattle.dist_core.specs.Clauses.{ClosesOnReply, end_of, loss_reply, sil
 ghost use Rattle.dist_core.specs.Doing.{TakesTick};
 ghost use Rattle.dist_core.specs.Losses.{IsGone, IsSilent, is_loss};
 ghost use Rattle.dist_core.specs.Fitting.{FitsNodeTable};
-ghost use Rattle.dist_core_setup.specs.Saying.{name_text, tick_text};
-ghost use Rattle.dist_core.specs.Effects.{moves, goes_on, closes};
-ghost use Rattle.dist_core.specs.Accepted.{verdict_in, name_taken};
-ghost use Rattle.dist_core.specs.Step.{effect_of, step, step_result, at_end, opening_effect, tick_effect, dial_effect, came_in, cost_of};
-ghost use Rattle.dist_core.specs.Answers.{IsStep, Gives, GivesReply, Refuses};
+ghost use Rattle.dist_core.specs.Accepted.{verdict_in};
+ghost use Rattle.dist_core.specs.Step.{effect_of, step, at_end, tick_effect};
+ghost use Rattle.dist_core.specs.Answers.{IsStep, GivesReply, Refuses};
 
-use crate::effect::Effect;
 use crate::event::Event;
 use crate::finding::open_end;
 use crate::keeping::Returned;
 use crate::reply::{Note, Reply};
 use crate::step_error::StepError;
-use dist_core_ends::{Absent, Attempt, Awaited, End, Ends, Still, UpRecord, Why};
+use dist_core_ends::{Absent, Awaited, End, Ends, Still, UpRecord, Why};
 use dist_core_setup::Setup;
 use dist_frames::tick;
 use dist_names::{ByteString, Creation, NodeName};
 use dist_peers::{EndId, Entry, Verdict};
-use std::alloc::{AllocError, Global};
+use std::alloc::Global;
 use std::marker::Model;
 
 /// A node: what it was set up with, and all its ends.
@@ -85,7 +82,7 @@ impl Node {
         self.ends.awaits(id)
     }
 
-    /// Whether the end was dialled and awaits its connection, also where it was superseded meanwhile: it takes `Opened`.
+    /// Whether the end was dialled and awaits its connection, also where it was superseded meanwhile: then it takes `Opened`.
     pub fn is_dialing(&self, id: EndId) -> bool
         ensures { result ≡ is_dialing (slice_get self.now.ends id.0) }
     {
@@ -100,7 +97,7 @@ impl Node {
         self.ends.open_ends()
     }
 
-    /// The own name.
+    /// The node's own name.
     pub fn name(&self) -> &NodeName
         ensures { result.now ≡ self.now.setup.name }
     {
@@ -114,7 +111,7 @@ impl Node {
         self.setup.creation
     }
 
-    /// The entry of a peer, where it isn't idle.
+    /// The entry of a peer, where the peer isn't idle.
     pub fn entry_of(&self, peer: &NodeName) -> Option<Entry>
         ensures { result ≡ entry_in self.now.ends peer.now }
     {
@@ -142,7 +139,7 @@ impl Node {
         self.ends.up_at(i)
     }
 
-    /// The first up end of the peers whose names come behind this one, in their order; of all peers where there is no name. Called
+    /// The first up end of the peers whose names come after this one, in their order; of all peers where there is no name. Called
     /// again with the name in the record that it found, it goes through all of them: each call searches the entries once.
     pub fn up_behind(&self, name: Option<&NodeName>) -> Option<(EndId, &UpRecord)>
         ensures { option_map (λ r. (r.0, r.1.now)) result
@@ -175,19 +172,19 @@ impl Node {
     }
 
     /// The end of this number, where it is open, or why there is none. Ask this for what no reply says: which peer an end holds
-    /// before it is up, and where its handshake stands.
+    /// before it is up, and how far its handshake has come.
     pub fn open_end(&self, id: EndId) -> Result<&End, Absent>
         ensures { Finds result (slice_get self.now.ends id.0) }
     {
         self.ends.open_end(id)
     }
 
-    /// The end that has been open and not up for the longest: of the lowest number, since numbers are given out in order. A
-    /// caller that limits how long handshakes take, or how many of them go on at once, gives this end up first: it closes the
+    /// The end that has been open and not up for the longest: it has the lowest number, since numbers are given out in order. A
+    /// caller that limits how long handshakes take, or how many of them go on at once, gives up this end first: it closes the
     /// connection and reports [`Event::Lost`].
     ///
-    /// This is no step, and no other call sees that it was made. It takes `&mut self` to keep how far it has looked, so that all
-    /// calls together walk each number once.
+    /// This is not a step, and no other call sees that it was made. It takes `&mut self` to note how far it has looked, so that all
+    /// calls together look at each number once.
     pub fn oldest_pending(&mut self) -> Option<EndId>
         ensures oldest { result ≡ oldest_pending self.old.ends }
         ensures same { self.new ≡ self.old }
@@ -195,8 +192,8 @@ impl Node {
         self.ends.oldest_pending()
     }
 
-    /// The end that has been open for the longest of those on which no name came yet: a caller that limits how many handshakes go
-    /// on at once gives this end up first, since whoever uses it has not said anything. As with `oldest_pending`, no other call sees
+    /// Of the ends on which no name came yet, the one that has been open for the longest: a caller that limits how many handshakes go
+    /// on at once gives up this end first, since its other side has not said anything. As with `oldest_pending`, no other call sees
     /// that this one was made.
     pub fn oldest_unnamed(&mut self) -> Option<EndId>
         ensures oldest { result ≡ oldest_unnamed self.old.ends }
@@ -205,12 +202,12 @@ impl Node {
         self.ends.oldest_unnamed()
     }
 
-    /// Forgets why the ends below this number were closed: from now on each of them answers as if the other side had ended its
-    /// connection ([`Why::Ended`]). What is open stays as it is, and no number is given out again. It takes no memory, and looks
+    /// Forgets why the ends below this number were closed: from then on each of them answers as if the other side had ended its
+    /// connection ([`Why::Ended`]). Open ends stay as they are, and no number is given out again. It takes no memory, and looks
     /// at each open end once and at each cause that is kept.
     ///
     /// A closed end takes one byte, its cause, and none once that is forgotten. So whoever runs a node for years calls this from
-    /// time to time, with a number below which nobody will ask any more why an end was closed. This is no step: it isn't counted,
+    /// time to time, with a number below which nobody will ask any more why an end was closed. This isn't a step: it is not counted,
     /// sends nothing and is never refused. By the law `forgetting_changes_no_step` of `dist_core_laws` it changes
     /// nothing else: each event has the reply or the refusal that it would have had, but for the cause that
     /// [`StepError::Gone`] carries.
@@ -224,13 +221,13 @@ impl Node {
     /// Takes an event. A refusal changes nothing, and is the first that holds in the order of [`StepError`].
     ///
     /// `fresh` is the challenge of a step that sends a challenge or a reply; any other step ignores it. The caller draws it
-    /// anew for each step, so that no digest is known beforehand.
+    /// anew for each step, so that nobody knows a digest beforehand.
     #[inline(always)]
     pub fn step(&mut self, alloc: Global, event: &Event, fresh: u32) -> Result<Reply, StepError>
         // The reply and the node afterwards are those of the definition, or the refusal is.
         ensures step { IsStep result (step self.old event.now fresh) self.old self.new }
 
-        // An end that is unknown or gone is refused so, and an open one can always be lost.
+        // An end that is unknown or closed is refused as such, and an open one can always be lost.
         ensures unknown { (x : EndId) → end_of event.now ≡ Some x → slice_get self.old.ends x.0 ≡ None → result ≡ Err StepError.NoSuchEnd }
         ensures gone { (x : EndId) (w : Why) → end_of event.now ≡ Some x → slice_get self.old.ends x.0 ≡ Some (End.Closed w) → result ≡ Err (StepError.Gone w) }
         ensures loss { IsTrue (is_loss event.now) → result ≢ Err StepError.NoMemory }
@@ -242,7 +239,7 @@ impl Node {
         // A frame closes an end that is up only where it is a right reply.
         ensures replaced { IfOk result (λ r. ClosesOnReply self.old event.now r) }
 
-        // The ends that hold a peer are those that make its entry.
+        // The ends that hold a peer are exactly those that its entry names.
         ensures legal { AreLegal self.old.ends }
     {
         self.show_legal();
@@ -290,8 +287,8 @@ impl Node {
         Ok(())
     }
 
-    /// A tick is due on this end: whoever carries its connection sends a packet of no bytes, which is [`dist_frames::tick`]. The
-    /// step of [`Event::Tick`], whose reply says nothing else. It takes no memory.
+    /// A tick is due on this end: whoever carries its connection sends a packet of no bytes, which is [`dist_frames::tick`]. This is
+    /// the step of [`Event::Tick`], whose reply says nothing else. It takes no memory.
     #[tactic(auto, unfolding(crate::specs::Step::effect_of), using(crate::proofs::Ticks::ticks))]
     #[inline(always)]
     pub fn tick(&mut self, id: EndId) -> Result<(), StepError>
@@ -319,7 +316,7 @@ impl Node {
         self.answer_by_effect(alloc, event, fresh)
     }
 
-    /// Why this event is refused where its caller has no memory for what the step would need there: out of memory is the last of
+    /// Why this event is refused, for a caller that has no memory for what the step would need: `NoMemory` is the last of
     /// all reasons.
     #[inline(never)]
     pub fn refusal_without_memory(&self, alloc: Global, event: &Event, fresh: u32) -> StepError
@@ -331,7 +328,7 @@ impl Node {
         }
     }
 
-    // Does nothing: its clause shows what the ends of a node are, where a proof needs it before the step.
+    // Does nothing: its clause says what holds of the ends of a node, where a proof needs that before the step.
     #[inline(always)]
     pub(crate) fn show_legal(&self)
         ensures { AreLegal self.now.ends }
@@ -339,7 +336,7 @@ impl Node {
         let _ = self.open_ends();
     }
 
-    // Whether a tick is taken: it leaves all ends as they are.
+    // Whether the end takes a tick: it leaves all ends as they are.
     #[inline(always)]
     pub(crate) fn check_tick(&self, id: EndId) -> Result<(), StepError>
         ensures ok { OnOk result (TakesTick self.now id) }
@@ -374,7 +371,7 @@ impl Node {
         }) }
         ensures err { IfErr result (λ e. (e ≡ StepError.NoMemory) × (self.new ≡ self.old)) }
     {
-        // These show that each end has a number, and that the steps can be counted.
+        // Calls whose clauses say that each end has a number, and that the steps can be counted.
         let _ = self.most_ends();
         let _ = self.most_steps();
         match self.ends.change(&self.setup.name, reply.end_, this, other) {
@@ -386,17 +383,19 @@ impl Node {
         }
     }
 
-    // How many steps were counted, and what every node keeps.
+    // How many steps were counted; its clause says what always holds of a node.
     pub(crate) fn counted_steps(&self) -> u64
         ensures is { result ≡ self.now.steps }
+        ensures legal { AreLegal self.now.ends }
         ensures few { length self.now.ends ≤ self.now.steps }
         ensures bounded { self.now.steps ≤ (let l = limits_of self.now in l.steps) }
         ensures numbered { length self.now.ends ≤ (let l = limits_of self.now in l.ends) }
     {
+        self.show_legal();
         self.steps
     }
 
-    // All steps were made.
+    // Whether all steps were made.
     pub(crate) fn is_spent(&self) -> bool
         ensures is { result ≡ is_spent self.now }
         ensures left { result ≡ false → self.now.steps + 1 < 2 ^ 64 }
@@ -404,7 +403,6 @@ impl Node {
         self.steps >= self.setup.limits.steps
     }
 
-    // The most steps that it makes.
     pub(crate) fn most_steps(&self) -> u64
         ensures most { result ≡ (let l = limits_of self.now in l.steps) }
         ensures fits { (let l = limits_of self.now in l.steps) < 2 ^ 64 }
@@ -412,7 +410,7 @@ impl Node {
         self.setup.limits.steps
     }
 
-    // No further end is given out.
+    // Whether no further end can be given out.
     pub(crate) fn gives_no_end(&self) -> bool
         ensures is { result ≡ (is_spent self.now || is_given_out self.now) }
         ensures left { result ≡ false → self.now.steps + 1 < 2 ^ 64 }
@@ -428,14 +426,13 @@ impl Node {
         self.setup.limits.ends
     }
 
-    // There is no room for a further open end.
+    // Whether there is no room for a further open end.
     pub(crate) fn is_crowded(&self) -> bool
         ensures { result ≡ is_crowded self.now }
     {
         self.open_ends() >= self.setup.limits.open_ends as usize
     }
 
-    // The number of the next end.
     pub(crate) fn new_id(&self) -> EndId
         ensures { result ≡ new_id self.now }
     {
@@ -443,35 +440,21 @@ impl Node {
         self.ends.next_id()
     }
 
-    // There is no room for an entry of this peer.
+    // Whether there is no room for an entry of this peer.
     pub(crate) fn is_full_for(&self, peer: &NodeName) -> bool
         ensures { result ≡ is_full_for self.now (entry_in self.now.ends peer.now) }
     {
         self.ends.is_full_for(peer, self.setup.limits.entries)
     }
 
-    // The verdict on a name.
     pub(crate) fn verdict(&self, peer: &NodeName, id: EndId) -> Verdict
         ensures { result ≡ verdict_in self.now id peer.now }
     {
         self.ends.verdict(&self.setup.name, peer, id)
     }
-
-    // A name that isn't refused has its verdict.
-    pub(crate) fn rule_on_name(
-        &self,
-        alloc: Global,
-        id: EndId,
-        attempt: Attempt,
-    ) -> Result<Effect, AllocError>
-        ensures { IfOk result (λ f. f ≡ name_taken self.now.setup self.now.ends id attempt (verdict_in self.now id attempt.peer)) }
-    {
-        let verdict = self.verdict(&attempt.peer, id);
-        self.effect_of_verdict(alloc, id, attempt, verdict)
-    }
 }
 
-// The reply of a step that sends this on the end, and does nothing else that is reported.
+// The reply of a step that sends this on the end, and has nothing else to report.
 #[inline(always)]
 pub(crate) fn reply_that_says(id: EndId, say: ByteString) -> Reply
     ensures { result ≡ record { end_ = id; say = say; closed = None; up = None; note = Note.Nothing } }

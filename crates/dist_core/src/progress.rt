@@ -1,4 +1,4 @@
-//! What becomes of an attempt, before it is done: so little that the attempt is changed in its place, and no effect is built.
+//! What becomes of an attempt, before it is done: it is little enough to change the attempt in place, without building an effect.
 ghost use Rattle.std.specs.Prelude.{◌≡◌, []};
 ghost use Rattle.dist_core_ends.specs.Progress.{stage_of};
 
@@ -6,7 +6,7 @@ use dist_core_ends::{Attempt, Phase, Stage, UpRecord, Why};
 use dist_names::ByteString;
 use std::alloc::Global;
 
-/// What becomes of an attempt. A word of the contracts: no public call takes or gives it.
+/// What becomes of an attempt. It is used in contracts: no public call takes or returns it.
 #[derive(Drop)]
 pub enum Progress {
     /// It sends this and goes on to this stage.
@@ -19,7 +19,7 @@ pub enum Progress {
     Shuts { say: ByteString, why: Why },
 }
 
-// It is closed, and sends nothing.
+// The attempt is closed, and sends nothing.
 pub fn shuts_silently(alloc: Global, why: Why) -> Progress
     ensures { result ≡ Progress.Shuts [] why }
 {
@@ -27,7 +27,7 @@ pub fn shuts_silently(alloc: Global, why: Why) -> Progress
     Progress::Shuts { say, why }
 }
 
-// It goes on in another phase.
+// The attempt goes on in another phase.
 pub fn moves(say: ByteString, attempt: &Attempt, to: Phase) -> Progress
     ensures { result ≡ Progress.Goes say (record (stage_of attempt.now) { phase = to }) }
 {

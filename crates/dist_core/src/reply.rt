@@ -7,13 +7,13 @@ use dist_peers::EndId;
 /// What else a step did.
 #[derive(Debug, Drop, PartialEq, Eq)]
 pub enum Note {
-    /// Nothing that is noted.
+    /// Nothing to note.
     Nothing,
     /// A name passed all checks, also where `nok` was sent to it.
     NameTaken {
         /// The name.
         peer: NodeName,
-        /// The own dialled end that it made doomed, if one.
+        /// The own dialled end that this name doomed, if any.
         dooms: Option<EndId>,
     },
     /// A reply to a challenge was sent.
@@ -25,12 +25,12 @@ pub enum Note {
 pub struct Reply {
     /// The event's end, or the one that was given out.
     pub end_: EndId,
-    /// What is to be written on that end's connection: whole frames, or one packet of no bytes.
+    /// What to write on that end's connection: whole frames, or one packet of no bytes.
     pub say: ByteString,
     /// The end that the step closed, at most one, and why.
     pub closed: Option<(EndId, Why)>,
     /// The record of the event's end, where the step brought it up.
     pub up: Option<UpRecord>,
-    /// What else it did.
+    /// What else the step did.
     pub note: Note,
 }

@@ -10,24 +10,24 @@ use thiserror::Error;
 /// returned. Our own choice; the ERTS User's Guide has no such machine.
 #[derive(Clone, Copy, Debug, PartialEq, Eq, Error)]
 pub enum StepError {
-    /// The number was never given out. The caller's fault, as the four that follow.
+    /// The number was never given out. The caller's fault, like the four that follow.
     #[error("no such end")]
     NoSuchEnd,
-    /// The end is closed, for this cause; for `Ended` also where the node forgot the cause.
+    /// The end is closed, for this cause; `Ended` also where the node forgot the cause.
     #[error("end is closed")]
     Gone(Why),
-    /// The end is open and takes no such event: `Opened` where no connection is awaited, `Frame` before there is one or
+    /// The end is open but does not take this event: `Opened` where no connection is awaited, `Frame` before there is one or
     /// once the end is up, `Tick` before it is up.
     #[error("end takes no such event now")]
     WrongPhase,
-    /// A dial to a peer that is not idle, and its entry.
+    /// The peer that was to be dialled is not idle, and has this entry.
     #[error("peer is not idle")]
     Busy(Entry),
-    /// As many steps that reported no loss were made as the node's limits allow; of a new end also where as many ends were given
-    /// out as they allow.
+    /// The node has made as many steps that reported no loss as its limits allow; for a new end also: it has given out as many ends
+    /// as they allow.
     #[error("node has made all its steps")]
     Spent,
-    /// A dial with as many entries as the node's limits allow, or a new end with as many open ends as they allow.
+    /// For a dial, there are as many entries as the node's limits allow; for any new end, as many open ends as they allow.
     #[error("node is full")]
     Full,
     /// Nothing else refuses the step, and no memory was left for it.

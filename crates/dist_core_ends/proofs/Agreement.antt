@@ -46,6 +46,6 @@ entry-from_agree es p (Some (entry.Up x)) h =
 entry-from_agree es p (Some (entry.Challenged up x)) h =
     λ j. entry_from (some-first (holds p Up) es up.0 (λ i. held-passes p Up (slice_get es i) ∙ h Up i) j) (some-first (holds p In) es x.0 (λ i. held-passes p In (slice_get es i) ∙ h In i) j) (none-first (holds p Out) es (λ i. held-passes p Out (slice_get es i) ∙ h Out i) j)
 
--- the entries that agree with the ends are those of the ends
+-- entries that agree with the ends are those that the ends make
 pub entry-agreed : (t : Name → Option Entry) (es : List End) → Agree t es → (p : Name) → entry_in es p ≡ t p
 entry-agreed t es h p = entry-from_agree es p (t p) (h p)

@@ -1,4 +1,4 @@
--- The ends and the entries go on agreeing when ends change.
+-- When ends change, the ends and the entries still agree.
 use Rattle.std.proofs.Common.{◌≡◌, ℕ, zero, suc, ◌+◌, ◌<◌, ◌≤◌, Bool, true, false, cond, eqb, ltb, ◌&&◌, List, [], ◌∷◌, ◌++◌, length, set, Option, Some, None, refl, sym, ap, ◌∙◌, subst, arith, slice_get}
 use Rattle.std.proofs.Math.Dec.{eqb-suc-suc, eqb-suc-zero, eqb-zero-suc}
 use Rattle.std.proofs.lemmas.Bool.{eqb-true}
@@ -70,7 +70,7 @@ changes-one u g p x e o a new old here q k i =
           ] refl
     ] refl
 
--- one end changes, and what it holds stays
+-- one end changes, and how it holds its peer stays
 pub stays : (u : Name → Option Entry) (g : ℕ → Option End) (x : ℕ) (e : End) → Agrees u g
     → ((q : Name) (k : Kind) → is_held q k (Some e) ≡ is_held q k (g x))
     → Agrees u (λ i. cond (eqb x i) (Some e) (g i))

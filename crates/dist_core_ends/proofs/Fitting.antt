@@ -25,7 +25,7 @@ use Rattle.dist_core_ends.proofs.Tables.{order, same-name}
 use Rattle.std.proofs.lemmas.Bool.{false≢true}
 use Rattle.dist_core_ends.proofs.Changes.{Agrees, get-put, get-after, changes-one, changes-two, stays, claimless}
 
--- an end that holds a peer is there
+-- an end that holds a peer exists
 pub there : (es : List End) (p : Name) (k : Kind) (i : ℕ) → holds_at es p k i ≡ true → i < length es
 there [] p k i h = cc
 there (e ∷ es) p k zero h = omega arith
@@ -89,7 +89,7 @@ stays-by (ends.Closed w) s h = absurd (false≢true h)
 pub stays-open : (o : Option End) (d s : End) → o ≡ Some d → may_be d s ≡ true → StaysClosed o s
 stays-open o d s e h = let P : Option End → Type 0 = λ x. StaysClosed x s in subst P (sym e) (stays-by d s h)
 
--- an end that holds its peer, and not as up
+-- an end that holds its peer and is not up
 stays-held : (p : Name) (k : Kind) (o : Option End) (s : End) → is_unnamed s ≡ false → is_held p k o ≡ true → same_kind k Up ≡ false → StaysClosed o s
 stays-held p k None s g h u = tt
 stays-held p k (Some ends.Unnamed) s g h u = tt
@@ -166,21 +166,21 @@ up-settled (ends.Attempt b) h = absurd (false≢true (sym (attempt-not-up b.peer
 up-settled (ends.Up r) h = refl
 up-settled (ends.Closed w) h = refl
 
--- an end that holds a peer, and not as up, may become any other that is not nameless
+-- an end that holds a peer and is not up may become any other that is not nameless
 free-by : (e s : End) (c : Claim) → is_unnamed s ≡ false → claim_of e ≡ Some c → same_kind c.kind Up ≡ false → StaysClosed (Some e) s
 free-by ends.Unnamed s c g h u = tt
 free-by (ends.Attempt b) s c g h u = g
 free-by (ends.Up r) s c g h u = absurd (false≢true (sym u ∙ sym (ap is_up h)))
 free-by (ends.Closed w) s c g h u = absurd cc
 
--- the other end, once end id is e
+-- what the other end is once end id is e
 other-stays : (es : List End) (i : ℕ) (e : End) (x : ℕ) (s : End) → i ≤ length es → StaysClosed (Some e) s → StaysClosed (slice_get es x) s → StaysClosed (slice_get (put_end es i e) x) s
 other-stays es i e x s place this other =
     let P : Option End → Type 0 = λ o. StaysClosed o s in
     subst P (sym (get-put es i e x place)) (elim (eqb i x) as (λ b. StaysClosed (cond b (Some e) (slice_get es x)) s) [ true ↦ this | false ↦ other ])
 
 module _ (me : Name) (es : List End) (t : Table) (a : Agree (map.get t) es) where
-  -- what is to be shown of a change
+  -- what has to be shown of a change
   pub fit : (id : EndId) (this : End) (o : Option (EndId × End)) (c d : Option Claim) → StaysClosed (slice_get es id.0) this → OtherStaysClosed (put_end es id.0 this) o → claim_at (slice_get es id.0) ≡ c → claim_of this ≡ d → id.0 ≤ length es → IsThere es o
       → AsksShift t me id c d → (v : Name → Option Entry) → ((q : Name) → map.get (table_after_shift t me id c d) q ≡ v q) → Agrees v (view_after es id this o) → Fits me es t id this o
   fit id this o c d stays other_stays was is place other asks v gets agrees =
@@ -274,7 +274,7 @@ false2 a b = ap (cond a false) (same_false b) ∙ same_false a
 pub no : {P : Type 0} → false ≡ true → P
 no h = absurd (false≢true h)
 
--- what an entry is once an end leaves it
+-- what an entry is once an end is removed from it
 left-here : (id : EndId) (k0 : Kind) (o : Option Entry) → ((k : Kind) → names k id.0 o ≡ same_kind k k0) → (k : Kind) (i : ℕ) → cond (eqb id.0 i) false (names k i o) ≡ names k i (left_by id o)
 left-here id Out None h k i = no (h Out)
 left-here id In None h k i = no (h In)
@@ -306,14 +306,14 @@ pub and_true : (b : Bool) → (b && true) ≡ b
 and_true true = refl
 and_true false = refl
 
--- a claim on p, read at p
+-- a claim on p is read as one on p
 pub own-claim : (p : Name) (k l : Kind) → is_claim p k (Some (record { peer = p; kind = l })) ≡ same_kind k l
 own-claim p k l = ap (λ b. same_kind k l && b) (self-same p) ∙ and_true (same_kind k l)
 
 abbrev pub claims : Name → Kind → Option Claim
 claims p k = Some (record { peer = p; kind = k })
 
--- an end that a name that comes puts aside wasn't up
+-- an end that is put aside for a name that comes wasn't up
 not-held-up : (id x : EndId) (l : Kind) (o : Option Entry) (g : Bool) → names l x.0 o ≡ true
     → ((k : Kind) (i : ℕ) → cond (eqb x.0 i) false (cond (eqb id.0 i) (same_kind k In) (names k i o)) ≡ names k i (Some (let x = ruling g id o in x.entry))) → same_kind l Up ≡ false
 not-held-up id x Out o g named here = refl
@@ -325,7 +325,7 @@ not-held-up id x Up (Some (entry.Up y)) g named here = no (sym (ap (λ b. cond b
 not-held-up id x Up (Some (entry.Challenged y z)) g named here = no (sym (ap (λ b. cond b false (cond (eqb id.0 x.0) false (eqb y.0 x.0))) (same x.0)) ∙ here Up x.0 ∙ named)
 
 module _ (me : Name) (es : List End) (t : Table) (a : Agree (map.get t) es) where
-  -- the entry of p, at an end whose claim is known
+  -- what the entry of p says of an end whose claim is known
   pub named-at : (p : Name) (o : Option Entry) → map.get t p ≡ o → (x : EndId) (c : Option Claim) → claim_at (slice_get es x.0) ≡ c → (k : Kind) → names k x.0 o ≡ is_claim p k c
   named-at p o e x c was k = ap (names k x.0) (sym e) ∙ sym (a p k x.0) ∙ at-claim p k (slice_get es x.0) ∙ ap (is_claim p k) was
 
@@ -343,7 +343,6 @@ module _ (me : Name) (es : List End) (t : Table) (a : Agree (map.get t) es) wher
   fit-closes id w None stays was place = fit-keeps id (ends.Closed w) None stays was refl place
   fit-closes id w (Some c) stays was place = fit-leaves id w c stays was place
 
-  -- a dial
   dial-here : (id : EndId) (p : Name) (k : Kind) (i : ℕ) → cond (eqb id.0 i) (same_kind k Out) (names k i None) ≡ names k i (Some (entry.Out id))
   dial-here id p Out i = plain (eqb id.0 i)
   dial-here id p In i = same_false (eqb id.0 i)
@@ -370,7 +369,6 @@ module _ (me : Name) (es : List End) (t : Table) (a : Agree (map.get t) es) wher
       (λ q. get-insert order t p _ q ∙ (λ j. cond (same_name q p) (Some (let x = ruling (greater j) id (before j) in x.entry)) (map.get t q))) tt refl
       (λ k i. (λ j. cond (eqb x.0 i) false (cond (eqb id.0 i) (own-claim p k In j) (names k i (before j)))) ∙ here k i)
 
-  -- an end comes up
   pub fit-rises : (id : EndId) (e : End) (p : Name) (l : Kind) (o : Option Entry) → claim_at (slice_get es id.0) ≡ claims p l → claim_of e ≡ claims p Up → id.0 ≤ length es → map.get t p ≡ o
       → AsksRaise t id p l Up → table_after_rise t id p l Up ≡ map.insert t p (entry.Up id)
       → ((k : Kind) (i : ℕ) → cond (eqb id.0 i) (same_kind k Up) (names k i o) ≡ names k i (Some (entry.Up id))) → Fits me es t id e None

@@ -1,4 +1,4 @@
--- Ends and rows of which it is forgotten why they were closed.
+-- Ends and rows whose causes of closing are forgotten.
 use Rattle.std.proofs.Common.{◌≡◌, ℕ, zero, suc, ◌+◌, ◌<◌, ◌≤◌, true, List, [], ◌∷◌, length, set, Option, Some, refl, sym, ap, ◌∙◌, arith, slice_get, inl, inr}
 use Rattle.std.specs.Prelude.{min}
 use Rattle.std.proofs.lemmas.Bool.Decides.{leb_tells}
@@ -17,7 +17,7 @@ use Rattle.dist_core_ends.specs.Forgetting.{without_cause, without_causes_below}
 use Rattle.dist_core_ends.specs.Keeping.{Slots, end_of_row, found_end, ends_of_rows, AreKept, without_row_cause, rows_forgotten}
 use Rattle.dist_core_ends.proofs.Opens.{count-cons}
 
--- ---- what a forgotten end still is
+-- ---- what an end still is once its cause is forgotten
 
 pub same-open : (e : End) → is_open (without_cause e) ≡ is_open e
 same-open ends.Unnamed = refl
@@ -31,7 +31,7 @@ same-holds p k (ends.Attempt a) = refl
 same-holds p k (ends.Up r) = refl
 same-holds p k (ends.Closed w) = refl
 
--- an open end is as it was
+-- an open end stays as it is
 same-end : (e : End) → is_open e ≡ true → without_cause e ≡ e
 same-end ends.Unnamed h = refl
 same-end (ends.Attempt a) h = refl
@@ -75,7 +75,7 @@ rows-slot (suc b) (row.Slot m ∷ rows) zero k h = h
 rows-slot (suc b) (row.Closed w ∷ rows) zero k h = absurd cc
 rows-slot (suc b) (r ∷ rows) (suc i) k h = rows-slot b rows i k h
 
--- the rows show the ends of which it is forgotten
+-- the rows show the ends without their causes
 same-row : (slots : Slots) (r : EndPlace) → ((k : ℕ) → r ≡ row.Slot k → is_open (end_of_row slots r) ≡ true) → end_of_row slots (without_row_cause r) ≡ without_cause (end_of_row slots r)
 same-row slots (row.Slot k) h = sym (same-end (end_of_row slots (row.Slot k)) (h k refl))
 same-row slots (row.Closed w) h = refl

@@ -38,7 +38,7 @@ pub shown-push : (rows : List EndPlace) (slots : Slots) (r : EndPlace) → ends_
 shown-push [] slots r = refl
 shown-push (x ∷ rows) slots r = ap (λ es. end_of_row slots x ∷ es) (shown-push rows slots r)
 
--- the slot of this row is not k
+-- the slot of this row is another than k
 row-other : (old new : Slots) (k : ℕ) (o : Option End) → Puts old new k o → (x : EndPlace) → (x ≡ row.Slot k → ⊥) → end_of_row new x ≡ end_of_row old x
 row-other old new k o p (row.Slot m) h = ap found_end (p.others m (λ e. h (ap row.Slot e)))
 row-other old new k o p (row.Closed w) h = refl
@@ -79,7 +79,7 @@ get-set (d ∷ rows) zero r (suc i) h = sym (ap (λ b. cond b (Some r) (slice_ge
 get-set (d ∷ rows) (suc x) r zero h = sym (ap (λ b. cond b (Some r) (Some d)) (eqb-suc-zero x))
 get-set (d ∷ rows) (suc x) r (suc i) h = get-set rows x r i (omega arith) ∙ sym (ap (λ b. cond b (Some r) (slice_get rows i)) (eqb-suc-suc x i))
 
--- a row with a slot, once row i is that of a closed end
+-- a row that has a slot, once row i is that of a closed end
 pub kept-row : (rows : List EndPlace) (i : ℕ) (w : Why) (j m : ℕ) → i < length rows → slice_get (set rows i (row.Closed w)) j ≡ Some (row.Slot m) → (slice_get rows j ≡ Some (row.Slot m)) × (eqb i j ≡ false)
 kept-row rows i w j m within h =
     elim (eqb i j) as (λ b. eqb i j ≡ b → cond b (Some (row.Closed w)) (slice_get rows j) ≡ Some (row.Slot m) → (slice_get rows j ≡ Some (row.Slot m)) × (eqb i j ≡ false)) [
@@ -87,7 +87,7 @@ kept-row rows i w j m within h =
       | false ↦ λ e g. (g, e)
     ] refl (sym (get-set rows i (row.Closed w) j within) ∙ h)
 
--- a row with a slot, once one more row is there
+-- a row that has a slot, once one more row is there
 pub more-row : (rows : List EndPlace) (r : EndPlace) (j m : ℕ) → slice_get (rows ++ r ∷ []) j ≡ Some (row.Slot m) → ((j ≡ length rows) × (r ≡ row.Slot m)) ⊎ (slice_get rows j ≡ Some (row.Slot m))
 more-row [] r zero m h = inl (refl, cc)
 more-row [] r (suc j) m h = absurd cc
@@ -117,7 +117,6 @@ finds-slot rows slots i k r e a at is there =
 pub finds-closed : (rows : List EndPlace) (slots : Slots) (i : ℕ) (w : Why) (r : EndPlace) → slice_get rows i ≡ Some r → r ≡ row.Closed w → slice_get (ends_of_rows rows slots) i ≡ Some (ends.Closed w)
 finds-closed rows slots i w r at is = row-get rows slots i r at ∙ ap (λ (x : EndPlace). Some (end_of_row slots x)) is
 
--- a closed end stays closed
 pub stays-shut : (es : List End) (i : ℕ) (w : Why) (e : End) → slice_get es i ≡ Some (ends.Closed w) → StaysClosed (slice_get es i) e → is_open e ≡ true → ⊥
 stays-shut es i w e at s h = let P : Option End → Type 0 = λ o. StaysClosed o e in false≢true (sym (ap is_open (subst P at s)) ∙ h)
 
@@ -129,7 +128,6 @@ set-same [] i e h = refl
 set-same (x ∷ es) zero e h = let same : e ≡ x = cc in ap (λ y. y ∷ es) same
 set-same (x ∷ es) (suc i) e h = ap (λ xs. x ∷ xs) (set-same es i e h)
 
--- the end of a row
 pub kept-end : (rows : List EndPlace) (slots : Slots) (i k : ℕ) → slice_get rows i ≡ Some (row.Slot k) → (f : IsFull slots k) → slice_get (ends_of_rows rows slots) i ≡ Some f.kept
 kept-end rows slots i k at f = row-get rows slots i (row.Slot k) at ∙ ap (λ (o : Option End). Some (found_end o)) f.there
 
@@ -177,7 +175,7 @@ module _ (rows : List EndPlace) (old new : Slots) (a : AreKept rows old) where
         counted = omega (arith, n, a.counted, less, same);
       }
 
--- one end more
+-- one further end
 unused : (rows : List EndPlace) (slots : Slots) (k : ℕ) → AreKept rows slots → in_slot slots k ≡ None → (i : ℕ) → slice_get rows i ≡ Some (row.Slot k) → ⊥
 unused rows slots k a free i at = let f = a.full i k at in let bad : ◌≡◌ {A = Option End} None (Some f.kept) = sym free ∙ f.there in absurd cc
 
@@ -223,15 +221,14 @@ none-kept rows slots e f =
       counted = ap (count_by is_some) f ∙ ap (λ (xs : List EndPlace). count_by is_open (ends_of_rows xs slots)) (sym e);
     }
 
--- an end put in a place that is there
+-- an end is put in a place that is there
 pub put-within : (es : List End) (i : ℕ) (e : End) → i < length es → set es i e ≡ put_end es i e
 put-within es i e h = elim (ltb i (length es)) as (λ b. ltb i (length es) ≡ b → set es i e ≡ cond b (set es i e) (es ++ e ∷ [])) [ true ↦ λ b. refl | false ↦ λ b. absurd (grind (arith, nat_tests)) ] refl
 
--- one that is put behind the last
 pub put-behind : (es : List End) (i : ℕ) (e : End) → i ≡ length es → es ++ e ∷ [] ≡ put_end es i e
 put-behind es i e h = elim (ltb i (length es)) as (λ b. ltb i (length es) ≡ b → es ++ e ∷ [] ≡ cond b (set es i e) (es ++ e ∷ [])) [ true ↦ λ b. absurd (grind (arith, nat_tests)) | false ↦ λ b. refl ] refl
 
--- one end more, where the slots had room
+-- a further end, where the slots have room
 pub behind-shown : (rows more : List EndPlace) (old mid new : Slots) (i : ℕ) (e : End) (r : EndPlace) → i ≡ length rows → more ≡ rows ++ r ∷ [] → mid ≡ old → AreKept rows old → GivesRow mid new e r → ends_of_rows more new ≡ put_end (ends_of_rows rows old) i e
 behind-shown rows more old mid new i e r at is same a g =
     let P : Slots → Type 0 = λ s. GivesRow s new e r in

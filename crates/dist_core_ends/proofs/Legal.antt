@@ -9,14 +9,14 @@ use Rattle.dist_core_ends.specs.Ends.{Agree, AreLegal, table_of, names}
 use Rattle.dist_core_ends.proofs.Agreement.{entry-agreed}
 use Rattle.dist_core_ends.proofs.Tables.{get-table, agree-empty}
 
--- what agrees with the same entries and ends
+-- entries and ends equal to those that agree
 pub agreed : (t u : Table) (es fs : List End) → t ≡ u → es ≡ fs → Agree (map.get u) fs → Agree (map.get t) es
 agreed t u es fs e f h =
     let P : List End → Type 0 = λ xs. Agree (map.get t) xs in
     let Q : Table → Type 0 = λ x. Agree (map.get x) fs in
     subst P (sym f) (subst Q (sym e) h)
 
--- what agrees with the ends makes them legal
+-- ends with which entries agree are legal
 pub legal : (t : Name → Option Entry) (es : List End) → Agree t es → AreLegal es
 legal t es h p k i = h p k i ∙ ap (names k i) (sym (entry-agreed t es h p))
 

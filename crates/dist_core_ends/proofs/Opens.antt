@@ -1,4 +1,4 @@
--- How many ends are open, when one changes.
+-- How many ends are open when one changes.
 use Rattle.std.proofs.Common.{◌≡◌, ℕ, zero, suc, ◌+◌, ◌<◌, Bool, true, false, cond, List, [], ◌∷◌, ◌++◌, set, Some, ap, ◌∙◌, arith, slice_get}
 use Rattle.std.specs.List.{count_by}
 use Rattle.std.proofs.lemmas.List.Sums.{sum_by-cons}
@@ -26,7 +26,7 @@ pub count-push : (es : List End) (e : End) → count_by is_open (es ++ e ∷ [])
 count-push [] e = count-cons e []
 count-push (x ∷ es) e = count-cons x (es ++ e ∷ []) ∙ omega (arith, count-push es e, count-cons x es)
 
--- where an open end stands, there is one
+-- where there is an open end, at least one is open
 pub count-some : (es : List End) (i : ℕ) (d : End) → slice_get es i ≡ Some d → is_open d ≡ true → 0 < count_by is_open es
 count-some [] i d h o = absurd cc
 count-some (x ∷ es) zero d h o =

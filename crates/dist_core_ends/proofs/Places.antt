@@ -1,4 +1,4 @@
--- Rows by a byte for each number, and the rows of open ends beside them.
+-- Rows as one byte for each number, and the rows of open ends beside them.
 use Rattle.std.proofs.Common.{◌≡◌, ◌≢◌, ℕ, zero, suc, ◌+◌, ◌-◌, ◌<◌, ◌≤◌, ◌^◌, Bool, true, false, cond, eqb, leb, ◌||◌, List, [], ◌∷◌, ◌++◌, length, set, drop, filter, Option, Some, None, Result, Ok, Err, OnOk, OnErr, IsOk, refl, sym, ap, ◌∙◌, subst, arith, slice_get, inl, inr, length-append}
 use Rattle.std.specs.Prelude.{min}
 use Rattle.std.specs.Cmp.{nat_eq_equiv}
@@ -23,7 +23,7 @@ rows-get f b [] i w h = absurd cc
 rows-get f b (x ∷ ws) zero w h = let same : x ≡ w = cc in let at : b ≡ b + 0 = omega arith in λ j. Some (row_by (f (at j)) (same j))
 rows-get f b (x ∷ ws) (suc i) w h = let at : suc b + i ≡ b + suc i = omega arith in rows-get f (suc b) ws i w h ∙ ap (λ (k : ℕ). Some (row_by (f k) w)) at
 
--- other rows alone change
+-- only rows of other numbers change
 rows-same : (f g : ℕ → Option EndPlace) (b : ℕ) (ws : List Why) → ((q : ℕ) → b ≤ q → q < b + length ws → g q ≡ f q) → rows_from g b ws ≡ rows_from f b ws
 rows-same f g b [] h = refl
 rows-same f g b (w ∷ ws) h =
@@ -45,7 +45,7 @@ rows-set f g b (x ∷ ws) (suc i) w n h =
     let rest : rows_from g (suc b) (set ws i w) ≡ set (rows_from f (suc b) ws) i (row.Closed w) = rows-set f g (suc b) ws i w (ap g at ∙ n) (λ q d. h q (λ e. d (e ∙ sym at))) in
     λ j. row_by (here j) x ∷ rest j
 
--- one more is there
+-- one more row is there
 rows-push : (f g : ℕ → Option EndPlace) (b : ℕ) (ws : List Why) (w : Why) (r : EndPlace) → row_by (g (b + length ws)) w ≡ r → ((q : ℕ) → q ≢ b + length ws → g q ≡ f q) → rows_from g b (ws ++ w ∷ []) ≡ rows_from f b ws ++ r ∷ []
 rows-push f g b [] w r n h = let at : b ≡ b + 0 = omega arith in ap (λ (x : EndPlace). x ∷ []) (ap (λ (k : ℕ). row_by (g k) w) at ∙ n)
 rows-push f g b (x ∷ ws) w r n h =
@@ -59,19 +59,18 @@ within-some [] i h = absurd (omega (arith, h))
 within-some (x ∷ ws) zero h = (x, refl)
 within-some (x ∷ ws) (suc i) h = within-some ws i (omega (arith, h))
 
--- a row of its own
+-- a number that has a row of its own
 pub rows-row : (f : ℕ → Option EndPlace) (ws : List Why) (i : ℕ) (r : EndPlace) → i < length ws → f i ≡ Some r → slice_get (rows_from f 0 ws) i ≡ Some r
 rows-row f ws i r h e = let w = within-some ws i h in let at : 0 + i ≡ i = omega arith in rows-get f 0 ws i (w.0) (w.1) ∙ ap (λ (o : Option EndPlace). Some (row_by o (w.0))) (ap f at ∙ e)
 
--- the row of a closed end
+-- a number without one: a closed end
 pub rows-cause : (f : ℕ → Option EndPlace) (ws : List Why) (i : ℕ) (w : Why) → slice_get ws i ≡ Some w → f i ≡ None → slice_get (rows_from f 0 ws) i ≡ Some (row.Closed w)
 rows-cause f ws i w there e = let at : 0 + i ≡ i = omega arith in rows-get f 0 ws i w there ∙ ap (λ (o : Option EndPlace). Some (row_by o w)) (ap f at ∙ e)
 
--- another number is another key
 other-key : (i q : ℕ) → (q ≡ i → ⊥) → eqb i q ≡ false
 other-key i q d = elim (cases_eq q i) [ inl e ↦ absurd (d e) | inr n ↦ grind (arith, nat_tests, n) ]
 
--- all of them, from number 0 on
+-- all rows, from number 0 on, when an end is closed
 pub rows-shut : (f g : ℕ → Option EndPlace) (ws : List Why) (i : ℕ) (w : Why) → g i ≡ None → ((q : ℕ) → eqb i q ≡ false → g q ≡ f q) → rows_from g 0 (set ws i w) ≡ set (rows_from f 0 ws) i (row.Closed w)
 rows-shut f g ws i w n h = let at : 0 + i ≡ i = omega arith in rows-set f g 0 ws i w (ap g at ∙ n) (λ q d. h q (other-key i q (λ e. d (e ∙ sym at))))
 
@@ -144,7 +143,7 @@ all-more (suc b) ws w = ap (λ xs. why.Ended ∷ xs) (all-more b ws w)
 
 -- ---- forgotten causes
 
--- what is forgotten below the base is forgotten already
+-- causes below the base are forgotten already
 pub all-forgotten : (b n : ℕ) (ws : List Why) → n ≤ b → causes_forgotten n (all_causes b ws) ≡ all_causes b ws
 all-forgotten b zero ws h = causes-none (all_causes b ws)
 all-forgotten zero (suc n) ws h = absurd (omega (arith, h))
@@ -170,7 +169,7 @@ leb-false a b h = elim (leb_tells a b) [ inl f ↦ absurd (omega (arith, f.1, h)
 leb-true : (a b : ℕ) → a ≤ b → leb a b ≡ true
 leb-true a b h = elim (leb_tells a b) [ inl f ↦ f.0 | inr f ↦ absurd (omega (arith, f.1, h)) ]
 
--- a row of its own that is kept, or not
+-- a row of its own that is kept or dropped
 kept-below : (below q : ℕ) (o : Option EndPlace) (w : Why) → q < below → row_by (kept_row below q o) why.Ended ≡ without_row_cause (row_by o w)
 kept-below below q None w h = refl
 kept-below below q (Some r) w h = by r (leb-false below q h)
@@ -204,12 +203,12 @@ causes-past (suc b) (suc c) (w ∷ ws) h g = ap (λ xs. why.Ended ∷ xs) (cause
 pub causes-upto : (i b : ℕ) (ws : List Why) → i ≡ min b (length ws) → causes_forgotten i ws ≡ causes_forgotten b ws
 causes-upto i b ws h = elim (leb_tells b (length ws)) [ inl f ↦ (let same : i ≡ b = omega (arith, h, f.1) in ap (λ n. causes_forgotten n ws) same) | inr f ↦ causes-past i b ws (omega (arith, h, f.1)) (omega (arith, f.1)) ]
 
--- what an insertion did that didn't fail
+-- what an insertion did that did not fail
 pub done : {X E : Type 0} (P : Type 0) (r : Result X E) (x : X) → r ≡ Ok x → OnOk r P → P
 done P (Ok y) x is h = h
 done P (Err e) x is h = absurd cc
 
--- ---- no number beyond the last has a row
+-- ---- no number that was not given out has a row
 
 pub within-more : (f g : ℕ → Option EndPlace) (b : ℕ) (ws : List Why) (n : ℕ) (w : Why) → AreWithin b ws f → n ≡ b + length ws → n < 2 ^ 32 → ((q : ℕ) → eqb n q ≡ false → g q ≡ f q) → AreWithin b (ws ++ w ∷ []) g
 within-more f g b ws n w a len few h =
@@ -219,12 +218,12 @@ within-more f g b ws n w a len few h =
       few = omega (arith, longer, len, few);
     }
 
--- what was inserted where an entry stood was inserted
+-- an insertion in the place of another entry does not fail
 pub not-refused : {X E : Type 0} (r : Result X E) (o : Option EndPlace) → OnErr r (o ≡ None) → (o ≡ None → ⊥) → IsOk r
 not-refused (Ok x) o h d = refl
 not-refused (Err e) o h d = absurd (d h)
 
--- ---- a filter, at a key
+-- ---- a filtered map, at a key
 
 same-filter : (test : ℕ → Bool) (p p' : ℕ × EndPlace → Bool) (es : List (ℕ × EndPlace)) → ((e : ℕ × EndPlace) → test e.0 ≡ true → p e ≡ p' e) → lookup test (filter p es) ≡ lookup test (filter p' es)
 same-filter test p p' [] h = refl
@@ -234,7 +233,7 @@ option-kept : (below q : ℕ) (o : Option EndPlace) → option_filter (stays_kep
 option-kept below q None = refl
 option-kept below q (Some r) = refl
 
--- what is kept of the rows of their own
+-- which of the rows of their own are kept
 pub places-kept : (below : ℕ) (es : List (ℕ × EndPlace)) → IsDistinct eqb (keys_of es) → (q : ℕ) → lookup (eqb q) (filter (λ (e : ℕ × EndPlace). stays_kept below e.0 e.1) es) ≡ kept_row below q (lookup (eqb q) es)
 places-kept below es d q =
     same-filter (eqb q) (λ (e : ℕ × EndPlace). stays_kept below e.0 e.1) (λ (e : ℕ × EndPlace). stays_kept below q e.1) es (λ e h. ap (λ (k : ℕ). stays_kept below k e.1) (sym (eqb-true q e.0 h)))

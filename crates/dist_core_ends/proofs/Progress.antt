@@ -30,18 +30,18 @@ use Rattle.dist_core_ends.proofs.Legal.{legal}
 use Rattle.dist_core_ends.proofs.Keeping.{kept-end, put-within}
 use Rattle.dist_core_ends.proofs.Fitting.{claims, named-at, own-claim, same-shift, stays-open, fit-keeps}
 
--- what stands in the slot of a row is the end of its number
+-- the end in the slot of a row is the end of the row's number
 pub slot-shown : (rows : List EndPlace) (slots : Slots) (i k : ℕ) (r : EndPlace) → AreKept rows slots → slice_get rows i ≡ Some r → r ≡ row.Slot k → in_slot slots k ≡ slice_get (ends_of_rows rows slots) i
 slot-shown rows slots i k r a at is =
     let there = at ∙ ap Some is in
     let f = a.full i k there in
     f.there ∙ sym (kept-end rows slots i k there f)
 
--- an end that took the place of another
+-- an end took the place of another
 pub put-there : (es new : List End) (i : ℕ) (d e : End) → slice_get es i ≡ Some d → new ≡ set es i e → new ≡ put_end es i e
 put-there es new i d e at is = is ∙ put-within es i e (slice_get_within es i d at)
 
--- a requirement on the ends, at the table that is kept
+-- the requirement on ends and a table holds of equal ones too
 pub fit-kept : (me : Name) (fs es : List End) (t : Table) (id : EndId) (this : End) (other : Option (EndId × End)) → es ≡ fs → (AreLegal fs → Fits me fs (table_of fs) id this other) → Agree (map.get t) es → Fits me es t id this other
 fit-kept me fs es t id this other e h a =
     let P : List End → Type 0 = λ xs. AreLegal xs → Fits me xs (table_of xs) id this other in

@@ -1,4 +1,4 @@
--- Rows of which the last stand in an array.
+-- Rows, the last of which stand in an array.
 use Rattle.std.proofs.Common.{◌≡◌, ℕ, zero, suc, ◌+◌, ◌-◌, ◌<◌, ◌≤◌, List, [], ◌∷◌, ◌++◌, length, set, Some, refl, sym, ap, ◌∙◌, arith, slice_get, get_or, inl, inr}
 use Rattle.std.specs.Prelude.{min}
 use Rattle.std.proofs.lemmas.Bool.Decides.{leb_tells}
@@ -40,13 +40,13 @@ forgotten-at (x ∷ xs) ys (suc b) c e = ap (λ zs. without_row_cause x ∷ zs) 
 pub forgotten-both : (xs ys : List EndPlace) (b c n : ℕ) → n ≡ length xs → c ≡ b - n → rows_forgotten b xs ++ rows_forgotten c ys ≡ rows_forgotten b (xs ++ ys)
 forgotten-both xs ys b c n e f = forgotten-at xs ys b c (omega (arith, e, f))
 
--- one row more
+-- one more row
 pub forgotten-more : (i : ℕ) (xs : List EndPlace) (r : EndPlace) → slice_get (rows_forgotten i xs) i ≡ Some r → set (rows_forgotten i xs) i (without_row_cause r) ≡ rows_forgotten (suc i) xs
 forgotten-more i [] r e = absurd cc
 forgotten-more zero (x ∷ xs) r e = let same : r ≡ x = cc in ap (λ y. set (x ∷ xs) 0 (without_row_cause y)) same ∙ ap (λ zs. without_row_cause x ∷ zs) (sym (forgotten-none xs))
 forgotten-more (suc i) (x ∷ xs) r e = ap (λ zs. without_row_cause x ∷ zs) (forgotten-more i xs r e)
 
--- one row more of an array is forgotten
+-- one more row of an array is forgotten
 pub forgotten-next : (i n : ℕ) (xs now : List EndPlace) (r kept : EndPlace) → now ≡ rows_forgotten i xs → i < length xs → r ≡ get_or now i r → kept ≡ without_row_cause r → n ≡ i + 1 → set now i kept ≡ rows_forgotten n xs
 forgotten-next i n xs now r kept is h e f more =
     let long : length now ≡ length xs = ap length is ∙ forgotten-length i xs in

@@ -1,4 +1,4 @@
--- The numbers before which no end is of a kind, when ends change: an end that is up or closed is never pending again, and one that
+-- The numbers below which no end is of a kind, when ends change: an end that is up or closed is never pending again, and one that
 -- has a name is never nameless again.
 use Rattle.std.proofs.Common.{◌≡◌, ℕ, zero, suc, ◌<◌, ◌≤◌, true, false, cond, eqb, List, [], ◌∷◌, length, Option, Some, None, Result, Ok, Err, OnOk, OnErr, refl, sym, ap, ◌∙◌, subst, arith, slice_get}
 use Rattle.std.proofs.lemmas.Bool.{false≢true, eqb-true}
@@ -49,7 +49,7 @@ same-sought sought.Nameless (ends.Up r) = refl
 same-sought sought.Nameless (ends.Closed w) = refl
 
 module _ (k : Sought) where
-  -- an end that is there
+  -- an end that exists
   here-settled : (es : List End) (i : ℕ) (e : End) → i < length es → finds_sought k (slice_get es i) ≡ false → StaysClosed (slice_get es i) e → is_sought k e ≡ false
   here-settled es i e within h s =
       let d = end-there es i within in
@@ -85,7 +85,7 @@ module _ (k : Sought) where
         settled = subst P (sym is) (changed-settled es n id this other p.settled (omega (arith, p.within, shown-length rows old)) f.place f.stays f.other_there f.other_stays);
       }
 
-  -- ends that are as they were
+  -- ends that stay as they were
   past-kept : (rows new : List EndPlace) (old slots : Slots) (n : ℕ) → IsPast k rows old n → ends_of_rows new slots ≡ ends_of_rows rows old → IsPast k new slots n
   past-kept rows new old slots n p is =
       let P : List End → Type 0 = λ gs. AreSettled k gs n in
@@ -94,7 +94,7 @@ module _ (k : Sought) where
         settled = subst P (sym is) p.settled;
       }
 
-  -- the ends after a change for which memory may have run out
+  -- the ends after a change, also where memory may have run out
   pub past-either : {X E : Type 0} (r : Result X E) (me : Name) (t : Table) (rows new : List EndPlace) (old slots : Slots) (n : ℕ) (id : EndId) (this : End) (other : Option (EndId × End))
       → IsPast k rows old n → Fits me (ends_of_rows rows old) t id this other
       → OnOk r (ends_of_rows new slots ≡ with_change (ends_of_rows rows old) id this other) → OnErr r (ends_of_rows new slots ≡ ends_of_rows rows old) → IsPast k new slots n

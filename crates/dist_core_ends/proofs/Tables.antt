@@ -30,7 +30,7 @@ equal Less e = cc
 equal Equal e = refl
 equal Greater e = cc
 
--- two names that the test finds alike are one
+-- two names that compare as the same are equal
 pub same-name : (p q : Name) → same_name p q ≡ true → p ≡ q
 same-name p q e = exact p q (equal (name_cmp p q) e)
 

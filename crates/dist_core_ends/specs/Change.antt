@@ -1,4 +1,4 @@
--- What a change of one end, and of another with it, makes of the ends and of the table of entries.
+-- How a change of one end, and perhaps of a second one, changes the ends and the table of entries.
 use Rattle.std.specs.Prelude.{◌≡◌, ℕ, ◌==◌, Bool, ◌<◌, ◌≤◌, true, false, nat_lt, if◌then◌else◌}
 use Rattle.std.specs.Prelude.{List, [], ◌∷◌, ◌++◌, length, Option, Some, None, IsSome, slice_get, slice_set}
 use Rattle.std.specs.FinMap as map
@@ -25,7 +25,7 @@ put_other es (Some x) = slice_set es (let y = x.0 in y.0) x.1
 abbrev pub with_change : List End → EndId → End → Option (EndId × End) → List End
 with_change es id this other = put_other (put_end es id.0 this) other
 
--- what stands at place i where the end of another change stands there, or else what stood there
+-- what stands at place i: the other changed end where that is its place, else what g has
 abbrev pub other_view : Option (EndId × End) → (ℕ → Option End) → ℕ → Option End
 other_view None g i = g i
 other_view (Some x) g i = if (let y = x.0 in y.0) == i then Some x.1 else g i
@@ -34,7 +34,7 @@ other_view (Some x) g i = if (let y = x.0 in y.0) == i then Some x.1 else g i
 abbrev pub view_after : List End → EndId → End → Option (EndId × End) → ℕ → Option End
 view_after es id this other = other_view other (λ i. if id.0 == i then Some this else slice_get es i)
 
--- a truth, as a number
+-- 1 for true, 0 for false
 abbrev pub one_if : Bool → ℕ
 one_if true = 1
 one_if false = 0
@@ -70,14 +70,14 @@ AsksRaise t id p Out Up = is_waiting id (entry_of t p) ≡ true
 AsksRaise t id p In Up = is_waiting id (entry_of t p) ≡ true
 AsksRaise t id p old new = Unit {0}
 
--- what such a change asks for
+-- what such a change requires
 abbrev pub AsksShift : Table → Name → EndId → Option Claim → Option Claim → Type 0
 AsksShift t me id None None = Unit {0}
 AsksShift t me id None (Some c) = AsksEnter t me c.peer c.kind
 AsksShift t me id (Some d) None = Unit {0}
 AsksShift t me id (Some d) (Some c) = AsksRaise t id c.peer d.kind c.kind
 
--- what an end held, where it is there already
+-- what an end held, where the end is there already
 abbrev pub claim_at : Option End → Option Claim
 claim_at None = None
 claim_at (Some e) = claim_of e
@@ -87,7 +87,7 @@ abbrev pub HasEntry : Table → Option Claim → Type 0
 HasEntry t None = Unit {0}
 HasEntry t (Some c) = IsSome (entry_of t c.peer)
 
--- the table after end id became this
+-- the table after end id became this one
 abbrev pub table_after : Name → List End → Table → EndId → End → Table
 table_after me es t id this = table_after_shift t me id (claim_at (slice_get es id.0)) (claim_of this)
 
@@ -95,7 +95,7 @@ abbrev pub IsThere : List End → Option (EndId × End) → Type 0
 IsThere es None = Unit {0}
 IsThere es (Some x) = (let y = x.0 in y.0) < length es
 
--- an end that is closed stays as it is, one that is up stays so until it is closed, and an attempt is never nameless again
+-- an end that is closed stays as it is, one that is up stays so until it is closed, and an attempt never becomes nameless
 abbrev pub StaysClosed : Option End → End → Type 0
 StaysClosed None e = Unit {0}
 StaysClosed (Some ends.Unnamed) e = Unit {0}
@@ -107,7 +107,7 @@ abbrev pub OtherStaysClosed : List End → Option (EndId × End) → Type 0
 OtherStaysClosed es None = Unit {0}
 OtherStaysClosed es (Some x) = StaysClosed (slice_get es (let y = x.0 in y.0)) x.1
 
--- a change that a node of name me, with these ends and the table that they make, can have
+-- the change is possible at a node of name me, with these ends and the table that they make
 pub record Fits (me : Name) (es : List End) (t : Table) (id : EndId) (this : End) (other : Option (EndId × End)) : Type 0 where
   pub place : id.0 ≤ length es
   pub other_there : IsThere es other

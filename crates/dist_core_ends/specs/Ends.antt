@@ -76,7 +76,7 @@ first_of test (e ∷ es) = if test e then Some 0 else option_map suc (first_of t
 abbrev pub end_id : ℕ → EndId
 end_id i = record { 0 = i }
 
--- the entry, from the ends that hold the peer: as up, as accepted, as dialled
+-- the entry, by the ends that hold the peer: the one that is up, the accepted one, the dialled one
 abbrev pub entry_from : Option ℕ → Option ℕ → Option ℕ → Option Entry
 entry_from None None None = None
 entry_from None None (Some x) = Some (entry.Out (end_id x))
@@ -121,11 +121,11 @@ is_held p k (Some e) = holds p k e
 abbrev pub holds_at : List End → Name → Kind → ℕ → Bool
 holds_at es p k i = is_held p k (slice_get es i)
 
--- the entries t and the ends agree: an end holds a peer exactly where the peer's entry names it so
+-- the entries t and the ends agree: an end holds a peer exactly where the peer's entry names the end so
 abbrev pub Agree : (Name → Option Entry) → List End → Type 0
 Agree t es = (p : Name) (k : Kind) (i : ℕ) → holds_at es p k i ≡ names k i (t p)
 
--- the sets of ends that hold a peer are those that make an entry, and no other
+-- the ends that hold a peer are exactly those that its entry names
 abbrev pub AreLegal : List End → Type 0
 AreLegal es = Agree (entry_in es) es
 
@@ -149,14 +149,14 @@ is_unnamed (ends.Attempt a) = false
 is_unnamed (ends.Up r) = false
 is_unnamed (ends.Closed w) = false
 
--- THE OLDEST PENDING END, AND THE OLDEST ON WHICH NO NAME CAME: numbers are given out in order, so it is the one of the lowest number
+-- THE OLDEST PENDING END, AND THE OLDEST ON WHICH NO NAME CAME: the one of the lowest number, since numbers are given out in order
 abbrev pub oldest_pending : List End → Option EndId
 oldest_pending es = option_map end_id (first_of is_pending es)
 
 abbrev pub oldest_unnamed : List End → Option EndId
 oldest_unnamed es = option_map end_id (first_of is_unnamed es)
 
--- an attempt that was dialled, and no connection is there yet
+-- the attempt was dialled, and there is no connection yet
 abbrev pub waits_in : Phase → Bool
 waits_in phase.Dialing = true
 waits_in phase.DoomedDialing = true
@@ -167,7 +167,7 @@ abbrev pub is_dialing : Option End → Bool
 is_dialing (Some (ends.Attempt a)) = waits_in a.phase
 is_dialing _ = false
 
--- the message that an attempt awaits of the other side, or its connection
+-- what an attempt awaits: a message of the other side, or its connection
 abbrev pub awaited_in : Phase → Awaited
 awaited_in phase.Dialing = awaited.Connection
 awaited_in phase.DoomedDialing = awaited.Connection
@@ -179,7 +179,7 @@ awaited_in phase.AwaitTrue = awaited.Status
 awaited_in phase.AwaitComplement = awaited.Complement
 awaited_in phase.AwaitReply = awaited.Reply
 
--- WHAT AN OPEN END AWAITS: an accepted one the name first, and one that is up nothing more
+-- WHAT AN OPEN END AWAITS: an accepted end first the name, and an end that is up nothing more
 abbrev pub awaited_of : Option End → Option Awaited
 awaited_of None = None
 awaited_of (Some ends.Unnamed) = Some awaited.Name
@@ -215,7 +215,7 @@ still_of (Some (ends.Closed w)) = still.Gone w
 still_of (Some (ends.Up r)) = still.Up
 still_of (Some e) = still.Pending
 
--- what is found of an end: the end, where it is open, and else why it isn't there
+-- what is found of an end: the end, where it is open, else why no open end has the number
 abbrev pub Finds : Result (Bor End) Absent → Option End → Type 0
 Finds (Ok e) o = (o ≡ Some e.now) × (is_open e.now ≡ true)
 Finds (Err absent.NoSuchEnd) o = o ≡ None

@@ -1,4 +1,4 @@
--- Where ends are kept: open ones in slots, and of a closed one its cause alone. No public contract speaks of it.
+-- Where ends are kept: open ends in slots; of a closed end only its cause. No public contract speaks of it.
 use Rattle.std.specs.Prelude.{◌≡◌, ◌≢◌, ℕ, zero, suc, ◌+◌, ◌<◌, ◌≤◌, Bool, true, false, List, [], ◌∷◌, length, Option, Some, None}
 use Rattle.std.specs.Prelude.{is_some, slice_get, slice_index_or, count_by}
 use Rattle.slab.specs.Slab.{Slab, slab_len}
@@ -18,7 +18,7 @@ Slots = List (Option End)
 abbrev pub in_slot : Slots → ℕ → Option End
 in_slot slots k = slice_index_or slots k None
 
--- the end that was found; none is missing
+-- the end that was found; it is never absent
 abbrev pub found_end : Option End → End
 found_end None = ends.Unnamed
 found_end (Some e) = e
@@ -39,13 +39,13 @@ pub record IsFull (slots : Slots) (k : ℕ) : Type 0 where
   pub there : in_slot slots k ≡ Some kept
   pub opened : is_open kept ≡ true
 
--- each row's slot has an open end, no two rows have one slot, and nothing else is kept
+-- each row's slot has an open end, no two rows have the same slot, and there are no further ends
 pub record AreKept (rows : List EndPlace) (slots : Slots) : Type 0 where
   pub full : (i k : ℕ) → slice_get rows i ≡ Some (row.Slot k) → IsFull slots k
   pub apart : (i j k : ℕ) → slice_get rows i ≡ Some (row.Slot k) → slice_get rows j ≡ Some (row.Slot k) → i ≡ j
   pub counted : count_by is_some slots ≡ count_by is_open (ends_of_rows rows slots)
 
--- the slot has this, and each other has what it had
+-- this slot has this end, or none, and every other slot has what it had
 pub record Puts (old new : Slots) (k : ℕ) (o : Option End) : Type 0 where
   pub here : in_slot new k ≡ o
   pub others : (other : ℕ) → other ≢ k → in_slot new other ≡ in_slot old other
@@ -58,17 +58,17 @@ Refills old new k e = Puts old.slots new.slots k (Some e) × (slab_len new ≡ s
 abbrev pub Empties : Slab End → Slab End → ℕ → Type 0
 Empties old new k = Puts old.slots new.slots k None × (slab_len new + 1 ≡ slab_len old)
 
--- the row of a further end, and the slots with it
+-- the row of a further end, and the slots then
 abbrev pub GivesRow : Slots → Slots → End → EndPlace → Type 0
 GivesRow old new e (row.Slot k) = (in_slot old k ≡ None) × Puts old new k (Some e) × (count_by is_some new ≡ count_by is_some old + 1) × (is_open e ≡ true)
 GivesRow old new e (row.Closed w) = (new ≡ old) × (e ≡ ends.Closed w)
 
--- the row of an end of which it is forgotten why it was closed
+-- the row of an end without its cause of closing
 abbrev pub without_row_cause : EndPlace → EndPlace
 without_row_cause (row.Slot k) = row.Slot k
 without_row_cause (row.Closed w) = row.Closed why.Ended
 
--- the rows, once it is forgotten why the ends below a number were closed
+-- the rows, without the causes of closing below a number
 abbrev pub rows_forgotten : ℕ → List EndPlace → List EndPlace
 rows_forgotten b [] = []
 rows_forgotten zero (r ∷ rows) = r ∷ rows
@@ -84,11 +84,11 @@ abbrev pub finds_sought : Sought → Option End → Bool
 finds_sought k None = false
 finds_sought k (Some e) = is_sought k e
 
--- none of the ends before this number is of this kind
+-- no end before this number is of this kind
 abbrev pub AreSettled : Sought → List End → ℕ → Type 0
 AreSettled k es n = (i : ℕ) → i < n → finds_sought k (slice_get es i) ≡ false
 
--- the same of a number that was given out, or is the next one
+-- the same, for a number that was given out or is the next one
 pub record IsPast (k : Sought) (rows : List EndPlace) (slots : Slots) (n : ℕ) : Type 0 where
   pub within : n ≤ length rows
   pub settled : AreSettled k (ends_of_rows rows slots) n

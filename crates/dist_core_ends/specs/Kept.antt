@@ -1,4 +1,4 @@
--- What holds of the fields of all ends, always. No public contract speaks of it.
+-- What always holds of the fields of `Ends`. No public contract speaks of it.
 use Rattle.std.specs.Prelude.{ℕ, List}
 use Rattle.std.specs.FinMap as map
 use Rattle.dist_peers.specs.Table.{Table}

@@ -18,22 +18,22 @@ stage_of a = record { phase = a.phase; challenge = a.challenge; flags = a.flags;
 abbrev pub at_stage : Attempt → Stage → Attempt
 at_stage a to = record a { phase = to.phase; challenge = to.challenge; flags = to.flags; creation = to.creation }
 
--- what becomes of the end that is replaced, where one is
+-- what becomes of the end that is replaced, where there is one
 abbrev pub replaced_end : Option EndId → Option (EndId × End)
 replaced_end replaced = option_map (λ x. (x, ends.Closed why.Replaced)) replaced
 
--- an attempt stands there
+-- there is an attempt
 abbrev pub IsAttempt : Option End → Type 0
 IsAttempt o = (a : Attempt) × (o ≡ Some (ends.Attempt a))
 
--- an attempt stands there that holds its peer as it will at this stage
+-- there is an attempt, and at this stage it holds its peer in the same way
 abbrev pub CanAdvance : Option End → Stage → Type 0
 CanAdvance o to = (a : Attempt) × (o ≡ Some (ends.Attempt a)) × (kind_in to.phase ≡ kind_in a.phase)
 
--- an attempt with this peer stands there
+-- there is an attempt with this peer
 abbrev pub IsAttemptWith : Option End → Name → Type 0
 IsAttemptWith o p = (a : Attempt) × (o ≡ Some (ends.Attempt a)) × (a.peer ≡ p)
 
--- an attempt stands there that holds this peer
+-- there is an attempt that holds this peer
 abbrev pub CanRise : Option End → Name → Type 0
 CanRise o p = (a : Attempt) × (o ≡ Some (ends.Attempt a)) × (a.peer ≡ p) × IsSome (kind_in a.phase)

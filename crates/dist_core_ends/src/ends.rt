@@ -32,9 +32,9 @@ pub struct Ends {
     rows: Rows,
     /// The open ends.
     slots: Slab<End>,
-    /// No end before this number is pending, and none will be: it only rises.
+    /// No end below this number is pending, or ever will be: the number only rises.
     passed: usize,
-    /// The same of ends on which no name came.
+    /// The same for ends on which no name came.
     named: usize,
 }
 
@@ -52,7 +52,7 @@ impl Model for Ends {
 }
 
 impl Ends {
-    /// No ends. It takes no memory.
+    /// A list without ends. It takes no memory.
     pub fn new(alloc: Global) -> Ends
         ensures { result ≡ [] }
     {
@@ -132,7 +132,7 @@ impl Ends {
         find(&self.rows, &self.slots, id)
     }
 
-    /// The entry of a peer, where it isn't idle.
+    /// The entry of a peer, where the peer isn't idle.
     pub fn entry_of(&self, peer: &NodeName) -> Option<Entry>
         ensures { result ≡ entry_in self.now peer.now }
     {
@@ -153,7 +153,7 @@ impl Ends {
         self.peers.at(i)
     }
 
-    /// Whether `most` entries or more are there, and this peer has none of them.
+    /// Whether there are `most` entries or more, and none is this peer's.
     pub fn is_full_for(&self, peer: &NodeName, most: u32) -> bool
         ensures { result ≡ is_full most (table_of self.now) (entry_in self.now peer.now) }
     {
@@ -181,7 +181,7 @@ impl Ends {
         self.with_record(self.up_id_at(i))
     }
 
-    /// The first up end of the peers whose names come behind this one, in their order; of all peers where there is no name. Called
+    /// The first up end of the peers whose names come after this one, in their order; of all peers where there is no name. Called
     /// again with the name in the record that it found, it goes through all of them: each call searches the entries once.
     pub fn up_behind(&self, name: Option<&NodeName>) -> Option<(EndId, &UpRecord)>
         ensures { option_map (λ r. (r.0, r.1.now)) result ≡ up_from self.now (up_behind (option_copied name.entry) (map.entries (table_of self.now))) }
@@ -189,7 +189,7 @@ impl Ends {
         self.with_record(self.up_id_behind(name))
     }
 
-    // The number of that end.
+    // The number of the end that `up_behind` returns.
     fn up_id_behind(&self, name: Option<&NodeName>) -> Option<EndId>
         ensures { result ≡ up_behind (option_copied name.entry) (map.entries (table_of self.now)) }
     {
@@ -209,7 +209,7 @@ impl Ends {
         ensures only { (i : ℕ) (kept : UpRecord) → slice_get self.now i ≡ Some (End.Up kept) → kept.peer ≡ peer.now
             → option_map (λ r. (r.0, r.1.now)) result ≡ up_pair i kept }
     {
-        // This shows that the entries are those of the ends.
+        // A call in whose contract the entries are those of the ends.
         let _ = self.open_ends();
         self.with_record(self.up_id_with(peer))
     }
@@ -221,7 +221,7 @@ impl Ends {
         self.entry_of(peer)?.up()
     }
 
-    // An end that is up, if one is meant, and its record.
+    // The given end, if any, and its record, where it is up.
     fn with_record(&self, id: Option<EndId>) -> Option<(EndId, &UpRecord)>
         ensures { option_map (λ r. (r.0, r.1.now)) result ≡ up_from self.now id }
     {
@@ -239,11 +239,11 @@ impl Ends {
         }
     }
 
-    /// The end that has been open and not up for the longest: the one of the lowest number, since numbers are given out in
+    /// The end that has been open and not up for the longest: it has the lowest number, since numbers are given out in
     /// order. `None` where none is. No end changes, and no memory is taken.
     ///
-    /// An end that was up or closed once is never pending again, so what was passed over once is never looked at again: all
-    /// calls together take time for each end once.
+    /// An end that was up or closed once is never pending again, so an end that was passed over is never looked at again: all
+    /// calls together look at each end once.
     pub fn oldest_pending(&mut self) -> Option<EndId>
         ensures oldest { result ≡ oldest_pending self.old }
         ensures same { self.new ≡ self.old }
@@ -256,8 +256,8 @@ impl Ends {
         }
     }
 
-    /// The end that has been open for the longest of those on which no name came yet. `None` where none is. As with
-    /// `oldest_pending`, no end changes, no memory is taken, and all calls together take time for each end once.
+    /// Of the ends on which no name came yet, the one that has been open for the longest. `None` where there is none. As with
+    /// `oldest_pending`, no end changes, no memory is taken, and all calls together look at each end once.
     pub fn oldest_unnamed(&mut self) -> Option<EndId>
         ensures oldest { result ≡ oldest_unnamed self.old }
         ensures same { self.new ≡ self.old }
@@ -270,9 +270,9 @@ impl Ends {
         }
     }
 
-    /// Forgets why the ends below this number were closed: they answer from now on as if the other side had ended each
-    /// connection. What is open stays as it is, and so does every end from the number on; the number may be one that was
-    /// never given out. It takes no memory, and what the causes took is used again for later ends.
+    /// Forgets why the ends below this number were closed: from then on they answer as if the other side had ended each
+    /// connection. Open ends stay as they are, and so does every end from the number on; the number may be one that was
+    /// never given out. It takes no memory, and the memory of the causes is used again for later ends.
     pub fn forget(&mut self, below: EndId)
         ensures { self.new ≡ without_causes_below below.0 self.old }
     {
@@ -282,20 +282,20 @@ impl Ends {
     /// Closes an end that is open. It takes no memory.
     #[inline(always)]
     pub fn close(&mut self, id: EndId, why: Why)
-        // `still` is the test.
+        // `still` returns whether the number was given out.
         requires there { id.0 < length self.old }
 
-        // It holds where `still` returns that the end is open.
+        // This holds where `still` returns that the end is open.
         requires stays { StaysClosed (slice_get self.old id.0) (End.Closed why) }
         ensures { self.new ≡ with_change self.old id (End.Closed why) None }
     {
         close_end(&mut self.peers, &mut self.rows, &mut self.slots, id, why);
     }
 
-    /// An attempt goes on to another stage, at which it holds its peer as it did. It changes in its place, and no memory is taken.
+    /// An attempt goes on to another stage, at which it holds its peer as before. It is changed in place, and no memory is taken.
     #[inline(always)]
     pub fn advance(&mut self, id: EndId, to: Stage)
-        // It holds where the phases before and after are both of a dialled end that is not superseded, or both of an accepted one.
+        // This holds where the phases before and after are both of a dialled end that is not superseded, or both of an accepted one.
         requires { CanAdvance (slice_get self.old id.0) to }
         ensures { (a : Attempt) → slice_get self.old id.0 ≡ Some (End.Attempt a)
             → self.new ≡ with_change self.old id (End.Attempt (at_stage a to)) None }
@@ -303,13 +303,13 @@ impl Ends {
         change_attempt(&self.rows, &mut self.slots, id, to);
     }
 
-    /// An attempt comes up with this record. The end that it replaces, where one is, is closed and returned. No memory is taken,
+    /// An attempt comes up with this record. The end that it replaces, if any, is closed and returned. No memory is taken,
     /// and the entries are searched once.
     pub fn rise(&mut self, id: EndId, kept: &UpRecord) -> Option<EndId>
         // The end is an attempt with the record's peer, dialled and not superseded, or accepted.
         requires attempt { CanRise (slice_get self.old id.0) kept.now.peer }
 
-        // It holds of every end that holds its peer, at a node of any name.
+        // This holds of every end that holds its peer, at a node of any name.
         requires fits { (me : Name) × (AreLegal self.old
             → Fits me self.old (table_of self.old) id (End.Up kept.now) (replaced_end (replaced_by (entry_in self.old kept.now.peer)))) }
         ensures replaced { result ≡ replaced_by (entry_in self.old kept.now.peer) }
@@ -341,7 +341,7 @@ impl Ends {
         ensures ok { OnOk result (self.new ≡ with_change self.old id this other) }
         ensures err { OnErr result (self.new ≡ self.old) }
 
-        // An end that holds no peer afterwards takes no memory.
+        // A change after which the end holds no peer takes no memory.
         ensures loss { claim_of this ≡ None → id.0 < length self.old → IsOk result }
     {
         apply(

@@ -15,7 +15,7 @@ use std::mem::replace;
 pub struct Attempt {
     /// The name that was dialled, or that came.
     pub peer: NodeName,
-    /// The form of the handshake; of a dial the one in which it was asked to open.
+    /// The form of the handshake; of a dial, the form in which it was asked to open.
     pub form: Form,
     /// What is awaited.
     pub phase: Phase,
@@ -23,7 +23,7 @@ pub struct Attempt {
     pub challenge: u32,
     /// The other side's flags, once they came, and none before.
     pub flags: Flags,
-    /// The other side's creation, once it came. None does where one side knows version 5 alone.
+    /// The other side's creation, once it came. It never comes where one side knows version 5 alone.
     pub creation: Option<Creation>,
 }
 
@@ -69,7 +69,7 @@ pub enum End {
 }
 
 impl End {
-    // An attempt goes on to another stage.
+    // Puts an attempt to another stage.
     pub(crate) fn go_on(&mut self, to: Stage)
         ensures { (a : Attempt) → self.old ≡ End.Attempt a → self.new ≡ End.Attempt (at_stage a to) }
     {
@@ -81,7 +81,7 @@ impl End {
         }
     }
 
-    // An attempt comes up. The record is of the same peer, whose name is not copied.
+    // Makes an attempt an end that is up. The record is of the same peer, whose name is not copied.
     pub(crate) fn come_up(&mut self, kept: &UpRecord)
         ensures { (a : Attempt) → self.old ≡ End.Attempt a → a.peer ≡ kept.now.peer → self.new ≡ End.Up kept.now }
     {
@@ -98,7 +98,7 @@ impl End {
 }
 
 impl Attempt {
-    /// The stage that it has reached.
+    /// The stage that the attempt has reached.
     pub fn stage(&self) -> Stage
         ensures { result ≡ stage_of self.now }
     {
@@ -139,7 +139,7 @@ impl UpRecord {
         })
     }
 
-    /// Whether the two records are one.
+    /// Whether the two records are equal.
     pub fn is_same(&self, other: &UpRecord) -> bool
         ensures { IsTrue result ↔ (self.now ≡ other.now) }
     {

@@ -5,13 +5,13 @@ ghost use Rattle.dist_core_ends.specs.declared.known.End.{End};
 ghost use Rattle.dist_core_ends.specs.Ends.{AreLegal};
 ghost use Rattle.dist_core_ends.specs.Change.{IsThere, with_change, view_after};
 
-/// What stands at each number once an end was changed or the next one was given out, and another one with it.
+/// What stands at each number after a change of an end, or of the next one, and perhaps of another with it.
 pub fn ends_after_a_change()
     ensures { (es : List End) (id : EndId) (this : End) (other : Option (EndId × End)) (i : ℕ)
         → id.0 ≤ length es → IsThere es other → slice_get (with_change es id this other) i ≡ view_after es id this other i }
 {}
 
-/// Where there are no ends, none holds a peer, and no peer has an entry.
+/// Where there are no ends, no end holds a peer, and no peer has an entry.
 pub fn no_ends_are_legal()
     ensures { AreLegal [] }
 {}

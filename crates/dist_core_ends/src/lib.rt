@@ -1,7 +1,7 @@
 //! The ends of a node's connections: what is kept of each, how it stands, and which of them hold a peer.
 //!
 //! `Ends` is the list of all ends that were ever given out; `change` changes one of them, or gives out one more, and at most
-//! one other with it. No messages are read or sent here, and nothing decides: whoever changes an end knows why.
+//! one other with it. No messages are read or sent here, and nothing is decided: the caller knows why an end changes.
 #![tactic(auto)]
 
 mod ends;

@@ -1,5 +1,5 @@
-//! The rows of the ends that were given out long ago: a byte for each that is not forgotten, and beside it the row of an open
-//! one.
+//! The rows of the ends that were given out long ago: one byte for each end that is not forgotten, and beside the bytes the rows
+//! of the open ends.
 ghost use Rattle.std.specs.Prelude.{◌≡◌, ◌<◌, ◌≤◌, ◌+◌, ◌^◌, ◌++◌, ◌∷◌, [], ℕ, length, drop, nat_eq, slice_get, slice_set, Some, None, OnOk};
 ghost use Rattle.dist_core_ends.specs.Keeping.{rows_forgotten};
 ghost use Rattle.std.specs.HashMap.{get};
@@ -14,14 +14,14 @@ use std::mem::size_of;
 
 const _: () = prove!(size_of::<Why>() == 1);
 
-/// Rows by their numbers. Contracts see the list of rows, and for how many more there is room.
+/// Rows by their numbers. Contracts see the list of rows, and how many more there is room for.
 #[derive(Drop)]
 pub struct PastRows {
-    /// How many numbers stand before those of `causes`: of a closed end among them nothing is kept, or a row of `places`.
+    /// How many numbers come before those of `causes`: of each, `places` has the row, or the end is closed and nothing is kept.
     base: usize,
-    /// From `base` on, for each number the cause of its end's closing, one byte; an open end's says nothing.
+    /// From `base` on, for each number the cause of its end's closing, in one byte; the byte of an open end means nothing.
     causes: Vec<Why>,
-    /// The rows of the open ends, and of those below `base` that were closed after it was forgotten why others were.
+    /// The rows of the open ends, and of ends below `base` that were closed after the causes below `base` were forgotten.
     places: HashMap<usize, EndPlace>,
 }
 
@@ -41,7 +41,7 @@ impl Model for PastRows {
 }
 
 impl PastRows {
-    /// No rows. It takes no memory.
+    /// A list without rows. It takes no memory.
     pub fn new(alloc: Global) -> PastRows
         ensures { result.items ≡ [] }
     {
@@ -52,7 +52,7 @@ impl PastRows {
         }
     }
 
-    /// How many there are.
+    /// How many rows there are.
     pub fn len(&self) -> usize
         ensures len { result ≡ length self.now.items }
         ensures few { result ≤ 2 ^ 32 }
@@ -115,7 +115,7 @@ impl PastRows {
         }
     }
 
-    /// Forgets why the ends below a number were closed. It takes no memory, and what their causes took is used again.
+    /// Forgets why the ends below a number were closed. It takes no memory, and the memory of their causes is used again.
     pub fn forget(&mut self, below: usize)
         ensures { self.new.items ≡ rows_forgotten below self.old.items }
     {

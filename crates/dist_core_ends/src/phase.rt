@@ -5,19 +5,19 @@ ghost use Rattle.dist_core_ends.specs.Ends.{awaited_in};
 
 use crate::why::Why;
 
-/// Where the handshake of an end stands whose peer is known: named for what the end awaits. Beside each, the function of
-/// OTP's `dist_util` that waits there.
+/// How far the handshake of an end has come whose peer is known: named for what the end awaits. Beside each variant stands the
+/// function of OTP's `dist_util` that waits there.
 #[derive(Clone, Copy, PartialEq, Eq)]
 pub enum Phase {
-    /// Dialled: no connection is there yet.
+    /// Dialled: there is no connection yet.
     Dialing,
-    /// Dialled and superseded before a connection was there; it is closed once there is one.
+    /// Dialled, and superseded before there was a connection; it is closed once there is one.
     DoomedDialing,
     /// Dialled: the name was sent (`recv_status`).
     AwaitStatus,
-    /// Dialled and superseded once the name was sent; it is closed by the next status.
+    /// Dialled, and superseded after the name was sent; it is closed by the next status.
     Doomed,
-    /// Dialled: the status lets it go on (`recv_challenge`).
+    /// Dialled: the status lets the handshake go on (`recv_challenge`).
     AwaitChallenge,
     /// Dialled: the reply was sent (`recv_challenge_ack`).
     AwaitAck,
@@ -25,7 +25,7 @@ pub enum Phase {
     AwaitTrue,
     /// Accepted after an old name: the challenge was sent (`recv_complement`).
     AwaitComplement,
-    /// Accepted: the challenge was sent, and the other side's flags are whole (`recv_challenge_reply`).
+    /// Accepted: the challenge was sent, and all flags of the other side are known (`recv_challenge_reply`).
     AwaitReply,
 }
 
@@ -40,7 +40,7 @@ pub enum Kind {
     Up,
 }
 
-/// How an end stands, for those outside.
+/// How an end stands, as callers see it.
 #[derive(Clone, Copy, Debug, PartialEq, Eq)]
 pub enum Still {
     /// The number was never given out.
@@ -69,7 +69,7 @@ pub enum Awaited {
     Complement,
     /// The dialler's reply to the challenge, with its own challenge.
     Reply,
-    /// The acceptor's acknowledgement of the reply. One that finds another cookie in the reply closes the connection here.
+    /// The acceptor's acknowledgement of the reply. An acceptor that finds another cookie in the reply closes the connection here.
     Ack,
     /// Nothing: the end is up.
     Nothing,
@@ -91,7 +91,7 @@ impl Phase {
     }
 }
 
-/// Why no open end has a number.
+/// Why a number has no open end.
 #[derive(Clone, Copy, PartialEq, Eq)]
 pub enum Absent {
     /// The number was never given out.

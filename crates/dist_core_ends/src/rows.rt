@@ -9,22 +9,22 @@ use crate::why::Why;
 use std::alloc::{AllocError, Global};
 use std::marker::Model;
 
-/// How many rows stand in the array before they are moved to the past ones, where few ends are open.
+/// How many rows the array has, while few ends are open, before they become past ones.
 const MOST_RECENT: usize = 1_024;
 
-/// Where each end is, by its number. Contracts see the list of rows, and for how many more there is room.
+/// Where each end is, by its number. Contracts see the list of rows, and how many more there is room for.
 ///
-/// Most ends are closed soon after they were given out, so the rows of the last ones stand in an array, where one is found by
+/// Most ends are closed soon after they were given out, so the rows of the last ones stand in an array, where a row is found by
 /// its number alone. The array is full with 1,024 rows, or with twice as many as ends are open where that is more, so that
-/// it has place for all open ends. When it is full, its rows become past ones: a closed end costs a byte from then on, and
+/// it has room for all open ends. When it is full, its rows become past ones: from then on a closed end costs one byte, and
 /// only an end that is still open takes a place in a map.
 ///
-/// Each event looks here: what concerns the array becomes part of its caller, and what concerns past rows stays a call.
+/// Each event looks here: what concerns the array is inlined in its caller, and what concerns past rows stays a call.
 #[derive(Drop)]
 pub struct Rows {
     /// The rows of the numbers before those of `recent`.
     past: PastRows,
-    /// How many past rows there are, which each look asks first.
+    /// How many past rows there are, which each look-up compares first.
     before: usize,
     /// The rows of the numbers that were given out last.
     recent: Vec<EndPlace>,
@@ -42,7 +42,7 @@ impl Model for Rows {
 }
 
 impl Rows {
-    /// No rows. It takes no memory.
+    /// A list without rows. It takes no memory.
     pub fn new(alloc: Global) -> Rows
         ensures { result.items ≡ [] }
     {
@@ -53,7 +53,7 @@ impl Rows {
         }
     }
 
-    /// How many there are.
+    /// How many rows there are.
     #[inline(always)]
     pub fn len(&self) -> usize
         ensures len { result ≡ length self.now.items }
@@ -88,9 +88,9 @@ impl Rows {
         }
     }
 
-    /// Makes room for one row more, while so many ends are open.
+    /// Makes room for one more row, while this many ends are open.
     ///
-    /// So half of the rows that move, or more, are of closed ends, and a row is moved once: over all calls, one call moves as
+    /// So at least half of the rows that move are of closed ends, and each row is moved once: on average a call moves as
     /// many rows as it adds.
     #[inline(always)]
     pub fn reserve(&mut self, open: usize) -> Result<(), AllocError>
@@ -116,7 +116,7 @@ impl Rows {
         self.recent.push_reserved(row);
     }
 
-    /// Forgets why the ends below a number were closed. It takes no memory, and what their causes took is used again.
+    /// Forgets why the ends below a number were closed. It takes no memory, and the memory of their causes is used again.
     pub fn forget(&mut self, below: usize)
         ensures { self.new.items ≡ rows_forgotten below self.old.items }
     {
@@ -148,7 +148,7 @@ fn push_all(past: &mut PastRows, rows: &[EndPlace])
     }
 }
 
-// Forgets the causes among the first rows of an array.
+// Forgets the causes in the first rows of an array.
 fn forget_first(rows: &mut Vec<EndPlace>, count: usize)
     ensures { rows.new.items ≡ rows_forgotten count rows.old.items }
 {

@@ -1,4 +1,4 @@
-//! Where ends are kept: open ones in slots that are used again, and of a closed one its cause alone.
+//! Where ends are kept: open ends in slots that are used again; of a closed end only its cause.
 ghost use Rattle.std.specs.Prelude.{◌≡◌, ◌<◌, ◌≤◌, ◌+◌, ◌++◌, ◌∷◌, [], length, slice_get, slice_set, true, false, Ok, Err, Some, None};
 ghost use Rattle.slab.specs.Slab.{ContainsKey, HasRoomFor, slab_len};
 ghost use Rattle.dist_core_ends.specs.Ends.{is_open, Finds};
@@ -23,7 +23,7 @@ pub enum EndPlace {
     Closed(Why),
 }
 
-/// Which ends are sought: those that are open and not up, or of these those on which no name came.
+/// Which ends are sought: those that are open and not up, or only those of them on which no name came.
 #[derive(Clone, Copy, PartialEq, Eq)]
 pub enum Sought {
     Pending,
@@ -46,7 +46,7 @@ pub fn find<'a>(rows: &Rows, slots: &'a Slab<End>, id: EndId) -> Result<&'a End,
     }
 }
 
-// The slot has another end.
+// Puts another end in a slot.
 fn refill(slots: &mut Slab<End>, slot: usize, end: End)
     requires { ContainsKey slots.old slot }
     ensures { Refills slots.old slots.new slot end }
@@ -56,7 +56,7 @@ fn refill(slots: &mut Slab<End>, slot: usize, end: End)
     }
 }
 
-// An attempt goes on in its slot.
+// Puts the attempt in a slot to another stage.
 fn restage(slots: &mut Slab<End>, slot: usize, to: Stage)
     ensures { (a : Attempt) → in_slot slots.old.slots slot ≡ Some (End.Attempt a) → Refills slots.old slots.new slot (End.Attempt (at_stage a to)) }
 {
@@ -65,7 +65,7 @@ fn restage(slots: &mut Slab<End>, slot: usize, to: Stage)
     }
 }
 
-// An attempt comes up in its slot.
+// Makes the attempt in a slot an end that is up.
 fn complete(slots: &mut Slab<End>, slot: usize, kept: &UpRecord)
     ensures { (a : Attempt) → in_slot slots.old.slots slot ≡ Some (End.Attempt a) → a.peer ≡ kept.now.peer
         → Refills slots.old slots.new slot (End.Up kept.now) }
@@ -75,7 +75,7 @@ fn complete(slots: &mut Slab<End>, slot: usize, kept: &UpRecord)
     }
 }
 
-// The attempt of a number goes on.
+// Puts the attempt of a number to another stage.
 pub fn change_attempt(rows: &Rows, slots: &mut Slab<End>, id: EndId, to: Stage)
     requires kept { AreKept rows.now.items slots.old.slots }
     requires attempt { IsAttempt (slice_get (ends_of_rows rows.now.items slots.old.slots) id.0) }
@@ -88,7 +88,7 @@ pub fn change_attempt(rows: &Rows, slots: &mut Slab<End>, id: EndId, to: Stage)
     }
 }
 
-// The attempt of a number comes up.
+// Makes the attempt of a number an end that is up.
 fn put_record(rows: &Rows, slots: &mut Slab<End>, id: EndId, kept: &UpRecord)
     requires kept { AreKept rows.now.items slots.old.slots }
     requires attempt { IsAttemptWith (slice_get (ends_of_rows rows.now.items slots.old.slots) id.0) kept.now.peer }
@@ -100,7 +100,7 @@ fn put_record(rows: &Rows, slots: &mut Slab<End>, id: EndId, kept: &UpRecord)
     }
 }
 
-// The end that is replaced, where one is, is closed.
+// Closes the end that is replaced, if any.
 fn close_replaced(rows: &mut Rows, slots: &mut Slab<End>, replaced: Option<EndId>)
     requires there { IsThere (ends_of_rows rows.old.items slots.old.slots) (replaced_end replaced) }
     requires kept { AreKept rows.old.items slots.old.slots }
@@ -113,7 +113,7 @@ fn close_replaced(rows: &mut Rows, slots: &mut Slab<End>, replaced: Option<EndId
     }
 }
 
-// The attempt of a number comes up, and the end that it replaces, where one is, is closed.
+// Makes the attempt of a number an end that is up, and closes the end that it replaces, if any.
 pub fn put_up(
     rows: &mut Rows,
     slots: &mut Slab<End>,
@@ -133,7 +133,7 @@ pub fn put_up(
     close_replaced(rows, slots, replaced);
 }
 
-// The slot has no end, and what it had is returned.
+// Empties a slot, and returns the end that it had.
 #[inline(always)]
 pub fn empty(slots: &mut Slab<End>, slot: usize) -> Option<End>
     requires { ContainsKey slots.old slot }
@@ -198,7 +198,7 @@ pub fn put_second(rows: &mut Rows, slots: &mut Slab<End>, other: Option<(EndId, 
     }
 }
 
-// The row of a further end, which stands in a slot where it is open.
+// Makes the row of a further end, which gets a slot where it is open.
 #[inline(always)]
 pub fn keep(slots: &mut Slab<End>, end: End) -> EndPlace
     requires { HasRoomFor slots.old 1 }
@@ -222,7 +222,7 @@ fn is_sought(rows: &Rows, slots: &Slab<End>, id: EndId, sought: Sought) -> bool
     }
 }
 
-// The number of the first end of this kind, from a number on before which none is, or how many ends there are.
+// The number of the first end of this kind, sought from a number below which there is none; without one, how many ends there are.
 pub fn first_sought(rows: &Rows, slots: &Slab<End>, from: usize, sought: Sought) -> usize
     requires kept { AreKept rows.now.items slots.now.slots }
     requires past { IsPast sought rows.now.items slots.now.slots from }

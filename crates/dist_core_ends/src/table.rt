@@ -20,7 +20,7 @@ use dist_peers::{EndId, Entry, Peers};
 use slab::Slab;
 use std::alloc::AllocError;
 
-// How an end holds its peer, and which.
+// How an end holds its peer, and which peer that is.
 fn claim(end: &End) -> Option<(Kind, &NodeName)>
     ensures { option_map (λ r. record { peer = r.1.now; kind = r.0 }) result ≡ claim_of end.now }
 {
@@ -104,7 +104,7 @@ fn raise(peers: &mut Peers, id: EndId, was: Kind, is: Kind, peer: &NodeName)
     }
 }
 
-// What an end held that is let go is held no longer. One that holds no peer, as most that are lost early, costs no call.
+// Takes an end that is closed out of its peer's entry. An end that holds no peer, as most that are lost early, costs no call.
 #[inline(always)]
 fn leave(peers: &mut Peers, id: EndId, closed: Option<End>)
     requires { HasEntry peers.old (claim_at closed) }
@@ -115,7 +115,7 @@ fn leave(peers: &mut Peers, id: EndId, closed: Option<End>)
     }
 }
 
-// Whether it knows its peer. Where it does not, it holds none.
+// Whether the end knows its peer. Where it does not, it holds none.
 #[inline(always)]
 fn knows_peer(end: &Option<End>) -> bool
     ensures { result ≡ false → claim_at end.now ≡ None }
@@ -127,7 +127,7 @@ fn knows_peer(end: &Option<End>) -> bool
     }
 }
 
-// The same of an end that knows its peer: the table is searched once, by the name that the end had.
+// The same for an end that knows its peer: the table is searched once, by the name that the end had.
 #[inline(never)]
 fn leave_peer(peers: &mut Peers, id: EndId, closed: Option<End>)
     requires { HasEntry peers.old (claim_at closed) }
@@ -140,7 +140,7 @@ fn leave_peer(peers: &mut Peers, id: EndId, closed: Option<End>)
     }
 }
 
-// The same of an attempt.
+// The same for an attempt.
 fn leave_attempt(peers: &mut Peers, id: EndId, attempt: Attempt)
     requires { HasEntry peers.old (claim_of (End.Attempt attempt)) }
     ensures { peers.new ≡ table_after_shift peers.old [] id (claim_of (End.Attempt attempt)) None }
@@ -151,7 +151,6 @@ fn leave_attempt(peers: &mut Peers, id: EndId, attempt: Attempt)
     }
 }
 
-// Closes an end.
 #[inline(always)]
 pub fn close_end(peers: &mut Peers, rows: &mut Rows, slots: &mut Slab<End>, id: EndId, why: Why)
     requires place { id.0 < length rows.old.items }
@@ -170,7 +169,7 @@ pub fn close_end(peers: &mut Peers, rows: &mut Rows, slots: &mut Slab<End>, id: 
     }
 }
 
-// An attempt comes up. The end that it replaces, where one is, is closed and returned. The table is searched once.
+// Makes an attempt an end that is up. The end that it replaces, if any, is closed and returned. The table is searched once.
 pub fn connect_end(
     peers: &mut Peers,
     rows: &mut Rows,
@@ -242,7 +241,7 @@ fn apply_new(
     Ok(())
 }
 
-// What an end changes in the table.
+// Makes the change in the table that an end's change needs.
 fn shift_by_number(
     peers: &mut Peers,
     rows: &Rows,

@@ -12,7 +12,7 @@ use std::fmt;
 ///
 /// Source of the causes: our own choice; the ERTS User's Guide names none. When an end that was up is closed, an Erlang node
 /// sends `nodedown` to its processes: `connection_closed` for `Ended`, `ReadFailed` and `WriteFailed`, `disconnect` for
-/// `GaveUp`. It reports an end that never was up to nobody.
+/// `GaveUp`. It reports to nobody that an end is closed that never was up.
 #[derive(Clone, Copy, Debug, PartialEq, Eq)]
 pub enum Why {
     /// The other side ended the connection.
@@ -25,9 +25,9 @@ pub enum Why {
     GaveUp,
     /// No connection came about.
     DialFailed,
-    /// A body is no message of the side that sent it.
+    /// A body is not a message of the side that sent it.
     Malformed,
-    /// The message is none that the end awaits.
+    /// The message is not the one that the end awaits.
     Unexpected,
     /// The challenge carries another name than the one dialled.
     WrongName,
@@ -71,7 +71,7 @@ impl Why {
         }
     }
 
-    /// The cause that a program prints by this word.
+    /// The cause for which a program prints this word.
     pub fn of_name(word: &[u8]) -> Option<Why>
         ensures found { IfSome result (λ why. why_word why ≡ word.now) }
         ensures every { (why : Why) → why_word why ≡ word.now → result ≡ Some why }
@@ -98,7 +98,7 @@ impl Why {
         )
     }
 
-    // Whether a program prints it by this word.
+    // Whether a program prints this word for the cause.
     fn has_word(self, word: &[u8]) -> bool
         ensures { result ≡ has_word word.now self }
     {
@@ -106,7 +106,6 @@ impl Why {
     }
 }
 
-// The sentence for it.
 fn sentence(why: Why) -> &'static str {
     match why {
         Why::Ended => "the other side ended the connection",

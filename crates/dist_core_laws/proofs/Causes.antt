@@ -18,7 +18,7 @@ use Rattle.dist_core.specs.Effects.{superseded_end}
 
 -- ---- one end
 
--- what is forgotten is forgotten once
+-- to forget a cause twice is to forget it once
 cause-once : (e : End) → without_cause (without_cause e) ≡ without_cause e
 cause-once ends.Unnamed = refl
 cause-once (ends.Attempt a) = refl
@@ -79,7 +79,7 @@ opens-from k (e ∷ es) =
 opens-same : (es : List End) → count_by is_open (map without_cause es) ≡ count_by is_open es
 opens-same es = opens-from 0 es
 
--- ends of which some are forgotten why they were closed, once all are
+-- to forget some causes before all makes no difference
 pub forgotten-alike : (below : ℕ) (es : List End) → map without_cause es ≡ map without_cause (without_causes_below below es)
 forgotten-alike below es = sym (
     map-append without_cause (map without_cause (take below es)) (drop below es)

@@ -1,4 +1,4 @@
--- What becomes of a dialled end that a crossing name supersedes, by where its handshake stands.
+-- What becomes of a dialled end that a crossing name supersedes, by how far its handshake has come.
 use Rattle.std.proofs.Common.{◌≡◌, ℕ, true, List, Option, Some, None, refl, ap, ◌∙◌, slice_get}
 use Rattle.std.proofs.lemmas.Bool.{false≢true, eq-eqb}
 use Rattle.std.specs.Option.{option_map}

@@ -35,7 +35,7 @@ pub record Shuts (f : Effect) : Type 0 where
   pub closed : f.this ≡ ends.Closed cause
   pub up : f.reply.up ≡ None
 
--- an attempt in a phase that is known
+-- an attempt whose phase is known
 in-phase : (e : End) (b : Attempt) (ph : Phase) → e ≡ ends.Attempt b → b.phase ≡ ph → is_doomed e ≡ doomed_in ph
 in-phase e b ph is at = ap is_doomed is ∙ ap doomed_in at
 
@@ -51,7 +51,7 @@ module _ (n : NodeState) where
   by-heard id fresh e m f d (Acknowledged digest b un ph mm right k) = absurd (false≢true (sym (in-phase e b _ un ph) ∙ d))
   by-heard id fresh e m f d (Replied challenge digest b un ph mm right k) = absurd (false≢true (sym (in-phase e b _ un ph) ∙ d))
 
-  -- the end of a reply that is known
+  -- the end that a known reply names
   at-own : (f : Effect) (id : EndId) (e d : End) → f.reply.end_ ≡ id → slice_get n.ends f.reply.end_.0 ≡ Some e → slice_get n.ends id.0 ≡ Some d → e ≡ d
   at-own f id e d own at there = let same : Some e ≡ Some d = sym at ∙ ap (λ (y : EndId). slice_get n.ends y.0) own ∙ there in cc
 
@@ -95,7 +95,7 @@ holds-none p k (ends.Attempt a) d h = by a.phase d h
     by phase.AwaitComplement d h = false≢true d
     by phase.AwaitReply d h = false≢true d
 
--- what stands in its place afterwards
+-- what stands in the place of a doomed end afterwards
 abbrev Becomes : End → Option End → Type 0
 Becomes e o = (o ≡ Some e) ⊎ ((w : Why) × (o ≡ Some (ends.Closed w)))
 

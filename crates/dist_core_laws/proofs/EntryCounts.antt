@@ -58,7 +58,7 @@ len-more t p e = omega (arith, len-insert order t p e, one-more (map.contains_ke
 len-less : (t : Table) (p : Name) → map.len (map.remove t p) ≤ map.len t
 len-less t p = omega (arith, len-remove order t p, one-less (map.contains_key t p) (map.len t))
 
--- a peer that has an entry gets another
+-- a peer that has an entry gets another one: the count stays
 len-over : (t : Table) (p : Name) (e d : Entry) → map.get t p ≡ Some d → map.len (map.insert t p e) ≤ map.len t
 len-over t p e d h =
     let same : map.len (map.insert t p e) ≡ map.len t = len-insert order t p e ∙ ap (λ (o : Option Entry). cond (is_some o) (map.len t) (map.len t + 1)) h in
@@ -96,7 +96,7 @@ len-entered most t p e full h = by (map.get t p) refl full
         omega (arith, room, len-more t p e)
     by (Some d) is full = omega (arith, h, len-over t p e d is)
 
--- a change of what an end holds: who begins to hold a peer finds room
+-- a change of how an end holds its peer: where it begins to hold one, there is room
 len-shifted : (most : ℕ) (t : Table) (me : Name) (id : EndId) (c d : Option Claim) → AsksShift t me id c d → ((q : Claim) → c ≡ None → d ≡ Some q → is_full most t (map.get t q.peer) ≡ false) → map.len t ≤ most → map.len (table_after_shift t me id c d) ≤ most
 len-shifted most t me id None None asks room h = h
 len-shifted most t me id None (Some q) asks room h = enters q.kind
@@ -149,7 +149,6 @@ module _ (n : NodeState) where
   abbrev Finds : Effect → Type 0
   Finds f = (q : Claim) → claim_at (slice_get n.ends f.reply.end_.0) ≡ None → claim_of f.this ≡ Some q → is_full_for n (entry_in n.ends q.peer) ≡ false
 
-  -- an end that is closed
   closed : (f : Effect) (w : Why) → f.this ≡ ends.Closed w → Finds f
   closed f w e q h is = let bad : ◌≡◌ {A = Option Claim} None (Some q) = sym (ap claim_of e) ∙ is in absurd cc
 

@@ -54,17 +54,17 @@ use Rattle.dist_core.specs.declared.step_error.StepError.TheVariants as error
 use Rattle.dist_core_laws.specs.Forgetting.{AreAlike, AreAlikeAnswers, Both_gone, Same_refusal, Same_reply, without_forgetting}
 use Rattle.dist_core_laws.proofs.Causes.{changed-alike, end-alike, entry-alike, forgotten-alike, length-alike, opens-alike, superseded-alike, table-alike}
 
--- a refusal, whatever the cause that it names
+-- a refusal, no matter which cause it names
 abbrev reported : StepError → StepError
 reported (error.Gone w) = error.Gone why.Ended
 reported e = e
 
--- an effect, or a refusal whatever the cause that it names
+-- an effect, or a refusal no matter which cause it names
 abbrev seen : Result Effect StepError → Result Effect StepError
 seen (Ok f) = Ok f
 seen (Err e) = Err (reported e)
 
--- an end that is closed is refused, whatever the cause
+-- a closed end refuses an event, whatever its cause
 at-forgotten : (o : Option End) (f : End → Result Effect StepError) → seen (at_end (option_map without_cause o) f) ≡ seen (at_end o f)
 at-forgotten None f = refl
 at-forgotten (Some ends.Unnamed) f = refl
@@ -79,7 +79,7 @@ at-alike o q f g same each =
     ∙ at-forgotten q f
     ∙ (λ i. seen (at_end q (λ e. each e i)))
 
--- two nodes of one setup and one count of steps, whose ends differ in causes alone
+-- two nodes with the same setup and the same count of steps, whose ends differ in causes alone
 module _ (s : Setup) (k : ℕ) (es ds : List End) (alike : map without_cause es ≡ map without_cause ds) where
   abbrev m : NodeState
   m = record { setup = s; steps = k; ends = es }
@@ -260,7 +260,7 @@ pub same_acts : (m n : NodeState) (xs : List Act) → AreAlike m n → AreAlike 
 same_acts m n [] alike = alike
 same_acts m n (x ∷ xs) alike = same_acts (act m x) (act n x) xs (same_act m n x alike)
 
--- one that never forgets goes on as one that does
+-- a node that never forgets goes on as one that does
 goes-on : (m n : NodeState) (xs : List Act) → AreAlike m n → AreAlike (run_acts xs m) (run_acts (without_forgetting xs) n)
 goes-on m n [] alike = alike
 goes-on m n (acts.Forgets below ∷ xs) alike = goes-on (act m (acts.Forgets below)) n xs (forgets_still_alike m n below alike)

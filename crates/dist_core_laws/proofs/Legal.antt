@@ -1,4 +1,4 @@
--- The ends that hold a peer are always those that make an entry.
+-- The ends that hold a peer are always exactly those that its entry names.
 use Rattle.std.proofs.Common.{◌≡◌, ℕ, List, [], ◌∷◌, Result, Ok, Err, refl, sym, subst}
 use Rattle.std.specs.FinMap as map
 use Rattle.dist_core_setup.specs.declared.setup.Setup.{Setup}

@@ -72,7 +72,6 @@ within_step n v fresh legal h = by (effect_of n v fresh) refl
     by (Ok f) e = subst (λ (r : Result Effect StepError). IsWithinLimits (node_after n (step_result n v r))) (sym e) (within-after n v fresh f legal h e)
     by (Err x) e = subst (λ (r : Result Effect StepError). IsWithinLimits (node_after n (step_result n v r))) (sym e) h
 
--- a node without ends has no entries
 pub no-entries : map.len (table_of []) ≡ 0
 no-entries = ap map.len (sym (table-agreed map.empty [] (agree-empty map.empty [] refl refl))) ∙ len-empty name_cmp Entry
 

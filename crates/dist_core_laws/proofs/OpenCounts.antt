@@ -36,7 +36,7 @@ use Rattle.dist_core_ends.proofs.Opens.{count-set, count-push}
 use Rattle.dist_core_laws.proofs.Others.{other-row}
 use Rattle.dist_core.proofs.Rows.{row_of}
 
--- an end in its place
+-- an end is put in the place of another
 put-at : (es : List End) (i : ℕ) (e d : End) → slice_get es i ≡ Some d → count_by is_open (put_end es i e) + one_if (is_open d) ≡ count_by is_open es + one_if (is_open e)
 put-at es i e d h =
     let within : i < length es = slice_get_within es i d h in
@@ -45,7 +45,6 @@ put-at es i e d h =
       | false ↦ λ b. absurd (grind (arith, nat_tests))
     ] refl
 
--- an end behind the others
 put-last : (es : List End) (e : End) → count_by is_open (put_end es (length es) e) ≡ count_by is_open es + one_if (is_open e)
 put-last es e =
     elim (ltb (length es) (length es)) as (λ b. ltb (length es) (length es) ≡ b → count_by is_open (cond b (set es (length es) e) (es ++ e ∷ [])) ≡ count_by is_open es + one_if (is_open e)) [
@@ -59,7 +58,7 @@ not-equal id x h = elim (eqb id.0 x.0) as (λ b. eqb id.0 x.0 ≡ b → b ≡ fa
   | false ↦ λ b. refl
 ] refl
 
--- that end, and another
+-- that end and another are put in their places
 put-two : (n : NodeState) (id x : EndId) (e d s : End) → slice_get n.ends id.0 ≡ Some d → (o : IsOther n id x) → count_by is_open (set (put_end n.ends id.0 e) x.0 s) + 1 + one_if (is_open d) ≡ count_by is_open n.ends + one_if (is_open e) + one_if (is_open s)
 put-two n id x e d s at o =
     let within : id.0 < length n.ends = slice_get_within n.ends id.0 d at in
@@ -68,7 +67,7 @@ put-two n id x e d s at o =
     omega (arith, one, put-at n.ends id.0 e d at, count-set (put_end n.ends id.0 e) x.0 s o.kept here)
 
 module _ (n : NodeState) where
-  -- what an effect does to the number of open ends, where this many are given out
+  -- what an effect does to the number of open ends, where it gives out this many
   abbrev pub Change : ℕ → Effect → Type 0
   Change given f = count_by is_open (ends_after n.ends f) + closed_by f.reply ≡ count_by is_open n.ends + given
 
@@ -90,7 +89,7 @@ module _ (n : NodeState) where
   supersede id x say b d (ends.Attempt c) at was o = omega (arith, put-two n id x (ends.Attempt b) d (ends.Attempt c) at o, ap one_if was)
   supersede id x say b d (ends.Up r) at was o = omega (arith, put-two n id x (ends.Attempt b) d (ends.Up r) at o, ap one_if was)
 
-  -- the same, of an effect that is one of these
+  -- the same for an effect that is given as one of these
   kept-open : {f : Effect} {id : EndId} {say : List ℕ} {e : End} {noted : Note} (d : End) → f ≡ goes_on id say e noted → slice_get n.ends id.0 ≡ Some d → is_open d ≡ true → is_open e ≡ true → Change 0 f
   kept-open {f} {id} {say} {e} {noted} d k at was is = subst (Change 0) (sym k) (keeps id say e d noted at was is)
 

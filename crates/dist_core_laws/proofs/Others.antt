@@ -32,7 +32,7 @@ use Rattle.dist_core_ends.proofs.Fitting.{same}
 use Rattle.dist_core.proofs.Replies.{other-of}
 use Rattle.dist_core.proofs.Rows.{row_of}
 
--- what holds a peer is there, and open
+-- an end that holds a peer exists, and is open
 holder : (p : Name) (k : Kind) (o : Option End) → is_held p k o ≡ true → (e : End) × (o ≡ Some e) × (is_open e ≡ true)
 holder p k None h = absurd (false≢true h)
 holder p k (Some ends.Unnamed) h = absurd (false≢true h)
@@ -47,7 +47,7 @@ nothing : (f : Effect) (x : EndId) (s : End) → f.other ≡ None → f.other �
 nothing f x s is e = let bad : ◌≡◌ {A = Option (EndId × End)} None (Some (x, s)) = sym is ∙ e in absurd cc
 
 module _ (n : NodeState) (legal : AreLegal n.ends) (x : EndId) (s : End) where
-  -- an end that the entry of p names as k, and that the event's own end is not
+  -- an end that the entry of p names as k, and that is not the event's own end
   apart-from : (id : EndId) (p : Name) (k : Kind) (o : Option Entry) → entry_in n.ends p ≡ o → names k x.0 o ≡ true → is_held p k (slice_get n.ends id.0) ≡ false → IsOther n id x
   apart-from id p k o e h own =
       let held : is_held p k (slice_get n.ends x.0) ≡ true = legal p k x.0 ∙ ap (names k x.0) e ∙ h in
@@ -79,7 +79,7 @@ module _ (n : NodeState) (legal : AreLegal n.ends) (x : EndId) (s : End) where
       let at : z ≡ x = first z x _ s (ap (λ (f : Effect). f.other) (sym k) ∙ o) in
       apart-from id b.peer In _ is (names-it z at) (ap (is_held b.peer In) un)
 
-  -- an end that comes up replaces another
+  -- an end that comes up replaces another one
   by-rising : (id : EndId) (b : Attempt) (ph : Phase) → slice_get n.ends id.0 ≡ Some (ends.Attempt b) → b.phase ≡ ph → ((q : Name) → is_claim q Up (option_map (λ l. record { peer = b.peer; kind = l }) (kind_in ph)) ≡ false)
       → (u : Option Entry) → entry_in n.ends b.peer ≡ u → option_map {U = EndId × End} (λ (y : EndId). (y, ends.Closed why.Replaced)) (replaced_by u) ≡ Some (x, s) → IsOther n id x
   by-rising id b ph at is low None before o = absurd cc

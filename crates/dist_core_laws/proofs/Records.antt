@@ -179,13 +179,13 @@ module _ (s : Setup) (q : Name) (x : Entry) (known : is_some (up_id x) ≡ true)
   own-at e es false true false same is own more at none = absurd (false≢true (sym none))
   own-at e es false false o same is own more at none = more at none
 
-  -- one that is found among rows of which none is up with the usual cookie has its own
+  -- among rows of which none is up under the usual cookie, each that is up has a cookie of its own
   own-in : (rows : List (Name × Entry)) → find name_cmp q rows ≡ Some x → list_any (has_usual s) rows ≡ false → has_own_cookie s q ≡ true
   own-in [] at none = absurd cc
   own-in (e ∷ es) at none = own-at e es (same_name q e.0) (is_some (up_id e.1)) (has_own_cookie s e.0) refl refl refl (own-in es) at none
 
 module _ (n : NodeState) (p : Name) (known : is_up (entry_in n.ends p) ≡ true) where
-  -- a peer that is up is none of those that are not
+  -- a peer that is up is not one that is not up
   apart : (q : Name) → is_up (entry_in n.ends q) ≡ false → (b : Bool) → same_name q p ≡ b → same_name q p ≡ false
   apart q idle false is = is
   apart q idle true is = absurd (false≢true (sym idle ∙ ap (λ (x : Name). is_up (entry_in n.ends x)) (one_lem q p is) ∙ known))
@@ -217,7 +217,7 @@ module _ (n : NodeState) (p : Name) (known : is_up (entry_in n.ends p) ≡ true)
 pub in-use-stays : (n : NodeState) (v : Change) (p : Name) → is_up (entry_in n.ends p) ≡ true → DigestsStay n.setup (changed_or n (change n v)).setup p
 in-use-stays n v p known = stays n p known v
 
--- a change leaves the ends, and how many steps were made
+-- a change leaves the ends, and the count of steps
 pub ends_stay : (n : NodeState) (v : Change) → (changed_or n (change n v)).ends ≡ n.ends
 ends_stay n v = by (is_in_use n v) (finds_no_room n v)
   where
@@ -235,7 +235,7 @@ steps_stay n v = by (is_in_use n v) (finds_no_room n v)
     by false false = refl
 
 module _ (n : NodeState) (legal : AreLegal n.ends) (i : ℕ) (r : UpRecord) (up : slice_get n.ends i ≡ Some (ends.Up r)) where
-  -- the entry of its peer has it up
+  -- the entry of an up end's peer has that end up
   has-up : (o : Option Entry) → names Up i o ≡ true → is_up o ≡ true
   has-up None h = absurd (false≢true h)
   has-up (Some (entry.Out x)) h = absurd (false≢true h)

@@ -27,7 +27,7 @@ refused n id body fresh f kept up is =
     absurd cc
 
 module _ (n : NodeState) (legal : AreLegal n.ends) (id : EndId) (body : List ℕ) (fresh : ℕ) (f : Effect) (is : effect_of n (event.Frame id body) fresh ≡ Ok f) (x : EndId) (w : Why) (kept : UpRecord) (up : slice_get n.ends x.0 ≡ Some (ends.Up kept)) where
-  -- it was not the event's own end
+  -- the closed end was not the event's own
   not-own : (b : Bool) → (f.reply.end_.0 == x.0) ≡ b → (if b then Some f.this else slice_get n.ends x.0) ≡ Some (ends.Closed w) → IsRightReply n (event.Frame id body)
   not-own true same closed =
       let place : id.0 ≡ x.0 = sym (ap (λ (y : EndId). y.0) (effect-end n (event.Frame id body) fresh f is)) ∙ eqb-true f.reply.end_.0 x.0 same in
@@ -36,7 +36,7 @@ module _ (n : NodeState) (legal : AreLegal n.ends) (id : EndId) (body : List ℕ
       let bad : Some (ends.Up kept) ≡ Some (ends.Closed w) = sym up ∙ closed in
       absurd cc
 
-  -- so it was the other one that changed
+  -- so it was the other end that changed
   by-other : (other : Option (EndId × End)) → f.other ≡ other → other_view other (λ i. if f.reply.end_.0 == i then Some f.this else slice_get n.ends i) x.0 ≡ Some (ends.Closed w) → IsRightReply n (event.Frame id body)
   by-other None none closed = not-own (f.reply.end_.0 == x.0) refl closed
   by-other (Some (y, s)) there closed = by (y.0 == x.0) refl closed

@@ -48,7 +48,7 @@ given_by (event.Dial p o) = 1
 given_by (event.Incoming link) = 1
 given_by v = 0
 
--- how many these are
+-- one end, or none
 abbrev pub closed_of : Option (EndId × Why) → ℕ
 closed_of None = 0
 closed_of (Some x) = 1
@@ -68,7 +68,7 @@ pub record IsWithinLimits (n : NodeState) : Type 0 where
 abbrev pub IsRightRecord : Setup → UpRecord → Type 0
 IsRightRecord s r = same_bytes r.digest_received (own_digest s r.peer r.challenge) ≡ true
 
--- the reply is of the end that the event names; where a new end is given out, it is of the next number and sends nothing
+-- the reply is of the end that the event names; where a new end is given out, the reply is of the next number and sends nothing
 abbrev pub IsOfItsEnd : NodeState → Event → Reply → Type 0
 IsOfItsEnd n (event.Dial p o) r = (r.end_ ≡ new_id n) × (r.say ≡ [])
 IsOfItsEnd n (event.Incoming link) r = (r.end_ ≡ new_id n) × (r.say ≡ [])
@@ -96,19 +96,19 @@ abbrev pub is_doomed : End → Bool
 is_doomed (ends.Attempt a) = doomed_in a.phase
 is_doomed _ = false
 
--- where the handshake of a dialled end stands that is superseded before a status came
+-- the doomed phase of a dialled end, by the phase in which it was superseded
 abbrev pub doomed_as : Phase → Option Phase
 doomed_as phase.Dialing = Some phase.DoomedDialing
 doomed_as phase.AwaitStatus = Some phase.Doomed
 doomed_as _ = None
 
--- a status let the dialled end go on
+-- a status has let the dialled end go on
 abbrev pub was_let_on : Phase → Bool
 was_let_on phase.AwaitChallenge = true
 was_let_on phase.AwaitAck = true
 was_let_on _ = false
 
--- what a crossing name, which goes on as b, does to the dialled end x that it supersedes
+-- what a crossing name, whose attempt is b, does to the dialled end x that it supersedes
 pub data Supersedes (n : NodeState) (id : EndId) (say : List ℕ) (b : Attempt) (x : EndId) (f : Effect) : Type 0 where
   -- no status came on it yet: it is doomed
   Dooms : (d : Attempt) → (to : Phase) → slice_get n.ends x.0 ≡ Some (ends.Attempt d) → doomed_as d.phase ≡ Some to
@@ -119,7 +119,7 @@ pub data Supersedes (n : NodeState) (id : EndId) (say : List ℕ) (b : Attempt) 
 
 -- ---- replies to challenges
 
--- the event is a challenge of the name that was dialled, on the one end that holds that peer
+-- the event is a challenge of the name that was dialled, on the only end that holds that peer
 pub record IsDialledChallenge (n : NodeState) (v : Event) : Type 0 where
   pub id : EndId
   pub body : List ℕ

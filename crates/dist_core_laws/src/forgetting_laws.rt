@@ -8,13 +8,13 @@ ghost use Rattle.dist_core.specs.Runs.{run};
 ghost use Rattle.dist_core.specs.Step.{step};
 ghost use Rattle.dist_core_laws.specs.Forgetting.{AreAlike, AreAlikeAnswers, without_forgetting};
 
-/// Why ends were closed changes no step: nodes that differ in that alone give the same reply to each event, or refuse it in the
-/// same way, and differ in that alone afterwards. Only the cause that a refusal names for a closed end may be another.
+/// Why ends were closed changes no step: nodes that differ only in that give the same reply to each event, or refuse it in the
+/// same way, and afterwards again differ only in that. Only the cause that a refusal names for a closed end may be another.
 pub fn forgetting_changes_no_step()
     ensures { (m n : NodeState) (v : Event) (fresh : ℕ) → AreAlike m n → AreAlikeAnswers (step m v fresh) (step n v fresh) }
 {}
 
-/// A node that forgets why its ends below a number were closed is alike to what it was, and to each node to which it was alike.
+/// A node that forgets why its ends below a number were closed is alike to the node before, and to each node that was alike to that.
 pub fn a_node_that_forgets_is_alike()
     ensures itself { (n : NodeState) (below : ℕ) → AreAlike n (record n { ends = without_causes_below below n.ends }) }
     ensures other { (m n : NodeState) (below : ℕ) → AreAlike m n → AreAlike (record m { ends = without_causes_below below m.ends }) n }

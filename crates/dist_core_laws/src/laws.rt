@@ -27,7 +27,7 @@ pub fn steps_are_rows()
     ensures { (n : NodeState) (v : Event) (fresh : ℕ) (f : Effect) → effect_of n v fresh ≡ Ok f → StepRow n v fresh f }
 {}
 
-/// Whatever events a node is given, the ends that hold a peer are those that make its entry, and no others.
+/// Whatever events a node gets, the ends that hold a peer are exactly those that its entry names.
 pub fn entries_are_whole()
     ensures runs { (setup : Setup) (events : List (Event × ℕ)) → AreLegal (run events (opening setup)).ends }
     ensures first { (setup : Setup) → AreLegal (opening setup).ends }
@@ -40,13 +40,13 @@ pub fn setup_never_changes()
     ensures run { (n : NodeState) (events : List (Event × ℕ)) → (run events n).setup ≡ n.setup }
 {}
 
-/// There is one open end more for one that was given out, and one less for one that the reply reports as closed.
+/// There is one more open end for an end that was given out, and one less for an end that the reply reports as closed.
 pub fn open_ends_change()
     ensures { (n : NodeState) (v : Event) (fresh : ℕ) (f : Effect) → AreLegal n.ends → effect_of n v fresh ≡ Ok f
         → count_by is_open (ends_after n.ends f) + closed_by f.reply ≡ count_by is_open n.ends + given_by v }
 {}
 
-/// A loss closes its end, so that there is one open end less, and changes no other.
+/// A loss closes its end, so that there is one open end less, and changes no other end.
 pub fn a_loss_closes_one_end()
     ensures { (n : NodeState) (x : EndId) (w : Why) (fresh : ℕ) (f : Effect) → effect_of n (event.Lost x w) fresh ≡ Ok f
         → (ends_after n.ends f ≡ put_end n.ends x.0 (ends.Closed w)) × (count_by is_open (ends_after n.ends f) + 1 ≡ count_by is_open n.ends) }
@@ -58,7 +58,7 @@ pub fn another_end_is_replaced()
         → f.other ≡ Some (x, s) → IsOther n f.reply.end_ x }
 {}
 
-/// A crossing name dooms the dialled end on which no status came yet, and closes the one that a status let go on.
+/// A crossing name dooms the dialled end if no status came on it yet, and closes it if a status let it go on.
 pub fn a_crossing_dooms_or_closes()
     ensures { (n : NodeState) (id : EndId) (say : List ℕ) (b : Attempt) (x : EndId) (f : Effect) → AreLegal n.ends
         → entry_in n.ends b.peer ≡ Some (entry.Out x) → f ≡ supersedes id say b x (superseded_end (slice_get n.ends x.0)) → Supersedes n id say b x f }

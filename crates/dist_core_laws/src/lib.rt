@@ -1,8 +1,8 @@
-//! The laws of a node: what holds of every step of one node and of all its runs, said of the definitions alone.
+//! The laws of a node: what holds of every step of one node and of all its runs, stated for the definitions alone.
 //!
-//! Nothing here runs. Each law is a function that does nothing, and whose contract is the law: a crate above calls it and
-//! passes its clause on. The model of several nodes, the driver of a connection and the book of a locked node take from here
-//! what they need of a step, and cite no lemma of the crate that has the step.
+//! Nothing here runs. Each law is a function that does nothing, and whose contract is the law: a crate above calls it to use
+//! its clauses. The model of several nodes, the driver of a connection and the book of a locked node take from here
+//! what they need to know of a step, and cite no lemma of the crate that defines the step.
 #![tactic(auto)]
 
 mod forgetting_laws;

@@ -9,13 +9,13 @@ ghost use Rattle.dist_core.specs.Step.{step};
 ghost use Rattle.dist_core_ends.specs.Ends.{AreLegal};
 ghost use Rattle.dist_core_laws.specs.Laws.{IsWithinLimits};
 
-/// A node of the usual limits never runs out of numbers for ends while it has steps left, since each end took a step: it
+/// A node with the usual limits never runs out of numbers for ends while it has steps left, since each end took a step: it
 /// refuses a dial or a connection as `Spent` only once all its steps are made.
 pub fn usual_nodes_have_numbers()
     ensures { (n : NodeState) → limits_of n ≡ usual_limits → length n.ends ≤ n.steps → (is_spent n || is_given_out n) ≡ is_spent n }
 {}
 
-/// Whatever events a node is given, it makes no more steps, gives out no more ends, and has no more open ends and entries than
+/// Whatever events a node gets, it makes no more steps, gives out no more ends, and has no more open ends and entries than
 /// its limits allow.
 pub fn limits_are_kept()
     ensures runs { (setup : Setup) (events : List (Event × ℕ)) → IsWithinLimits (run events (opening setup)) }

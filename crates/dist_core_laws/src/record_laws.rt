@@ -14,14 +14,14 @@ ghost use Rattle.dist_core.specs.Step.{step};
 ghost use Rattle.dist_core_laws.specs.Laws.{IsWithinLimits};
 ghost use Rattle.dist_core_laws.specs.Records.{AreRight};
 
-/// Cookies in use stay. Whichever change is asked for, a peer with which an end is up has the cookie that it had.
+/// Cookies in use stay. Whatever change is asked for, a peer with which an end is up keeps its cookie.
 pub fn cookies_in_use_stay()
     ensures { (n : NodeState) (v : Change) (p : Name) → is_up (entry_in n.ends p) ≡ true → DigestsStay n.setup (changed_or n (change n v)).setup p }
 {}
 
-/// Records stay right. Whatever is done to a node, by steps, changes of its setup, forgetting and renewing in any order, each end
-/// that is up has shown the cookie that the node has for its peer now: its record holds the digest of that cookie and of the end's own
-/// challenge.
+/// Records stay right. Whatever is done to a node, by steps, changes of its setup, forgetting and renewing in any order, for each
+/// end that is up the other side has shown the cookie that the node has for it now: the end's record holds the digest of that cookie
+/// and of the end's own challenge.
 pub fn records_stay_right()
     ensures runs { (setup : Setup) (acts : List Act) → AreRight (run_acts acts (opening setup)) }
     ensures first { (setup : Setup) → AreRight (opening setup) }
@@ -31,13 +31,13 @@ pub fn records_stay_right()
 {}
 
 /// Whatever is done to a node, by steps, changes of its setup, forgetting and renewing in any order, the ends that hold a peer
-/// are those that make its entry, and the node stays within the limits with which it opened.
+/// are exactly those that its entry names, and the node stays within the limits with which it began.
 pub fn acts_keep_ends()
     ensures legal { (setup : Setup) (acts : List Act) → AreLegal (run_acts acts (opening setup)).ends }
     ensures within { (setup : Setup) (acts : List Act) → IsWithinLimits (run_acts acts (opening setup)) }
     ensures limits { (n : NodeState) (acts : List Act) → limits_of (run_acts acts n) ≡ limits_of n }
 
-    // Of an act that is a change, the ends and the count of the steps stay.
+    // A change leaves the ends and the count of steps as they are.
     ensures ends { (n : NodeState) (v : Change) → (changed_or n (change n v)).ends ≡ n.ends }
     ensures steps { (n : NodeState) (v : Change) → (changed_or n (change n v)).steps ≡ n.steps }
 {}

@@ -30,7 +30,7 @@ pub fn a_step_keeps()
     ensures legal { (n : NodeState) (v : Event) (fresh : ℕ) (r : Reply) (m : NodeState) → AreLegal n.ends → step n v fresh ≡ Ok (r, m) → AreLegal m.ends }
 {}
 
-/// A step changes its own end, or gives out the next number, and one other end that is there; all others stay.
+/// A step changes its own end, or gives out the next number, and at most one other end; all others stay.
 pub fn two_ends_change_at_most()
     ensures places { (n : NodeState) (v : Event) (fresh : ℕ) (f : Effect) → AreLegal n.ends → effect_of n v fresh ≡ Ok f
         → (f.reply.end_.0 ≤ length n.ends) × IsThere n.ends f.other }
@@ -38,14 +38,14 @@ pub fn two_ends_change_at_most()
         → slice_get (ends_after n.ends f) i ≡ view_after n.ends f.reply.end_ f.this f.other i }
 {}
 
-/// A reply is of the end that the event names; where a new end is given out, it is of the next number and sends nothing.
+/// A reply is of the end that the event names; where a new end is given out, the reply is of the next number and sends nothing.
 pub fn a_reply_is_of_its_end()
     ensures effect { (n : NodeState) (v : Event) (fresh : ℕ) (f : Effect) → effect_of n v fresh ≡ Ok f → IsOfItsEnd n v f.reply }
     ensures step { (n : NodeState) (v : Event) (fresh : ℕ) (r : Reply) (m : NodeState) → step n v fresh ≡ Ok (r, m) → IsOfItsEnd n v r }
     ensures heard { (n : NodeState) (id : EndId) (fresh : ℕ) (e : End) (m : Message) (f : Effect) → Heard n id fresh e m f → f.reply.end_ ≡ id }
 {}
 
-/// How many ends are open after a step: one more for each that was given out, one less for each that the reply reports as
+/// How many ends are open after a step: one more for each that was given out, and one less for each that the reply reports as
 /// closed; so at most one more, and after a loss one less.
 pub fn open_ends_after_a_step()
     ensures exact { (n : NodeState) (v : Event) (fresh : ℕ) (r : Reply) (m : NodeState) → AreLegal n.ends → step n v fresh ≡ Ok (r, m)
@@ -62,8 +62,8 @@ pub fn a_lost_end_is_closed()
         → slice_get m.ends x.0 ≡ Some (ends.Closed w) }
 {}
 
-/// Of the frames, only a reply closes an end that was up: the reply of its peer's next connection, which carries the digest of
-/// the own cookie and of the challenge of the end on which it came.
+/// Of the frames, only a reply closes an end that was up: the reply on a later connection of its peer, with the digest of
+/// the own cookie and of the challenge of the end on which the reply came.
 pub fn an_up_end_closes_on_a_right_reply()
     ensures { (n : NodeState) (id : EndId) (body : List ℕ) (fresh : ℕ) (r : Reply) (m : NodeState) (x : EndId) (w : Why) (kept : UpRecord)
         → AreLegal n.ends → step n (event.Frame id body) fresh ≡ Ok (r, m) → slice_get n.ends x.0 ≡ Some (ends.Up kept)

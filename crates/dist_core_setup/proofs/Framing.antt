@@ -12,7 +12,7 @@ use Rattle.dist_messages.specs.declared.message.Message.{Message}
 use Rattle.dist_messages.specs.declared.message.Message.TheVariants as message
 use Rattle.dist_core_setup.specs.Saying.{frame_of}
 
--- a length that is that of the body stands before it
+-- before the body stands its length
 in_frame : (before : List ℕ) (m : Message) (n : ℕ) → n ≡ length (canonical m) → (before ++ to_be_bytes w16 n) ++ canonical m ≡ before ++ frame_of m
 unfolding frame_of
 in_frame before m n e = append_assoc before (to_be_bytes w16 n) (canonical m) ∙ ap (λ (k : ℕ). before ++ (to_be_bytes w16 k ++ canonical m)) e

@@ -1,4 +1,4 @@
--- Which digests a change of cookies leaves.
+-- Which digests a change of cookies does not change.
 use Rattle.std.proofs.Common.{◌≡◌, ◌==◌, not, ℕ, Bool, true, false, cond, List, [], ◌∷◌, Option, Some, None, refl, sym, ap, ◌∙◌, subst}
 use Rattle.std.proofs.lemmas.Bool.{false≢true}
 use Rattle.std.specs.Prelude.{is_some, unwrap_or}
@@ -26,7 +26,7 @@ apart p q h = by (same_name q p) refl
     by false e = e
     by true e = absurd (false≢true (sym h ∙ subst (λ (x : Name). same_name p x ≡ true) (sym (one_lem q p e)) (itself_lem p)))
 
--- what a name finds is what it found, where another is put among the rows
+-- a name finds the cookie that it found, where another's row is put in
 found-before : (q k : Name) (v : List ℕ) (e : Row) (es : List Row) (o : Ordering) → name_cmp k e.0 ≡ o → same_name q k ≡ false
     → lookup (is_at (name_cmp q)) (insert_entry name_cmp es k v) ≡ lookup (is_at (name_cmp q)) es
     → lookup (is_at (name_cmp q)) (match_ordering o ((k, v) ∷ e ∷ es) ((e.0, v) ∷ es) (e ∷ insert_entry name_cmp es k v)) ≡ lookup (is_at (name_cmp q)) (e ∷ es)
@@ -40,7 +40,7 @@ found : (q k : Name) (v : List ℕ) (es : List Row) → same_name q k ≡ false 
 found q k v [] h = ap (λ b. cond b (Some v) None) h
 found q k v (e ∷ es) h = found-before q k v e es (name_cmp k e.0) refl h (found q k v es h)
 
--- ... and where another's row is taken away
+-- ... and where another's row is taken out
 left-before : (q p : Name) (e : Row) (es : List Row) (b : Bool) → same_name p e.0 ≡ b → same_name p q ≡ false
     → lookup (is_at (name_cmp q)) (remove_entry (is_at (name_cmp p)) es) ≡ lookup (is_at (name_cmp q)) es
     → lookup (is_at (name_cmp q)) (cond b es (e ∷ remove_entry (is_at (name_cmp p)) es)) ≡ lookup (is_at (name_cmp q)) (e ∷ es)
@@ -57,7 +57,7 @@ cookie-stays : (t : CookieTable) (p q : Name) (own : Option (List ℕ)) → same
 cookie-stays t p q (Some cookie) h = ap (λ (o : Option (List ℕ)). unwrap_or o t.usual) (found q p cookie t.own (apart p q h))
 cookie-stays t p q None h = ap (λ (o : Option (List ℕ)). unwrap_or o t.usual) (left q p t.own h)
 
--- a name finds what is put there
+-- a name finds the cookie that is put in for it
 here-before : (k : Name) (v : List ℕ) (e : Row) (es : List Row) (o : Ordering) → name_cmp k e.0 ≡ o
     → lookup (is_at (name_cmp k)) (insert_entry name_cmp es k v) ≡ Some v
     → lookup (is_at (name_cmp k)) (match_ordering o ((k, v) ∷ e ∷ es) ((e.0, v) ∷ es) (e ∷ insert_entry name_cmp es k v)) ≡ Some v
@@ -87,7 +87,7 @@ alike a b h = by (pointwise ◌==◌ a b) refl
     by true e = sym (same_text a b (sym e))
     by false e = absurd (false≢true (sym h ∙ ap not e))
 
--- a peer that gets the cookie that it has
+-- where a peer gets the cookie that it has, its digests stay
 pub same-stays : (s : Setup) (p : Name) (own : Option (List ℕ)) → rekeys s.cookies p own ≡ false → DigestsStay s (with_own_cookie s p own) p
 unfolding own_digest
 same-stays s p None h challenge = absurd (false≢true (sym h))

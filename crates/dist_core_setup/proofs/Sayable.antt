@@ -1,4 +1,4 @@
--- The messages of a node have spellings that fit frames.
+-- Each message that a node sends has a spelling, and it fits a frame.
 use Rattle.std.proofs.Common.{◌≡◌, ℕ, true, false, cond, ltb, List, ◌++◌, length, Ok, Err, refl, ap, arith, length-append, lit<}
 use Rattle.std.proofs.lemmas.Bool.Decides.{nat_tests}
 use Rattle.std.specs.Int.{w16, w32, w64, to_be_bytes}

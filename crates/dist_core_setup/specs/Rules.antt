@@ -1,4 +1,4 @@
--- What a node's setup decides: what it announces and asks for, its digests, and the checks on a name.
+-- What a node's setup decides: what it announces and requires, its digests, and the checks on a name.
 use Rattle.std.specs.Prelude.{◌≡◌, ℕ, Bool, true, false, not, ◌&&◌, ◌||◌, if◌then◌else◌, nat_eq, bit_and, List, Option, Some, None, Result, Ok, Err}
 use Rattle.std.specs.Cmp.Lexicographic.{pointwise}
 use Rattle.dist_names.specs.Order.{Name, same_name, is_listed}
@@ -24,7 +24,7 @@ is_six version.Five = false
 abbrev pub knows_six : Setup → Bool
 knows_six s = is_six s.version
 
--- WHAT A NODE OF VERSION 5 ANNOUNCES: flags of 32 bits, without that of the newer handshake
+-- WHAT A NODE OF VERSION 5 ANNOUNCES: the lower 32 bits of its flags, without DFLAG_HANDSHAKE_23
 abbrev pub announced_five : ℕ → ℕ
 announced_five flags = bit_and flags 0xfeffffff
 
@@ -36,24 +36,24 @@ announced_in version.Five flags = announced_five flags
 unfoldable pub announced_by : Setup → ℕ
 announced_by s = announced_in s.version s.flags.0
 
--- the flags that a node asks of a peer, by the form of the handshake: of an old name that a complement will follow the low
--- half alone, and where none will no flag of the newer handshake
+-- the flags that a node requires of a peer, by the form of the handshake: of an old name that a complement will follow only
+-- those of the lower half; where no complement will follow, DFLAG_HANDSHAKE_23 is not added
 unfoldable pub required_of : Setup → Form → ℕ
 required_of s form.New = required s.required.0
 required_of s form.Old = low_half (required s.required.0)
 required_of s form.Five = s.required.0
 
--- the form of a handshake that an old name with these flags opens: version 5 where one of the two knows no other
+-- the form of a handshake that an old name with these flags opens: that of version 5 where one of the two nodes knows no other
 abbrev pub form_of_old : Setup → ℕ → Form
 form_of_old s flags = if knows_six s && has_all flags handshake_23 then form.Old else form.Five
 
--- a node that was asked to open in this form opens with the newer name; one of version 5 never does
+-- a node that was asked to open in this form opens with the newer name; a node of version 5 never does
 abbrev pub opens_new : Setup → Form → Bool
 opens_new s form.New = knows_six s
 opens_new s form.Old = false
 opens_new s form.Five = false
 
--- the digest of a challenge that a node makes for this peer, and expects from it: by its cookie for that peer
+-- the digest of a challenge that a node sends to this peer, and expects from it: by the cookie for that peer
 unfoldable pub own_digest : Setup → Name → ℕ → List ℕ
 own_digest s peer challenge = digest_of (cookie_for s.cookies peer) challenge
 
@@ -67,7 +67,7 @@ is_ok (Err error) = false
 unfoldable pub is_good : Name → Bool
 is_good p = is_ok (name_of_bytes p)
 
--- what is found where a name is looked for in these bytes
+-- what is found where a name is sought in these bytes
 abbrev pub GoodName : Option Name → Name → Type 0
 GoodName (Some found) p = (found ≡ p) × (is_good p ≡ true)
 GoodName None p = is_good p ≡ false
@@ -86,6 +86,6 @@ is_refused s r full f p =
     asks_name f || not (has_all f.0 r) || not (is_good p) || same_name s.name p
     || not (is_allowed s.allow p) || full
 
--- the two digests are one
+-- the two digests are equal
 abbrev pub same_bytes : List ℕ → List ℕ → Bool
 same_bytes xs ys = pointwise nat_eq xs ys

@@ -17,7 +17,7 @@ use Rattle.dist_core_setup.specs.Rules.{announced_by, opens_new, own_digest}
 unfoldable pub frame_of : Message → List ℕ
 frame_of m = body_frame w16 (canonical m)
 
--- this side has a spelling for the message, and it fits a frame
+-- the message has a spelling of this side, and it fits a frame
 abbrev pub CanBeSaid : Side → Message → Type 0
 CanBeSaid side m = (own_spelling side m ≡ Ok (canonical m)) × (length (canonical m) < 2 ^ 16)
 
@@ -27,7 +27,7 @@ frames_of_messages [] = []
 frames_of_messages (m ∷ []) = frame_of m
 frames_of_messages (m ∷ n ∷ ms) = frame_of m ++ frames_of_messages (n ∷ ms)
 
--- ---- the messages of a node that is set up so
+-- ---- the messages of a node with this setup
 
 abbrev pub new_name_message : Setup → Message
 new_name_message s = message.NewName (record { 0 = announced_by s }) s.creation s.name
@@ -52,7 +52,7 @@ challenge_message s form.Five fresh = old_challenge_message s fresh
 abbrev pub complement_message : Setup → Message
 complement_message s = message.Complement (high_half (announced_by s)) s.creation
 
--- the reply to a peer's challenge, with the own challenge
+-- the reply to a peer's challenge, with the node's own challenge
 abbrev pub reply_message : Setup → List ℕ → ℕ → ℕ → Message
 reply_message s peer fresh challenge = message.Reply fresh (own_digest s peer challenge)
 

@@ -1,4 +1,4 @@
-//! What a node's setup decides: what it announces and asks for, its digests, and the checks on a name.
+//! What a node's setup decides: what it announces and requires, its digests, and the checks on a name.
 ghost use Rattle.std.specs.Prelude.{◌≡◌, IfOk, OnErr, true, false, Ok, Err, Some, None};
 ghost use Rattle.dist_core_setup.specs.Rules.{announced_by, required_of, knows_six, form_of_old, opens_new, own_digest};
 ghost use Rattle.dist_core_setup.specs.Rules.{is_good, is_allowed, is_refused, GoodName};
@@ -23,8 +23,8 @@ pub fn knows_six(setup: &Setup) -> bool
     }
 }
 
-/// The flags that the node announces: its own with `DFLAG_HANDSHAKE_23`, without `DFLAG_NAME_ME`; where it knows version 5
-/// alone, the lower 32 without `DFLAG_HANDSHAKE_23`.
+/// The flags that the node announces: those of its setup with `DFLAG_HANDSHAKE_23`, without `DFLAG_NAME_ME`; if it knows only
+/// version 5, the lower 32 of them without `DFLAG_HANDSHAKE_23`.
 #[tactic(auto, unfolding(crate::specs::Rules::announced_by))]
 pub fn announced_by(setup: &Setup) -> Flags
     ensures { result ≡ record { 0 = announced_by setup.now } }
@@ -35,8 +35,8 @@ pub fn announced_by(setup: &Setup) -> Flags
     }
 }
 
-/// What is asked of a peer: what the setup requires and `DFLAG_HANDSHAKE_23`; of an old name that a complement will follow
-/// the low half alone; in a handshake of version 5 what the setup requires.
+/// What is required of a peer: what the setup requires and `DFLAG_HANDSHAKE_23`; of an old name that a complement will follow
+/// only the lower half; in a handshake of version 5 what the setup requires.
 #[tactic(auto, unfolding(crate::specs::Rules::required_of))]
 pub fn required_of(setup: &Setup, form: Form) -> Flags
     ensures { result.0 ≡ required_of setup.now form }
@@ -59,7 +59,7 @@ pub fn form_of_old(setup: &Setup, flags: Flags) -> Form
     }
 }
 
-/// Whether the node opens with the newer name where it was asked to open in this form. One of version 5 never does.
+/// Whether the node opens with the newer name where it was asked to open in this form. A node of version 5 never does.
 pub fn opens_new(setup: &Setup, form: Form) -> bool
     ensures { result ≡ opens_new setup.now form }
 {
@@ -69,8 +69,8 @@ pub fn opens_new(setup: &Setup, form: Form) -> bool
     }
 }
 
-/// The digest of a challenge, for this peer and from it, by the cookie for this peer (ERTS User's Guide, Distribution
-/// Handshake).
+/// The digest of a challenge that is sent to this peer or expected from it, by the cookie for this peer (ERTS User's Guide,
+/// Distribution Handshake).
 #[tactic(auto, unfolding(crate::specs::Rules::own_digest))]
 pub fn own_digest(setup: &Setup, peer: &NodeName, challenge: u32) -> [u8; 16]
     ensures { result ≡ own_digest setup.now peer.now challenge }
@@ -78,7 +78,7 @@ pub fn own_digest(setup: &Setup, peer: &NodeName, challenge: u32) -> [u8; 16]
     digest(setup.cookies.for_peer(peer), challenge)
 }
 
-/// The name that these bytes are, where they are one.
+/// The name in these bytes, where they are one.
 #[tactic(auto, unfolding(crate::specs::Rules::is_good))]
 pub fn good_name(alloc: Global, name: &[u8]) -> Result<Option<NodeName>, AllocError>
     ensures ok { IfOk result (λ found. GoodName found name.now) }
@@ -95,7 +95,7 @@ pub fn good_name(alloc: Global, name: &[u8]) -> Result<Option<NodeName>, AllocEr
 }
 
 /// Whether a good name is refused: it asks to be given a name, lacks a required flag, is the own name, isn't among those that
-/// may connect, or has no room for its entry, as `full` says. That bytes are no name is for `good_name` to find.
+/// may connect, or finds no room for its entry, as `full` says. `good_name` finds out whether bytes are a name at all.
 pub fn is_refused(setup: &Setup, required: Flags, full: bool, flags: Flags, name: &NodeName) -> bool
     ensures { result ≡ is_refused setup.now required.0 full flags name.now }
 {

@@ -24,7 +24,7 @@ ghost use Rattle.dist_core_setup.specs.Saying.{CanBeSaid, frames_of_messages};
 
 use dist_messages::written_is_read;
 
-/// Each message that a node sends has a spelling of its side, and it fits a frame.
+/// Each message that a node sends has a spelling of its side, which fits a frame.
 pub fn messages_can_be_said()
     ensures status { (side : Side) (s : Status) → is_said_by s side ≡ true → CanBeSaid side (message.Status s) }
     ensures new_name { (flags : Flags) (c : Creation) (name : Name) → IsNodeName name → CanBeSaid Dialler (message.NewName flags c name) }
@@ -54,15 +54,15 @@ pub fn flags_show_versions()
     ensures { (s : Setup) → has_all (low_half (announced_by s)) handshake_23 ≡ knows_six s }
 {}
 
-/// Where one of two nodes knows version 5 alone, they have no flags in common but those of the lower half.
+/// Where one of two nodes knows only version 5, the flags that both announce are all in the lower half.
 pub fn low_halves_suffice()
     ensures { (own other : Setup) → (knows_six own && knows_six other) ≡ false
         → common (announced_by own) (low_half (announced_by other)) ≡ common (announced_by own) (announced_by other) }
 {}
 
-/// Which digests a change of cookies leaves: for every other peer those that were, where one peer's cookie changes, and for that
-/// peer too where it gets the cookie that it has; for each peer that has its own those that were, where the usual one changes; and
-/// all, where the names change that may connect.
+/// Which digests a change of cookies does not change: where one peer's cookie changes, those for every other peer, and for that
+/// peer too if it gets the cookie that it has; where the usual cookie changes, those for each peer that has its own; and
+/// all, where only the names change that may connect.
 pub fn other_digests_stay()
     ensures peer { (s : Setup) (p q : Name) (own : Option (List ℕ)) → same_name p q ≡ false → DigestsStay s (with_own_cookie s p own) q }
     ensures same { (s : Setup) (p : Name) (own : Option (List ℕ)) → rekeys s.cookies p own ≡ false → DigestsStay s (with_own_cookie s p own) p }

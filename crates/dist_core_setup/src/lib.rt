@@ -1,7 +1,7 @@
-//! What a node's setup decides, and what the node sends: the flags that it announces and asks for, its digests, the checks
+//! What a node's setup decides, and what the node sends: the flags that it announces and requires, its digests, the checks
 //! on a peer's name, and the frames of each message.
 //!
-//! No input or output, no clock, no randomness, and nothing of any connection: the same setup and the same numbers give the
+//! No input or output, no clock, no randomness, and no connections: the same setup and the same numbers give the
 //! same frames.
 #![tactic(auto)]
 

@@ -1,7 +1,7 @@
 //! The frames that a node sends.
 //!
-//! A frame is appended to what is sent before it, and the own name is read where the setup has it: what is sent in one step takes
-//! memory once.
+//! Each frame is appended to what is sent before it, and the own name is read from the setup, not copied: what is sent in one
+//! step takes memory once.
 ghost use Rattle.std.specs.Prelude.{◌≡◌, ◌<◌, ◌^◌, ◌++◌, [], IfOk, OnOk};
 ghost use Rattle.std.specs.Int.{w16, to_be_bytes};
 ghost use Rattle.dist_messages.specs.declared.message.Message.TheVariants as message;
@@ -17,10 +17,10 @@ use dist_messages::{
 use dist_names::{ByteString, NodeName};
 use std::alloc::{AllocError, Global};
 
-/// Room for what is sent in one step beside a name: a status, and a challenge after it, have at most 39 bytes.
+/// Room for what is sent in one step, without a name: a status, and a challenge after it, have at most 39 bytes.
 const ROOM: usize = 40;
 
-// Nothing is sent so far. There is room for what a node sends in one step.
+// Nothing yet, with room for what a node sends in one step.
 fn begin(alloc: Global, setup: &Setup) -> Result<Vec<u8>, AllocError>
     ensures { IfOk result (λ say. say.items ≡ []) }
 {
@@ -36,7 +36,6 @@ fn put_len(say: &mut Vec<u8>, len: usize) -> Result<(), AllocError>
     say.extend_from_slice(&(len as u16).to_be_bytes())
 }
 
-// Appends a status.
 #[tactic(auto, using(crate::proofs::Framing::says_status, crate::proofs::Framing::text_is_short))]
 fn put_status_frame(say: &mut Vec<u8>, status: Status) -> Result<(), AllocError>
     ensures { OnOk result (say.new.items ≡ say.old.items ++ frame_of (message.Status status)) }
@@ -61,7 +60,6 @@ fn put_name_frame(say: &mut Vec<u8>, setup: &Setup, form: Form) -> Result<(), Al
     }
 }
 
-// Appends the own challenge.
 #[tactic(auto, using(crate::proofs::Framing::old_challenge, crate::proofs::Framing::new_challenge))]
 fn put_challenge_frame(
     say: &mut Vec<u8>,
@@ -85,7 +83,6 @@ fn put_challenge_frame(
     }
 }
 
-// Appends the complement.
 #[tactic(auto, using(crate::proofs::Framing::complement))]
 fn put_complement_frame(say: &mut Vec<u8>, setup: &Setup) -> Result<(), AllocError>
     ensures { OnOk result (say.new.items ≡ say.old.items ++ frame_of (complement_message setup.now)) }
@@ -94,7 +91,6 @@ fn put_complement_frame(say: &mut Vec<u8>, setup: &Setup) -> Result<(), AllocErr
     put_complement(say, announced_by(setup).high(), setup.creation)
 }
 
-// Appends the reply to a challenge.
 #[tactic(auto, using(crate::proofs::Framing::reply))]
 fn put_reply_frame(
     say: &mut Vec<u8>,
@@ -109,7 +105,6 @@ fn put_reply_frame(
     put_reply(say, fresh, &own_digest(setup, peer, challenge))
 }
 
-// Appends the acknowledgement of a reply.
 #[tactic(auto, using(crate::proofs::Framing::ack))]
 fn put_ack_frame(
     say: &mut Vec<u8>,
@@ -141,7 +136,7 @@ pub fn name_frame(alloc: Global, setup: &Setup, form: Form) -> Result<ByteString
     Ok(ByteString::from_vec(say))
 }
 
-/// The own challenge, in its frame (OTP's `send_challenge`).
+/// The node's own challenge, in its frame (OTP's `send_challenge`).
 pub fn challenge_frame(
     alloc: Global,
     setup: &Setup,

@@ -11,8 +11,8 @@ use dist_secret::Cookies;
 use std::alloc::{AllocError, Global};
 use std::marker::Model;
 
-/// What a node is set up with. No step changes it. Between two steps whoever has the node may change the cookies and the names
-/// that may connect, and nothing else of it.
+/// What a node is set up with. No step changes it. Between two steps the node's owner may change the cookies and the names
+/// that may connect, and nothing else.
 #[derive(Drop)]
 pub struct Setup {
     /// The own name.
@@ -21,16 +21,16 @@ pub struct Setup {
     pub cookies: Cookies,
     /// The highest version of the handshake that it knows.
     pub version: Version,
-    /// What it announces, but for `DFLAG_HANDSHAKE_23`, which its version decides, and `DFLAG_NAME_ME`, which never is. In
-    /// version 5 the lower half alone is.
+    /// What it announces, except `DFLAG_HANDSHAKE_23`, which its version decides, and `DFLAG_NAME_ME`, which it never announces.
+    /// In version 5 it announces only the lower half.
     pub flags: Flags,
-    /// What it asks of a peer, beside `DFLAG_HANDSHAKE_23` where both know version 6.
+    /// What it requires of a peer, beside `DFLAG_HANDSHAKE_23` where both know version 6.
     pub required: Flags,
     /// The number of this incarnation.
     pub creation: Creation,
-    /// The peers that may connect, where they are limited. Our own choice: a dial is not bound by it.
+    /// The peers that may connect, where they are limited. Our own choice: the node may dial others.
     pub allow: Option<NameList>,
-    /// How long it lasts, and how much it holds. `Limits::usual()` or `Limits::long_running()` serve most nodes.
+    /// How long it lasts, and how much it holds. `Limits::usual()` or `Limits::long_running()` suits most nodes.
     pub limits: Limits,
 }
 
@@ -52,7 +52,7 @@ impl Setup {
     }
 }
 
-/// A list of names, in which one may stand twice.
+/// A list of names, in which a name may stand twice.
 #[derive(Drop)]
 pub struct NameList {
     names: Vec<NodeName>,
@@ -74,7 +74,7 @@ impl NameList {
         NameList { names }
     }
 
-    /// Its names, given back. It takes no memory.
+    /// Returns its names. It takes no memory.
     pub fn into_vec(self) -> Vec<NodeName>
         ensures { result.items ≡ self }
     {
@@ -110,7 +110,7 @@ impl NameList {
         self.names.iter().any(|one| is_one(name, one))
     }
 
-    /// Adds a name, where it isn't among them yet. Where memory runs out the list stays as it was.
+    /// Adds a name, unless it is among them. Where memory runs out the list stays as it was.
     pub fn add(&mut self, name: NodeName) -> Result<(), AllocError>
         ensures ok { OnOk result (self.new ≡ with_name self.old name) }
         ensures err { OnErr result (self.new ≡ self.old) }
@@ -125,11 +125,11 @@ impl NameList {
         Ok(())
     }
 
-    /// Takes a name out, as often as it stands there. It takes no memory.
+    /// Removes a name wherever it stands in the list. It takes no memory.
     pub fn remove(&mut self, name: &NodeName)
         ensures exact { self.new ≡ without_name self.old name.now }
 
-        // The name is listed no more, and every other as it was.
+        // The name is listed no longer, and every other one as before.
         ensures gone { is_listed self.new name.now ≡ false }
         ensures others { (other : Name) → same_name other name.now ≡ false → is_listed self.new other ≡ is_listed self.old other }
     {
@@ -143,7 +143,7 @@ impl NameList {
         Ok(NameList::from_vec(copied_names(alloc, self.names())?))
     }
 
-    /// Whether the two are one list: the same names, in one order.
+    /// Whether the two lists are equal: the same names, in the same order.
     pub fn is_same(&self, other: &NameList) -> bool
         ensures { IsTrue result ↔ (self.now ≡ other.now) }
     {

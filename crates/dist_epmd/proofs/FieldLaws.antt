@@ -1,80 +1,18 @@
 -- A field that is read is the field that was written, and what was written is read again.
-use Rattle.std.proofs.Common.{◌≡◌, ℕ, ◌^◌, ◌<◌, ◌≤◌, Bool, true, false, cond, ltb, eqb, List, [], ◌∷◌, ◌++◌, length, take, drop, Some, None, Result, Ok, Err, refl, sym, ap, subst, ◌∙◌, append_assoc, arith}
-use Rattle.std.specs.Int.{Width, w16, w32, byte_len, from_be_bytes, to_be_bytes}
-use Rattle.std.proofs.lemmas.Bool.{ltb-false, le-ltb, eqb-true}
-use Rattle.std.proofs.lemmas.List.{take_at, drop_at, take-append-drop, append-nil, length-append, length-take, nil_from_length}
-use Rattle.std.proofs.lemmas.Nat.{be_bytes_2, be_bytes_4, from_be_bytes-to_be_bytes_2, from_be_bytes-to_be_bytes_4}
+use Rattle.std.proofs.Common.{◌≡◌, ℕ, ◌^◌, ◌<◌, Bool, true, false, cond, eqb, List, [], ◌∷◌, ◌++◌, length, Some, None, Result, Ok, Err, refl, sym, ap, subst, ◌∙◌, append_assoc, arith}
+use Rattle.std.specs.Int.{Width, w16, to_be_bytes}
+use Rattle.std.proofs.lemmas.Bool.{eqb-true}
+use Rattle.std.proofs.lemmas.List.{append-nil, nil_from_length}
+use Rattle.std.proofs.lemmas.Option.{same_Some}
 use Rattle.dist_names.specs.Bytes.{IsBytes}
-use Rattle.dist_names.proofs.Bytes.{IsBytes-rest, IsBytes-drop, IsBytes-take}
+use Rattle.dist_names.specs.Fields.{Taken, number_at, bytes_at}
+use Rattle.dist_names.proofs.Bytes.{IsBytes-rest}
+use Rattle.dist_names.proofs.Fields.{Takes, Takes-then, IsWide, wide16, number_takes, number_again, bytes_take, bytes_again}
 use Rattle.dist_epmd.specs.declared.epmd_error.EpmdError.{EpmdError}
 use Rattle.dist_epmd.specs.declared.epmd_error.EpmdError.TheVariants.{Trailing}
 use Rattle.dist_epmd.specs.declared.message.NodeInfo.{NodeInfo}
 use Rattle.dist_epmd.specs.Layout.{text_field, info_text}
-use Rattle.dist_epmd.specs.Reading.{Taken, byte_at, number_at, bytes_at, text_behind, text_at, with_second, pair_behind, both_at, value_as, Parts, info_of_parts, info_at, whole, as_message}
-
--- a test that did not fail
-some_is : {A : Type 0} (b : Bool) (x y : A) → cond b None (Some x) ≡ Some y → (b ≡ false) × (x ≡ y)
-some_is true x y e = absurd cc
-some_is false x y e = (refl, cc)
-
--- what a reader took from the front
-pub record Takes (bytes text rest : List ℕ) : Type 0 where
-  pub parts : bytes ≡ text ++ rest
-  pub rest_fits : IsBytes rest
-
--- ---- numbers
-
-pub record IsWide (w : Width) (limit : ℕ) : Type 0 where
-  pub len : (n : ℕ) → length (to_be_bytes w n) ≡ byte_len w
-  pub back : (bytes : List ℕ) → length bytes ≡ byte_len w → IsBytes bytes → to_be_bytes w (from_be_bytes w bytes) ≡ bytes
-  pub again : (n : ℕ) → n < limit → from_be_bytes w (to_be_bytes w n) ≡ n
-  pub below : (bytes : List ℕ) → IsBytes bytes → from_be_bytes w bytes < limit
-
-pub wide16 : IsWide w16 (2 ^ 16)
-wide16 = record {
-  len = λ n. refl;
-  back = λ bytes len fits. be_bytes_2 bytes _ len fits refl;
-  again = λ n lt. from_be_bytes-to_be_bytes_2 n lt;
-  below = λ bytes fits. omega (arith, fits 0, fits 1);
-}
-
-pub wide32 : IsWide w32 (2 ^ 32)
-wide32 = record {
-  len = λ n. refl;
-  back = λ bytes len fits. be_bytes_4 bytes _ len fits refl;
-  again = λ n lt. from_be_bytes-to_be_bytes_4 n lt;
-  below = λ bytes fits. omega (arith, fits 0, fits 1, fits 2, fits 3);
-}
-
-pub number_takes : (w : Width) (limit : ℕ) (wide : IsWide w limit) (bytes : List ℕ) (n : ℕ) (rest : List ℕ) → IsBytes bytes → number_at w bytes ≡ Some (n, rest) → Takes bytes (to_be_bytes w n) rest × (n < limit)
-number_takes w limit wide bytes n rest fits e =
-    let g = some_is (ltb (length bytes) (byte_len w)) (from_be_bytes w (take (byte_len w) bytes), drop (byte_len w) bytes) (n, rest) e in
-    let long : byte_len w ≤ length bytes = ltb-false _ _ g.0 in
-    let n-is : from_be_bytes w (take (byte_len w) bytes) ≡ n = ap (λ (p : ℕ × List ℕ). p.0) g.1 in
-    let rest-is : drop (byte_len w) bytes ≡ rest = ap (λ (p : ℕ × List ℕ). p.1) g.1 in
-    let front : to_be_bytes w n ≡ take (byte_len w) bytes = rw (← n-is) (wide.back (take (byte_len w) bytes) (omega (arith, length-take (byte_len w) bytes)) (IsBytes-take (byte_len w) bytes fits)) in
-    (record { parts = rw (front, ← rest-is) (sym (take-append-drop (byte_len w) bytes)); rest_fits = rw (← rest-is) (IsBytes-drop (byte_len w) bytes fits) }, rw (← n-is) (wide.below (take (byte_len w) bytes) (IsBytes-take (byte_len w) bytes fits)))
-
-pub number_again : (w : Width) (limit : ℕ) (wide : IsWide w limit) (n : ℕ) (rest : List ℕ) → n < limit → number_at w (to_be_bytes w n ++ rest) ≡ Some (n, rest)
-number_again w limit wide n rest lt =
-    let len = wide.len n in
-    let long : ltb (length (to_be_bytes w n ++ rest)) (byte_len w) ≡ false = le-ltb _ _ (omega (arith, length-append (to_be_bytes w n) rest)) in
-    rw (long, take_at (to_be_bytes w n) rest (byte_len w) len, drop_at (to_be_bytes w n) rest (byte_len w) len, wide.again n lt) refl
-
--- ---- bytes of a known number
-
-pub bytes_take : (n : ℕ) (bytes text rest : List ℕ) → IsBytes bytes → bytes_at n bytes ≡ Some (text, rest) → Takes bytes text rest × (length text ≡ n)
-bytes_take n bytes text rest fits e =
-    let g = some_is (ltb (length bytes) n) (take n bytes, drop n bytes) (text, rest) e in
-    let long : n ≤ length bytes = ltb-false _ _ g.0 in
-    let text-is : take n bytes ≡ text = ap (λ (p : List ℕ × List ℕ). p.0) g.1 in
-    let rest-is : drop n bytes ≡ rest = ap (λ (p : List ℕ × List ℕ). p.1) g.1 in
-    (record { parts = rw (← text-is, ← rest-is) (sym (take-append-drop n bytes)); rest_fits = rw (← rest-is) (IsBytes-drop n bytes fits) }, rw (← text-is) (omega (arith, length-take n bytes)))
-
-pub bytes_again : (n : ℕ) (text rest : List ℕ) → length text ≡ n → bytes_at n (text ++ rest) ≡ Some (text, rest)
-bytes_again n text rest len =
-    let long : ltb (length (text ++ rest)) n ≡ false = le-ltb _ _ (omega (arith, length-append text rest)) in
-    rw (long, take_at text rest n len, drop_at text rest n len) refl
+use Rattle.dist_epmd.specs.Reading.{byte_at, text_behind, text_at, with_second, pair_behind, both_at, value_as, Parts, info_of_parts, info_at, whole, as_message}
 
 -- ---- fields of any kind
 
@@ -94,13 +32,10 @@ one b = b ∷ []
 abbrev pub Any : ℕ → Type 0
 Any b = Unit {0}
 
-pub some_same : {A : Type 0} (x y : A) → Some x ≡ Some y → x ≡ y
-some_same x y e = cc
-
 byte_takes : (bytes : List ℕ) (x : ℕ) (rest : List ℕ) → IsBytes bytes → byte_at bytes ≡ Some (x, rest) → Takes bytes (one x) rest × Any x
 byte_takes [] x rest fits e = absurd cc
 byte_takes (b ∷ more) x rest fits e =
-    let same = some_same (b, more) (x, rest) e in
+    let same = same_Some (b, more) (x, rest) e in
     let first : b ≡ x = ap (λ (p : ℕ × List ℕ). p.0) same in
     let rest-is : more ≡ rest = ap (λ (p : ℕ × List ℕ). p.1) same in
     (record { parts = cc; rest_fits = subst IsBytes rest-is (IsBytes-rest b more fits) }, tt)
@@ -134,7 +69,7 @@ sized_field = record {
 second_ok : {A B : Type 0} (a : A) (t : Taken B) (p : A × B) (rest : List ℕ) → with_second a t ≡ Some (p, rest) → (a ≡ p.0) × (t ≡ Some (p.1, rest))
 second_ok a None p rest e = absurd cc
 second_ok a (Some y) p rest e =
-    let same = some_same ((a, y.0), y.1) (p, rest) e in
+    let same = same_Some ((a, y.0), y.1) (p, rest) e in
     (ap (λ q. q.0.0) same, ap (λ q. Some (q.0.1, q.1)) same)
 
 followed_ok : {A B : Type 0} (t : Taken A) (s : List ℕ → Taken B) (p : A × B) (rest : List ℕ) → pair_behind t s ≡ Some (p, rest) → (x : A × List ℕ) × (t ≡ Some x) × (x.0 ≡ p.0) × (s x.1 ≡ Some (p.1, rest))
@@ -148,7 +83,7 @@ both_field {A} {B} {r} {s} {w} {v} {F} {G} one two = record {
       let first : r bytes ≡ Some (p.0, a.0.1) = a.1 ∙ ap (λ k. Some (k, a.0.1)) a.2 in
       let t0 = one.takes bytes p.0 a.0.1 fits first in
       let t1 = two.takes a.0.1 p.1 rest t0.0.rest_fits a.3 in
-      (record { parts = t0.0.parts ∙ ap (λ (x : List ℕ). w p.0 ++ x) t1.0.parts ∙ sym (append_assoc (w p.0) (v p.1) rest); rest_fits = t1.0.rest_fits }, (t0.1, t1.1));
+      (Takes-then bytes (w p.0) a.0.1 (v p.1) rest t0.0 t1.0, (t0.1, t1.1));
   again = λ p rest fits.
       ap (both_at r s) (append_assoc (w p.0) (v p.1) rest)
       ∙ ap (λ t. pair_behind t s) (one.again p.0 (v p.1 ++ rest) fits.0)
@@ -160,7 +95,7 @@ both_field {A} {B} {r} {s} {w} {v} {F} {G} one two = record {
 made_ok : {A B : Type 0} (f : A → B) (t : Taken A) (y : B) (rest : List ℕ) → value_as f t ≡ Some (y, rest) → (x : A) × (t ≡ Some (x, rest)) × (f x ≡ y)
 made_ok f None y rest e = absurd cc
 made_ok f (Some x) y rest e =
-    let same = some_same (f x.0, x.1) (y, rest) e in
+    let same = same_Some (f x.0, x.1) (y, rest) e in
     (x.0, ap (λ q. Some (x.0, q.1)) same, ap (λ q. q.0) same)
 
 pub made_field : {A B : Type 0} {r : List ℕ → Taken A} {w : A → List ℕ} {F : A → Type 0} (f : A → B) (g : B → A) → ((y : B) → f (g y) ≡ y) → ((x : A) → g (f x) ≡ x) → IsField r w F → IsField (λ bytes. value_as f (r bytes)) (λ y. w (g y)) (λ y. F (g y))
@@ -186,7 +121,7 @@ whole_ok (Some x) y e =
     let nil : x.1 ≡ [] = nil_from_length x.1 (eqb-true (length x.1) 0 p.0) in
     ap (λ q. Some (q, x.1)) p.1 ∙ ap (λ q. Some (y, q)) nil
 
--- bytes that are just one field
+-- bytes that are exactly one field
 pub whole_takes : {A : Type 0} {r : List ℕ → Taken A} {w : A → List ℕ} {F : A → Type 0} → IsField r w F → (bytes : List ℕ) (y : A) → IsBytes bytes → whole (r bytes) ≡ Ok y → (bytes ≡ w y) × F y
 whole_takes {A} {r} {w} {F} field bytes y fits e =
     let t = field.takes bytes y [] fits (whole_ok (r bytes) y e) in

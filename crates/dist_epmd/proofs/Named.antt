@@ -1,4 +1,4 @@
--- Rows that stand at their names are found, put and dropped as in a list in order of names.
+-- Where each row stands at its name, rows are found, put and dropped as in a list in order of names.
 use Rattle.std.proofs.Common.{◌≡◌, ℕ, suc, ◌+◌, Bool, true, false, not, ◌||◌, cond, List, [], ◌∷◌, length, Option, Some, refl, sym, ap, subst, ◌∙◌, arith}
 use Rattle.std.specs.Prelude.{filter, find, insert, is_some, Vec}
 use Rattle.std.specs.List.{list_any, position_or_len}
@@ -23,7 +23,7 @@ turned_eq Less = refl
 turned_eq Equal = refl
 turned_eq Greater = refl
 
--- equal in the order is equal byte for byte
+-- names that compare as equal are equal byte for byte
 named_is : (name key : List ℕ) → is_eq (compared name key) ≡ bytes_eq key name
 named_is name key = ap is_eq (nat_list_cmp_total.antisymm name key) ∙ turned_eq (compared key name) ∙ is_eq-slice_cmp key name
 

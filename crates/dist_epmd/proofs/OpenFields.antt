@@ -1,42 +1,29 @@
--- A field that ends too early can be made whole by more bytes.
+-- A field that ends too early can be completed by more bytes.
 use Rattle.std.proofs.Common.{◌≡◌, ℕ, zero, suc, ◌-◌, ◌^◌, ◌<◌, Bool, true, false, cond, ltb, eqb, List, [], ◌∷◌, ◌++◌, length, take, drop, Some, None, Result, Ok, Err, refl, sym, ap, subst, ◌∙◌, append_assoc, arith, inl, inr}
 use mathlib.Core.Logic.{◌⊎◌}
 use Rattle.std.specs.Int.{Width, w16, byte_len, from_be_bytes, to_be_bytes}
 use Rattle.std.proofs.lemmas.Bool.{ltb-true}
-use Rattle.std.proofs.lemmas.List.{append-nil, length-append}
+use Rattle.std.proofs.lemmas.List.{append-nil, length-append, length-replicate}
 use Rattle.dist_names.specs.Bytes.{IsBytes}
-use Rattle.dist_names.proofs.Bytes.{IsBytes-append}
+use Rattle.dist_names.proofs.Bytes.{zeros, IsBytes-zeros, IsBytes-append}
 use Rattle.dist_epmd.specs.declared.epmd_error.EpmdError.{EpmdError}
 use Rattle.dist_epmd.specs.declared.epmd_error.EpmdError.TheVariants.{Short, Trailing}
 use Rattle.dist_epmd.specs.Layout.{text_field, info_text}
-use Rattle.dist_epmd.specs.Reading.{Taken, byte_at, number_at, bytes_at, text_behind, text_at, with_second, pair_behind, both_at, value_as, info_of_parts, info_at, whole}
-use Rattle.dist_epmd.proofs.FieldLaws.{IsWide, wide16, number_takes, IsField, number_field, byte_field, sized_field, parts_of, fields16, one, Any, Short16}
-
--- ---- bytes behind bytes
-
-abbrev zeros : ℕ → List ℕ
-zeros zero = []
-zeros (suc n) = 0 ∷ zeros n
-
-zeros-length : (n : ℕ) → length (zeros n) ≡ n
-zeros-length zero = refl
-zeros-length (suc n) = ap suc (zeros-length n)
-
-zeros-bytes : (n : ℕ) → IsBytes (zeros n)
-zeros-bytes zero i = omega arith
-zeros-bytes (suc n) zero = omega arith
-zeros-bytes (suc n) (suc i) = zeros-bytes n i
+use Rattle.dist_names.specs.Fields.{Taken, number_at, bytes_at}
+use Rattle.dist_names.proofs.Fields.{IsWide, wide16, number_takes}
+use Rattle.dist_epmd.specs.Reading.{byte_at, text_behind, text_at, with_second, pair_behind, both_at, value_as, info_of_parts, info_at, whole}
+use Rattle.dist_epmd.proofs.FieldLaws.{IsField, number_field, byte_field, sized_field, parts_of, fields16, one, Any, Short16}
 
 -- ---- what is missing
 
--- the value that the bytes would spell with more behind them
+-- the value that the bytes would spell with more bytes behind them
 pub record Lacks {A : Type 0} (write : A → List ℕ) (Fits : A → Type 0) (bytes : List ℕ) : Type 0 where
   pub value : A
   pub fits : Fits value
   pub more : List ℕ
   pub parts : bytes ++ more ≡ write value
 
--- bytes that end inside the field can be made whole
+-- bytes that end inside the field can be completed
 pub record IsOpen {A : Type 0} (read : List ℕ → Taken A) (write : A → List ℕ) (Fits : A → Type 0) : Type 0 where
   pub some : A
   pub some_fits : Fits some
@@ -50,8 +37,8 @@ number_lacks : (w : Width) (limit : ℕ) (wide : IsWide w limit) (bytes : List �
 number_lacks w limit wide bytes fits e =
     let short : length bytes < byte_len w = ltb-true _ _ (none_is (ltb (length bytes) (byte_len w)) (from_be_bytes w (take (byte_len w) bytes), drop (byte_len w) bytes) e) in
     let more : List ℕ = zeros (byte_len w - length bytes) in
-    let len : length (bytes ++ more) ≡ byte_len w = omega (arith, length-append bytes more, zeros-length (byte_len w - length bytes)) in
-    let ok : IsBytes (bytes ++ more) = IsBytes-append bytes more fits (zeros-bytes (byte_len w - length bytes)) in
+    let len : length (bytes ++ more) ≡ byte_len w = omega (arith, length-append bytes more, length-replicate {A = ℕ} (byte_len w - length bytes) 0) in
+    let ok : IsBytes (bytes ++ more) = IsBytes-append bytes more fits (IsBytes-zeros (byte_len w - length bytes)) in
     record { value = from_be_bytes w (bytes ++ more); fits = wide.below (bytes ++ more) ok; more = more; parts = sym (wide.back (bytes ++ more) len ok) }
 
 pub number_open : (w : Width) (limit : ℕ) (wide : IsWide w limit) → 0 < limit → IsOpen (number_at w) (to_be_bytes w) (λ n. n < limit)
@@ -74,7 +61,7 @@ sized_lacks bytes fits e =
       | inl n ↦
           let l = number_lacks w16 (2 ^ 16) wide16 bytes fits n in
           let text : List ℕ = zeros l.value in
-          let len : length text ≡ l.value = zeros-length l.value in
+          let len : length text ≡ l.value = length-replicate {A = ℕ} l.value 0 in
           let parts : bytes ++ (l.more ++ text) ≡ text_field text = sym (append_assoc bytes l.more text) ∙ ap (λ (x : List ℕ). x ++ text) l.parts ∙ ap (λ (k : ℕ). to_be_bytes w16 k ++ text) (sym len) in
           record { value = text; fits = omega (arith, len, l.fits); more = l.more ++ text; parts = parts }
       | inr p ↦
@@ -82,7 +69,7 @@ sized_lacks bytes fits e =
           let short : length p.0.1 < p.0.0 = ltb-true _ _ (none_is (ltb (length p.0.1) p.0.0) (take p.0.0 p.0.1, drop p.0.0 p.0.1) p.2) in
           let pad : List ℕ = zeros (p.0.0 - length p.0.1) in
           let text : List ℕ = p.0.1 ++ pad in
-          let len : length text ≡ p.0.0 = omega (arith, length-append p.0.1 pad, zeros-length (p.0.0 - length p.0.1)) in
+          let len : length text ≡ p.0.0 = omega (arith, length-append p.0.1 pad, length-replicate {A = ℕ} (p.0.0 - length p.0.1) 0) in
           let parts : bytes ++ pad ≡ text_field text = ap (λ (x : List ℕ). x ++ pad) t.0.parts ∙ append_assoc (to_be_bytes w16 p.0.0) p.0.1 pad ∙ ap (λ (k : ℕ). to_be_bytes w16 k ++ text) (sym len) in
           record { value = text; fits = omega (arith, len, t.1); more = pad; parts = parts }
     ]
@@ -134,7 +121,7 @@ info_open =
 
 -- ---- a message of one field
 
--- some bytes are missing
+-- at least one byte is missing
 pub lacks_more : {A : Type 0} {r : List ℕ → Taken A} {w : A → List ℕ} {F : A → Type 0} → IsField r w F → (bytes more : List ℕ) (x : A) → F x → bytes ++ more ≡ w x → r bytes ≡ None → 0 < length more
 lacks_more {A} {r} {w} {F} field bytes [] x fits e n =
     let s : r bytes ≡ Some (x, []) = ap r (sym (append-nil bytes) ∙ e ∙ sym (append-nil (w x))) ∙ field.again x [] fits in

@@ -1,4 +1,4 @@
--- The row of a name and a connection is one, and all that is to be dropped where the connection is closed.
+-- A name and a connection have one row at most, and it is all that is dropped where the connection is closed.
 use Rattle.std.proofs.Common.{◌≡◌, ℕ, Bool, true, false, not, ◌&&◌, ◌||◌, cond, List, [], ◌∷◌, Some, None, refl, sym, ap, ◌∙◌, inl, inr}
 use Rattle.std.specs.Prelude.{◌≢◌, ◌⊎◌, filter, find, option_map, Vec}
 use Rattle.std.specs.List.{list_any, AllByRecursion}
@@ -46,7 +46,7 @@ none_dropped test (row ∷ rows) none =
     ap (λ (b : Bool). cond (not b) (row ∷ filter (λ r. not (test r)) rows) (filter (λ r. not (test r)) rows)) n.0
     ∙ ap (λ (l : List Row). row ∷ l) (none_dropped test rows n.1)
 
--- where a row has this name, none of the others has
+-- where a row has this name, no other row has it
 others_named : (name : List ℕ) (row : Row) (rows : List Row) → is_named name row ≡ true → AllByRecursion (Differ row) rows → list_any (is_named name) rows ≡ false
 others_named name row [] own differ = refl
 others_named name row (r ∷ rows) own differ =
@@ -55,7 +55,7 @@ others_named name row (r ∷ rows) own differ =
     (without (is_named name r) (λ e. differ.0.0 (mine ∙ sym ((bytes_eq-Decides r.info.name name).0 e))))
     (others_named name row rows own differ.1)
 
--- where a row is of this connection, none of the others is
+-- where a row is of this connection, no other row is
 others_of : (conn : ℕ) (row : Row) (rows : List Row) → is_of conn row ≡ true → AllByRecursion (Differ row) rows → list_any (is_of conn) rows ≡ false
 others_of conn row [] own differ = refl
 others_of conn row (r ∷ rows) own differ =
@@ -159,7 +159,7 @@ own_found conn name (r ∷ rows) apart there =
       | false ↦ λ e t. own_found conn name rows apart.1 t
     ] refl there
 
--- what is dropped is all of the connection, or nothing
+-- what is dropped is the connection's only row, or nothing
 pub all_or_none : (conn : ℕ) (name : List ℕ) (registrations : Registrations) → Apart registrations.rows
     → (after_closed_as conn name registrations ≡ registrations) ⊎ (after_closed_as conn name registrations ≡ after_closed conn registrations)
 all_or_none conn name registrations apart =

@@ -1,8 +1,9 @@
--- What a refusal says, over all bytes.
+-- What each refusal means, over all bytes.
 use Rattle.std.proofs.Common.{◌≡◌, ℕ, ◌^◌, ◌<◌, Bool, true, false, cond, eqb, List, [], ◌∷◌, ◌++◌, length, Some, None, Result, Ok, Err, refl, sym, ap, subst, ◌∙◌, arith}
 use Rattle.std.specs.Prelude.{IfErr}
 use Rattle.std.specs.Int.{w16, w32, to_be_bytes}
 use Rattle.std.proofs.lemmas.Bool.{eqb-true}
+use Rattle.std.proofs.lemmas.Option.{same_Some}
 use Rattle.std.proofs.lemmas.List.{append-nil}
 use Rattle.dist_epmd.specs.declared.message.NodeInfo.{NodeInfo}
 use Rattle.dist_epmd.specs.declared.message.Request.{Request}
@@ -17,9 +18,11 @@ use Rattle.dist_names.specs.Bytes.{IsBytes}
 use Rattle.dist_names.proofs.Bytes.{IsBytes-rest}
 use Rattle.dist_epmd.specs.Answering.{Answers}
 use Rattle.dist_epmd.specs.Layout.{info_text, TextsFit, InfoFits}
-use Rattle.dist_epmd.specs.Reading.{Taken, byte_at, number_at, both_at, value_as, info_at, whole, whole_info, as_message, read_request, alive_x, alive, node_answer, with_text, read_answer}
+use Rattle.dist_names.specs.Fields.{Taken, number_at}
+use Rattle.dist_names.proofs.Fields.{wide16, wide32}
+use Rattle.dist_epmd.specs.Reading.{byte_at, both_at, value_as, info_at, whole, whole_info, as_message, read_request, alive_x, alive, node_answer, with_text, read_answer}
 use Rattle.dist_epmd.specs.Refusing.{LacksRequest, ExceedsRequest, BeginsNoRequest, RefusesRequest, LacksAnswer, ExceedsAnswer, BeginsNoAnswer, RefusesAnswer}
-use Rattle.dist_epmd.proofs.FieldLaws.{IsField, wide16, wide32, number_field, byte_field, both_field, info_field, some_same}
+use Rattle.dist_epmd.proofs.FieldLaws.{IsField, number_field, byte_field, both_field, info_field}
 use Rattle.dist_epmd.proofs.OpenFields.{IsOpen, number_open, byte_open, both_open, info_open, lacks_more, whole_short, whole_lacks, whole_trailing, whole_exceeds}
 
 abbrev wrong : {A : Type 0} → EpmdError → Result A EpmdError
@@ -28,7 +31,6 @@ wrong d = Err d
 same_error : {A : Type 0} (c d : EpmdError) → wrong {A = A} c ≡ wrong d → c ≡ d
 same_error c d e = cc
 
--- which error it is
 error_is : {A B : Type 0} (f : A → B) (t : Result A EpmdError) (d : EpmdError) → as_message f t ≡ Err d → t ≡ Err d
 error_is {A} {B} f (Ok x) d e = absurd cc
 error_is {A} {B} f (Err c) d e = ap (λ (k : EpmdError). wrong {A = A} k) (same_error {A = B} c d e)
@@ -40,7 +42,7 @@ error_of : {A B : Type 0} (b : Bool) (x : A) (y : B) (d : EpmdError) → cond b 
 error_of true x y d e = absurd cc
 error_of {A} {B} false x y d e = ap (λ (k : EpmdError). wrong {A = A} k) (same_error {A = B} errors.Trailing d e)
 
--- the same refusal of what was read and of what it stands for
+-- what was read, and the message made of it, are refused in the same way
 made_error : {A B : Type 0} (f : A → B) (t : Taken A) (d : EpmdError) → whole (value_as f t) ≡ Err d → whole t ≡ Err d
 made_error {A} {B} f None d e = ap (λ (k : EpmdError). wrong {A = A} k) (same_error {A = B} errors.Short d e)
 made_error {A} {B} f (Some x) d e = error_of (eqb (length x.1) 0) x.0 (f x.0) d e
@@ -56,7 +58,6 @@ never_malformed (Some x) e = no_malformed_of (eqb (length x.1) 0) x.0 e
 some_none : {A : Type 0} (x : A) → Some x ≡ None → ⊥
 some_none x e = cc
 
--- a whole value is never short
 never_short : {A : Type 0} (x : A) (rest : List ℕ) → whole (Some (x, rest)) ≡ Err errors.Short → ⊥
 never_short x rest e = some_none (x, rest) (whole_short (Some (x, rest)) e)
 
@@ -64,7 +65,7 @@ never_short x rest e = some_none (x, rest) (whole_short (Some (x, rest)) e)
 left_some : {A : Type 0} (x : A) (rest : List ℕ) → whole (Some (x, rest)) ≡ Err errors.Trailing → 0 < length rest
 left_some x rest e =
     let p = whole_trailing (Some (x, rest)) e in
-    let same = some_same (x, rest) p.0 p.1 in
+    let same = same_Some (x, rest) p.0 p.1 in
     subst (λ (l : List ℕ). 0 < length l) (sym (ap (λ q. q.1) same)) p.2
 
 at_tag : {M : Type 0} (P : ℕ → Type 0) (tag k : ℕ) (v x y : Result M EpmdError) → (x ≡ v → P k) → (y ≡ v → P tag) → cond (eqb tag k) x y ≡ v → P tag

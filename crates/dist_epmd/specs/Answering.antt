@@ -13,11 +13,11 @@ abbrev pub is_want : EpmdError → Bool
 is_want NoMemory = true
 is_want _ = false
 
--- Seen by view, the answer is the one expected, or out of memory.
+-- By its view, the answer is the one expected, or out of memory.
 abbrev pub Answers : {X Y : Type 0} → (X → Y) → Result X EpmdError → Result Y EpmdError → Type 0
 Answers view result expected = AnswersBut is_want view result expected
 
--- an answer was read that carries a name or a text
+-- the answer that was read carries a name or a text
 abbrev pub BearsText : Result Answer EpmdError → Type 0
 BearsText (Ok (answer.Port (Ok info))) = Unit {0}
 BearsText (Ok (answer.Names port text)) = Unit {0}
@@ -28,7 +28,7 @@ abbrev pub LacksText : {X : Type 0} → Result X EpmdError → Result Answer Epm
 LacksText (Err NoMemory) expected = BearsText expected
 LacksText result expected = Unit {0}
 
--- a request was read that carries a name
+-- the request that was read carries a name
 abbrev pub BearsName : Result Request EpmdError → Type 0
 BearsName (Ok (request.Alive info)) = Unit {0}
 BearsName (Ok (request.PortPlease name)) = Unit {0}

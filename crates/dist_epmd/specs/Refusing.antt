@@ -7,11 +7,11 @@ use Rattle.dist_epmd.specs.declared.epmd_error.EpmdError.{EpmdError}
 use Rattle.dist_epmd.specs.declared.epmd_error.EpmdError.TheVariants.{Malformed, Short, Trailing, NoMemory}
 use Rattle.dist_epmd.specs.Layout.{SpellsRequest, SpellsAnswer, RequestFits, AnswerFits}
 
--- With more bytes behind it the body spells a request.
+-- With some more bytes behind it, the body spells a request.
 abbrev pub LacksRequest : List ℕ → Type 0
 LacksRequest body = (m : Request) × (more : List ℕ) × (0 < length more) × RequestFits m × SpellsRequest m (body ++ more)
 
--- The body spells a request, with more bytes behind it.
+-- A first part of the body spells a request, and more bytes stand behind it.
 abbrev pub ExceedsRequest : List ℕ → Type 0
 ExceedsRequest body = (m : Request) × (front : List ℕ) × (rest : List ℕ) × (0 < length rest) × (body ≡ front ++ rest) × RequestFits m × SpellsRequest m front
 
@@ -19,18 +19,18 @@ ExceedsRequest body = (m : Request) × (front : List ℕ) × (rest : List ℕ) �
 abbrev pub BeginsNoRequest : List ℕ → Type 0
 BeginsNoRequest body = (m : Request) (more : List ℕ) → SpellsRequest m (body ++ more) → ⊥
 
--- what each refusal of a body says
+-- what each refusal of a body means
 abbrev pub RefusesRequest : List ℕ → EpmdError → Type 0
 RefusesRequest body Malformed = BeginsNoRequest body
 RefusesRequest body Short = LacksRequest body
 RefusesRequest body Trailing = ExceedsRequest body
 RefusesRequest body NoMemory = Unit {0}
 
--- With more bytes behind them the bytes spell an answer to what was asked.
+-- With some more bytes behind them, the bytes spell an answer to what was asked.
 abbrev pub LacksAnswer : Asked → List ℕ → Type 0
 LacksAnswer asked bytes = (m : Answer) × (more : List ℕ) × (0 < length more) × AnswerFits m × SpellsAnswer asked m (bytes ++ more)
 
--- The bytes spell an answer to what was asked, with more bytes behind it.
+-- A first part of the bytes spells an answer to what was asked, and more bytes stand behind it.
 abbrev pub ExceedsAnswer : Asked → List ℕ → Type 0
 ExceedsAnswer asked bytes =
     (m : Answer) × (front : List ℕ) × (rest : List ℕ) × (0 < length rest)
@@ -40,7 +40,7 @@ ExceedsAnswer asked bytes =
 abbrev pub BeginsNoAnswer : Asked → List ℕ → Type 0
 BeginsNoAnswer asked bytes = (m : Answer) (more : List ℕ) → SpellsAnswer asked m (bytes ++ more) → ⊥
 
--- what each refusal of an answer's bytes says
+-- what each refusal of an answer's bytes means
 abbrev pub RefusesAnswer : Asked → List ℕ → EpmdError → Type 0
 RefusesAnswer asked bytes Malformed = BeginsNoAnswer asked bytes
 RefusesAnswer asked bytes Short = LacksAnswer asked bytes

@@ -1,4 +1,4 @@
--- Who is registered with the port mapper, and what it answers.
+-- Which nodes are registered with the port mapper, and what it answers.
 use Rattle.std.specs.Prelude.{◌≡◌, ◌≢◌, ℕ, ◌+◌, ◌%◌, ◌^◌, ◌<◌, ◌≤◌, Bool, ◌&&◌, not, nat_lt, nat_le, ◌==◌, if◌then◌else◌}
 use Rattle.std.specs.Prelude.{List, [], ◌∷◌, ◌++◌, length, codes, decimal, filter, find, insert, flat_map, Option, option_map}
 use Rattle.std.specs.List.{list_all, list_any, position_or_len, AllByRecursion}
@@ -22,7 +22,7 @@ pub record Registrations : Type 0 where
   -- the accepted registrations whose connections are not closed, in byte order of their names
   pub rows : List Row
 
--- a port mapper at this port, where no node is registered, and the creation that is given first
+-- a port mapper at this port, without nodes, and with the creation that is given first
 abbrev pub opening : ℕ → ℕ → Registrations
 opening port first = record { port = port; next = first; rows = [] }
 
@@ -48,7 +48,7 @@ is_of conn row = row.conn == conn
 abbrev pub is_own : ℕ → List ℕ → Row → Bool
 is_own conn name row = is_of conn row && is_named name row
 
--- WHICH REGISTRATIONS ARE ACCEPTED: a good name, neither it nor the connection registered, room for a row, and a creation left
+-- WHICH REGISTRATIONS ARE ACCEPTED: the name is good and not registered, nor is the connection; there is room, and a creation left
 abbrev pub is_accepted : ℕ → NodeInfo → Registrations → Bool
 is_accepted conn info registrations =
     is_short_name info.name
@@ -67,14 +67,14 @@ is_behind name row = not (is_lt (slice_cmp nat_cmp row.info.name name))
 abbrev pub with_row : Row → List Row → List Row
 with_row row rows = insert rows (position_or_len (is_behind row.info.name) rows) row
 
--- the registrations with one more, which takes the next creation
+-- the registrations with one more, which gets the next creation
 abbrev pub with_registration : ℕ → NodeInfo → Registrations → Registrations
 with_registration conn info registrations = record registrations {
   next = registrations.next + 1;
   rows = with_row (record { conn = conn; info = info; creation = registrations.next }) registrations.rows;
 }
 
--- the registrations after one that comes on a connection: a refusal changes nothing
+-- the registrations after a registration came on a connection: a refusal changes nothing
 abbrev pub after_request : ℕ → NodeInfo → Registrations → Registrations
 after_request conn info registrations = if is_accepted conn info registrations then with_registration conn info registrations else registrations
 
@@ -82,21 +82,21 @@ after_request conn info registrations = if is_accepted conn info registrations t
 abbrev pub after_closed : ℕ → Registrations → Registrations
 after_closed conn registrations = record registrations { rows = filter (λ row. not (is_of conn row)) registrations.rows }
 
--- the registrations without that of this name, where it is this connection's
+-- the registrations without that of this name, where it was made on this connection
 abbrev pub after_closed_as : ℕ → List ℕ → Registrations → Registrations
 after_closed_as conn name registrations = record registrations { rows = filter (λ row. not (is_own conn name row)) registrations.rows }
 
 -- ---- what is answered
 
--- the creation that a node of version 5 is given: one of 1 to 3
+-- the creation that a node of version 5 gets: one of 1 to 3
 abbrev pub short_creation : ℕ → ℕ
 short_creation creation = (creation + 2) % 3 + 1
 
--- the answer that carries this creation, by the node's highest version
+-- the answer that carries this creation, in the form for the node's highest version
 abbrev pub creation_answer : NodeInfo → ℕ → Answer
 creation_answer info creation = if nat_lt info.highest 6 then answer.Alive 0 (short_creation creation) else answer.AliveX 0 creation
 
--- the answer that refuses
+-- the answer to a registration that is refused
 abbrev pub refusal_answer : NodeInfo → Answer
 refusal_answer info = if nat_lt info.highest 6 then answer.Alive 1 0 else answer.AliveX 1 0
 
@@ -108,7 +108,7 @@ answer_to conn info registrations = if is_accepted conn info registrations then 
 abbrev pub registered_info : List ℕ → Registrations → Option NodeInfo
 registered_info name registrations = option_map (λ row. row.info) (find (is_named name) registrations.rows)
 
--- the name that is registered on this connection, where one is
+-- the name that is registered on this connection, if any
 abbrev pub registered_name : ℕ → Registrations → Option (List ℕ)
 registered_name conn registrations = option_map (λ row. row.info.name) (find (is_of conn) registrations.rows)
 
@@ -122,7 +122,7 @@ names_text registrations = number w32 registrations.port ++ flat_map line_of reg
 
 -- ---- what always holds
 
--- two rows share no name, no connection and no creation
+-- the two rows share no name, no connection and no creation
 abbrev pub Differ : Row → Row → Type 0
 Differ a b = (a.info.name ≢ b.info.name) × (a.conn ≢ b.conn) × (a.creation ≢ b.creation)
 
@@ -131,11 +131,11 @@ abbrev pub Apart : List Row → Type 0
 Apart [] = Unit {0}
 Apart (row ∷ rows) = AllByRecursion (Differ row) rows × Apart rows
 
--- the name of the one row is below that of the other
+-- the name of the first row is below that of the second
 abbrev pub IsBelow : Row → Row → Type 0
 IsBelow a b = slice_cmp nat_cmp a.info.name b.info.name ≡ Less
 
--- the names rise in byte order
+-- the names ascend in byte order
 abbrev pub InOrder : List Row → Type 0
 InOrder [] = Unit {0}
 InOrder (row ∷ rows) = AllByRecursion (IsBelow row) rows × InOrder rows

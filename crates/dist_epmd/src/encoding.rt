@@ -10,10 +10,10 @@ use crate::epmd_error::EpmdError;
 use crate::message::{Answer, NodeInfo, Request};
 use std::alloc::{AllocError, Global};
 
-// The greatest number that a length of 2 bytes can hold.
+// The greatest number that a length of 2 bytes can express.
 const MOST: usize = 65535;
 
-/// Puts two pieces behind the bytes that are there. It fails only where memory runs out.
+/// Appends two pieces. It fails only where memory runs out.
 pub fn push_both(bytes: &mut Vec<u8>, first: &[u8], second: &[u8]) -> Result<(), AllocError>
     ensures { OnOk result (bytes.new.items ≡ bytes.old.items ++ (first.now ++ second.now)) }
 {
@@ -21,7 +21,7 @@ pub fn push_both(bytes: &mut Vec<u8>, first: &[u8], second: &[u8]) -> Result<(),
     bytes.extend_from_slice(second)
 }
 
-// Puts a text behind its length in 2 bytes.
+// Appends a text behind its length in 2 bytes.
 fn push_text(bytes: &mut Vec<u8>, text: &[u8]) -> Result<(), AllocError>
     requires { length text.now < 2 ^ 16 }
     ensures { OnOk result (bytes.new.items ≡ bytes.old.items ++ text_field text.now) }
@@ -29,7 +29,7 @@ fn push_text(bytes: &mut Vec<u8>, text: &[u8]) -> Result<(), AllocError>
     push_both(bytes, &(text.len() as u16).to_be_bytes(), text)
 }
 
-// The fields of one size.
+// The fields of fixed size.
 fn numbers(info: &NodeInfo) -> [u8; 8]
     ensures { result ≡ number w16 info.now.port ++ (info.now.node_type ∷ info.now.protocol ∷ number w16 info.now.highest ++ number w16 info.now.lowest) }
 {
@@ -39,7 +39,7 @@ fn numbers(info: &NodeInfo) -> [u8; 8]
     [a, b, info.node_type, info.protocol, c, d, e, f]
 }
 
-// Puts what stands before the fields of a node, and the fields.
+// Appends some bytes, and then the fields of a node.
 fn push_info(bytes: &mut Vec<u8>, before: &[u8], info: &NodeInfo) -> Result<(), AllocError>
     requires name { length info.now.name < 2 ^ 16 }
     requires extra { length info.now.extra < 2 ^ 16 }
@@ -50,7 +50,7 @@ fn push_info(bytes: &mut Vec<u8>, before: &[u8], info: &NodeInfo) -> Result<(), 
     push_text(bytes, info.extra.as_slice())
 }
 
-// Whether a frame takes the request.
+// Whether the request fits a frame.
 fn is_framed(request: &Request) -> bool
     ensures { result ≡ not (nat_lt 65535 (length (request_text request.now))) }
 {
@@ -90,7 +90,6 @@ pub fn encode_request(alloc: Global, request: &Request) -> Result<Vec<u8>, EpmdE
     Ok(body)
 }
 
-// Whether the answer has a spelling.
 fn is_spelled(answer: &Answer) -> bool
     ensures { result ≡ is_spelled answer.now }
 {

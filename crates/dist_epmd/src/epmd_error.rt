@@ -1,4 +1,4 @@
-//! Why bytes are no message of the port mapper, or a message has no bytes.
+//! Why bytes are not a message of the port mapper, or a message has no bytes.
 
 ghost use Rattle.std.specs.Prelude.{◌≡◌};
 ghost use Rattle.dist_epmd.specs.declared.epmd_error.EpmdError.TheVariants.{NoMemory};
@@ -7,20 +7,20 @@ ghost use Rattle.dist_epmd.specs.Answering.{error_name};
 use std::alloc::{AllocError, AllocFailed};
 use thiserror::Error;
 
-/// Why bytes are no message, or a message has no bytes: the first that holds in this order.
+/// Why bytes are not a message, or a message has no bytes: the first that holds in this order.
 #[derive(Clone, Copy, Debug, PartialEq, Eq, Error)]
 pub enum EpmdError {
-    /// Reading: the first byte is none of those that may stand there, so the sender is to blame. Writing: a request of more
-    /// than 65,535 bytes, an answer with a name or extra of more, or `Port(Err(0))`, so the caller is.
+    /// Reading: the first byte is none of those that may stand there: the sender is to blame. Writing: a request of more than
+    /// 65,535 bytes, an answer with a longer name or extra, or `Port(Err(0))`: the caller is to blame.
     #[error("no such message, or one that is too long")]
     Malformed,
-    /// The bytes end inside a field, or there are none. The sender is to blame, or not all of them came yet.
+    /// The bytes end inside a field, or there are none. The sender is to blame, or not all bytes have come yet.
     #[error("the message ends inside a field")]
     Short,
     /// Bytes stand after the last field. The sender is to blame.
     #[error("bytes stand after the last field")]
     Trailing,
-    /// No memory was left for a message that has none of the other faults.
+    /// No memory was left for a message without any of the other faults.
     #[error("out of memory")]
     NoMemory,
 }

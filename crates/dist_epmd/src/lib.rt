@@ -1,5 +1,5 @@
 //! The messages of Erlang's port mapper (ERTS User's Guide, EPMD Protocol), read and written, and the registry of nodes
-//! behind its answers.
+//! from which it answers.
 //!
 //! It opens no socket, and it knows neither frames nor time: a request comes as a frame's body, and a connection is a number.
 #![tactic(auto)]

@@ -6,7 +6,7 @@ ghost use Rattle.dist_epmd.specs.Nodes.{type_of, info_of_node};
 use dist_names::ByteString;
 use std::alloc::{AllocError, Global};
 
-/// The port of the port mapper, where nobody says another (ERTS User's Guide, Distribution Protocol, EPMD Protocol).
+/// The port of the port mapper, unless another one is named (ERTS User's Guide, Distribution Protocol, EPMD Protocol).
 pub const MAPPER_PORT: u16 = 4369;
 
 /// The node type of a node that is not hidden (ERTS User's Guide, Distribution Protocol, Register a Node in EPMD).
@@ -30,7 +30,7 @@ pub const LOWEST: u16 = 5;
 ///
 /// | Field | Bytes | Meaning |
 /// |---|---|---|
-/// | `port` | 2 | at which the node accepts connections of other nodes |
+/// | `port` | 2 | the port at which the node accepts connections of other nodes |
 /// | `node_type` | 1 | 0x4d for a normal node ([`NORMAL`]), 0x48 for a hidden one ([`HIDDEN`]) |
 /// | `protocol` | 1 | 0 for TCP over IPv4 ([`TCP`]) |
 /// | `highest` | 2 | the highest version of the handshake that the node knows ([`HIGHEST`]) |
@@ -40,14 +40,14 @@ pub const LOWEST: u16 = 5;
 /// | | 2 | the number of bytes of `extra` |
 /// | `extra` | | whatever the node adds |
 ///
-/// Reading takes any value of each field. A `name` or `extra` of more than 65,535 bytes has no spelling.
+/// Reading accepts any value of each field. A `name` or `extra` of more than 65,535 bytes has no spelling.
 #[derive(Drop)]
 pub struct NodeInfo {
-    /// At which TCP port the node accepts connections.
+    /// The TCP port at which the node accepts connections.
     pub port: u16,
     /// The type of the node.
     pub node_type: u8,
-    /// Over what it speaks.
+    /// The protocol that it speaks.
     pub protocol: u8,
     /// The highest version of the handshake that it knows.
     pub highest: u16,
@@ -60,8 +60,8 @@ pub struct NodeInfo {
 }
 
 impl NodeInfo {
-    /// What a node says of itself, where it knows all versions of the handshake, at least 5 and at most 6, over TCP and IPv4.
-    /// `short` is the part of its name before the `@`, and `port` that at which it accepts connections. A hidden node is one
+    /// What a node says of itself if it knows all versions of the handshake, at least 5 and at most 6, over TCP and IPv4.
+    /// `short` is the part of its name before the `@`, and `port` the one at which it accepts connections. A hidden node is one
     /// that its peers don't announce to each other.
     ///
     /// A node that knows fewer versions lowers `highest`. It fails only where memory runs out.
@@ -86,7 +86,7 @@ impl NodeInfo {
         })
     }
 
-    /// An equal one. It fails only where memory runs out.
+    /// An equal value. It fails only where memory runs out.
     pub fn try_clone(&self, alloc: Global) -> Result<NodeInfo, AllocError>
         ensures { IfOk result (λ copy. copy ≡ self.now) }
     {
@@ -102,7 +102,7 @@ impl NodeInfo {
     }
 }
 
-// The byte of the type of a hidden node, or of a normal one.
+// The byte for the type of a hidden node, or of a normal one.
 fn type_of(hidden: bool) -> u8
     ensures { result ≡ type_of hidden }
 {
@@ -123,13 +123,13 @@ pub type PortInfo = NodeInfo;
 /// | `PortPlease`, PORT_PLEASE2_REQ | 0x7a | a name, to the end |
 /// | `Names`, NAMES_REQ | 0x6e | nothing |
 ///
-/// This is the body of a frame: the 2 bytes of the frame's length stand before it and are no part of it, and so it has at
+/// This is the body of a frame: the 2 bytes of the frame's length stand before it and are not part of it, so it has at
 /// most 65,535 bytes.
 #[derive(Drop)]
 pub enum Request {
     /// Asks to be registered as long as the connection lasts.
     Alive(NodeInfo),
-    /// Asks for the node of this name, the part before the `@`. It may be any bytes; one that is no name has no node.
+    /// Asks for the node of this name, the part before the `@`. The name may be any bytes; bytes that are no name have no node.
     PortPlease(ByteString),
     /// Asks for all names.
     Names,
@@ -152,13 +152,13 @@ pub enum Answer {
     AliveX { result_code: u8, creation: u32 },
     /// The answer to a registration by a node that knows no version above 5.
     Alive { result_code: u8, creation: u16 },
-    /// The node that was asked for, or the result that says why there is none.
+    /// The node that was asked for, or the result of a lookup that found none.
     Port(Result<NodeInfo, u8>),
     /// The port mapper's own port, and the text of all names as it came.
     Names { port: u32, text: ByteString },
 }
 
-/// Which request an answer is awaited for. The answer's first byte does not show it: an answer to `Names` has no such byte.
+/// Which request an answer belongs to. The answer's first byte does not show it: an answer to `Names` has no such byte.
 #[derive(Clone, Copy, PartialEq, Eq)]
 pub enum Asked {
     /// A registration.

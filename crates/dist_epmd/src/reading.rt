@@ -116,7 +116,6 @@ fn node_answer(alloc: Global, bytes: &[u8]) -> Result<Answer, EpmdError>
     Ok(Answer::Port(Err(*code)))
 }
 
-// The answer to a registration.
 #[tactic(auto, unfolding(crate::specs::Reading::read_answer))]
 fn registration_answer(bytes: &[u8]) -> Result<Answer, EpmdError>
     ensures exact { Answers (λ a. a) result (read_answer Asked.Alive bytes.now) }
@@ -132,7 +131,6 @@ fn registration_answer(bytes: &[u8]) -> Result<Answer, EpmdError>
     }
 }
 
-// The answer to a lookup.
 #[tactic(auto, unfolding(crate::specs::Reading::read_answer))]
 fn lookup_answer(alloc: Global, bytes: &[u8]) -> Result<Answer, EpmdError>
     ensures exact { Answers (λ a. a) result (read_answer Asked.Port bytes.now) }
@@ -178,16 +176,16 @@ fn read_answer(alloc: Global, asked: Asked, bytes: &[u8]) -> Result<Answer, Epmd
 /// byte, or the body ends inside a field; Trailing where bytes stand after the last field; NoMemory, which comes only for a
 /// request that carries a name.
 pub fn decode_request(alloc: Global, body: &[u8]) -> Result<Request, EpmdError>
-    // What is read is spelled so.
+    // The body spells the request that is returned.
     ensures found { IfOk result (λ m. SpellsRequest m body.now) }
 
-    // What is spelled so is read, unless memory runs out.
+    // A request that the body spells is returned, unless memory runs out.
     ensures only { (m : Request) → RequestFits m → SpellsRequest m body.now → Answers (λ x. x) result (Ok m) }
 
-    // What is refused is so for this reason.
+    // A refusal has its reason.
     ensures refused { IfErr result (λ error. RefusesRequest body.now error) }
 
-    // Which refusal it is.
+    // The request or the refusal.
     ensures exact { Answers (λ r. r) result (read_request body.now) }
 
     // Memory runs out only for a request that carries a name.
@@ -202,16 +200,16 @@ pub fn decode_request(alloc: Global, body: &[u8]) -> Result<Request, EpmdError>
 /// 0x79, 0x77, or any byte for names); Short where there is no byte, or the bytes end inside a field; Trailing where bytes
 /// stand after the last field; NoMemory, which comes only for an answer that carries a name or a text.
 pub fn decode_answer(alloc: Global, asked: Asked, bytes: &[u8]) -> Result<Answer, EpmdError>
-    // What is read is spelled so.
+    // The bytes spell the answer that is returned.
     ensures found { IfOk result (λ m. SpellsAnswer asked m bytes.now) }
 
-    // What is spelled so is read, unless memory runs out.
+    // An answer that the bytes spell is returned, unless memory runs out.
     ensures only { (m : Answer) → AnswerFits m → SpellsAnswer asked m bytes.now → Answers (λ x. x) result (Ok m) }
 
-    // What is refused is so for this reason.
+    // A refusal has its reason.
     ensures refused { IfErr result (λ error. RefusesAnswer asked bytes.now error) }
 
-    // Which refusal it is.
+    // The answer or the refusal.
     ensures exact { Answers (λ a. a) result (read_answer asked bytes.now) }
 
     // Memory runs out only for an answer that carries a name or a text.

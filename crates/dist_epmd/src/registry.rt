@@ -1,4 +1,4 @@
-//! The registry behind the port mapper's answers.
+//! The registry from which the port mapper answers.
 
 ghost use Rattle.std.specs.Prelude.{◌≡◌, ◌⊎◌, ◌∷◌, ◌++◌, ℕ, false, IfOk, OnOk, OnErr, IsTrue, Some, flat_map, option_copied};
 ghost use Rattle.std.specs.List.{list_any};
@@ -22,7 +22,7 @@ const MOST: usize = 1024;
 // The least version of the handshake that has creations of 32 bits.
 const NEWER: u16 = 6;
 
-// The answer that carries this creation, by the node's highest version.
+// The answer that carries this creation, in the form for the node's highest version.
 fn registered_answer(request: &AliveReq, creation: u32) -> Answer
     ensures { result ≡ creation_answer request.now creation }
 {
@@ -39,7 +39,7 @@ fn registered_answer(request: &AliveReq, creation: u32) -> Answer
     }
 }
 
-// The answer that refuses.
+// The answer to a registration that is refused.
 fn refusing_answer(request: &AliveReq) -> Answer
     ensures { result ≡ refusal_answer request.now }
 {
@@ -58,7 +58,7 @@ fn refusing_answer(request: &AliveReq) -> Answer
 
 /// The nodes that are registered with a port mapper, each as long as its connection lasts.
 ///
-/// It has at most 1,024 of them (our own limit), in byte order of their names, and no two of one name or of one
+/// It has at most 1,024 of them (our own limit), in byte order of their names, and no two with the same name or
 /// connection. It keeps them in a map from the name, so that a lookup is quick. The caller gives each connection a number
 /// that it uses for no other, and calls `closed` or `closed_as` once the connection is over. Nothing here waits, reads or writes.
 #[derive(Drop)]
@@ -95,7 +95,7 @@ impl Registry {
         }
     }
 
-    // Whether this registration is accepted on each connection that has none.
+    // Whether this registration is accepted on every connection that has none.
     fn has_place(&self, request: &AliveReq) -> bool
         ensures { (conn : ℕ) → list_any (is_of conn) self.now.rows ≡ false → result ≡ is_accepted conn request.now self.now }
     {
@@ -107,15 +107,15 @@ impl Registry {
 
     /// Registers a node as long as the connection lasts, and returns the answer.
     ///
-    /// It is refused, with result 1 and creation 0, where one of these holds (our own choice; all are answered alike):
+    /// It is refused, with result 1 and creation 0, where one of these holds (our own choice; all get the same answer):
     /// - the name has no byte, more than 255, or one that is not from 0x21 to 0x7E or is the `@`,
     /// - the name is registered,
     /// - the connection has a registration,
     /// - 1,024 nodes are registered,
     /// - the creations are used up.
     ///
-    /// A highest version below 6 is answered with `Alive`, any other with `AliveX`. `Alive` carries one of 1 to 3 in place of
-    /// the creation: the remainder of the creation and 2 by 3, and 1 more (our own choice). A refusal changes nothing and takes
+    /// A highest version below 6 is answered with `Alive`, any other with `AliveX`. In place of the creation, `Alive` carries
+    /// a number from 1 to 3: (creation + 2) mod 3, plus 1 (our own choice). A refusal changes nothing and uses up
     /// no creation. It fails only where memory runs out, and then changes nothing.
     pub fn alive(
         &mut self,
@@ -136,14 +136,14 @@ impl Registry {
         self.alive_first(alloc, conn, request)
     }
 
-    /// The same as `alive`, for a connection that has no registration: there is no walk over all rows to look for one.
+    /// The same as `alive`, for a connection that has no registration: so the rows need not be searched for one.
     pub fn alive_first(
         &mut self,
         alloc: Global,
         conn: u64,
         request: &AliveReq,
     ) -> Result<Answer, AllocError>
-        // The caller knows it of a connection on which it has called neither this nor `alive` before. Any other calls `alive`.
+        // A caller knows this of a connection on which it has called neither this nor `alive` before. For any other it calls `alive`.
         requires { list_any (is_of conn) self.old.rows ≡ false }
         ensures answer { IfOk result (λ answer. answer ≡ answer_to conn request.now self.old) }
         ensures after { OnOk result (self.new ≡ after_request conn request.now self.old) }
@@ -161,7 +161,7 @@ impl Registry {
         Ok(registered_answer(request, creation))
     }
 
-    /// What the node of this name said of itself, as it came. It takes no memory.
+    /// What the node of this name said of itself when it registered. It takes no memory.
     pub fn port_please(&self, name: &[u8]) -> Option<&PortInfo>
         ensures found { option_copied result ≡ registered_info name.now self.now }
 
@@ -181,7 +181,7 @@ impl Registry {
 
     /// The text of an answer to a question for all names, without the port before it.
     ///
-    /// It is a line `name N at port P` and a line feed for each node, P in decimal without leading zeros, in byte order of
+    /// For each node it is a line `name N at port P` and a line feed, P in decimal without leading zeros, in byte order of
     /// the names (ERTS User's Guide, EPMD Protocol; the order is our own choice).
     pub fn lines(&self, alloc: Global) -> Result<ByteString, AllocError>
         ensures { IfOk result (λ text. text ≡ flat_map line_of self.now.rows) }
@@ -210,15 +210,15 @@ impl Registry {
 
     /// Drops the registration of this name where it was made on this connection, which is closed. It takes no memory.
     ///
-    /// It is `closed` for a caller that knows under which name the connection is registered: the name is looked up,
-    /// and there is no walk over all rows.
+    /// It is `closed` for a caller that knows under which name the connection is registered: so the name is looked up,
+    /// and the rows need not be searched.
     pub fn closed_as(&mut self, conn: u64, name: &[u8])
         ensures after { self.new ≡ after_closed_as conn name.now self.old }
 
-        // Where the connection is registered under this name, that is all that `closed` does.
+        // Where the connection is registered under this name, it does what `closed` does.
         ensures whole { registered_name conn self.old ≡ Some name.now → self.new ≡ after_closed conn self.old }
 
-        // In any other case it is that, or nothing.
+        // In any other case it does what `closed` does, or nothing.
         ensures either { (self.new ≡ self.old) ⊎ (self.new ≡ after_closed conn self.old) }
     {
         drop_own(&mut self.rows, conn, name);

@@ -2,7 +2,7 @@ use crate::message::NodeInfo;
 
 /// A registration that was accepted: on which connection, what it says, and the creation that it got.
 ///
-/// A `Registry` hands none out. It is public because contracts speak of the registrations as a list of these.
+/// A `Registry` returns none of these. It is public because contracts speak of the registrations as a list of these.
 #[derive(Drop)]
 pub struct Row {
     /// The connection on which the node registered, and with which the registration ends.

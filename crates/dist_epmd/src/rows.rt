@@ -21,7 +21,7 @@ fn are_short_bytes(name: &[u8]) -> bool
     name.iter().all(|byte| is_visible(*byte) && *byte != b'@')
 }
 
-/// Whether the bytes may be the part of a node's name before the `@`: 1 to 255 printable ones, no space and no `@` among them.
+/// Whether the bytes may be the part of a node's name before the `@`: 1 to 255 printable ones, without a space and an `@`.
 pub fn is_short_name(name: &[u8]) -> bool
     ensures { result ≡ is_short_name name.now }
 {
@@ -37,7 +37,7 @@ pub fn has_fewer(rows: &BTreeMap<Vec<u8>, Row>, most: usize) -> bool
 
 /// The row of this name, where it is registered.
 pub fn row_of_name<'r>(rows: &'r BTreeMap<Vec<u8>, Row>, name: &[u8]) -> Option<&'r Row>
-    // A registry keeps its rows so.
+    // Every registry keeps its rows so.
     requires { StandAtNames rows.now.entries }
     ensures { option_copied result ≡ find (is_named name.now) (values rows.now) }
 {
@@ -46,7 +46,7 @@ pub fn row_of_name<'r>(rows: &'r BTreeMap<Vec<u8>, Row>, name: &[u8]) -> Option<
 
 /// Whether this name is registered.
 pub fn has_name(rows: &BTreeMap<Vec<u8>, Row>, name: &[u8]) -> bool
-    // A registry keeps its rows so.
+    // Every registry keeps its rows so.
     requires { StandAtNames rows.now.entries }
     ensures { result ≡ list_any (is_named name.now) (values rows.now) }
 {
@@ -62,7 +62,7 @@ pub fn has_conn(rows: &BTreeMap<Vec<u8>, Row>, conn: u64) -> bool
 
 // Puts a row at its name.
 fn put_row(rows: &mut BTreeMap<Vec<u8>, Row>, name: Vec<u8>, row: Row) -> Result<(), AllocError>
-    // A registry keeps its rows so.
+    // Every registry keeps its rows so.
     requires names { StandAtNames rows.old.entries }
 
     // The caller copies the name from the row.
@@ -86,7 +86,7 @@ pub fn register(
     request: &NodeInfo,
     creation: u32,
 ) -> Result<(), AllocError>
-    // A registry keeps its rows so.
+    // Every registry keeps its rows so.
     requires names { StandAtNames rows.old.entries }
 
     // The caller asks `has_name` first.
@@ -108,9 +108,9 @@ pub fn register(
     )
 }
 
-/// Drops the row of this connection. With none it changes nothing.
+/// Drops the row of this connection. Without one it changes nothing.
 pub fn drop_conn(rows: &mut BTreeMap<Vec<u8>, Row>, conn: u64)
-    // A registry keeps its rows so.
+    // Every registry keeps its rows so.
     requires { StandAtNames rows.old.entries }
     ensures rows { values rows.new ≡ filter (λ row. not (is_of conn row)) (values rows.old) }
     ensures names { StandAtNames rows.new.entries }
@@ -120,7 +120,7 @@ pub fn drop_conn(rows: &mut BTreeMap<Vec<u8>, Row>, conn: u64)
 
 // Whether this connection has registered this name.
 fn has_own(rows: &BTreeMap<Vec<u8>, Row>, conn: u64, name: &[u8]) -> bool
-    // A registry keeps its rows so.
+    // Every registry keeps its rows so.
     requires names { StandAtNames rows.now.entries }
     requires apart { Apart (values rows.now) }
     ensures { result ≡ list_any (is_own conn name.now) (values rows.now) }
@@ -131,9 +131,9 @@ fn has_own(rows: &BTreeMap<Vec<u8>, Row>, conn: u64, name: &[u8]) -> bool
     }
 }
 
-/// Drops the row of this name where it is this connection's. Otherwise it changes nothing.
+/// Drops the row of this name where it is of this connection. Otherwise it changes nothing.
 pub fn drop_own(rows: &mut BTreeMap<Vec<u8>, Row>, conn: u64, name: &[u8])
-    // A registry keeps its rows so.
+    // Every registry keeps its rows so.
     requires names { StandAtNames rows.old.entries }
     requires apart { Apart (values rows.old) }
     ensures rows { values rows.new ≡ filter (λ row. not (is_own conn name.now row)) (values rows.old) }
@@ -144,7 +144,7 @@ pub fn drop_own(rows: &mut BTreeMap<Vec<u8>, Row>, conn: u64, name: &[u8])
     }
 }
 
-// Puts the line of a row: `name a at port 9001`, and a line feed.
+// Appends the line of a row: `name a at port 9001`, and a line feed.
 fn push_line(bytes: &mut Vec<u8>, row: &Row) -> Result<(), AllocError>
     ensures { OnOk result (bytes.new.items ≡ bytes.old.items ++ line_of row.now) }
 {
@@ -154,7 +154,7 @@ fn push_line(bytes: &mut Vec<u8>, row: &Row) -> Result<(), AllocError>
     bytes.extend_from_slice(b"\n")
 }
 
-/// Puts the lines of all rows, in byte order of their names. It fails only where memory runs out.
+/// Appends the lines of all rows, in byte order of their names. It fails only where memory runs out.
 pub fn push_lines(bytes: &mut Vec<u8>, rows: &BTreeMap<Vec<u8>, Row>) -> Result<(), AllocError>
     ensures { OnOk result (bytes.new.items ≡ bytes.old.items ++ flat_map line_of (values rows.now)) }
 {

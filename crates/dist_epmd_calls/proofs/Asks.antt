@@ -26,7 +26,7 @@ pub reported : {X : Type 0} {r : Result X LookupError} {e : LookupError} → IsE
 reported {r = Ok x} h = absurd h
 reported {r = Err y} h = ap Err h
 
--- the same of the faults of a stream
+-- the same for the faults of a stream
 pub reported_fault : {X : Type 0} {r : Result X TurnError} {e : TurnError} → IsErrAnd r (λ y. y ≡ e) → r ≡ Err e
 reported_fault {r = Ok x} h = absurd h
 reported_fault {r = Err y} h = ap Err h
@@ -98,7 +98,7 @@ exchange_in_part {frame = frame} e p = record {
 err_as : {X Y : Type 0} (a b : LookupError) → bad {X = X} a ≡ bad b → bad {X = Y} a ≡ bad b
 err_as a b e = let same : a ≡ b = cc in ap bad same
 
--- another type of answers, where none was given
+-- the same refusal among answers of another type
 reports_as : (X Y : Type 0) (stop : Option TurnError) (e : LookupError) (A B : Type 0) → (A → B) → ReportsBy {X = X} stop (Err e) A → ReportsBy {X = Y} stop (Err e) B
 reports_as X Y (Some fault.ReadFailed) e A B f t = err_as e error.ReadFailed t
 reports_as X Y (Some fault.WriteFailed) e A B f t = err_as e error.WriteFailed t
@@ -157,7 +157,6 @@ pub unsent : (s : StreamState) (limit : ℕ) (written : Result (List ℕ) EpmdEr
 unsent s limit (Ok body) h = record { said = []; heard = []; stop = None; talks = nothing_said s limit _; whole = λ none. inl (refl, refl); reports = refl }
 unsent s limit (Err why) h = absurd cc
 
--- there is no frame
 pub no_frame : (s : StreamState) (limit : ℕ) (written : Result (List ℕ) EpmdError) (e : LookupError) → IsFrameOf (Err e) written → ExchangesWritten written s s limit (Err e)
 no_frame s limit written error.NotThere h = absurd h
 no_frame s limit written error.Malformed h = subst (λ w. ExchangesWritten w s s limit (Err error.Malformed)) (sym h.1) (refl, refl)
@@ -173,7 +172,7 @@ no_frame s limit written (error.Refused code) h = absurd h
 no_bytes : {B : Type 0} (e : LookupError) (heard said frame : List ℕ) → IsHeard (Err e) heard said frame → B
 no_bytes e heard said frame h = let no : bad e ≡ good heard = h.0 in absurd cc
 
--- the bytes were not had
+-- the bytes did not come whole
 pub refusal_of : {X : Type 0} (asked : Asked) (w : Result (List ℕ) EpmdError) (old new : StreamState) (limit : ℕ) (means : List ℕ → Result X LookupError) (e : LookupError) → ExchangesWritten w old new limit (Err e) → AsksWritten w old new limit asked means (Err e)
 refusal_of {X = X} asked (Ok body) old new limit means e a = record { said = a.said; heard = a.heard; stop = a.stop; talks = a.talks; whole = a.whole; reports = reports_as (List ℕ) X a.stop e (IsHeard (Err e) a.heard a.said (body_frame w16 body)) ((a.said ≡ body_frame w16 body) × Settles (Err e) (means a.heard) (read_answer asked a.heard)) (no_bytes e a.heard a.said (body_frame w16 body)) a.reports }
 refusal_of asked (Err why) old new limit means e a = (err_as e error.Malformed a.0, a.1)
@@ -188,7 +187,7 @@ meant (Some fault.Ended) asked means bytes heard said frame r s t = (t.1, subst 
 meant (Some fault.Limit) asked means bytes heard said frame r s t = absurd cc
 meant None asked means bytes heard said frame r s t = absurd cc
 
--- the bytes were had
+-- the bytes came whole
 pub answer_of : {X : Type 0} (asked : Asked) (w : Result (List ℕ) EpmdError) (old new : StreamState) (limit : ℕ) (means : List ℕ → Result X LookupError) (bytes : List ℕ) (r : Result X LookupError) → Settles r (means bytes) (read_answer asked bytes) → ExchangesWritten w old new limit (Ok bytes) → AsksWritten w old new limit asked means r
 answer_of asked (Ok body) old new limit means bytes r s a = record { said = a.said; heard = a.heard; stop = a.stop; talks = a.talks; whole = a.whole; reports = meant a.stop asked means bytes a.heard a.said (body_frame w16 body) r s a.reports }
 answer_of asked (Err why) old new limit means bytes r s a = absurd cc

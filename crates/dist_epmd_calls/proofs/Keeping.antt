@@ -1,4 +1,4 @@
--- What is kept of the registrations that were lent.
+-- What still holds of the registrations that were lent.
 use Rattle.std.proofs.Common.{◌≡◌, ℕ, Bool, true, false, not, cond, ltb, Result, Ok, Err, refl, sym, ap, subst, ◌∙◌, inl, inr}
 use Rattle.std.specs.List.{position_or_len}
 use Rattle.std.proofs.lemmas.Bool.{eq-eqb}
@@ -48,7 +48,7 @@ serves_legal conn limit old new before after (Err why) s legal = elim (s.outcome
   ]
 ]
 
--- ---- what is new
+-- ---- which registrations are new
 
 abbrev IsOld : Registrations → Registrations → Type 0
 IsOld before after = (row : Row) → IsIn row after.rows → IsIn row before.rows
@@ -61,7 +61,7 @@ given_well : (old : Bool) (info : NodeInfo) (short next : ℕ) → served_as (re
 given_well true info short next = refl
 given_well false info short next = refl
 
--- so an accepted registration is answered with result 0
+-- so the answer to an accepted registration has result 0
 is_registered : (conn : ℕ) (info : NodeInfo) (registrations : Registrations) → is_accepted conn info registrations ≡ true → served_as (request.Alive info) (answer_to conn info registrations) ≡ served.Registered
 is_registered conn info registrations e = ap (λ (b : Bool). served_as (request.Alive info) (cond b (creation_answer info registrations.next) (refusal_answer info))) e ∙ given_well (ltb info.highest 6) info (short_creation registrations.next) registrations.next
 

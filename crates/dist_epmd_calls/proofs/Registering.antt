@@ -24,7 +24,7 @@ use borrow.Rule.Slice.PartMut.{put_mid, post_of}
 one_is : (n : ℕ) → n < 1 → n ≡ 0
 one_is n h = omega arith
 
--- the tag didn't come
+-- the tag did not come
 pub answer_none : {old new : StreamState} {turns left : ℕ} (e : TurnError) (first room : List ℕ) → length first ≡ 1 → HearsFront old new turns left (Some e) first → HearsAnswer old new turns left (Err e) room
 answer_none {old = old} {new = new} {turns = turns} {left = left} e first room one p =
     let none : p.count ≡ 0 = one_is p.count (subst (λ (n : ℕ). p.count < n) one p.whole) in
@@ -43,13 +43,13 @@ whole_room n room e = take_all n room (subst (λ (k : ℕ). length room ≤ k) (
 pub all_heard : {old new : StreamState} {turns left : ℕ} (room : List ℕ) → HearsFront old new turns left None room → Hears old new turns left None room
 all_heard room p = subst (Hears _ _ _ _ None) (whole_room p.count room p.whole) p.hears
 
--- the length by the tag, which is all that came first
+-- the length of the answer by its tag, which is all that came first
 tagged : (first tail more : List ℕ) → length first ≡ 1 → answer_len (first ++ more) ≡ 1 + rest_len (get_or (first ++ tail) 0 0)
 tagged [] tail more h = absurd cc
 tagged (tag ∷ []) tail more h = refl
 tagged (tag ∷ other ∷ rest) tail more h = absurd (omega arith)
 
--- the rest came in part
+-- only a part of the rest came
 pub answer_cut : {old mid new : StreamState} {turns between left : ℕ} (e : TurnError) (first tail more room : List ℕ) (n : ℕ) → length first ≡ 1 → n ≡ rest_len (get_or (first ++ tail) 0 0) → length more ≡ n
     → HearsFront old mid turns between None first → HearsFront mid new between left (Some e) more → HearsAnswer old new turns left (Err e) room
 answer_cut e first tail more room n one rest all p q =
@@ -76,7 +76,7 @@ front_of (tag ∷ other ∷ rest) tail more n k one all = absurd (omega arith)
 within_front : (n : ℕ) (xs ys : List ℕ) → take n xs ≡ ys → length ys ≡ n → n ≤ length xs
 within_front n xs ys e h = omega (arith, length-take n xs, ap length e)
 
--- the answer came
+-- the whole answer came
 pub answer_whole : {old mid new : StreamState} {turns between left : ℕ} (first tail more : List ℕ) (n k : ℕ) → length first ≡ 1 → n ≡ rest_len (get_or (first ++ tail) 0 0) → length more ≡ n
     → HearsFront old mid turns between None first → HearsFront mid new between left None more → HearsAnswer old new turns left (Ok (1 + n)) (put_mid 1 k (first ++ tail) more)
 answer_whole first tail more n k one rest all p q =
@@ -157,7 +157,7 @@ no_frame s limit written error.NoMemory h = unasked s limit written h
 no_frame s limit written error.Limit h = absurd h
 no_frame s limit written (error.Refused code) h = absurd h
 
--- ---- the lengths of the rooms
+-- ---- the lengths of the buffers
 
 pub first_len : (room first : List ℕ) → length room ≡ 6 → length first ≡ length (take 1 room) → length first ≡ 1
 first_len room first h e = omega (arith, length-take 1 room)

@@ -38,7 +38,7 @@ names_in (Ok (answer.Names port text)) = Ok (port, text)
 names_in (Ok other) = Err error.Malformed
 names_in (Err why) = Err (end_refusal why)
 
--- the creation, unless the result is above 0
+-- the creation where the result is 0, else the refusal
 abbrev pub creation_unless : ℕ → ℕ → Result Creation LookupError
 creation_unless code creation = if code == 0 then Ok (record { 0 = creation }) else Err (error.Refused code)
 
@@ -68,14 +68,14 @@ Settles result expected read = result ≡ expected
 
 -- ---- one question
 
--- which answer is awaited
+-- which question a request asks
 abbrev pub question_of : Request → Asked
 question_of (request.Alive info) = asked.Alive
 question_of (request.PortPlease name) = asked.Port
 question_of request.Names = asked.Names
 
--- A front of the frame was written, and bytes were read: none before the whole frame was written. The fault is the one
--- that stopped it.
+-- The first part of the frame was written, and bytes were read: none before the whole frame was written. The fault is the one
+-- that ended the talk.
 pub record Talks (old new : StreamState) (limit : ℕ) (stop : Option TurnError) (frame said heard : List ℕ) : Type 0 where
   pub unsaid : List ℕ
   pub front : frame ≡ said ++ unsaid
@@ -85,8 +85,8 @@ pub record Talks (old new : StreamState) (limit : ℕ) (stop : Option TurnError)
   pub left : ℕ
   pub spends : Spends old new limit left stop
 
--- What is returned, by what stopped the talk: a fault other than the end is returned as it is, and without a fault memory ran
--- out.
+-- What is returned, by what ended the talk: a fault other than the stream's end is returned as it is, and without a fault memory
+-- ran out.
 abbrev pub ReportsBy : {X : Type 0} → Option TurnError → Result X LookupError → Type 0 → Type 0
 ReportsBy (Some fault.Ended) result AtEnd = AtEnd
 ReportsBy (Some other) result AtEnd = result ≡ Err (lookup_error other)
@@ -96,8 +96,8 @@ ReportsBy None result AtEnd = result ≡ Err error.NoMemory
 abbrev pub IsUnsentOrSent : List ℕ → List ℕ → List ℕ → Type 0
 IsUnsentOrSent frame said heard = ((said ≡ []) × (heard ≡ [])) ⊎ (said ≡ frame)
 
--- One question whose answer is all that comes to the end of the stream, once the whole frame was written. Memory does not run out
--- between two pieces of the frame.
+-- One question, whose answer is all that comes to the end of the stream after the whole frame was written. Memory does not run out
+-- while the frame is being written.
 pub record Asks {X : Type 0} (old new : StreamState) (limit : ℕ) (frame : List ℕ) (asked : Asked)
     (means : List ℕ → Result X LookupError) (result : Result X LookupError) : Type 0 where
   pub said : List ℕ
@@ -119,18 +119,18 @@ AsksFor request old new limit means result = AsksWritten (written_request reques
 
 -- ---- a registration
 
--- how many bytes stand behind this tag
+-- how many bytes follow this tag
 abbrev pub rest_len : ℕ → ℕ
 rest_len tag = if tag == 0x76 then 5 else (if tag == 0x79 then 3 else 0)
 
--- how many bytes an answer to a registration has that begins so
+-- how many bytes an answer to a registration has that begins with these bytes
 abbrev pub answer_len : List ℕ → ℕ
 answer_len [] = 1
 answer_len (tag ∷ rest) = 1 + rest_len tag
 
--- What is returned, by what stopped the registration. A write fails before anything is read; a read fails, the stream ends, or
--- the turns run out inside the answer or before it. Without a fault memory ran out before anything was written, or the answer
--- came whole, and what it means is returned.
+-- What is returned, by what ended the registration. A write fails before anything is read; a read fails, the stream ends, or
+-- the turns run out inside the answer or before it. Without a fault memory ran out before anything was written, or the whole answer
+-- came, and what it means is returned.
 abbrev pub ReportsWhole : Option TurnError → Result Creation LookupError → List ℕ → List ℕ → Type 0
 ReportsWhole (Some fault.WriteFailed) result said heard = (result ≡ Err error.WriteFailed) × (heard ≡ [])
 ReportsWhole (Some other) result said heard = (result ≡ Err (lookup_error other)) × (length heard < answer_len heard)

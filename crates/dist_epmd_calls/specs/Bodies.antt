@@ -1,4 +1,4 @@
--- One frame that is read off a stream: its length in 2 bytes, and as many bytes.
+-- One frame that is read from a stream: its length in 2 bytes, and as many bytes.
 use Rattle.std.specs.Prelude.{◌≡◌, ℕ, ◌<◌, ◌≤◌, List, length, Option, Some, None}
 use Rattle.std.specs.Int.{w16}
 use Rattle.dist_names.specs.Bytes.{number}
@@ -10,20 +10,20 @@ use Rattle.dist_epmd_calls.specs.Serving.{IsInside, IsLength}
 use Rattle.dist_epmd_calls.specs.declared.bodies.Arrived.{Arrived}
 use Rattle.dist_epmd_calls.specs.declared.bodies.Arrived.TheVariants as arrived
 
--- the fault of the stream that stopped it, if one did
+-- the fault of the stream, if one ended the reading
 abbrev pub stop_of : Arrived → Option TurnError
 stop_of (arrived.Stopped fault) = Some fault
 stop_of other = None
 
--- What these bytes are that came, where a body has at most this many bytes: the frame of the body, a length above the most, a
--- part of a frame, or the length of one.
+-- What came in these bytes, where a body has at most this many bytes: the frame of the body, a length above that, a
+-- part of a frame, or only the length of one.
 abbrev pub IsArrived : ℕ → Arrived → List ℕ → Type 0
 IsArrived most (arrived.Body body) heard = (heard ≡ body_frame w16 body) × (length body ≤ most)
 IsArrived most (arrived.Long len) heard = (heard ≡ number w16 len) × (most < len)
 IsArrived most (arrived.Stopped fault) heard = IsInside heard
 IsArrived most arrived.NoMemory heard = IsLength heard
 
--- ONE FRAME WAS READ, or why none was, within the turns that were there; nothing was written.
+-- ONE FRAME WAS READ, or this is why none was, within the turns that were there; nothing was written.
 pub record HearsFrame (old new : StreamState) (turns left most : ℕ) (a : Arrived) : Type 0 where
   pub heard : List ℕ
   pub hears : Hears old new turns left (stop_of a) heard

@@ -1,4 +1,4 @@
--- What the refusals of the port mapper's calls are called, and where they come from.
+-- The names of the refusals of the port mapper's calls, and where the refusals come from.
 use Rattle.std.specs.Prelude.{ℕ, List, codes}
 use Rattle.dist_stream.specs.declared.turn_error.TurnError.{TurnError}
 use Rattle.dist_stream.specs.declared.turn_error.TurnError.TheVariants as fault
@@ -25,14 +25,14 @@ lookup_error fault.WriteFailed = error.WriteFailed
 lookup_error fault.Ended = error.Ended
 lookup_error fault.Limit = error.Limit
 
--- why bytes that stand whole, as in a frame, are no message
+-- why bytes that came whole, as in a frame, are not a message
 abbrev pub whole_refusal : EpmdError → LookupError
 whole_refusal epmd.Malformed = error.Malformed
 whole_refusal epmd.Short = error.Malformed
 whole_refusal epmd.Trailing = error.Malformed
 whole_refusal epmd.NoMemory = error.NoMemory
 
--- why bytes that came to the end of the stream are no answer
+-- why bytes that came up to the end of the stream are not an answer
 abbrev pub end_refusal : EpmdError → LookupError
 end_refusal epmd.Malformed = error.Malformed
 end_refusal epmd.Short = error.Ended

@@ -1,4 +1,4 @@
--- What is read and written where one request is served, and what becomes of the mapper.
+-- What is read and written when one request is served, and what becomes of the mapper.
 use Rattle.std.specs.Prelude.{◌≡◌, ◌≢◌, ℕ, ◌^◌, ◌<◌, ◌⊎◌, List, [], ◌++◌, length, Option, Some, None, Result, Ok, Err, IsOk, IsErr, ◌==◌, if◌then◌else◌}
 use Rattle.std.specs.Int.{w16}
 use Rattle.dist_names.specs.Bytes.{number}
@@ -28,26 +28,26 @@ pub record BringsRequest (heard : List ℕ) (request : Request) : Type 0 where
   pub framed : heard ≡ body_frame w16 body
   pub read : read_request body ≡ Ok request
 
--- The bytes are the frame of no request.
+-- The bytes are a frame, but not of a request.
 pub record BringsNone (heard : List ℕ) : Type 0 where
   pub body : List ℕ
   pub framed : heard ≡ body_frame w16 body
   pub read : IsErr (read_request body)
 
--- The bytes end inside a frame: in its length, or before as many bytes came as that says.
+-- The bytes end inside a frame: in its length, or before as many bytes came as the length says.
 abbrev pub IsInside : List ℕ → Type 0
 IsInside heard = (length heard < 2) ⊎ ((len : ℕ) × (rest : List ℕ) × (len < 2 ^ 16) × (heard ≡ number w16 len ++ rest) × (length rest < len))
 
--- The bytes are the length of a frame alone.
+-- The bytes are only the length of a frame.
 abbrev pub IsLength : List ℕ → Type 0
 IsLength heard = (len : ℕ) × (len < 2 ^ 16) × (heard ≡ number w16 len)
 
--- The bytes are the length of a frame alone, or the frame of a request.
+-- The bytes are only the length of a frame, or the frame of a request.
 abbrev pub IsLengthOrFrame : List ℕ → Type 0
 IsLengthOrFrame heard = IsLength heard ⊎ ((body : List ℕ) × (heard ≡ body_frame w16 body) × IsOk (read_request body))
 
--- What the bytes that came ask for, or why no request came: the fault of the stream, and it came inside a frame; or
--- without one a frame that asks for nothing, or memory that ran out.
+-- What the bytes that came ask for, or why no request came: a fault of the stream inside a frame; or,
+-- without a fault, a frame that asks for nothing, or memory that ran out.
 abbrev pub Came : Option TurnError → Result Request LookupError → List ℕ → Type 0
 Came (Some fault) result heard = (result ≡ Err (lookup_error fault)) × IsInside heard
 Came None (Ok request) heard = BringsRequest heard request
@@ -57,7 +57,7 @@ Came None (Err other) heard = ⊥
 
 -- ---- the answer
 
--- A front of the bytes of the answer was written, and not all.
+-- A first part of the answer's bytes was written, but not all.
 pub record SaysPart (written : Result (List ℕ) EpmdError) (said : List ℕ) : Type 0 where
   pub text : List ℕ
   pub unsaid : List ℕ
@@ -82,7 +82,7 @@ served_as (request.Alive info) (answer.AliveX code creation) = if code == 0 then
 served_as (request.Alive info) (answer.Alive code creation) = if code == 0 then served.Registered else served.Answered
 served_as other given = served.Answered
 
--- After an answer that wasn't written whole, a registration's connection counts as closed.
+-- After an answer that wasn't written whole, the connection of a registration counts as closed.
 abbrev pub AfterCut : {M : Type 0} → (M → ℕ → M → Type 0) → Request → ℕ → M → M → Type 0
 AfterCut leaves (request.Alive info) conn between after = leaves between conn after
 AfterCut leaves other conn between after = after ≡ between
@@ -99,7 +99,7 @@ pub record AnswersWhole {M : Type 0} (allows : M → ℕ → Request → Answer 
 abbrev pub bad : LookupError → Result (Unit {0}) LookupError
 bad why = Err why
 
--- The mapper answered, and its answer was written in part or not at all.
+-- The mapper answered, and its answer was written only in part or not at all.
 pub record AnswersCut {M : Type 0} (allows : M → ℕ → Request → Answer → M → Type 0) (leaves : M → ℕ → M → Type 0) (conn : ℕ)
     (before after : M) (request : Request) (stop : Option TurnError) (why : LookupError) (said : List ℕ) : Type 0 where
   pub answer : Answer
@@ -108,7 +108,7 @@ pub record AnswersCut {M : Type 0} (allows : M → ℕ → Request → Answer �
   pub part : IsSaid stop (written_answer answer) (bad why) said
   pub closed : AfterCut leaves request conn between after
 
--- The mapper had no memory to answer. It is as it was, and nothing is written.
+-- The mapper had no memory to answer. It is unchanged, and nothing is written.
 pub record AnswersNone {M : Type 0} (before after : M) (stop : Option TurnError) (why : LookupError) (said : List ℕ) : Type 0 where
   pub lacks : why ≡ error.NoMemory
   pub fine : stop ≡ None
@@ -129,13 +129,13 @@ abbrev pub CameNone : Option TurnError → Result Served LookupError → List �
 CameNone stop (Ok how) heard = ⊥
 CameNone stop (Err why) heard = Came stop (Err why) heard
 
--- No request came. The mapper is as it was, and nothing is written.
+-- No request came. The mapper is unchanged, and nothing is written.
 pub record Unrequested {M : Type 0} (before after : M) (stop : Option TurnError) (result : Result Served LookupError) (said heard : List ℕ) : Type 0 where
   pub came : CameNone stop result heard
   pub nothing : said ≡ []
   pub same : after ≡ before
 
--- One request that came was answered, or the call was refused on the way.
+-- One request that came was answered, or the call was refused before that.
 pub record Requested {M : Type 0} (allows : M → ℕ → Request → Answer → M → Type 0) (leaves : M → ℕ → M → Type 0) (conn : ℕ)
     (before after : M) (stop : Option TurnError) (result : Result Served LookupError) (said heard : List ℕ) : Type 0 where
   pub request : Request
@@ -150,7 +150,7 @@ pub record Serves {M : Type 0} (allows : M → ℕ → Request → Answer → M 
   pub written : new.written ≡ append_known old.written said
   pub unread : old.unread ≡ prepend_known heard new.unread
   pub left : ℕ
-  -- the fault of the stream that stopped it, if one did
+  -- the fault of the stream, if one ended the serving
   pub stop : Option TurnError
   pub spends : Spends old new limit left stop
   pub outcome : Unrequested before after stop result said heard ⊎ Requested allows leaves conn before after stop result said heard

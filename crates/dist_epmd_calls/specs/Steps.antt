@@ -1,4 +1,4 @@
--- What the steps on the way do. Who reads what the public calls promise needs none of it.
+-- What the inner steps of a call do. A reader of the public contracts needs none of it.
 use Rattle.std.specs.Prelude.{◌≡◌, ℕ, ◌^◌, ◌<◌, ◌≤◌, List, ◌++◌, length, take, Option, Some, None, Result, Ok, Err, IsOk, IfOk, OnErr}
 use Rattle.std.specs.Int.{w16}
 use Rattle.dist_names.specs.Bytes.{number}
@@ -26,14 +26,14 @@ IsFrameOf (Err error.Malformed) written = (why : EpmdError) × (written ≡ Err 
 IsFrameOf (Err error.NoMemory) written = IsOk written
 IsFrameOf result written = ⊥
 
--- What came to the end of the stream stands behind what was there.
+-- What came up to the end of the stream is appended to what was there.
 pub record HearsAll (old new : StreamState) (turns left : ℕ) (result : Result (Unit {0}) LookupError) (before after : List ℕ) : Type 0 where
   pub heard : List ℕ
   pub stop : Option TurnError
   pub hears : Hears old new turns left stop heard
   pub reports : ReportsBy stop result ((result ≡ Ok tt) × (after ≡ before ++ heard))
 
--- A frame was written, and what came to the end of the stream was read.
+-- A frame was written, and what came up to the end of the stream was read.
 pub record Exchanges (old new : StreamState) (limit : ℕ) (result : Result (List ℕ) LookupError) (frame : List ℕ) : Type 0 where
   pub said : List ℕ
   pub heard : List ℕ
@@ -47,7 +47,7 @@ abbrev pub ExchangesWritten : Result (List ℕ) EpmdError → StreamState → St
 ExchangesWritten (Ok body) old new limit result = Exchanges old new limit result (body_frame w16 body)
 ExchangesWritten (Err why) old new limit result = (result ≡ Err error.Malformed) × (new ≡ old)
 
--- An answer to a registration was read to the front of the room, or a part of one.
+-- An answer to a registration, or a part of one, was read into the front of the buffer.
 pub record HearsAnswer (old new : StreamState) (turns left : ℕ) (result : Result ℕ TurnError) (room : List ℕ) : Type 0 where
   pub heard : List ℕ
   pub hears : Hears old new turns left (fault_of result) heard
@@ -92,7 +92,7 @@ pub record SaysAnswer (old new : StreamState) (turns left : ℕ) (result : Resul
   pub says : Says old new turns left stop said
   pub is_said : IsSaid stop (written_answer answer) result said
 
--- A request was answered, or the call was refused on the way.
+-- A request was answered, or the call was refused before that.
 pub record SaysReply {M : Type 0} (allows : M → ℕ → Request → Answer → M → Type 0) (leaves : M → ℕ → M → Type 0) (conn : ℕ)
     (before after : M) (request : Request) (old new : StreamState) (turns left : ℕ) (result : Result Served LookupError) : Type 0 where
   pub said : List ℕ

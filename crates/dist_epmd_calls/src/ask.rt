@@ -1,4 +1,4 @@
-//! The questions of a client: one node's place, or all nodes.
+//! The questions of a client: one node's address, or all nodes.
 
 ghost use Rattle.std.specs.Prelude.{◌≡◌};
 ghost use Rattle.dist_epmd.specs.Layout.{written_request};
@@ -19,10 +19,9 @@ use std::alloc::Global;
 // The most bytes of one read.
 const PIECE: usize = 4096;
 
-// The most bytes of a name that a lookup has room for in a frame.
+// The most bytes of a name with which a lookup fits a frame.
 const MOST_OF_NAME: usize = 65534;
 
-// The frame of a request.
 pub fn frame_of(alloc: Global, request: &Request) -> Result<ByteString, LookupError>
     ensures { IsFrameOf result (written_request request.now) }
 {
@@ -36,7 +35,7 @@ pub fn frame_of(alloc: Global, request: &Request) -> Result<ByteString, LookupEr
     }
 }
 
-// Appends what comes to the end of the stream.
+// Appends what comes up to the end of the stream.
 fn read_to_end<S: Stream>(
     limited: &mut Limited<'_, S>,
     bytes: &mut Vec<u8>,
@@ -59,7 +58,7 @@ fn read_to_end<S: Stream>(
     }
 }
 
-// Writes a request, and reads what comes to the end of the stream.
+// Writes a request, and reads what comes up to the end of the stream.
 fn exchange<S: Stream>(
     alloc: Global,
     stream: &mut S,
@@ -104,11 +103,11 @@ fn names_of(alloc: Global, bytes: &[u8]) -> Result<(u32, ByteString), LookupErro
 
 /// Asks the port mapper for the node of this short name (the part before the `@`), in at most `limit` reads and writes.
 ///
-/// The answer is all that comes to the end of the stream, in pieces of at most 4,096 bytes, so it has at most 4,096 times
+/// The answer is all that comes up to the end of the stream, in pieces of at most 4,096 bytes, so it has at most 4,096 times
 /// `limit` bytes. The name in it isn't compared with the one that was asked for. A name of more than
-/// 65,534 bytes fits no frame: it is Malformed, and nothing is written. NotThere comes where the port mapper answers a
+/// 65,534 bytes fits no frame: it is Malformed, and nothing is written. NotThere comes where the port mapper answers with a
 /// result above 0, Malformed where the bytes spell no answer, Ended where they end inside one. ReadFailed, WriteFailed and
-/// Limit come before the end was read, NoMemory before it or for the node of an answer in hand; Refused doesn't come.
+/// Limit come before the end was read, NoMemory before it or while the answer is copied; Refused is never returned.
 ///
 /// Source: ERTS User's Guide, Distribution Protocol, EPMD Protocol. The limit is our own choice.
 pub fn lookup<S: Stream>(
@@ -129,8 +128,8 @@ pub fn lookup<S: Stream>(
 
 /// Asks the port mapper for all nodes, in at most `limit` reads and writes: its own port, and the text of their lines.
 ///
-/// The answer is all that comes to the end of the stream, in pieces of at most 4,096 bytes. Fewer than 4 bytes are
-/// Ended; behind them the text is taken as it is.
+/// The answer is all that comes up to the end of the stream, in pieces of at most 4,096 bytes. Fewer than 4 bytes are
+/// Ended; the text behind the first 4 is taken as it is.
 ///
 /// Source: ERTS User's Guide, Distribution Protocol, EPMD Protocol. The limit is our own choice.
 pub fn ask_names<S: Stream>(

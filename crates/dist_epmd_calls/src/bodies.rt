@@ -1,4 +1,4 @@
-//! One frame, read off a stream.
+//! One frame, read from a stream.
 
 ghost use Rattle.std.specs.Prelude.{◌≡◌, length};
 ghost use Rattle.dist_epmd_calls.specs.Bodies.{HearsFrame};
@@ -13,15 +13,15 @@ use std::alloc::Global;
 pub enum Arrived {
     /// The body of a frame.
     Body(ByteString),
-    /// The length of a frame, which is above the most. Its body was not read.
+    /// The length of a frame, which is too long. Its body was not read.
     Long(u16),
-    /// The stream gave no more, inside of the frame.
+    /// The stream gave no more inside the frame, for this fault.
     Stopped(TurnError),
-    /// No memory was left for the body, and the length alone was read.
+    /// No memory was left for the body, and only the length was read.
     NoMemory,
 }
 
-// The length of the next frame, which is read into the header.
+// Reads the length of the next frame into the header.
 fn read_len<S: Stream>(limited: &mut Limited<'_, S>, header: &mut [u8]) -> Result<u16, TurnError>
     requires { length header.old ≡ 2 }
     ensures hears { HearsLen (S.meaning limited.old.stream.now) (S.meaning limited.new.stream.now) limited.old.left limited.new.left result }
@@ -32,7 +32,7 @@ fn read_len<S: Stream>(limited: &mut Limited<'_, S>, header: &mut [u8]) -> Resul
 }
 
 /// Reads the next frame, whose body has at most `most` bytes: its length in 2 bytes, and as many bytes. It reads no byte
-/// behind them, and writes nothing.
+/// behind the frame, and writes nothing.
 pub fn read_frame<S: Stream>(alloc: Global, limited: &mut Limited<'_, S>, most: u16) -> Arrived
     ensures hears { HearsFrame (S.meaning limited.old.stream.now) (S.meaning limited.new.stream.now) limited.old.left limited.new.left most result }
     ensures loan { limited.new.stream.ghost_name ≡ limited.old.stream.ghost_name }

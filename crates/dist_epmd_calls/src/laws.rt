@@ -11,7 +11,7 @@ ghost use Rattle.dist_epmd_calls.specs.declared.lookup_error.LookupError.{Lookup
 ghost use Rattle.dist_epmd_calls.specs.declared.serve.Served.{Served};
 ghost use Rattle.dist_epmd_calls.specs.declared.serve.Served.TheVariants.{Registered};
 
-/// However the serving of a request ends, the registrations that were lent keep their invariant, and none is new but one
+/// However the serving of a request ends, the registrations that were lent keep their invariant, and none is new except one
 /// that was answered whole with result 0.
 pub fn registrations_that_are_lent()
     ensures legal { (conn limit : ℕ) (old new : StreamState) (before after : Registrations) (result : Result Served LookupError)

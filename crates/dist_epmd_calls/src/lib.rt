@@ -1,4 +1,4 @@
-//! Carries the messages of the port mapper over a stream: the questions of a client, and the serving of one request.
+//! Carries the messages of the port mapper over a stream: asks the questions of a client, and serves one request.
 //!
 //! How long a call may go on is a number of turns, and a turn is one read or write, a quiet one among them. Nothing here
 //! opens, accepts or closes a connection.

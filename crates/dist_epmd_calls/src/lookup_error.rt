@@ -11,20 +11,20 @@ use thiserror::Error;
 
 /// Why a call over a stream gave no answer: the first reason in this order.
 ///
-/// What was written and read before it stands, so the stream may be inside a message: it is of no use for another call,
+/// What was written and read before it stays so, and the stream may be inside a message: it is of no use for another call,
 /// unless nothing was written and nothing read. The marks of the stream say which fault it had.
 #[derive(Clone, Copy, Debug, PartialEq, Eq, Error)]
 pub enum LookupError {
     /// The port mapper knows no node of this name.
     #[error("no node of this name is registered")]
     NotThere,
-    /// The peer's bytes spell no message, the own request doesn't fit a frame, or the mapper's answer has no bytes.
+    /// The peer's bytes spell no message, the caller's request doesn't fit a frame, or the mapper's answer has no bytes.
     #[error("no message, or one that is too long")]
     Malformed,
     /// The carrier's fault.
     #[error("a read failed")]
     ReadFailed,
-    /// The carrier's fault. A write that took no bytes is one.
+    /// The carrier's fault. A write that took no bytes counts as failed.
     #[error("a write failed")]
     WriteFailed,
     /// The peer closed the stream too early.

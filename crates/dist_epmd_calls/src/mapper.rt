@@ -7,9 +7,9 @@ ghost use Rattle.dist_epmd_calls.specs.Mapping.{port_answer, names_answer};
 use dist_epmd::{Answer, Registry, Request};
 use std::alloc::{AllocError, Global};
 
-/// Who answers the requests of the port mapper's clients: the registry, or one behind a lock.
+/// Who answers the requests of the port mapper's clients: the registry itself, or a registry behind a lock.
 ///
-/// Its meaning is which answers it allows and what it is after them, and what a closed connection leaves of it.
+/// Its meaning is which answers it allows, its state after them, and its state after a connection is closed.
 pub trait Mapper {
     ghost use Rattle.std.specs.Prelude.{◌≡◌, ℕ, IfOk, OnErr};
     ghost use Rattle.dist_epmd.specs.declared.message.Request.{Request};

@@ -19,7 +19,7 @@ pub fn lookup_error(fault: TurnError) -> LookupError
     }
 }
 
-// Why bytes that stand whole, as in a frame, are no message, and why a message has no bytes.
+// Why bytes that came whole, as in a frame, are not a message, and why a message has no bytes.
 pub fn whole_refusal(error: EpmdError) -> LookupError
     ensures { result ≡ whole_refusal error }
 {
@@ -29,7 +29,7 @@ pub fn whole_refusal(error: EpmdError) -> LookupError
     }
 }
 
-// Why bytes that came to the end of the stream are no answer.
+// Why bytes that came up to the end of the stream are not an answer.
 pub fn end_refusal(error: EpmdError) -> LookupError
     ensures { result ≡ end_refusal error }
 {

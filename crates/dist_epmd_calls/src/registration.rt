@@ -16,7 +16,7 @@ use dist_names::{ByteString, Creation};
 use dist_stream::{Limited, Stream, TurnError};
 use std::alloc::Global;
 
-// The most bytes of a name and extra bytes together.
+// The most bytes of a name and `extra` together with which a registration fits a frame.
 const MOST_OF_TEXTS: usize = 65522;
 
 fn is_too_long(request: &AliveReq) -> bool
@@ -35,7 +35,7 @@ fn frame_of_alive(alloc: Global, request: &AliveReq) -> Result<ByteString, Looku
     frame_of(alloc, &request)
 }
 
-// How many bytes an answer of this tag has after it.
+// How many bytes of an answer follow this tag.
 fn rest_len(tag: u8) -> usize
     ensures { result ≡ rest_len tag }
 {
@@ -46,7 +46,7 @@ fn rest_len(tag: u8) -> usize
     }
 }
 
-// Reads an answer to a registration into the room, and not a byte more. How long it is.
+// Reads an answer to a registration into the buffer, and not a byte more. Returns how long it is.
 fn read_answer<S: Stream>(limited: &mut Limited<'_, S>, room: &mut [u8]) -> Result<usize, TurnError>
     requires { length room.old ≡ 6 }
     ensures hears { HearsAnswer (S.meaning limited.old.stream.now) (S.meaning limited.new.stream.now) limited.old.left limited.new.left result room.new }
@@ -117,10 +117,10 @@ fn exchange<S: Stream>(
 
 /// Registers a node with the port mapper, in at most `limit` reads and writes, and returns its creation.
 ///
-/// The registration lasts as long as the connection, so the stream is used on and no byte behind the answer is read: 6
-/// bytes with a creation of 32 bits, 4 with one of 16, which is taken as it is, and an unknown first byte alone, which
+/// The registration lasts as long as the connection, so the stream stays in use, and no byte behind the answer is read: 6
+/// bytes with a creation of 32 bits; 4 with one of 16, which is taken as it is; and only the first byte where it is unknown, which
 /// is Malformed. A request above 65,535 bytes is Malformed too, and nothing is written. Refused carries a result above 0.
-/// Ended comes where the stream ends inside the answer; NotThere doesn't come.
+/// Ended comes where the stream ends inside the answer; NotThere is never returned.
 ///
 /// Source: ERTS User's Guide, Distribution Protocol, EPMD Protocol. The limit is our own choice.
 pub fn register<S: Stream>(

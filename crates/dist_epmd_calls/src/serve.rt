@@ -1,4 +1,4 @@
-//! One request of a client, served.
+//! Serving one request of a client.
 
 ghost use Rattle.std.specs.Prelude.{◌≡◌};
 ghost use Rattle.dist_epmd_calls.specs.Serving.{AfterCut, Serves, served_as};
@@ -16,13 +16,12 @@ use std::alloc::Global;
 /// How a request was served.
 #[derive(Clone, Copy, Debug, PartialEq, Eq)]
 pub enum Served {
-    /// A registration was answered with result 0: the caller keeps the stream as long as it lasts.
+    /// A registration was answered with result 0: the caller keeps the stream as long as the node keeps it.
     Registered,
     /// Any other request was answered: the caller closes the stream.
     Answered,
 }
 
-// The body of the next frame.
 fn read_body<S: Stream>(
     alloc: Global,
     limited: &mut Limited<'_, S>,
@@ -38,7 +37,6 @@ fn read_body<S: Stream>(
     }
 }
 
-// The next request.
 fn read_request<S: Stream>(
     alloc: Global,
     limited: &mut Limited<'_, S>,
@@ -69,7 +67,7 @@ fn write_answer<S: Stream>(
     Ok(())
 }
 
-/// How a request counts that this answer was written to whole: a registration with result 0 is kept.
+/// How a request counts whose whole answer was written: a registration with result 0 is kept.
 pub fn served_as(request: &Request, answer: &Answer) -> Served
     ensures { result ≡ served_as request.now answer.now }
 {
@@ -84,7 +82,7 @@ pub fn served_as(request: &Request, answer: &Answer) -> Served
     }
 }
 
-// Where the answer to a registration was cut off, its connection counts as closed.
+// Where the answer to a registration was cut off, reports its connection to the mapper as closed.
 fn close_cut<M: Mapper>(mapper: &mut M, request: &Request, conn: u64)
     ensures { AfterCut M.leaves request.now conn mapper.old mapper.new }
 {
@@ -117,14 +115,14 @@ fn reply<S: Stream, M: Mapper>(
     }
 }
 
-/// Serves one request that comes on this connection, in at most `limit` reads and writes. `conn` is the connection's
-/// number, by which the mapper knows it again.
+/// Serves one request that comes on this connection, in at most `limit` reads and writes. `conn` is the number by which the
+/// mapper knows the connection.
 ///
 /// A frame that spells no request is Malformed, also where it ends inside a field, and nothing is written. Before the
 /// mapper has answered, a refusal leaves it as it was. The answer goes out in one write where the stream takes it whole,
-/// since real nodes want it in one piece. Where the answer to a registration isn't written whole, for whatever cause,
-/// the connection counts as closed, and this call reports that to the mapper before it returns: no client lost the answer to a
-/// registration that is kept. NotThere and Refused don't come.
+/// since real nodes need it in one piece. Where the answer to a registration isn't written whole, for whatever cause,
+/// the connection counts as closed, and this call reports that to the mapper before it returns: so each registration that is kept
+/// has had its whole answer written. NotThere and Refused are never returned.
 ///
 /// Source: ERTS User's Guide, Distribution Protocol, EPMD Protocol. The rule on cut answers and the limit are our own
 /// choice.

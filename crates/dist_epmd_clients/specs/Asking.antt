@@ -5,7 +5,8 @@ use Rattle.std.specs.Int.{w16, from_be_bytes}
 use Rattle.dist_epmd.specs.declared.epmd_error.EpmdError.{EpmdError}
 use Rattle.dist_epmd.specs.declared.message.Request.{Request}
 use Rattle.dist_epmd.specs.declared.message.Request.TheVariants as request
-use Rattle.dist_epmd.specs.Reading.{Taken, info_at, read_request}
+use Rattle.dist_names.specs.Fields.{Taken}
+use Rattle.dist_epmd.specs.Reading.{info_at, read_request}
 use Rattle.dist_epmd_clients.specs.declared.question.Question.{Question}
 use Rattle.dist_epmd_clients.specs.declared.question.Question.TheVariants.{Inside, Asks, Nothing}
 

@@ -1,31 +1,14 @@
--- The names of flags: each is of one flag.
-use Rattle.std.proofs.Common.{◌≡◌, ℕ, Bool, true, false, cond, eqb, ◌==◌, List, [], ◌∷◌, Some, refl, subst}
+-- The names of flags: no two flags have the same name.
+use Rattle.std.proofs.Common.{◌≡◌, ℕ, List, Some, refl, subst}
 use Rattle.std.specs.Prelude.{IfSome}
-use Rattle.std.specs.List.{find}
-use Rattle.std.specs.Cmp.Lexicographic.{pointwise}
-use Rattle.std.proofs.lemmas.Bool.{eqb-true, and_parts}
+use Rattle.dist_names.proofs.Naming as naming
 use Rattle.dist_flags.specs.declared.dflag.Dflag.{Dflag}
 use Rattle.dist_flags.specs.declared.dflag.Dflag.TheVariants as flag
-use Rattle.dist_flags.specs.Names.{name_of, flag_named, has_name, all_flags}
-
-one-text : (xs ys : List ℕ) → pointwise ◌==◌ xs ys ≡ true → xs ≡ ys
-one-text [] [] e = refl
-one-text [] (y ∷ ys) e = absurd cc
-one-text (x ∷ xs) [] e = absurd cc
-one-text (x ∷ xs) (y ∷ ys) e =
-    let p = and_parts (eqb x y) (pointwise ◌==◌ xs ys) e in
-    let first : x ≡ y = eqb-true x y p.0 in
-    let rest : xs ≡ ys = one-text xs ys p.1 in
-    cc
-
-found-passes : (test : Dflag → Bool) (P : Dflag → Type 0) → ((w : Dflag) → test w ≡ true → P w) → (ws : List Dflag) → IfSome (find test ws) P
-found-passes test P h [] = tt
-found-passes test P h (w ∷ ws) =
-    elim (test w) as (λ b. test w ≡ b → IfSome (cond b (Some w) (find test ws)) P) [ true ↦ λ e. h w e | false ↦ λ e. found-passes test P h ws ] refl
+use Rattle.dist_flags.specs.Names.{name_of, flag_named, all_flags}
 
 pub found : (word : List ℕ) → IfSome (flag_named word) (λ w. name_of w ≡ word)
 unfolding flag_named
-found word = found-passes (has_name word) (λ w. name_of w ≡ word) (λ w e. one-text (name_of w) word e) all_flags
+found word = naming.found name_of all_flags word
 
 own : (w : Dflag) → flag_named (name_of w) ≡ Some w
 unfolding flag_named

@@ -40,7 +40,7 @@ bit_of flag.LocalExt = 36
 bit_of flag.AltactSig = 37
 bit_of flag.NativeRecords = 38
 
--- the flags of which it is the only one
+-- the flags in which only this one is set
 abbrev pub flag_of : Dflag → ℕ
 flag_of f = 2 ^ bit_of f
 
@@ -79,7 +79,7 @@ name_of flag.LocalExt = codes "LOCAL_EXT"
 name_of flag.AltactSig = codes "ALTACT_SIG"
 name_of flag.NativeRecords = codes "NATIVE_RECORDS"
 
--- the word is the name of this flag
+-- this flag has the word as its name
 abbrev pub has_name : List ℕ → Dflag → Bool
 has_name word f = pointwise ◌==◌ (name_of f) word
 

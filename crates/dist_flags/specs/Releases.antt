@@ -1,4 +1,4 @@
--- What releases of Erlang/OTP announce and ask of a peer, and which release a node's flags are those of (dist.hrl of the
+-- What releases of Erlang/OTP announce and require of a peer, and to which release a node's flags belong (dist.hrl of the
 -- application kernel, and erts_internal:get_dflags/0, in OTP 23, 25, 27 and 29).
 use Rattle.std.specs.Prelude.{ℕ, ◌-◌, ◌^◌, ◌==◌, Bool, false, not, bit_and, bit_or, List, [], ◌∷◌, Option, Some, None, if◌then◌else◌}
 use Rattle.std.specs.List.{find, list_all}
@@ -9,12 +9,12 @@ use Rattle.dist_flags.specs.declared.release.Release.TheVariants as release
 use Rattle.dist_flags.specs.declared.release.ReleaseShown.{ReleaseShown}
 use Rattle.dist_flags.specs.declared.release.ReleaseShown.TheVariants as shown
 
--- what OTP 25 asks for: EXTENDED_REFERENCES, FUN_TAGS, NEW_FUN_TAGS, EXTENDED_PIDS_PORTS, EXPORT_PTR_TAG, BIT_BINARIES,
+-- what OTP 25 requires: EXTENDED_REFERENCES, FUN_TAGS, NEW_FUN_TAGS, EXTENDED_PIDS_PORTS, EXPORT_PTR_TAG, BIT_BINARIES,
 -- NEW_FLOATS, UTF8_ATOMS, MAP_TAG, BIG_CREATION, HANDSHAKE_23
 abbrev pub mandatory_25 : ℕ
 mandatory_25 = 0x1070f94
 
--- what a node of a release asks of each peer
+-- what a node of a release requires of each peer
 abbrev pub required_by : Release → ℕ
 required_by release.Before23 = 0x50184
 required_by release.Otp23 = 0x50184
@@ -23,19 +23,19 @@ required_by release.Otp25 = 0x1070f94
 required_by release.Otp28 = 0x403070f94
 required_by release.Otp29 = 0x403070f94
 
--- these flags show this one
+-- the first has all flags of the second
 abbrev pub shows : ℕ → ℕ → Bool
 shows flags one = has_all flags one
 
--- the flags with those for which MANDATORY_25_DIGEST stands
+-- the flags, and those for which MANDATORY_25_DIGEST stands where it is one of them
 abbrev pub with_mandatory : ℕ → ℕ
 with_mandatory flags = if shows flags 0x4000000 then bit_or flags mandatory_25 else flags
 
--- which of the wanted flags are absent
+-- which of the wanted flags are absent, MANDATORY_25_DIGEST read as the flags for which it stands
 abbrev pub missing : ℕ → ℕ → ℕ
 missing flags wanted = bit_and wanted (2 ^ 64 - 1 - with_mandatory flags)
 
--- WHAT A NODE OF A RELEASE OBJECTS TO: the flags that it asks for and that are absent, as it reads the others. It reads
+-- WHAT A NODE OF A RELEASE OBJECTS TO: the required flags that are absent, by that release's reading of the others. It reads
 -- MANDATORY_25_DIGEST from OTP 25 on.
 abbrev pub objection : Release → ℕ → ℕ
 objection release.Before23 flags = bit_and (required_by release.Before23) (2 ^ 64 - 1 - flags)
@@ -49,7 +49,7 @@ objection release.Otp29 flags = missing flags (required_by release.Otp29)
 abbrev pub refuses : ℕ → Release → Bool
 refuses flags r = not (objection r flags == 0)
 
--- the releases since which more is asked for, the oldest first: 23, 25, and 26, which asks for what 28 does
+-- the releases that required more than those before, the oldest first: 23, 25, and 26, which requires what 28 does
 abbrev pub askers : List Release
 askers = release.Otp23 ∷ release.Otp25 ∷ release.Otp28 ∷ []
 
@@ -61,7 +61,7 @@ oldest_refusal flags = find (refuses flags) askers
 abbrev pub is_refused_by_all : ℕ → Bool
 is_refused_by_all flags = list_all (refuses flags) askers
 
--- the newest release one of whose own flags is there
+-- the newest release that added one of these flags
 abbrev pub release_of : ℕ → Release
 release_of flags =
     if shows flags 0x4000000000 then release.Otp29 else
@@ -70,7 +70,7 @@ release_of flags =
     if shows flags 0x400000000 then release.Otp24 else
     if shows flags 0x1000000 then release.Otp23 else release.Before23
 
--- what a node of a release announces where it is not hidden, where that is known
+-- what a node of a release announces if it is not hidden, where that is known
 abbrev pub announced_by : Release → Option Flags
 announced_by release.Before23 = None
 announced_by release.Otp23 = Some (record { 0 = 0x101df7fbd })
@@ -79,11 +79,11 @@ announced_by release.Otp25 = Some (record { 0 = 0xd07df7fbd })
 announced_by release.Otp28 = None
 announced_by release.Otp29 = Some (record { 0 = 0x6d07df7fbd })
 
--- the flags, with PUBLISHED, are all that is announced and no other
+-- the flags, with PUBLISHED, are exactly what is announced
 abbrev pub is_just : Option Flags → ℕ → Bool
 is_just None flags = false
 is_just (Some all) flags = bit_or flags 1 == all.0
 
--- the release, and whether the flags are just those of it
+-- the release, and whether the flags are exactly its own
 abbrev pub release_shown : ℕ → ReleaseShown
 release_shown flags = if is_just (announced_by (release_of flags)) flags then shown.Just (release_of flags) else shown.UpTo (release_of flags)

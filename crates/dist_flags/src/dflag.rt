@@ -164,7 +164,7 @@ impl Dflag {
         }
     }
 
-    /// The flags of which it is the only one.
+    /// The flags in which only this one is set.
     pub fn flags(self) -> Flags
         ensures { result.0 ≡ flag_of self }
     {
@@ -211,7 +211,7 @@ impl Dflag {
         }
     }
 
-    /// The flag of this name.
+    /// The flag that has this name.
     pub fn of_name(word: &[u8]) -> Option<Dflag>
         ensures found { IfSome result (λ flag. name_of flag ≡ word.now) }
         ensures every { (flag : Dflag) → name_of flag ≡ word.now → result ≡ Some flag }
@@ -219,7 +219,6 @@ impl Dflag {
         flag_named(word, &ALL)
     }
 
-    // Whether it has this name.
     fn has_name(self, word: &[u8]) -> bool
         ensures { result ≡ has_name word.now self }
     {

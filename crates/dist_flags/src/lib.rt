@@ -1,7 +1,7 @@
-//! The distribution flags by name: which bit each has, which a release of Erlang/OTP announces and asks of a peer, and which
-//! release a node's flags are those of.
+//! The distribution flags by name: which bit each has, which of them a release of Erlang/OTP announces and requires of a
+//! peer, and to which release a node's flags belong.
 //!
-//! No input or output, and nothing of any connection.
+//! No input or output, and no connections.
 #![tactic(auto)]
 
 mod dflag;

@@ -1,4 +1,4 @@
-//! What releases of Erlang/OTP announce and ask of a peer, and which release a node's flags are those of.
+//! What releases of Erlang/OTP announce and require of a peer, and to which release a node's flags belong.
 
 ghost use Rattle.std.specs.Prelude.{◌≡◌};
 ghost use Rattle.dist_flags.specs.Releases.{announced_by, with_mandatory, is_just, is_refused_by_all, missing, objection, oldest_refusal};
@@ -6,7 +6,7 @@ ghost use Rattle.dist_flags.specs.Releases.{refuses, release_of, required_by, re
 
 use dist_names::Flags;
 
-/// The release that a node's flags are those of: of those that add a flag, the newest whose flag it announces.
+/// The release to which a node's flags belong: the newest of those that added a flag that the node announces.
 #[derive(Clone, Copy, PartialEq, Eq)]
 pub enum Release {
     /// Before OTP 23: no handshake of version 6.
@@ -26,17 +26,17 @@ pub enum Release {
 /// What a node's flags show of its release.
 #[derive(Clone, Copy, PartialEq, Eq)]
 pub enum ReleaseShown {
-    /// They are just those that this release announces, `PUBLISHED` apart.
+    /// They are exactly those that this release announces, `PUBLISHED` apart.
     Just(Release),
-    /// They are others, and this is the newest release one of whose own flags is there: a release whose flags are not known
+    /// They are others, and this is the newest release that added one of them: a release whose flags are not known
     /// here, or no node of Erlang/OTP.
     UpTo(Release),
 }
 
 impl Release {
-    /// The flags that a node of this release announces where it is not hidden, where they are known.
+    /// The flags that a node of this release announces if it is not hidden, where they are known.
     ///
-    /// Source: seen of OTP 23, 25, 27 and 29; 26 announces the same as these two. Those of OTP 24 and 28 are not known here.
+    /// Source: seen of OTP 23, 25, 27 and 29; 26 announces the same as 25 and 27. Those of OTP 24 and 28 are not known here.
     pub fn announced(self) -> Option<Flags>
         ensures { result ≡ announced_by self }
     {
@@ -48,8 +48,8 @@ impl Release {
         }
     }
 
-    /// The flags that a node of this release asks of each peer, spelled out. What a release before 23 asks is not known here,
-    /// and reported as that of 23; what OTP 24 asks as that of 25.
+    /// The flags that a node of this release requires of each peer, each by itself. What a release before 23 requires is not
+    /// known here, and answered as for 23; for OTP 24 the answer is that for 25.
     ///
     /// Source: `dist.hrl` and `erts_internal:get_dflags/0` of OTP 23, 25, 27 and 29.
     pub fn required(self) -> Flags
@@ -62,8 +62,8 @@ impl Release {
         }
     }
 
-    /// The flags for which a node of this release refuses a peer that announces these: those that it asks for and that are absent
-    /// there, none where it takes the peer. A release before 25 does not read DFLAG_MANDATORY_25_DIGEST.
+    /// The flags for which a node of this release refuses a peer that announces these: those that it requires and that are
+    /// absent; none where it accepts the peer. A release before 25 does not read DFLAG_MANDATORY_25_DIGEST.
     pub fn objection(self, flags: Flags) -> Flags
         ensures { result.0 ≡ objection self flags.0 }
     {
@@ -82,11 +82,11 @@ impl Release {
     }
 }
 
-/// The releases since which more is asked for, the oldest first: 23, 25, and 26, which asks for what 28 does.
+/// The releases that required more than those before, the oldest first: 23, 25, and 26, which requires what 28 does.
 const ASKERS: [Release; 3] = [Release::Otp23, Release::Otp25, Release::Otp28];
 
-/// The oldest release that refuses a peer that announces these flags, of 23, 25 and 26, which is reported as 28: it asks for the
-/// same. None where each takes it.
+/// The oldest release that refuses a peer that announces these flags, of 23, 25 and 26, which is returned as 28, since both
+/// require the same. `None` where each accepts the peer.
 pub fn oldest_refusal(flags: Flags) -> Option<Release>
     ensures { result ≡ oldest_refusal flags.0 }
 {
@@ -100,7 +100,7 @@ pub fn is_refused_by_all(flags: Flags) -> bool
     ASKERS.iter().all(|asker| asker.refuses(flags))
 }
 
-/// The flags, and those for which DFLAG_MANDATORY_25_DIGEST stands where it is one of them. OTP reads them so from release
+/// The flags, and those for which DFLAG_MANDATORY_25_DIGEST stands where it is one of them. OTP reads it so from release
 /// 25 on.
 pub fn with_mandatory(flags: Flags) -> Flags
     ensures { result.0 ≡ with_mandatory flags.0 }
@@ -112,14 +112,14 @@ pub fn with_mandatory(flags: Flags) -> Flags
     }
 }
 
-/// Which of the wanted flags are absent, as a node reads the others.
+/// Which of the wanted flags are absent, DFLAG_MANDATORY_25_DIGEST read as the flags for which it stands.
 pub fn missing(flags: Flags, wanted: Flags) -> Flags
     ensures { result.0 ≡ missing flags.0 wanted.0 }
 {
     Flags(wanted.0 & !with_mandatory(flags).0)
 }
 
-/// The release that a node's flags are those of.
+/// The release to which a node's flags belong.
 pub fn release_of(flags: Flags) -> Release
     ensures { result ≡ release_of flags.0 }
 {
@@ -141,7 +141,7 @@ pub fn release_of(flags: Flags) -> Release
     Release::Before23
 }
 
-// Whether the flags, `PUBLISHED` apart, are just those that a release announces.
+// Whether the flags, `PUBLISHED` apart, are exactly those that a release announces.
 fn is_just(announced: Option<Flags>, flags: Flags) -> bool
     ensures { result ≡ is_just announced flags.0 }
 {
@@ -151,7 +151,7 @@ fn is_just(announced: Option<Flags>, flags: Flags) -> bool
     }
 }
 
-/// The release that a node's flags show, and whether they are just those of it.
+/// The release that a node's flags show, and whether they are exactly its own.
 pub fn release_shown(flags: Flags) -> ReleaseShown
     ensures { result ≡ release_shown flags.0 }
 {

@@ -76,7 +76,7 @@ moved s n e le =
     let there : behind w16 s ≡ drop n s = drop-drop (head w16 s) 2 s ∙ ap (λ (k : ℕ). drop k s) (sym w.len) in
     sym (rest_where (has_first w16 s) (behind w16 s) (drop n s) s w.starts there)
 
--- where it is all that waits
+-- where the frame is all that is pending
 pub all_moved : (s : List ℕ) (n : ℕ) → n ≡ frame_len s → length s ≡ n → [] ≡ after_first w16 s
 all_moved s n e all = sym (drop_of_length-le s (omega (arith, all))) ∙ moved s n e (omega (arith, all))
 

@@ -15,7 +15,7 @@ use Rattle.dist_frames.specs.LinkReading.{Reading, reading, is_too_long, next_pa
 abbrev pub answer_of : Bool → Bool → ℕ → List ℕ → Result (Option (List ℕ)) PacketError
 answer_of long whole len packet = cond long (Err (error.TooLong len)) (Ok (cond whole (Some packet) None))
 
--- and which bytes are left
+-- which bytes are left then
 abbrev pub left_of : Bool → Bool → Reading → List ℕ → Reading
 left_of long whole r rest = cond long r (reading r.most (cond whole rest r.pending))
 
@@ -51,7 +51,7 @@ nothing_comes r long whole = (
   ap (λ (b : Bool). left_of b (has_first w32 r.pending) r (behind w32 r.pending)) long ∙ ap (λ (b : Bool). left_of false b r (behind w32 r.pending)) whole,
 )
 
--- without the packet, what stands behind it is left
+-- when the packet is moved out, what stands behind it is left
 pub moves : (r : Reading) → is_too_long r ≡ false → has_first w32 r.pending ≡ true → without_next r ≡ reading r.most (behind w32 r.pending)
 moves r long whole =
     ap (λ (b : Bool). left_of b (has_first w32 r.pending) r (behind w32 r.pending)) long ∙ ap (λ (b : Bool). left_of false b r (behind w32 r.pending)) whole
@@ -66,7 +66,7 @@ refused r long = ap (λ (b : Bool). answer_of b (has_first w32 r.pending) (head 
 pub stays : (r : Reading) → is_too_long r ≡ true → without_next r ≡ r
 stays r long = ap (λ (b : Bool). left_of b (has_first w32 r.pending) r (behind w32 r.pending)) long
 
--- ---- the same for the code's tests
+-- ---- the same in terms of the tests in the code
 
 pub few : (most : ℕ) (s : List ℕ) → length s < 4 → HasNext (reading most s) None
 few most s h = nothing_comes (reading most s) (few_not_long most s h) (few_not_whole s h)
@@ -88,7 +88,7 @@ refuses most s n e long h =
     let big = long_is most s long (omega (arith, e, h)) in
     (refused (reading most s) big ∙ ap (λ (k : ℕ). Err (error.TooLong k)) (sym e), stays (reading most s) big)
 
--- ---- it is the first of those still to come
+-- ---- the next packet is the first of those still to come
 
 at_next : (long whole : Bool) (len : ℕ) (packet : List ℕ) (answer : Option (List ℕ)) (all rest : List (List ℕ)) → answer_of long whole len packet ≡ Ok answer → (long ≡ false → whole ≡ true → all ≡ packet ∷ rest) → (whole ≡ false → all ≡ []) → MatchOption answer (all ≡ []) (λ p. all ≡ p ∷ rest)
 at_next true whole len packet answer all rest e stands lacks = absurd cc
@@ -102,7 +102,7 @@ at_next false false len packet answer all rest e stands lacks =
 pub wide : 0 < byte_len w32
 wide = lit< tt
 
--- a packet at the front that is not too long
+-- a packet that is not too long has at most `most` bytes
 pub is_short : (r : Reading) → is_too_long r ≡ false → has_first w32 r.pending ≡ true → length (front w32 r.pending) ≤ r.most
 is_short r long whole =
     let st = starts w32 r.pending whole in
@@ -137,7 +137,7 @@ first_comes r after answer packet e some left =
 abbrev pub Short : ℕ → List (List ℕ) → Type 0
 Short most packets = AllByRecursion (λ p. length p ≤ most) packets
 
--- packets that are not too long, and then others
+-- packets that are not too long come before the others
 pub up_to-front : (most : ℕ) (moved packets : List (List ℕ)) → Short most moved → up_to most (moved ++ packets) ≡ moved ++ up_to most packets
 up_to-front most [] packets h = refl
 up_to-front most (p ∷ ps) packets h = up_to_one most p (ps ++ packets) h.0 ∙ ap (λ (l : List (List ℕ)). p ∷ l) (up_to-front most ps packets h.1)

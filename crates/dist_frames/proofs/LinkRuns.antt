@@ -36,7 +36,7 @@ kept_fed most r stream piece moved bytes k = record {
   bytes = IsBytes-append r.pending piece k.bytes bytes;
 }
 
--- the packet at the front moved out
+-- when the packet at the front is moved out
 kept_front : (most : ℕ) (r : Reading) (stream : List ℕ) (moved : List (List ℕ)) → Kept most r stream moved → is_too_long r ≡ false → has_first w32 r.pending ≡ true → Kept most (reading r.most (behind w32 r.pending)) stream (moved ++ front w32 r.pending ∷ [])
 kept_front most r stream moved k long whole =
     let packet = front w32 r.pending in

@@ -131,7 +131,7 @@ settled (suc n) header len o l =
     let z : suc n - 0 ≡ suc n = omega arith in
     subst Settled (sym k) (record { none = s.count; short = s.left ∙ ap (to_be_bytes w32) z })
 
--- this many packets were counted, and these bytes are left of all
+-- this many packets were counted, and these bytes are left of all bytes
 pub record Counted (n : ℕ) (rest all : List ℕ) : Type 0 where
   pub fits : n < 2 ^ 64
   pub count : capped_count (n + packets rest) ≡ capped_count (packets all)

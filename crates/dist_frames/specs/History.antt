@@ -13,7 +13,7 @@ pub data Call : Type 0 where
   Link : Call
   Skip : Call
 
--- a reader, and what was asked of it and given by it until now
+-- a reader, what was asked of it and what it returned until now
 pub record Seen : Type 0 where
   pub reader : Reader
   -- all bytes that were fed
@@ -37,7 +37,7 @@ pub record Accounts (stream : List ℕ) (moved : List (List ℕ)) (pending : Lis
   pub fit : AllByRecursion (FitsWidth w16) moved
   pub bytes : IsBytes pending
 
--- how many packets have ended by now, where they are reported
+-- how many packets have ended by now, where the reader reports that number
 abbrev pub ended_by_now : Reader → Seen → ℕ
 ended_by_now (Short pending) s = s.before
 ended_by_now (Linked ended rest) s = packets (rest_of_stream s)
@@ -61,13 +61,13 @@ FeedBytes (Feed piece ∷ calls) = IsBytes piece × FeedBytes calls
 FeedBytes (call ∷ calls) = FeedBytes calls
 
 -- THE READER IS RIGHT: until it is linked, the bodies moved out and those still to come are those of the stream; then the
--- packets not yet reported are those of all bytes from the first that was not moved out that ended since the last report
+-- packets not yet reported are those that ended since the last report, in all bytes behind the bodies moved out
 abbrev pub IsRight : Reader → Seen → Type 0
 IsRight (Short pending) s = s.moved ++ bodies pending ≡ bodies s.stream
 IsRight (Linked ended rest) s = (more : List ℕ) × (s.stream ≡ flat_map (body_frame w16) s.moved ++ more) × (ended ≡ capped_count (packets more - s.before))
 
--- NO BYTE IS LOST: those that were fed are the frames of the bodies moved out, and then those that the reader holds or,
--- once it is linked, the stream of packets of which it keeps the rest
+-- NO BYTE IS LOST: the bytes fed are the frames of the bodies moved out, and then the bytes that the reader holds or,
+-- once it is linked, the stream of packets whose rest it keeps
 abbrev pub LosesNothing : Reader → Seen → Type 0
 LosesNothing (Short pending) s = Accounts s.stream s.moved pending
 LosesNothing (Linked ended rest) s = (more : List ℕ) × Accounts s.stream s.moved more × (rest ≡ partial more)

@@ -9,7 +9,7 @@ pub data Call : Type 0 where
   Feed : List ℕ → Call
   Take : Call
 
--- a reader, and what came to it and was given by it until now
+-- a reader, what came to it and what it returned until now
 pub record Seen : Type 0 where
   pub reader : Reading
   -- all bytes that came
@@ -21,7 +21,7 @@ pub record Seen : Type 0 where
 abbrev pub opening : ℕ → List ℕ → Seen
 opening most rest = record { reader = reading most rest; stream = rest; moved = [] }
 
--- the packet that was given, where one was
+-- the packet that was returned, where there was one
 abbrev pub packets_in : Result (Option (List ℕ)) PacketError → List (List ℕ)
 packets_in (Ok (Some packet)) = packet ∷ []
 packets_in (Ok None) = []

@@ -1,4 +1,4 @@
--- What a reader of packets has to give (ERTS User's Guide, Distribution Protocol, Protocol between Connected Nodes). It
+-- What a reader of packets has to return (ERTS User's Guide, Distribution Protocol, Protocol between Connected Nodes). It
 -- speaks of the stream, so that it says nothing of how the bytes are kept.
 use Rattle.std.specs.Prelude.{◌≡◌, ℕ, ◌+◌, ◌≤◌, Bool, ◌&&◌, nat_le, nat_lt, List, [], ◌∷◌, ◌++◌, length, take, drop}
 use Rattle.std.specs.Prelude.{Option, Some, None, Result, Ok, Err, if◌then◌else◌}
@@ -30,11 +30,11 @@ is_too_long r = nat_le 4 (length r.pending) && nat_lt r.most (head w32 r.pending
 abbrev pub next_packet : Reading → Result (Option (List ℕ)) PacketError
 next_packet r = if is_too_long r then Err (error.TooLong (head w32 r.pending)) else Ok (first_body w32 r.pending)
 
--- the reader when that packet was moved out; with none it is as it was
+-- the reader once that packet was moved out; without a next packet it is unchanged
 abbrev pub without_next : Reading → Reading
 without_next r = if is_too_long r then r else reading r.most (after_first w32 r.pending)
 
--- why it is not moved out: it is refused, or it is whole and memory runs out
+-- why a packet is not moved out: it is too long, or it is whole and memory runs out
 abbrev pub MayFail : Reading → PacketError → Type 0
 MayFail r (error.TooLong len) = next_packet r ≡ Err (error.TooLong len)
 MayFail r error.NoMemory = (packet : List ℕ) × (next_packet r ≡ Ok (Some packet))

@@ -1,15 +1,15 @@
--- What a reader of a stream has to give: bodies of short frames and, once it is linked, counts of packets. It speaks
+-- What a reader of a stream has to return: bodies of short frames and, once it is linked, counts of packets. It speaks
 -- of the stream, so that it says nothing of how the bytes are kept.
 use Rattle.std.specs.Prelude.{ℕ, ◌+◌, ◌-◌, ◌^◌, List, [], ◌++◌, Option, None, min}
 use Rattle.std.specs.Int.{w16}
 use Rattle.dist_frames.specs.Stream.{first_body, after_first, bodies, packets, partial}
 
--- the reader before and after it was linked
+-- a reader, before and after it is linked
 pub data Reader : Type 0 where
   -- the bytes fed that were not moved out
   Short : List ℕ → Reader
-  -- How many packets ended and were not reported. And what is still owed of the next, as a stream that goes on as it does: the
-  -- bytes of its length that came, or its length as if the bytes that came had not been part of it.
+  -- How many packets ended and were not reported. And what is kept of the next, as a stream that goes on as the original does:
+  -- the bytes of its length that came, or a length that counts only the bytes still to come.
   Linked : ℕ → List ℕ → Reader
 
 -- a count as the reader keeps it: at most the greatest number of 64 bits (our own choice)
@@ -31,12 +31,12 @@ abbrev pub to_come : Reader → List (List ℕ)
 to_come (Short pending) = bodies pending
 to_come (Linked ended rest) = []
 
--- the reader when that body was moved out; with none it is as it was
+-- the reader once that body was moved out; without a next body it is unchanged
 abbrev pub without_next : Reader → Reader
 without_next (Short pending) = Short (after_first w16 pending)
 without_next (Linked ended rest) = Linked ended rest
 
--- the reader when all bytes not yet moved out are those of packets; a linked one stays as it is
+-- the reader that treats all bytes not yet moved out as packets; a linked one is unchanged
 abbrev pub as_linked : Reader → Reader
 as_linked (Short pending) = with_bytes (Linked 0 []) pending
 as_linked (Linked ended rest) = Linked ended rest
@@ -46,17 +46,17 @@ abbrev pub unreported : Reader → ℕ
 unreported (Short pending) = 0
 unreported (Linked ended rest) = ended
 
--- the reader once they are reported
+-- the reader once these packets are reported
 abbrev pub without_count : Reader → Reader
 without_count (Short pending) = Short pending
 without_count (Linked ended rest) = Linked 0 rest
 
--- the bytes that were fed and not moved out, where the reader keeps them: a linked one keeps none of packets
+-- the bytes that were fed and not moved out; a linked reader keeps none of packets
 abbrev pub rest_of : Reader → List ℕ
 rest_of (Short pending) = pending
 rest_of (Linked ended rest) = []
 
--- the reader was linked
+-- the reader is linked
 abbrev pub IsLinked : Reader → Type 0
 IsLinked (Short pending) = ⊥
 IsLinked (Linked ended rest) = Unit {0}

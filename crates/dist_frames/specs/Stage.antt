@@ -3,7 +3,7 @@ use Rattle.dist_frames.specs.Reader.{Reader, Short, Linked}
 use Rattle.dist_frames.specs.declared.frames.ReadStage.{ReadStage}
 use Rattle.dist_frames.specs.declared.frames.ReadStage.TheVariants as stage
 
--- the reader that a stage is
+-- the reader at a stage
 abbrev pub reader_of : ReadStage → Reader
 reader_of (stage.Short pending) = Short pending
 reader_of (stage.Linked ended left) = Linked ended left

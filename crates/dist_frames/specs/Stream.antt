@@ -1,12 +1,12 @@
--- Streams of bodies, each behind its length: short frames with a length of two bytes (ERTS User's Guide, Distribution
--- Handshake), packets of a linked stream with one of four (Protocol between Connected Nodes).
+-- Streams of bodies, each behind its length: short frames with a length of 2 bytes (ERTS User's Guide, Distribution
+-- Handshake), packets of a linked stream with a length of 4 bytes (Protocol between Connected Nodes).
 use Rattle.std.specs.Prelude.{◌≡◌, ℕ, zero, suc, ◌-◌, ◌*◌, ◌^◌, ◌<◌, Bool, ◌&&◌, List, [], ◌∷◌, ◌++◌, length, take, drop}
 use Rattle.std.specs.Prelude.{Option, Some, None, nat_le, if◌then◌else◌}
 use Rattle.std.specs.List.{flat_map, AllByRecursion}
 use Rattle.std.specs.Int.{Width, w16, w32, byte_len, from_be_bytes}
 pub use Rattle.dist_names.specs.Bytes.{number}
 
--- ---- in the words of the subject
+-- ---- what a stream is
 
 -- the frame of a body: its length in a field of this width, then the body; the length does not count itself
 abbrev pub body_frame : Width → List ℕ → List ℕ
@@ -16,7 +16,7 @@ body_frame w body = number w (length body) ++ body
 abbrev pub FitsWidth : Width → List ℕ → Type 0
 FitsWidth w body = length body < 2 ^ (8 * byte_len w)
 
--- THE BODIES OF A STREAM: it is their frames joined, and what is left begins with no whole frame
+-- THE BODIES OF A STREAM: the stream is their frames joined, and then a rest that begins with no whole frame
 pub record Splits (w : Width) (stream : List ℕ) (bodies : List (List ℕ)) (rest : List ℕ) : Type 0 where
   pub whole : stream ≡ flat_map (body_frame w) bodies ++ rest
   pub fit : AllByRecursion (FitsWidth w) bodies
@@ -44,11 +44,11 @@ behind w stream = drop (head w stream) (drop (byte_len w) stream)
 abbrev pub first_body : Width → List ℕ → Option (List ℕ)
 first_body w stream = if has_first w stream then Some (front w stream) else None
 
--- what stands behind it, where there is one
+-- what stands behind the first body, where there is one
 abbrev pub behind_first : Width → List ℕ → Option (List ℕ)
 behind_first w stream = if has_first w stream then Some (behind w stream) else None
 
--- the same, or all where there is none
+-- what stands behind the first body, or all bytes where there is none
 abbrev pub after_first : Width → List ℕ → List ℕ
 after_first w stream = if has_first w stream then behind w stream else stream
 
@@ -78,10 +78,10 @@ bodies stream = split_bodies w16 stream
 abbrev pub packets : List ℕ → ℕ
 packets stream = length (split_bodies w32 stream)
 
--- what begins with no whole packet, without the bytes of it that came: its length counts those alone that are to come
+-- what is kept of a packet that is not whole: the bytes of its length, or a length that counts only the bytes still to come
 abbrev pub short_rest : List ℕ → List ℕ
 short_rest rest = if nat_le (length rest) 4 then rest else number w32 (head w32 rest - (length rest - 4))
 
--- what is still owed of the next packet, as a stream that goes on as this one does after its packets
+-- what is kept behind the whole packets of a stream, so that it goes on as the stream does
 abbrev pub partial : List ℕ → List ℕ
 partial stream = short_rest (split_rest w32 stream)

@@ -24,7 +24,7 @@ after_read now t = record t { heard = max t.heard now }
 abbrev pub after_write : ℕ → Ticking → Ticking
 after_write now t = record t { said = max t.said now }
 
--- WHAT IS DUE: the peer is given up once nothing was read for four quarters, a tick once nothing was written for one
+-- WHAT IS DUE: the peer is given up once nothing was read for four quarters; a tick is due once nothing was written for one
 abbrev pub due_at : ℕ → Ticking → Due
 due_at now t =
     if nat_le (4 * t.quarter) (now - t.heard) then due.GiveUp else (
@@ -38,7 +38,7 @@ pub data Act : Type 0 where
   Heard : ℕ → Act
   Said : ℕ → Act
 
--- the times after it
+-- the times after this read or write
 abbrev pub after_one : Act → Ticking → Ticking
 after_one (Heard now) t = after_read now t
 after_one (Said now) t = after_write now t
@@ -48,12 +48,12 @@ abbrev pub after_acts : List Act → Ticking → Ticking
 after_acts [] t = t
 after_acts (act ∷ acts) t = after_acts acts (after_one act t)
 
--- it was no read of this time before now
+-- the act is no read between this time and now
 abbrev pub WasHeardBefore : ℕ → ℕ → Act → Type 0
 WasHeardBefore time now (Heard m) = m + time ≤ now
 WasHeardBefore time now (Said m) = Unit {0}
 
--- it was no write of this time before now
+-- the act is no write between this time and now
 abbrev pub WasSaidBefore : ℕ → ℕ → Act → Type 0
 WasSaidBefore time now (Heard m) = Unit {0}
 WasSaidBefore time now (Said m) = m + time ≤ now

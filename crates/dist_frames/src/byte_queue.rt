@@ -1,18 +1,18 @@
-//! Bytes that wait.
+//! Bytes that wait to be read.
 
 ghost use Rattle.std.specs.Prelude.{◌≡◌, ◌++◌, ◌-◌, [], length, take, drop, OnOk, OnErr};
 
 use std::alloc::{AllocError, Global};
 use std::marker::Model;
 
-/// Bytes that wait: more come at the end, and those at the front go once they were read. Contracts see those that wait.
+/// Bytes that wait to be read: more are added at the end, and read ones are dropped at the front. Contracts see the waiting ones.
 ///
-/// Bytes that went stay where they are until the next ones would make the vector grow. Then those that wait move to the front,
-/// unless they are more than those that went: so a byte moves at most once on the average.
+/// Dropped bytes stay in the vector until the next ones would make it grow. Then those that wait are moved to the front,
+/// unless they are more than the dropped ones: so a byte is moved at most once on average.
 #[derive(Drop)]
 pub struct ByteQueue {
     bytes: Vec<u8>,
-    // Where those begin that wait.
+    // Where the waiting bytes begin.
     start: usize,
 }
 
@@ -27,7 +27,7 @@ impl Model for ByteQueue {
 }
 
 impl ByteQueue {
-    /// No bytes. It takes no memory.
+    /// An empty queue. It takes no memory.
     pub fn new(alloc: Global) -> ByteQueue
         ensures { result ≡ [] }
     {
@@ -37,28 +37,28 @@ impl ByteQueue {
         }
     }
 
-    /// These bytes wait. It takes no memory.
+    /// A queue of these bytes. It takes no memory.
     pub fn from_vec(bytes: Vec<u8>) -> ByteQueue
         ensures { result ≡ bytes.items }
     {
         ByteQueue { bytes, start: 0 }
     }
 
-    /// All that wait.
+    /// All bytes that wait.
     pub fn as_slice(&self) -> &[u8]
         ensures { result.now ≡ self.now }
     {
         &self.bytes[self.start..]
     }
 
-    /// How many wait.
+    /// How many bytes wait.
     pub fn len(&self) -> usize
         ensures { result ≡ length self.now }
     {
         self.bytes.len() - self.start
     }
 
-    // Moves the bytes to the front of the vector, where no more of them wait than went. It is seldom needed, and apart so that `extend`
+    // Moves the bytes to the front of the vector, unless more wait than were dropped. It is seldom needed, and apart so that `extend`
     // is short enough to become part of its callers.
     #[cold]
     #[inline(never)]
@@ -73,7 +73,7 @@ impl ByteQueue {
         }
     }
 
-    /// More bytes come, behind all others. An `Err` changes nothing.
+    /// Adds bytes at the end. An `Err` changes nothing.
     pub fn extend(&mut self, more: &[u8]) -> Result<(), AllocError>
         ensures ok { OnOk result (self.new ≡ self.old ++ more.now) }
         ensures err { OnErr result (self.new ≡ self.old) }
@@ -84,14 +84,14 @@ impl ByteQueue {
         self.bytes.extend_from_slice(more)
     }
 
-    /// The first `count` bytes go, or all.
+    /// Drops the first `count` bytes, or all.
     pub fn drop_front(&mut self, count: usize)
         ensures { self.new ≡ drop count self.old }
     {
         self.start += count.min(self.len());
     }
 
-    /// All go, and the next ones have the room of the whole vector.
+    /// Drops all bytes; the next ones have the room of the whole vector.
     pub(crate) fn clear(&mut self)
         ensures { self.new ≡ [] }
     {
@@ -99,7 +99,7 @@ impl ByteQueue {
         self.start = 0;
     }
 
-    /// The last `count` bytes go, or all.
+    /// Drops the last `count` bytes, or all.
     pub fn drop_back(&mut self, count: usize)
         ensures { self.new ≡ take (length self.old - count) self.old }
     {
@@ -107,7 +107,7 @@ impl ByteQueue {
         self.bytes.truncate(left);
     }
 
-    /// The bytes themselves, given back. It takes no memory.
+    /// Returns the bytes that wait. It takes no memory.
     pub fn into_vec(self) -> Vec<u8>
         ensures { result.items ≡ self }
     {

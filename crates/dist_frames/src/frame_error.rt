@@ -9,7 +9,7 @@ use thiserror::Error;
 /// Why a body is not framed: the first reason in this order. Nothing is kept of the body.
 #[derive(Clone, Copy, Debug, PartialEq, Eq, Error)]
 pub enum FrameError {
-    /// The body has more bytes than its length field of 2 bytes can hold. The caller's fault.
+    /// The body has more bytes than its length field of 2 bytes can count: the caller's fault.
     #[error("body has more than 65535 bytes")]
     TooLong,
     /// The body can be framed, and no memory was left for the frame.

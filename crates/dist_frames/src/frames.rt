@@ -9,7 +9,7 @@ use std::marker::Model;
 
 /// A reader of a stream that comes in pieces: of short frames, and of packets once it is linked.
 ///
-/// The bodies do not depend on the cuts between the pieces. Contracts see what is still to come, and not what is kept: of
+/// The bodies do not depend on the cuts between the pieces. Contracts see what is still to come, and not how it is kept: of
 /// short frames the bytes that were not moved out, of packets no bytes.
 #[derive(Drop)]
 pub struct Frames {
@@ -23,7 +23,7 @@ pub struct Frames {
 enum ReadStage {
     // Short frames: the bytes that were not moved out.
     Short(ShortQueue),
-    // Packets: how many ended and were not reported, and what is owed of the next.
+    // Packets: how many ended and were not reported, and what is kept of the next.
     Linked { ended: usize, left: Partial },
 }
 
@@ -75,7 +75,7 @@ impl Frames {
         }
     }
 
-    /// Drops the body that `front` shows, which counts as moved out. With none it changes nothing.
+    /// Drops the body that `front` returns, which counts as moved out. Without one it changes nothing.
     pub fn drop_front(&mut self)
         ensures after { self.new ≡ without_next self.old }
         ensures rest { to_come self.new ≡ drop 1 (to_come self.old) }
@@ -100,8 +100,8 @@ impl Frames {
         }
     }
 
-    /// Moves the next whole body out. `None` where there is no whole one yet, or the reader is linked, and then nothing
-    /// changes. `Err` where there is one and no memory for it, and then it is still the next.
+    /// Moves the next whole body out. `None` where there is none yet, or the reader is linked, and then nothing
+    /// changes. `Err` where there is one and no memory for it; it then stays the next one.
     pub fn next_short(&mut self) -> Result<Option<Vec<u8>>, AllocError>
         ensures ok { IfOk result (λ body. (option_map (λ b. b.items) body ≡ next_body self.old) × (self.new ≡ without_next self.old)) }
 
@@ -131,7 +131,7 @@ impl Frames {
         }
     }
 
-    /// Returns how many packets ended since the last call, at most the greatest `usize`, of which nothing is kept. Before
+    /// Returns how many packets ended since the last call, at most the greatest `usize`, and forgets them. Before
     /// `to_linked` it returns 0 and drops nothing. It takes no memory.
     pub fn skip_long(&mut self) -> usize
         ensures count { result ≡ unreported self.old }
@@ -147,8 +147,8 @@ impl Frames {
         }
     }
 
-    /// Gives up the bytes that were fed and not moved out: those that stood behind the last body. A linked reader has dropped
-    /// the bytes of packets, and gives none. It takes no memory.
+    /// Returns the bytes that were fed and not moved out: those behind the last body. A linked reader has dropped
+    /// the bytes of packets, and returns none. It takes no memory.
     pub fn into_rest(self) -> Vec<u8>
         ensures { result.items ≡ rest_of self }
     {

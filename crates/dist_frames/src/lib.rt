@@ -7,7 +7,7 @@
 //! [`Packets`] moves the packets out: its caller says how long one may be, a longer one is refused as soon as its length has come,
 //! and no memory is taken for bytes that did not come.
 //!
-//! Whoever carries a link says what time it is, in milliseconds of any clock that does not go back, and when something was
+//! Whoever carries a link reports the time, in milliseconds of any clock that does not go back, and when something was
 //! read or written ([`Ticker`]). A node that wrote nothing for a quarter of the time of a tick writes a tick; a peer from which
 //! nothing was read for the whole of that time is given up.
 //!

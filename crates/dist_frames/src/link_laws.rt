@@ -27,11 +27,11 @@ pub fn packets_in_any_pieces()
 
 /// A peer is given up where nothing was read from it for four quarters, and nowhere else.
 pub fn a_silent_peer_is_given_up()
-    // One from which something was read in time is not.
+    // A peer from which something was read in time is not given up.
     ensures heard { (t : Ticking) (early late : List Act) (m now : ℕ)
         → 0 < t.quarter → now < m + 4 * t.quarter → due_at now (after_acts (early ++ Heard m ∷ late) t) ≢ due.GiveUp }
 
-    // One from which nothing was read in time is.
+    // A peer from which nothing was read in time is given up.
     ensures silent { (t : Ticking) (acts : List Act) (now : ℕ)
         → t.heard + 4 * t.quarter ≤ now → AllByRecursion (WasHeardBefore (4 * t.quarter) now) acts
         → due_at now (after_acts acts t) ≡ due.GiveUp }
@@ -46,7 +46,7 @@ pub fn a_tick_is_due_in_time()
         → due_at now (after_acts acts t) ≢ due.Nothing wait }
 {}
 
-/// Where nothing is due for some time, nothing is due before it is over, and something is then: a caller that waits for it misses
+/// Where nothing is due for some time, something is due at its end and nothing before: a caller that waits for it misses
 /// nothing.
 pub fn nothing_is_due_before()
     ensures before { (t : Ticking) (now wait more : ℕ)

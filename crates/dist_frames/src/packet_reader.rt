@@ -13,7 +13,7 @@ use std::marker::Model;
 
 /// A reader of the packets of a link, to which bytes come in any pieces.
 ///
-/// The packets do not depend on the cuts between the pieces. A byte is copied in once, moved at most once on the average, and
+/// The packets do not depend on the cuts between the pieces. A byte is copied in once, moved at most once on average, and
 /// copied out once by `next_packet`, or looked at in place by `front`.
 #[derive(Drop)]
 pub struct Packets {
@@ -33,7 +33,7 @@ impl Model for Packets {
     ghost view = { λ p. reading p.most p.bytes };
 }
 
-// The length that stands at the front.
+// The length in the first 4 bytes.
 fn length_in_front(pending: &[u8]) -> usize
     requires { 4 ≤ length pending.now }
     ensures { result ≡ head w32 pending.now }
@@ -72,7 +72,7 @@ impl Packets {
         }
     }
 
-    /// The same, to which the bytes have come that stood behind the last frame of the handshake. It takes no memory.
+    /// The same, fed with the bytes that stood behind the last frame of the handshake. It takes no memory.
     pub fn behind_handshake(alloc: Global, most: usize, rest: Vec<u8>) -> Packets
         ensures { result ≡ reading most rest.items }
     {
@@ -108,7 +108,7 @@ impl Packets {
         }
     }
 
-    /// Drops the packet that `front` shows, which counts as moved out. With none it changes nothing.
+    /// Drops the packet that `front` returns, which counts as moved out. Without one it changes nothing.
     pub fn drop_front(&mut self)
         ensures { self.new ≡ without_next self.old }
     {

@@ -1,4 +1,4 @@
-//! Packets that are written: the length of a body in 4 bytes, the greater byte first, and the body. The length does not count
+//! Writing packets: the length of a body in 4 bytes, the greater byte first, and the body. The length does not count
 //! itself.
 
 ghost use Rattle.std.specs.Prelude.{◌≡◌, ◌↔◌, ℕ, List, ◌≤◌, ◌^◌, ◌++◌, length, IfOk, IsErrOf};
@@ -9,7 +9,7 @@ ghost use Rattle.dist_frames.specs.declared.packet_error.PacketError.TheVariants
 use crate::packet_error::PacketError;
 use std::alloc::Global;
 
-/// The longest body, by its field of 4 bytes.
+/// The longest body that its length field of 4 bytes can count.
 const MOST: usize = 4294967295;
 
 /// The 4 bytes that stand before a body of this many bytes. Whoever writes them and then the body has written the packet, and

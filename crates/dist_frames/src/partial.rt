@@ -1,5 +1,5 @@
 //! Packets of a linked stream: bytes behind their length in 4 bytes, the greater byte first. The length does not count
-//! itself. A packet of no bytes is a tick, by which a node shows that it lives. Of a packet that has not ended only the
+//! itself. A packet of no bytes is a tick, by which a node shows that it is alive. Of a packet that has not ended only the
 //! number of bytes still to come is kept.
 
 ghost use Rattle.std.specs.Prelude.{◌≡◌, ℕ, ◌+◌, ◌<◌, ◌≤◌, ◌==◌, ◌++◌, [], length, take, drop, if◌then◌else◌};
@@ -50,7 +50,7 @@ impl Partial {
         }
     }
 
-    // Takes the first bytes of the piece that belong to the packet: whether it ended, and how many they are.
+    // Takes the first bytes of the piece that belong to the packet. Returns whether it ended, and how many they are.
     fn take(&mut self, piece: &[u8]) -> (bool, usize)
         requires { 0 < length piece.now }
         ensures used { result.1 ≤ length piece.now }
@@ -103,7 +103,7 @@ impl Partial {
     }
 }
 
-// How many bytes of the piece belong to the packet, and how many it still owes then.
+// How many bytes of the piece belong to the packet, and how many are still to come after them.
 fn take_body(owed: u32, piece: &[u8]) -> (u32, usize)
     requires { 0 < owed }
     ensures used { result.1 ≤ length piece.now }
@@ -119,7 +119,7 @@ fn take_body(owed: u32, piece: &[u8]) -> (u32, usize)
     }
 }
 
-// The header with the first bytes of the piece behind those that came.
+// The header with the first bytes of the piece added behind those that came.
 fn fill(header: [u8; 4], len: usize, used: usize, piece: &[u8]) -> [u8; 4]
     requires room { len + used ≤ 4 }
     requires there { used ≤ length piece.now }

@@ -9,10 +9,10 @@ ghost use Rattle.dist_frames.specs.Kept.{frame_len};
 use crate::frame_error::FrameError;
 use std::alloc::Global;
 
-/// The longest body, by its field of 2 bytes.
+/// The longest body that its length field of 2 bytes can count.
 const MOST: usize = 65535;
 
-/// How many bytes the frame at the front has with its length, and 2 until that has come.
+/// How many bytes the frame at the front has, its length included; 2 until its length has come.
 pub fn frame_len(pending: &[u8]) -> usize
     ensures { result ≡ frame_len pending.now }
 {
@@ -23,7 +23,7 @@ pub fn frame_len(pending: &[u8]) -> usize
     2 + u16::from_be_bytes([header[0], header[1]]) as usize
 }
 
-/// The body of the frame at the front, which has this many bytes with its length.
+/// The body of the frame at the front, which has this many bytes, its length included.
 #[tactic(auto, using(crate::proofs::Lengths::least, crate::proofs::Lengths::no_body, crate::proofs::Lengths::some_body))]
 pub fn awaited_body(pending: &[u8], awaited: usize) -> Option<&[u8]>
     requires { awaited ≡ frame_len pending.now }

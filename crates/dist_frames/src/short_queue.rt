@@ -1,4 +1,4 @@
-//! Short frames that wait.
+//! Short frames that wait to be read.
 
 ghost use Rattle.std.specs.Prelude.{◌≡◌, ◌++◌, [], option_copied, OnOk, OnErr};
 ghost use Rattle.std.specs.Int.{w16};
@@ -9,11 +9,11 @@ use crate::short::{awaited_body, frame_len};
 use std::alloc::{AllocError, Global};
 use std::marker::Model;
 
-/// The bytes of short frames that wait. The length of the frame at the front is read once, and not at each byte that comes.
+/// The bytes of short frames that wait. The length of the frame at the front is read once, and not at each piece that comes.
 #[derive(Drop)]
 pub struct ShortQueue {
     bytes: ByteQueue,
-    // How many bytes the frame at the front has with its length, and 2 until that has come.
+    // How many bytes the frame at the front has, its length included; 2 until its length has come.
     awaited: usize,
 }
 
@@ -29,7 +29,7 @@ impl Model for ShortQueue {
 }
 
 impl ShortQueue {
-    /// No bytes. It takes no memory.
+    /// An empty queue. It takes no memory.
     pub fn new(alloc: Global) -> ShortQueue
         ensures { result ≡ [] }
     {
@@ -39,7 +39,7 @@ impl ShortQueue {
         }
     }
 
-    /// All that wait.
+    /// All bytes that wait.
     pub fn as_slice(&self) -> &[u8]
         ensures { result.now ≡ self.now }
     {
@@ -53,7 +53,7 @@ impl ShortQueue {
         awaited_body(self.bytes.as_slice(), self.awaited)
     }
 
-    /// The frame at the front goes. Where none is whole nothing changes.
+    /// Drops the frame at the front. Where none is whole nothing changes.
     #[tactic(auto, using(crate::proofs::Lengths::moved, crate::proofs::Lengths::all_moved, crate::proofs::Lengths::stays_put))]
     pub fn drop_front(&mut self)
         ensures { self.new ≡ after_first w16 self.old }
@@ -62,7 +62,7 @@ impl ShortQueue {
         if waiting < self.awaited {
             return;
         }
-        // A handshake's frame is mostly all that waits, and then none behind it has to move up later.
+        // Mostly the frame of a handshake is all that waits, and then no byte behind it has to be moved later.
         if waiting == self.awaited {
             self.bytes.clear();
         } else {
@@ -71,21 +71,21 @@ impl ShortQueue {
         self.awaited = frame_len(self.bytes.as_slice());
     }
 
-    /// More bytes come, behind all others. An `Err` changes nothing.
+    /// Adds bytes at the end. An `Err` changes nothing.
     #[tactic(auto, using(crate::proofs::Lengths::same_len))]
     pub fn extend(&mut self, more: &[u8]) -> Result<(), AllocError>
         ensures ok { OnOk result (self.new ≡ self.old ++ more.now) }
         ensures err { OnErr result (self.new ≡ self.old) }
     {
         self.bytes.extend(more)?;
-        // So few are awaited until the length has come, and by a body of no bytes.
+        // 2 are awaited until the length has come, and also for a body of no bytes.
         if self.awaited == 2 {
             self.awaited = frame_len(self.bytes.as_slice());
         }
         Ok(())
     }
 
-    /// The bytes themselves, given back. It takes no memory.
+    /// Returns the bytes that wait. It takes no memory.
     pub fn into_vec(self) -> Vec<u8>
         ensures { result.items ≡ self }
     {

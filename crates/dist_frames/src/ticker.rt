@@ -9,7 +9,7 @@ use std::marker::Model;
 pub enum Due {
     /// Nothing for this many milliseconds, if nothing is read or written meanwhile. At least 1.
     Nothing { wait: u64 },
-    /// A tick: nothing was written for a quarter of the time of a tick. Whoever writes it reports it to `note_write`, as of all that it
+    /// A tick: nothing was written for a quarter of the time of a tick. Whoever writes it calls `note_write`, as after all that it
     /// writes.
     Tick,
     /// Nothing was read for the whole time: the link is given up, and its loss reported to the node (`Why::GaveUp`).
@@ -65,7 +65,7 @@ impl Ticker {
         self.said = self.said.max(now);
     }
 
-    /// What is due now. A peer that is to be given up is returned before a tick that is due too.
+    /// What is due now. Where a peer is to be given up, this is returned, even if a tick is due too.
     pub fn due(&self, now: u64) -> Due
         ensures due { result ≡ due_at now self.now }
         ensures quarter { 0 < self.now.quarter }

@@ -19,7 +19,7 @@ ended list n h = (
   λ e. eq-eqb n (length list) (let l = drop_none list n e in omega arith),
 )
 
--- all receipts are seen where the walk over the lines ends
+-- where the walk over the lines ends, all receipts were seen
 pub all_seen : (list : List Receipt) (number next place : ℕ) (history : List Line) → next ≤ length list → length history ≤ place
     → ((list ≡ receipts_of number 0 history) ↔ (drop next list ≡ receipts_of number place (drop place history)))
     → IsTrue (nat_eq next (length list)) ↔ (list ≡ receipts_of number 0 history)

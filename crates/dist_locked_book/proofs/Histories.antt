@@ -21,7 +21,7 @@ use Rattle.dist_locked_book.specs.History.{IsReplay, ends_in_loss}
 abbrev pub KeepsSetup : Type 0
 KeepsSetup = (n : NodeState) (v : Event) (fresh : ℕ) (r : Reply) (m : NodeState) → step n v fresh ≡ Ok (r, m) → m.setup ≡ n.setup
 
--- one more end is open at most
+-- at most one more end is open
 abbrev pub OpensOne : Type 0
 OpensOne = (n : NodeState) (v : Event) (fresh : ℕ) (r : Reply) (m : NodeState) → AreLegal n.ends → step n v fresh ≡ Ok (r, m) → open_count m ≤ open_count n + 1
 
@@ -40,18 +40,18 @@ ends_in_loss-push [] r = refl
 ends_in_loss-push (x ∷ []) r = refl
 ends_in_loss-push (x ∷ y ∷ ys) r = ends_in_loss-push (y ∷ ys) r
 
--- for a receipt that is not of a loss there is room for one more
+-- behind a receipt that is not of a loss there is room for one more
 pub room_left : (rs kept : List Receipt) (r : Receipt) (n : ℕ) → kept ≡ rs ++ r ∷ [] → ends_in_loss kept ≡ false → MatchBool (is_loss r.line.event) (0 < n) (1 < n) → 1 < n
 room_left rs kept r n is h room = subst (λ b. MatchBool b (0 < n) (1 < n)) (sym (ends_in_loss-push rs r) ∙ ap ends_in_loss (sym is) ∙ h) room
 
 abbrev said : Reply → Result Reply StepError
 said r = Ok r
 
--- a step gives the reply that the answer gave
+-- a step gives the reply that was answered beforehand
 pub replied : (n : NodeState) (event : Event) (fresh : ℕ) (a r : Reply) (m : NodeState) → reply_of (step n event fresh) ≡ Ok a → step n event fresh ≡ Ok (r, m) → step n event fresh ≡ Ok (a, m)
 replied n event fresh a r m h e = let same : said r ≡ said a = sym (ap reply_of e) ∙ h in let is : r ≡ a = cc in e ∙ ap (λ (x : Reply). Ok (x, m)) is
 
--- a legal history is legal with one more line
+-- a legal history with one more line is legal
 pub legal-push : KeepsSetup → (n : NodeState) (ls kept : List Line) (l : Line) (r : Reply) (m : NodeState) → IsReplay (opening n.setup) ls n → reply_of (step n l.event l.fresh) ≡ Ok l.reply → step n l.event l.fresh ≡ Ok (r, m) → kept ≡ ls ++ l ∷ [] → IsReplay (opening m.setup) kept m
 legal-push keeps n ls kept l r m legal h e is =
     let e' = replied n l.event l.fresh l.reply r m h e in

@@ -1,14 +1,14 @@
--- Seats that are all there, with all their receipts.
+-- Whether all seats are there, with all their receipts.
 use Rattle.std.specs.Prelude.{◌≡◌, ℕ, ◌+◌, ◌<◌, ◌==◌, List, [], ◌∷◌, if◌then◌else◌, All, count_by}
 use Rattle.dist_locked_book.specs.declared.line.Line.{Line}
 use Rattle.dist_locked_book.specs.declared.seat.Receipt.{Receipt}
 use Rattle.dist_locked_book.specs.History.{SeatState}
 
--- the seats are those of the numbers below n, each once
+-- the seats have the numbers below n, each once
 abbrev pub AreAll : ℕ → List SeatState → Type 0
 AreAll n seats = All (λ s. s.number < n) seats × ((k : ℕ) → k < n → count_by (λ s. s.number == k) seats ≡ 1)
 
--- the lines of this seat number, in order, each with its place, where the first of the lines stands at this place
+-- the receipts of the lines of this seat number, in order, each with the place of its line; the first line has this place
 abbrev pub receipts_of : ℕ → ℕ → List Line → List Receipt
 receipts_of number place [] = []
 receipts_of number place (l ∷ ls) =

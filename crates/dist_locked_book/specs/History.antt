@@ -15,17 +15,17 @@ abbrev pub IsReplay : NodeState → List Line → NodeState → Type 0
 IsReplay n [] m = n ≡ m
 IsReplay n (l ∷ ls) m = (next : NodeState) × (step n l.event l.fresh ≡ Ok (l.reply, next)) × IsReplay next ls m
 
--- what contracts see of a book
+-- a book, as contracts see it
 pub record BookState : Type 0 where
   pub node : NodeState
   pub seats : ℕ
   pub history : List Line
 
--- the history is one that a single thread could have made: from the opening node of this setup it leads to this node
+-- a single thread could have made the history: from the opening node of this setup it leads to this node
 abbrev pub IsLegal : BookState → Type 0
 IsLegal b = IsReplay (opening b.node.setup) b.history b.node
 
--- what contracts see of a seat: its number, its receipts in order, and for how many more it has room
+-- a seat, as contracts see it: its number, its receipts in order, and how many more it has room for
 pub record SeatState : Type 0 where
   pub number : ℕ
   pub list : List Receipt
@@ -41,9 +41,9 @@ ends_in_loss (r ∷ s ∷ rs) = ends_in_loss (s ∷ rs)
 abbrev pub AreFresh : List SeatState → Type 0
 AreFresh seats = (k : ℕ) (s : SeatState) → slice_get seats k ≡ Some s → (s.number ≡ k) × (s.list ≡ []) × (0 < s.spare)
 
--- ---- one step at a moment that nobody names
+-- ---- one step, at some moment
 
--- some node with a legal history gives this receipt's reply to its event, and the receipt's place is the one behind that history
+-- some node with a legal history gives this receipt's reply to its event, and the receipt's place is behind that history
 abbrev pub IsAnswered : Receipt → Type 0
 IsAnswered r = (b : BookState) × (m : NodeState) × IsLegal b × (r.at_ ≡ length b.history) × (step b.node r.line.event r.line.fresh ≡ Ok (r.line.reply, m))
 

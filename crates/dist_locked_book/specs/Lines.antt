@@ -1,4 +1,4 @@
--- Lines that several hold at once.
+-- Lines that several holders share.
 use Rattle.std.specs.Prelude.{◌≡◌}
 use Rattle.std.specs.Arc.{arc_value}
 use Rattle.dist_core.specs.declared.event.Event.{Event}
@@ -16,7 +16,7 @@ use Rattle.dist_locked_book.specs.declared.shared_line.LineView.TheVariants as v
 abbrev pub line_with : LineNumbers → Event → Reply → Line
 line_with entry v reply = record { ticket = entry.ticket; seat = entry.seat; event = v; fresh = entry.fresh; reply = reply }
 
--- the line that is kept so
+-- the line that is kept in this way
 abbrev pub line_of : Kept → Line
 line_of (kept.Shared line) = arc_value line
 line_of (kept.Came entry link id) = line_with entry (event.Incoming link) (silent_reply id)

@@ -1,4 +1,4 @@
--- What is made of a step's reply: its line for all that share it, and a copy.
+-- What is made of a step's reply: its line for all holders that share it, and a copy.
 use Rattle.std.specs.Prelude.{◌≡◌}
 use Rattle.dist_core.specs.declared.event.Event.{Event}
 use Rattle.dist_core.specs.declared.reply.Reply.{Reply}
@@ -6,6 +6,6 @@ use Rattle.dist_locked_book.specs.Lines.{line_with}
 use Rattle.dist_locked_book.specs.declared.shared_line.LineNumbers.{LineNumbers}
 use Rattle.dist_locked_book.specs.declared.sharing.LineCopies.{LineCopies}
 
--- three times the line of this entry, with this event and this reply, and the reply itself
+-- the line of this entry, with this event and this reply, three times, and the reply itself
 abbrev pub AreLines : LineNumbers → Event → Reply → LineCopies → Type 0
 AreLines entry v reply s = (s.line ≡ line_with entry v reply) × (s.second ≡ s.line) × (s.third ≡ s.line) × (s.reply ≡ reply)

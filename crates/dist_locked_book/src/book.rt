@@ -21,10 +21,10 @@ use dist_peers::EndId;
 use std::alloc::{AllocError, Global};
 use std::marker::Model;
 
-/// A node with the history of its steps. To a contract it is its node, how many seats it has, and the history.
+/// A node with the history of its steps. Contracts see its node, how many seats it has, and the history.
 ///
-/// Only steps that succeeded stand in it, so that their replay from the opening node of the setup gives the node and each
-/// reply. There is room for one line for each open end: so that the loss of any takes no memory.
+/// The history has only steps that succeeded, so that their replay from the opening node of the setup gives the node and each
+/// reply. There is room for one line for each open end: so the loss of any of them takes no memory.
 #[derive(Drop)]
 pub struct Book {
     node: Node,
@@ -46,7 +46,7 @@ impl Model for Book {
 }
 
 impl Book {
-    /// The opening node of a setup, and no line. It takes no memory.
+    /// The opening node of a setup, without a line. It takes no memory.
     pub fn new(alloc: Global, setup: Setup, seats: u32) -> Book
         ensures { (result.node ≡ opening setup) × (result.seats ≡ seats) × (result.history ≡ []) }
     {
@@ -138,7 +138,7 @@ impl Book {
     }
 }
 
-// A line that was added: its place, the line twice, and a copy of its reply.
+// A line that was added: its place, the line itself twice, and a copy of its reply.
 #[derive(Drop)]
 struct Entered {
     at_: usize,
@@ -147,7 +147,7 @@ struct Entered {
     reply: Reply,
 }
 
-// Makes room for the line of a step and one line for each end that is open then. Before a loss there is room already.
+// Makes room for the line of a step, and for one line for each end that is open then. Before a loss there is room already.
 fn make_room(history: &mut Vec<SharedLine>, open_ends: usize, lost: bool) -> Result<(), StepError>
     requires { vec_len history.old + open_ends ≤ vec_capacity history.old }
     ensures same { (history.new.items ≡ history.old.items) × (vec_len history.new ≡ vec_len history.old) }
@@ -165,11 +165,11 @@ fn make_room(history: &mut Vec<SharedLine>, open_ends: usize, lost: bool) -> Res
     history.reserve(more).map_err(|_| StepError::NoMemory)
 }
 
-/// Makes a step of the book's node for a seat, and adds its line to the history and its receipt to the seat. With the receipt
-/// comes a copy of the reply, for whoever hands it on.
+/// Makes a step of the book's node for a seat, and adds its line to the history and its receipt to the seat. It returns the
+/// receipt with a copy of the reply, for whoever hands that on.
 ///
-/// It is refused as the node refuses the step, out of memory last, and changes neither the book nor the seat's receipts
-/// then. A loss of an open end succeeds where the seat's last receipt is not of a loss: it takes no memory. Source: our own
+/// It is refused as the node refuses the step, out of memory last; a refusal changes neither the book nor the seat's
+/// receipts. A loss of an open end succeeds where the seat's last receipt is not of a loss: it takes no memory. Source: our own
 /// choice.
 pub fn step_on(
     alloc: Global,
@@ -217,7 +217,7 @@ pub fn step_on(
     Ok((Receipt { at_, line }, reply))
 }
 
-// Makes a step of a node. That of a connection that came, and that of a loss, have lines that take no memory; any other line is
+// Makes a step of a node. The lines of an incoming connection and of a loss take no memory; any other line is
 // made before the step is.
 #[inline(always)]
 fn make_step(

@@ -15,8 +15,8 @@ pub enum CloseError {
     /// The seats are not those of all numbers, each once.
     #[error("a seat is missing, or there twice")]
     MissingSeat,
-    /// A seat's receipts are not the history's lines of its number at their places, or a line has another seat's number. A
-    /// seat of another node, too.
+    /// A seat's receipts are not the history's lines of its number at their places, or a line has another seat's number. Also
+    /// where a seat is of another node.
     #[error("a receipt is absent")]
     ReceiptAbsent,
 }
@@ -31,13 +31,13 @@ pub struct Closed {
 }
 
 /// The node and its history, where all seats are there, each with exactly the receipts of its lines. Otherwise the book and the
-/// seats come back: MissingSeat comes before ReceiptAbsent. It takes no memory. Source: our own choice.
+/// seats are returned: MissingSeat comes before ReceiptAbsent. It takes no memory. Source: our own choice.
 pub fn close(book: Book, seats: Vec<Seat>) -> Result<Closed, (CloseError, Book, Vec<Seat>)>
     ensures closed { IfOk result (λ c. (c.node ≡ book.node) × (c.history.items ≡ book.history)) }
     ensures legal { IfOk result (λ c. IsReplay (opening c.node.setup) c.history.items c.node) }
     ensures seats { OnOk result (AreAll book.seats seats.items × AreKept book.seats book.history seats.items) }
 
-    // The book and the seats come back. That a seat is missing comes first.
+    // The book and the seats are returned. A missing seat comes before an absent receipt.
     ensures back { IfErr result (λ e. (e.1 ≡ book) × (e.2.items ≡ seats.items)) }
     ensures missing { IfErr result (λ e. e.0 ≡ CloseError.MissingSeat → ¬ AreAll book.seats seats.items) }
     ensures absent { IfErr result (λ e. e.0 ≡ CloseError.ReceiptAbsent → AreAll book.seats seats.items × ¬ AreKept book.seats book.history seats.items) }
@@ -52,7 +52,7 @@ pub fn close(book: Book, seats: Vec<Seat>) -> Result<Closed, (CloseError, Book, 
     Ok(Closed { node, history })
 }
 
-// Whether the seats are those of the numbers below n, each once.
+// Whether the seats have the numbers below n, each once.
 fn are_all(n: u32, seats: &[Seat]) -> bool
     ensures { IsTrue result ↔ AreAll n seats.now }
 {

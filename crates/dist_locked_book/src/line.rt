@@ -11,7 +11,7 @@ pub struct Line {
     pub ticket: u64,
     /// The number of the seat that made it.
     pub seat: u32,
-    /// What the node was given.
+    /// The event that the node got.
     pub event: Event,
     /// The number that was drawn for it: the challenge, where the step sends one.
     pub fresh: u32,
@@ -36,7 +36,7 @@ impl Line {
         })
     }
 
-    /// Whether the two are one line.
+    /// Whether the two lines are equal.
     pub fn is_same(&self, other: &Line) -> bool
         ensures { IsTrue result ↔ (self.now ≡ other.now) }
     {

@@ -6,17 +6,17 @@ use super::shared_line::SharedLine;
 use std::alloc::{AllocError, Global};
 use std::marker::Model;
 
-/// What a seat keeps of a step of its own.
+/// What a seat keeps of each of its steps.
 #[derive(Drop)]
 pub struct Receipt {
-    /// Which line of the history it is, counted from 0.
+    /// The place of the step's line in the history, counted from 0.
     pub at_: usize,
     /// That line.
     pub line: SharedLine,
 }
 
 /// One caller's place at a node, with the receipts of its steps in order. A node's seats are made by `fresh_seats`, and
-/// `close` wants all of them back. There is room for one receipt more, except where the last one is of a loss: so that a loss
+/// `close` needs all of them back. There is room for one more receipt, unless the last one is of a loss: so a loss
 /// takes no memory.
 #[derive(Drop)]
 pub struct Seat {
@@ -59,8 +59,8 @@ impl Seat {
         &self.receipts
     }
 
-    /// Makes room for the receipt of a step, and, where the step is not of a loss, for one more. It changes nothing else. Before
-    /// a loss it takes no memory where there is room for one receipt. The error is that memory ran out; what room there was
+    /// Makes room for the receipt of a step, and, where the step is not of a loss, for one more. It changes nothing else. For
+    /// a loss it takes no memory where there is room for one receipt. An error means that memory ran out; the room that there was
     /// is still there then. Source: our own choice.
     pub fn make_room(&mut self, lost: bool) -> Result<(), AllocError>
         ensures same { (self.new.number ≡ self.old.number) × (self.new.list ≡ self.old.list) × (self.old.spare ≤ self.new.spare) }
@@ -80,7 +80,7 @@ impl Seat {
     }
 }
 
-/// The seats of a node that is to have this many, in the order of their numbers, each with no receipt and with room for one.
+/// The seats of a node that is to have this many, in the order of their numbers, each with no receipt and room for one.
 pub fn fresh_seats(alloc: Global, count: u32) -> Result<Vec<Seat>, AllocError>
     ensures count { IfOk result (λ seats. vec_len seats ≡ count) }
     ensures fresh { IfOk result (λ seats. AreFresh seats.items) }

@@ -1,4 +1,4 @@
-//! Lines that several hold at once.
+//! Lines that several holders share.
 ghost use Rattle.std.specs.Prelude.{◌≡◌, ◌↔◌, [], Some, None, IfOk, IsTrue};
 ghost use Rattle.std.specs.Arc.{arc_value};
 ghost use Rattle.dist_core.specs.declared.event.Event.TheVariants as Event;
@@ -13,7 +13,7 @@ use std::alloc::{AllocError, Global};
 use std::marker::Model;
 use std::sync::Arc;
 
-/// What a line has beside its event and its reply.
+/// What a line has besides its event and its reply.
 #[derive(Clone, Copy)]
 pub struct LineNumbers {
     pub ticket: u64,
@@ -37,7 +37,7 @@ impl LineNumbers {
     }
 }
 
-/// How a line is kept: that of a connection that came, and that of a loss, is so short that it takes no memory of its own.
+/// How a line is kept: the line of an incoming connection, or of a loss, is so short that it takes no memory of its own.
 #[derive(Drop)]
 pub enum Kept {
     Shared(Arc<Line>),
@@ -53,8 +53,8 @@ pub enum Kept {
     },
 }
 
-/// A line that several hold at once: the history, the seat that made the step, and whoever called. Equal copies share it, so a
-/// copy takes no further memory. To a contract it is the line.
+/// A line that several holders share: the history, the seat that made the step, and the caller. Equal copies share the memory, so
+/// a copy takes no more. Contracts see the line.
 #[derive(Drop)]
 pub struct SharedLine {
     kept: Kept,
@@ -70,12 +70,12 @@ impl Model for SharedLine {
     ghost view = { λ l. line_of l.kept };
 }
 
-/// A line that is read: lent, or made anew where it was kept in short.
+/// A line to read: borrowed, or made anew where it was kept in its short form.
 #[derive(Drop)]
 pub enum LineView<'a> {
-    /// It lies with those that share it.
+    /// The line that its holders share.
     Lent(&'a Line),
-    /// It was kept in short.
+    /// It was kept in its short form.
     Made(Line),
 }
 
@@ -103,7 +103,7 @@ impl SharedLine {
         })
     }
 
-    // The line of a connection that came, for which an end was given out. It takes no memory.
+    // The line of an incoming connection, for which an end was given out. It takes no memory.
     #[inline(always)]
     pub(crate) fn of_arrival(alloc: Global, entry: LineNumbers, link: u64, id: EndId) -> SharedLine
         ensures { result ≡ line_with entry (Event.Incoming link) (silent_reply id) }
@@ -165,7 +165,7 @@ impl SharedLine {
         }
     }
 
-    /// The end of its step: that of the reply.
+    /// The end that the reply names.
     pub fn end_(&self) -> EndId
         ensures { result ≡ (let r = self.now.reply in r.end_) }
     {
@@ -185,7 +185,7 @@ impl SharedLine {
         }
     }
 
-    /// An equal line, which is shared with this one. It fails only where there are 2^63 of them.
+    /// An equal line, which shares its memory with this one. It fails only where there are 2^63 of them.
     pub fn try_clone(&self) -> Result<SharedLine, AllocError>
         ensures { IfOk result (λ copy. copy ≡ self.now) }
     {
@@ -208,7 +208,7 @@ impl SharedLine {
         })
     }
 
-    /// Whether the two are one line.
+    /// Whether the two lines are equal.
     pub fn is_same(&self, other: &SharedLine) -> bool
         ensures { IsTrue result ↔ (self.now ≡ other.now) }
     {

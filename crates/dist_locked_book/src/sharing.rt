@@ -1,4 +1,4 @@
-//! How the line of a step is made before the step is.
+//! Makes the line of a step before the step is made.
 ghost use Rattle.std.specs.Prelude.{◌≡◌, IfOk};
 ghost use Rattle.dist_locked_book.specs.Sharing.{AreLines};
 
@@ -15,7 +15,7 @@ pub struct LineCopies {
     pub reply: Reply,
 }
 
-/// Keeps the reply to an event in its line.
+/// Keeps the reply to an event in a line.
 #[derive(Drop)]
 pub struct Sharing<'a> {
     pub entry: LineNumbers,
@@ -27,7 +27,7 @@ impl<'a> Keeper for Sharing<'a> {
 
     ghost keeps = { λ s reply kept. AreLines s.entry s.event.now reply kept };
 
-    // No step of which nothing is known beforehand.
+    // Any reply may need memory here.
     ghost is_ready_for = { λ s reply. ⊥ };
 
     fn keep(&self, alloc: Global, reply: Reply) -> Result<LineCopies, AllocError> {

@@ -1,4 +1,4 @@
--- What is read is spelled so, and what is spelled so is read.
+-- A body is read as a message exactly where it spells it.
 use Rattle.std.proofs.Common.{◌≡◌, ℕ, ◌^◌, ◌<◌, List, [], ◌∷◌, ◌++◌, length, Option, Some, Ok, refl, sym, ap, subst, ◌∙◌, arith}
 use Rattle.std.specs.Int.{w16, w32, w64, to_be_bytes}
 use Rattle.dist_messages.specs.declared.message.Message.{Message}
@@ -8,8 +8,10 @@ use Rattle.dist_messages.specs.declared.message.Side.TheVariants.{Dialler, Accep
 use Rattle.dist_messages.specs.Spelling.{Spells, Fits}
 use Rattle.dist_names.specs.Bytes.{IsBytes}
 use Rattle.std.proofs.lemmas.List.{append-nil}
-use Rattle.dist_messages.specs.Reading.{◌>>=◌, number_at, bytes_at, value_at_end, old_name, new_name, old_challenge, new_challenge, complement, reply, ack}
-use Rattle.dist_messages.proofs.FieldLaws.{bind_ok, ok_is, ended_ok, Takes-then, wide16, wide32, wide64, number_takes, number_again, bytes_take, bytes_again}
+use Rattle.dist_names.specs.Fields.{number_at, bytes_at}
+use Rattle.dist_names.proofs.Fields.{Takes-then, wide16, wide32, wide64, number_takes, number_again, bytes_take, bytes_again}
+use Rattle.dist_messages.specs.Reading.{◌>>=◌, value_at_end, old_name, new_name, old_challenge, new_challenge, complement, reply, ack}
+use Rattle.dist_messages.proofs.FieldLaws.{bind_ok, ok_is, ended_ok}
 
 pub old_name_again : (version flags : ℕ) (name : List ℕ) → version < 2 ^ 16 → flags < 2 ^ 32 → old_name (to_be_bytes w16 version ++ to_be_bytes w32 flags ++ name) ≡ Ok (message.OldName flags name)
 unfolding old_name
@@ -47,7 +49,7 @@ ack_again digest d =
     let whole : bytes_at 16 digest ≡ Some (digest, []) = ap (bytes_at 16) (sym (append-nil digest)) ∙ bytes_again 16 digest [] d in
     rw whole refl
 
--- ---- what is read is spelled so
+-- ---- a body that is read as a message spells it
 
 pub record Reads (side : Side) (tag : ℕ) (bytes : List ℕ) (m : Message) : Type 0 where
   pub spelled : Spells side m (tag ∷ bytes)

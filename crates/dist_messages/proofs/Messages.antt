@@ -23,7 +23,7 @@ use Rattle.dist_messages.specs.Views.{has_name}
 use Rattle.dist_messages.proofs.FieldLaws.{ok_is}
 use Rattle.dist_messages.proofs.Bodies.{Reads, old_name_again, new_name_again, old_challenge_again, new_challenge_again, complement_again, reply_again, ack_again, old_name_takes, new_name_takes, old_challenge_takes, new_challenge_takes, complement_takes, reply_takes, ack_takes}
 
--- ---- what is spelled so is read
+-- ---- a body that spells a message is read as it
 
 pub status_again : (side : Side) (s : Status) → IsTrue (is_said_by s side) → status_of side (text_of s) ≡ Ok (message.Status s)
 unfolding status_of
@@ -62,7 +62,7 @@ spelled_is_read Acceptor (message.NewName flags creation name) body f e = absurd
 spelled_is_read Acceptor (message.Complement high creation) body f e = absurd e
 spelled_is_read Acceptor (message.Reply challenge digest) body f e = absurd e
 
--- ---- what is read is spelled so
+-- ---- a body that is read as a message spells it
 
 same_bytes : (xs ys : List ℕ) → bytes_eq xs ys ≡ true → xs ≡ ys
 same_bytes [] [] e = refl
@@ -162,7 +162,7 @@ fine_is x y e = cc
 few : (name : List ℕ) → ltb 255 (length name) ≡ false → length name < 2 ^ 16
 few name h = let le : length name ≤ 255 = ltb-false 255 (length name) h in omega arith
 
--- one spelling of the many
+-- what is written is one of the spellings
 pub written_is_spelled : (side : Side) (m : Message) (body : List ℕ) → own_spelling side m ≡ Ok body → Spells side m body
 written_is_spelled Dialler (message.OldName flags name) body e =
     let p = bounded_ok (ltb 255 (length name)) (0x6e ∷ to_be_bytes w16 5 ++ to_be_bytes w32 flags ++ name) body e in
@@ -191,7 +191,7 @@ written_is_spelled Acceptor (message.NewName flags creation name) body e = absur
 written_is_spelled Acceptor (message.Complement high creation) body e = absurd cc
 written_is_spelled Acceptor (message.Reply challenge digest) body e = absurd cc
 
--- a spelling has one message
+-- a body spells one message
 pub one_message_lem : (side : Side) (m n : Message) (body : List ℕ) → Fits m → Fits n → Spells side m body → Spells side n body → m ≡ n
 one_message_lem side m n body fm fn sm sn = ok_is m n (sym (spelled_is_read side m body fm sm) ∙ spelled_is_read side n body fn sn)
 
@@ -224,6 +224,6 @@ tag_of_named side (message.Complement high creation) body e h = absurd cc
 tag_of_named side (message.Reply challenge digest) body e h = absurd cc
 tag_of_named side (message.Ack digest) body e h = absurd cc
 
--- the same of a message that was read
+-- the same for a message that was read
 pub named_has_tag : (side : Side) (body : List ℕ) (m : Message) → IsBytes body → read side body ≡ Ok m → IsTrue (has_name m) → IsTrue (has_name_tag body)
 named_has_tag side body m fits e = tag_of_named side m body (read_is_spelled side body m fits e).0

@@ -1,4 +1,4 @@
--- A body is the pieces that were put one behind the other, and a name is checked for each message that has it.
+-- A body is the pieces that were put one behind the other, and each message that has a name has it checked.
 use Rattle.std.proofs.Common.{◌≡◌, ℕ, List, ◌++◌, Result, Ok, Err, cond, sym, ap, subst, ◌∙◌, append_assoc}
 use Rattle.std.specs.Prelude.{OnOk, is_ok}
 use Rattle.dist_messages.specs.declared.message.Message.{Message}
@@ -6,7 +6,7 @@ use Rattle.dist_messages.specs.declared.message_error.MessageError.{MessageError
 use Rattle.dist_messages.specs.Canonical.{spelling_with_name}
 use Rattle.dist_messages.specs.Writing.{AnswersCheck, name_in}
 
--- a piece behind those that are there
+-- a piece is put behind those that are there
 pub more : (old front piece body next : List ℕ) → body ≡ old ++ front → next ≡ body ++ piece → next ≡ old ++ (front ++ piece)
 more old front piece body next e f = f ∙ ap (λ (x : List ℕ). x ++ piece) e ∙ append_assoc old front piece
 
@@ -15,7 +15,7 @@ pub last : {X E : Type 0} (r : Result X E) (old front piece body next : List ℕ
 last (Ok x) old front piece body next e f = more old front piece body next e f
 last (Err x) old front piece body next e f = tt
 
--- the same of the bytes of a slice
+-- the same for the bytes of a slice
 pub last_slice : {X E : Type 0} (r : Result X E) (old front piece body next : List ℕ) → body ≡ old ++ front → next ≡ cond (is_ok r) (body ++ piece) body → OnOk r (next ≡ old ++ (front ++ piece))
 last_slice (Ok x) old front piece body next e f = more old front piece body next e f
 last_slice (Err x) old front piece body next e f = tt

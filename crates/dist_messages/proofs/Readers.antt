@@ -1,41 +1,30 @@
--- What is read one field after the other: what comes of bytes that are too few or too many.
-use Rattle.std.proofs.Common.{◌≡◌, ℕ, ◌-◌, ◌<◌, ◌≤◌, false, cond, ltb, eqb, List, [], ◌∷◌, ◌++◌, length, take, drop, replicate, Option, Some, None, Result, Ok, Err, refl, sym, ap, ◌∙◌, append_assoc, arith, inl, inr, ◌⊎◌}
+-- What is read one field after the other: what is answered to bytes that are too few or too many.
+use Rattle.std.proofs.Common.{◌≡◌, ℕ, ◌-◌, ◌<◌, ◌≤◌, false, cond, ltb, eqb, List, [], ◌∷◌, ◌++◌, length, take, drop, Option, Some, None, Result, Ok, Err, refl, sym, ap, ◌∙◌, append_assoc, arith, inl, inr, ◌⊎◌}
 use Rattle.std.specs.Int.{w16, w32, w64, from_be_bytes}
 use Rattle.std.proofs.lemmas.Bool.{cases_lt, le-ltb, lt-ltb, ne_eqb}
-use Rattle.std.proofs.lemmas.List.{take_at, drop_at, take-append-drop, length-append, length-take-le, length-replicate, get_or-replicate, get_or_past}
+use Rattle.std.proofs.lemmas.List.{take_at, drop_at, take-append-drop, length-append, length-take-le, length-replicate}
 use Rattle.dist_messages.specs.declared.message.Message.{Message}
 use Rattle.dist_messages.specs.declared.message.Message.TheVariants as message
 use Rattle.dist_messages.specs.declared.message_error.MessageError.{MessageError}
 use Rattle.dist_messages.specs.declared.message_error.MessageError.TheVariants.{Short, Long}
 use Rattle.dist_names.specs.Bytes.{IsBytes}
-use Rattle.dist_names.proofs.Bytes.{IsBytes-append}
-use Rattle.dist_messages.specs.Reading.{◌>>=◌, number_at, bytes_at, value_at_end, old_name, new_name, old_challenge, new_challenge, complement, reply, ack}
-
--- ---- bytes
-
-abbrev zeros : ℕ → List ℕ
-zeros n = replicate n 0
-
-zeros_are_bytes : (n : ℕ) → IsBytes (zeros n)
-zeros_are_bytes n i =
-    elim (cases_lt i n) [
-      | inl lt ↦ rw (get_or-replicate {A = ℕ} n i 0 0 lt) (omega arith)
-      | inr le ↦ rw (get_or_past (zeros n) i 0 (omega (arith, length-replicate {A = ℕ} n 0))) (omega arith)
-    ]
+use Rattle.dist_names.proofs.Bytes.{zeros, IsBytes-zeros, IsBytes-append}
+use Rattle.dist_names.specs.Fields.{number_at, bytes_at}
+use Rattle.dist_messages.specs.Reading.{◌>>=◌, value_at_end, old_name, new_name, old_challenge, new_challenge, complement, reply, ack}
 
 -- ---- a reader of fields
 
 abbrev pub Read : Type 0
 Read = List ℕ → Result Message MessageError
 
--- some more bytes are read with these
+-- with some more bytes behind them, these bytes are read
 pub record Completed (f : Read) (bytes : List ℕ) : Type 0 where
   pub more : List ℕ
   pub more_bytes : IsBytes more
   pub message : Message
   pub whole : f (bytes ++ more) ≡ Ok message
 
--- a front of the bytes is read
+-- a prefix of the bytes is read
 pub record Overrun (f : Read) (bytes : List ℕ) : Type 0 where
   pub front : List ℕ
   pub next : ℕ
@@ -65,7 +54,7 @@ read_once m n e h = cc
 
 pub rest_reader : (f : List ℕ → Message) → IsReader (λ rest. Ok (f rest))
 rest_reader f = record {
-  nothing = record { more = []; more_bytes = λ i. zeros_are_bytes 0 i; message = f []; whole = refl };
+  nothing = record { more = []; more_bytes = λ i. IsBytes-zeros 0 i; message = f []; whole = refl };
   short = λ bytes e. absurd cc;
   long = λ bytes e. absurd cc;
   read_stays = λ bytes more m e h. cc;
@@ -102,7 +91,7 @@ end_refusals m (b ∷ rest) d e = inr (behind_is d b rest m e)
 
 pub end_reader : (m : Message) → IsReader (λ rest. value_at_end rest m)
 end_reader m = record {
-  nothing = record { more = []; more_bytes = λ i. zeros_are_bytes 0 i; message = m; whole = refl };
+  nothing = record { more = []; more_bytes = λ i. IsBytes-zeros 0 i; message = m; whole = refl };
   short = end_short m;
   long = end_long m;
   read_stays = end_read_stays m;
@@ -134,7 +123,7 @@ fill n value g readers bytes le =
     let c = (readers (value head)).nothing in
     record {
       more = pad ++ c.more;
-      more_bytes = IsBytes-append pad c.more (zeros_are_bytes (n - length bytes)) c.more_bytes;
+      more_bytes = IsBytes-append pad c.more (IsBytes-zeros (n - length bytes)) c.more_bytes;
       message = c.message;
       whole = ap (then n value g) (sym (append_assoc bytes pad c.more)) ∙ then_is n value g head c.more len ∙ c.whole;
     }

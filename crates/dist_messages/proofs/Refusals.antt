@@ -1,4 +1,4 @@
--- Each refusal has its cause in the layouts, and each cause its refusal.
+-- Each refusal has its cause in the layouts, and each cause leads to its refusal.
 use Rattle.std.proofs.Common.{◌≡◌, ℕ, true, false, eqb, List, [], ◌∷◌, ◌++◌, Option, Some, None, Result, Ok, Err, refl, sym, ap, subst, ◌∙◌, inl, inr}
 use Rattle.std.specs.Prelude.{IsTrue, ◌↔◌, IfErr, IsOk}
 use Rattle.dist_messages.specs.Answer.{Answers}
@@ -21,7 +21,7 @@ use Rattle.dist_messages.proofs.Messages.{spelled_is_read, read_is_spelled, stat
 
 -- ---- the layout of a first byte
 
--- what follows the first byte is fields, a text, or nothing that is read
+-- what follows the first byte is fields, a text, or nothing that can be read
 data Row (side : Side) (tag : ℕ) : Type 0 where
   Fields : (f : Read) → IsReader f → ((rest : List ℕ) → read side (tag ∷ rest) ≡ f rest) → (tag ≡ status_tag → ⊥) → Row side tag
   Text : tag ≡ status_tag → Row side tag
@@ -101,7 +101,7 @@ known_some : (o : Option Status) (m : Message) → status_message o ≡ Ok m →
 known_some None m e = absurd cc
 known_some (Some s) m e = (s, refl)
 
--- a text that is read is that of a status
+-- a text that is read is the text of a status
 read_text : (side : Side) (text : List ℕ) (m : Message) → status_of side text ≡ Ok m → ((s : Status) → IsTrue (is_said_by s side) → text ≡ text_of s → ⊥) → ⊥
 unfolding status_of
 read_text Dialler text m e none =
@@ -196,7 +196,7 @@ abbrev a_status_of : Side → Status
 a_status_of Dialler = status.True
 a_status_of Acceptor = status.Ok
 
--- the tag of a status begins a message of each side
+-- each side has a message that begins with the tag of a status
 a_status : (side : Side) → IsMessage side (status_tag ∷ text_of (a_status_of side))
 a_status Dialler = record { message = message.Status status.True; fits = tt; spelled = (refl, refl) }
 a_status Acceptor = record { message = message.Status status.Ok; fits = tt; spelled = (refl, refl) }
@@ -256,7 +256,7 @@ status_refused side body c =
     ∙ read_of_text side c.text
     ∙ by_result (status_of side c.text) errors.UnknownStatus (λ m e. read_text side c.text m e c.no_status) (λ d e. status_refuses side c.text d e)
 
--- ---- each refusal exactly where its cause stands
+-- ---- each refusal comes exactly where its cause holds
 
 pub empty_law : (side : Side) (body : List ℕ) → IsBytes body → (read side body ≡ Err errors.Empty) ↔ (body ≡ [])
 unfolding IsCause

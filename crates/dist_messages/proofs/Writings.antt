@@ -1,4 +1,4 @@
--- A message is written exactly where this side has a row for it and its name is short, and otherwise for one cause.
+-- A message is written exactly where this side has a row for it and its name is short; otherwise exactly one cause holds.
 use Rattle.std.proofs.Common.{◌≡◌, ℕ, ◌^◌, ◌<◌, ◌≤◌, Bool, true, false, cond, ltb, List, [], ◌∷◌, ◌++◌, length, take, drop, Result, Ok, Err, refl, sym, ap, subst, ◌∙◌, arith, lit<, lit≤, length-append}
 use Rattle.std.specs.Prelude.{◌↔◌}
 use Rattle.std.specs.Int.{w16, w32, to_be_bytes}
@@ -124,7 +124,7 @@ judged Acceptor (message.Complement high creation) = record { no_status = λ s e
 judged Acceptor (message.Reply challenge digest) = record { no_status = λ s e. cc; no_row = λ r. r.row }
 judged Acceptor (message.Ack digest) = record { spelled = refl; plain = tt; short = lit≤ tt }
 
--- ---- each cause has its answer
+-- ---- each cause leads to its answer
 
 written_back : (side : Side) (m : Message) (body : List ℕ) → IsWritten side m body → (r : Result (List ℕ) MessageError) → Judged side m r → r ≡ Ok body
 written_back side m body h (Ok b) j = ap fine (plain_once side m b j.spelled j.plain ∙ sym (plain_once side m body h.spelled h.plain))
@@ -154,7 +154,7 @@ status_back side m h (Err errors.BadName) j = absurd (h.no_row j.has_row)
 status_back side m h (Err errors.UnknownStatus) j = refl
 status_back side m h (Err e) j = absurd j
 
--- ---- each answer exactly where its cause stands
+-- ---- each answer comes exactly where its cause holds
 
 pub written_law : (side : Side) (m : Message) (body : List ℕ) → (own_spelling side m ≡ Ok body) ↔ IsWritten side m body
 written_law side m body = (λ e. subst (Judged side m) e (judged side m), λ h. written_back side m body h (own_spelling side m) (judged side m))

@@ -1,4 +1,4 @@
--- Why a body of a side is no message, in the words of the layouts.
+-- Why a body of a side is not a message, in the words of the layouts.
 use Rattle.std.specs.Prelude.{◌≡◌, ℕ, List, [], ◌∷◌, ◌++◌, IsTrue}
 use Rattle.dist_names.specs.Bytes.{IsBytes}
 use Rattle.dist_messages.specs.declared.message.Side.{Side}
@@ -25,7 +25,7 @@ pub record HasUnknownTag (side : Side) (body : List ℕ) : Type 0 where
   pub parts : body ≡ tag ∷ rest
   pub no_row : (others : List ℕ) → IsMessage side (tag ∷ others) → ⊥
 
--- The body ends inside a field: it is no message, and some more bytes make it one.
+-- The body ends inside a field: it is not a message, and some more bytes make it one.
 pub record IsShort (side : Side) (body : List ℕ) : Type 0 where
   pub tag : ℕ
   pub rest : List ℕ
@@ -36,7 +36,7 @@ pub record IsShort (side : Side) (body : List ℕ) : Type 0 where
   pub more_bytes : IsBytes more
   pub whole : IsMessage side (body ++ more)
 
--- Bytes stand after the last field: the body is no message, and a front of it is one.
+-- Bytes stand after the last field: the body is not a message, and a prefix of it is one.
 pub record IsLong (side : Side) (body : List ℕ) : Type 0 where
   pub tag : ℕ
   pub rest : List ℕ
@@ -47,13 +47,13 @@ pub record IsLong (side : Side) (body : List ℕ) : Type 0 where
   pub no_message : IsMessage side body → ⊥
   pub front : IsMessage side (tag ∷ rest)
 
--- The body is the tag of a status and a text that no status of this side has.
+-- The body is the tag of a status, and its text is not that of any status of this side.
 pub record HasUnknownStatus (side : Side) (body : List ℕ) : Type 0 where
   pub text : List ℕ
   pub parts : body ≡ status_tag ∷ text
   pub no_status : (s : Status) → IsTrue (is_said_by s side) → text ≡ text_of s → ⊥
 
--- Why a body is refused. Memory is needed for a message alone, and a name that is read is of any length.
+-- Why a body is refused. Memory is needed only for a message, and a name that is read may have any length.
 unfoldable pub IsCause : Side → List ℕ → MessageError → Type 0
 IsCause side body errors.Empty = body ≡ []
 IsCause side body errors.UnknownTag = HasUnknownTag side body

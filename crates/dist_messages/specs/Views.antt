@@ -16,7 +16,7 @@ message_of (view.Complement high creation) = message.Complement high creation
 message_of (view.Reply challenge digest) = message.Reply challenge digest
 message_of (view.Ack digest) = message.Ack digest
 
--- the message has a name, be it of no bytes
+-- the message has a name, which may have no bytes
 abbrev pub has_name : Message → Bool
 has_name (message.OldName flags name) = true
 has_name (message.NewName flags creation name) = true

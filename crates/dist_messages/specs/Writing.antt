@@ -1,4 +1,4 @@
--- Which body is written for a message, and why there is none, in the words of the layouts.
+-- Which body is written for a message, or why there is none, in the words of the layouts.
 use Rattle.std.specs.Prelude.{◌≡◌, ℕ, ◌+◌, ◌<◌, ◌≤◌, List, [], length, take, drop, Result, Ok, Err}
 use Rattle.std.specs.Int.{w16, to_be_bytes}
 use Rattle.dist_messages.specs.declared.message.Side.{Side}
@@ -19,7 +19,7 @@ name_in (message.OldChallenge flags challenge name) = name
 name_in (message.NewChallenge flags challenge creation name) = name
 name_in _ = []
 
--- What a check before writing answered: the message is written as its spelling and has a short name, or it is refused so.
+-- What the check before writing returned: the message is written as its spelling and has a short name, or this refusal.
 abbrev pub AnswersCheck : Message → Result (Unit {0}) MessageError → Result (List ℕ) MessageError → Type 0
 AnswersCheck m (Ok _) answer = (answer ≡ Ok (canonical m)) × (length (name_in m) ≤ 255)
 AnswersCheck m (Err error) answer = RefusedBut (is_message_memory_error error) error answer
@@ -48,13 +48,13 @@ IsPlain (message.OldChallenge flags challenge name) body = take 2 (drop 1 body) 
 IsPlain (message.NewChallenge flags challenge creation name) body = length body ≡ 19 + length name
 IsPlain _ body = Unit {0}
 
--- The body spells the message with version 5 and no bytes after the name, which has at most 255.
+-- The body spells the message with version 5 and no bytes after the name, which has at most 255 bytes.
 pub record IsWritten (side : Side) (m : Message) (body : List ℕ) : Type 0 where
   pub spelled : Spells side m body
   pub plain : IsPlain m body
   pub short : length (name_in m) ≤ 255
 
--- The message is no status, and this side has no row for it.
+-- The message is not a status, and this side has no row for it.
 pub record HasNoRow (side : Side) (m : Message) : Type 0 where
   pub no_status : (s : Status) → m ≡ message.Status s → ⊥
   pub no_row : HasRow side m → ⊥
@@ -64,7 +64,7 @@ pub record HasLongName (side : Side) (m : Message) : Type 0 where
   pub has_row : HasRow side m
   pub long : 255 < length (name_in m)
 
--- The message is a status, and not one of this side.
+-- The message is a status, but not one of this side.
 pub record IsOtherStatus (side : Side) (m : Message) : Type 0 where
   pub status : Status
   pub is : m ≡ message.Status status

@@ -1,4 +1,4 @@
-//! Whether a side writes a message: it has one of that kind, with a name of at most 255 bytes.
+//! Whether a side writes a message: the side has that kind of message, and the name has at most 255 bytes.
 
 ghost use Rattle.std.specs.Prelude.{◌≡◌};
 ghost use Rattle.dist_messages.specs.declared.message.Side.TheVariants.{Dialler, Acceptor};

@@ -2,7 +2,8 @@
 
 ghost use Rattle.std.specs.Prelude.{◌≡◌, Some, None, MatchResult};
 ghost use Rattle.std.specs.Int.{w16, w32, w64};
-ghost use Rattle.dist_messages.specs.Reading.{number_at, bytes_at, IsShortOf};
+ghost use Rattle.dist_names.specs.Fields.{number_at, bytes_at};
+ghost use Rattle.dist_messages.specs.Reading.{IsShortOf};
 
 use crate::message_error::MessageError;
 

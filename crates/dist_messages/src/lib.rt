@@ -2,9 +2,9 @@
 //!
 //! `read_in_place` reads a body without a copy of its name and without memory.
 //!
-//! `put_..` append the same bodies to bytes that are there, as to the frame before, without a copy of the name.
+//! `put_..` append the same bodies to bytes that are there, as to an earlier frame, without a copy of the name.
 //!
-//! It reads and writes bodies alone: no length before them, no name's form, no state of a connection, no input or output.
+//! It reads and writes bodies alone: no length before them, no check of a name, no state of a connection, no input or output.
 #![tactic(auto)]
 
 mod checking;

@@ -16,25 +16,25 @@ pub enum Side {
 pub enum Status {
     /// `ok`: the handshake goes on.
     Ok,
-    /// `ok_simultaneous`: it goes on, and the accepting side's own attempt is given up.
+    /// `ok_simultaneous`: the handshake goes on, and the accepting side's own attempt is given up.
     OkSimultaneous,
-    /// `nok`: it does not, since the accepting side's own attempt goes on.
+    /// `nok`: the handshake ends, since the accepting side's own attempt goes on.
     Nok,
-    /// `not_allowed`: it does not, since the name or its flags are refused.
+    /// `not_allowed`: the handshake ends, since the name or its flags are refused.
     NotAllowed,
-    /// `alive`: the accepting side has a connection to that name, and asks whether it is to be given up.
+    /// `alive`: the accepting side has a connection to that name, and asks whether to give it up.
     Alive,
-    /// `true`: it is, and the handshake goes on.
+    /// `true`: give it up; the handshake goes on.
     True,
-    /// `false`: it is not.
+    /// `false`: keep it; the handshake ends.
     False,
 }
 
-/// A message of the handshake, as the body of a frame spells it. A body is at most 65,535 bytes long, its length before it
-/// is no part of it.
+/// A message of the handshake, as the body of a frame spells it. A body is at most 65,535 bytes long; the length before it
+/// is not part of it.
 ///
 /// The first byte is the tag. In the tables each field has its number of bytes; `..` goes on to the end of the body. Numbers
-/// are big-endian. A name is any bytes here, at most 255 where it is written; whether it is a node's name is asked later.
+/// are big-endian. Here a name is any bytes, at most 255 where it is written; whether it is a node's name is checked later.
 #[derive(Drop)]
 pub enum Message {
     /// The dialling side's name in the form of protocol version 5 (`send_name`).
@@ -71,7 +71,7 @@ pub enum Message {
     /// |---|---|
     /// | 1 | .. |
     ///
-    /// The text is just that of a status of the side, with no byte more.
+    /// The text is exactly that of a status of the side, without a further byte.
     Status(Status),
     /// The accepting side's name and challenge in the form of version 5 (`send_challenge`).
     ///
@@ -116,7 +116,7 @@ pub enum Message {
         /// The incarnation of the node that sends this.
         creation: Creation,
     },
-    /// The dialling side's answer to a challenge, and its own (`send_challenge_reply`).
+    /// The dialling side's answer to a challenge, and its own challenge (`send_challenge_reply`).
     ///
     /// | tag `r` | challenge | digest |
     /// |---|---|---|
@@ -127,7 +127,7 @@ pub enum Message {
         /// The digest of the cookie and the accepting side's challenge.
         digest: [u8; 16],
     },
-    /// The accepting side's answer to the other challenge (`recv_challenge_ack`).
+    /// The accepting side's answer to the dialling side's challenge (`recv_challenge_ack`).
     ///
     /// | tag `a` | digest |
     /// |---|---|

@@ -1,4 +1,4 @@
-//! Why a body is no message, or a message has no body.
+//! Why a body is not a message, or a message has no body.
 
 ghost use Rattle.std.specs.Prelude.{◌≡◌};
 ghost use Rattle.dist_messages.specs.declared.message_error.MessageError.TheVariants.{NoMemory};
@@ -6,7 +6,7 @@ ghost use Rattle.dist_messages.specs.declared.message_error.MessageError.TheVari
 use std::alloc::{AllocError, AllocFailed};
 use thiserror::Error;
 
-/// Why a body is no message, or a message has no body: the first that holds, in this order. What was handed in is
+/// Why a body is not a message, or a message has no body: the first that holds, in this order. What was handed in is
 /// unchanged after each of them.
 #[derive(Clone, Copy, Debug, PartialEq, Eq, Error)]
 pub enum MessageError {
@@ -23,10 +23,10 @@ pub enum MessageError {
     /// 4. Bytes stand after the last field of a complement, a reply or an acknowledgement: the peer's fault.
     #[error("bytes stand after the last field")]
     Long,
-    /// 5. The name has more than 255 bytes: the caller's fault. `encode` alone returns it: `decode` reads longer names.
+    /// 5. The name has more than 255 bytes: the caller's fault. Only `encode` returns it: `decode` reads longer names.
     #[error("name has more than 255 bytes")]
     BadName,
-    /// 6. The text is that of no status of this side: the peer's fault. In `encode`, the status is one of the other side:
+    /// 6. No status of this side has the text: the peer's fault. In `encode`, the status is one of the other side:
     /// the caller's fault.
     #[error("this side has no such status")]
     UnknownStatus,

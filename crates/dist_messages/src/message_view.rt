@@ -56,14 +56,14 @@ pub enum MessageView<'a> {
         /// The incarnation of the node that sends this.
         creation: Creation,
     },
-    /// The dialling side's answer to a challenge, and its own.
+    /// The dialling side's answer to a challenge, and its own challenge.
     Reply {
         /// The number that the accepting side has to digest.
         challenge: u32,
         /// The digest of the cookie and the accepting side's challenge.
         digest: [u8; 16],
     },
-    /// The accepting side's answer to the other challenge.
+    /// The accepting side's answer to the dialling side's challenge.
     Ack {
         /// The digest of the cookie and the dialling side's challenge.
         digest: [u8; 16],

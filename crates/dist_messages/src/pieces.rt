@@ -1,4 +1,4 @@
-//! The pieces that bodies are written from. Each is put behind the bytes that are there; that fails only where memory runs out.
+//! The pieces that bodies are written from. Each is appended to the bytes that are there; that fails only where memory runs out.
 
 ghost use Rattle.std.specs.Prelude.{◌≡◌, ◌≤◌, ◌++◌, length, OnOk};
 ghost use Rattle.std.specs.Int.{w16, w32, w64, to_be_bytes};

@@ -70,8 +70,8 @@ fn read_status(side: Side, text: &[u8]) -> Result<MessageView<'_>, MessageError>
     Ok(MessageView::Status(status.ok_or(MessageError::UnknownStatus)?))
 }
 
-/// The message that a body of this side spells, read in place: the same as [`decode`] answers, without a copy of the name. It
-/// takes no memory, so that the answer is never `NoMemory`.
+/// The message that a body of this side spells, read in place: the same that [`decode`] returns, without a copy of the name. It
+/// takes no memory, so it never returns `NoMemory`.
 ///
 /// Refusals, in this order: `Empty`, `UnknownTag` (also for a tag of the other side), `Short`, `Long`, `UnknownStatus` (also for
 /// a status of the other side).
@@ -80,7 +80,7 @@ pub fn read_in_place(side: Side, body: &[u8]) -> Result<MessageView<'_>, Message
     // No memory is needed.
     ensures memory { ¬ (IsErrOf result MessageError.NoMemory) }
 
-    // Which of the messages it is, computed from left to right.
+    // The message or the refusal, computed from left to right.
     ensures exact { Answers message_of result (read side body.now) }
 {
     let [tag, rest @ ..] = body else {
@@ -109,25 +109,25 @@ fn read_message(alloc: Global, side: Side, body: &[u8]) -> Result<Message, Messa
     }
 }
 
-/// The message that a body of this side spells. Memory is asked for a name alone, and not more than the body has bytes.
+/// The message that a body of this side spells. Memory is taken for a name alone, and never more than the body has bytes.
 ///
 /// Refusals, in this order: `Empty`, `UnknownTag` (also for a tag of the other side), `Short`, `Long`, `UnknownStatus` (also for
-/// a status of the other side), `NoMemory`. Of the causes but the last at most one holds of a body, and each has its refusal
-/// ([`causes_of_refusals`](crate::causes_of_refusals)), so that `found`, `only`, `cause` and `memory` fix the answer.
+/// a status of the other side), `NoMemory`. At most one of the causes but the last holds of a body, and each has its refusal
+/// ([`causes_of_refusals`](crate::causes_of_refusals)), so that `found`, `only`, `cause` and `memory` determine the answer.
 pub fn decode(alloc: Global, side: Side, body: &[u8]) -> Result<Message, MessageError>
-    // What is read is spelled so.
+    // The body spells the message that is returned.
     ensures found { IfOk result (λ m. Spells side m body.now) }
 
-    // What is spelled so is read, unless memory runs out.
+    // A message that the body spells is returned, unless memory runs out.
     ensures only { (m : Message) → Fits m → Spells side m body.now → Answers (λ x. x) result (Ok m) }
 
-    // What is refused has the cause that is returned.
+    // The cause that is returned holds of the body.
     ensures cause { IfErr result (λ e. IsCause side body.now e) }
 
     // Memory is needed for a name alone.
     ensures memory { IsErrOf result MessageError.NoMemory → IsTrue (has_name_tag body.now) }
 
-    // Which of them it is, computed from left to right.
+    // The message or the refusal, computed from left to right.
     ensures exact { Answers (λ m. m) result (read side body.now) }
 {
     read_message(alloc, side, body)

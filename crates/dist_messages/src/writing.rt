@@ -1,4 +1,4 @@
-//! Writing a message: the one body that each has.
+//! Writing a message: the one body that is written for each.
 
 ghost use Rattle.std.specs.Prelude.{◌≡◌, ◌≤◌, ◌++◌, length, IfOk, OnOk};
 ghost use Rattle.dist_messages.specs.declared.message.Message.TheVariants as message;
@@ -14,7 +14,7 @@ use crate::writing_named::{put_new_challenge, put_new_name, put_old_challenge, p
 use dist_names::Creation;
 use std::alloc::{AllocError, Global};
 
-/// The most bytes that a body has beside its name: a reply has this many.
+/// The most bytes that a body has without its name: those of a reply.
 const MOST_BESIDE_NAME: usize = 21;
 
 /// Appends a complement.
@@ -26,7 +26,7 @@ pub fn put_complement(body: &mut Vec<u8>, high: u32, creation: Creation) -> Resu
     put_32(body, creation.0)
 }
 
-/// Appends a reply to a challenge: the own challenge, and the digest, of 16 bytes.
+/// Appends a reply to a challenge: the writer's own challenge, and the digest of 16 bytes.
 pub fn put_reply(body: &mut Vec<u8>, challenge: u32, digest: &[u8]) -> Result<(), AllocError>
     ensures { OnOk result (body.new.items ≡ body.old.items ++ canonical (message.Reply challenge digest.now)) }
 {
@@ -35,7 +35,7 @@ pub fn put_reply(body: &mut Vec<u8>, challenge: u32, digest: &[u8]) -> Result<()
     body.extend_from_slice(digest)
 }
 
-/// Appends an acknowledgement: the digest, of 16 bytes.
+/// Appends an acknowledgement: the digest of 16 bytes.
 pub fn put_ack(body: &mut Vec<u8>, digest: &[u8]) -> Result<(), AllocError>
     ensures { OnOk result (body.new.items ≡ body.old.items ++ canonical (message.Ack digest.now)) }
 {
@@ -94,7 +94,7 @@ fn name_in(message: &Message) -> &[u8]
     }
 }
 
-// The body of a message, in memory that is asked for once.
+// The body of a message. Memory is taken once for all of it.
 fn body_of(alloc: Global, message: &Message) -> Result<Vec<u8>, AllocError>
     // A message is checked before it is written.
     requires { length (name_in message.now) ≤ 255 }
@@ -108,8 +108,8 @@ fn body_of(alloc: Global, message: &Message) -> Result<Vec<u8>, AllocError>
 /// The one body that is written for a message of this side: version 5 in the old forms, no bytes after a name.
 ///
 /// Refusals, in this order: `UnknownTag` (a message of the other side), `BadName` (a name of more than 255 bytes),
-/// `UnknownStatus` (a status of the other side), `NoMemory`. What is written, and when each of the first three comes, stands in
-/// the words of the layouts in [`causes_of_writing`](crate::causes_of_writing).
+/// `UnknownStatus` (a status of the other side), `NoMemory`. What is written, and when each of the first three comes, is stated
+/// in the words of the layouts in [`causes_of_writing`](crate::causes_of_writing).
 pub fn encode(alloc: Global, side: Side, message: &Message) -> Result<Vec<u8>, MessageError>
     ensures exact { Answers (λ v. v.items) result (own_spelling side message.now) }
 {

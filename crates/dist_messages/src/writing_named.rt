@@ -18,7 +18,7 @@ pub fn put_old_name(body: &mut Vec<u8>, flags: u32, name: &[u8]) -> Result<(), A
     body.extend_from_slice(name)
 }
 
-/// A new name, with nothing behind it. A name has at most 255 bytes.
+/// A new name, with nothing behind the name, which has at most 255 bytes.
 pub fn put_new_name(
     body: &mut Vec<u8>,
     flags: Flags,

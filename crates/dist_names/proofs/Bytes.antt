@@ -1,7 +1,7 @@
--- Parts of a row of bytes are bytes.
-use Rattle.std.proofs.Common.{ℕ, suc, ◌+◌, ◌-◌, List, ◌∷◌, ◌++◌, length, take, drop, refl, arith, inl, inr}
+-- A part of a row of bytes is a row of bytes.
+use Rattle.std.proofs.Common.{ℕ, suc, ◌+◌, ◌-◌, List, ◌∷◌, ◌++◌, length, take, drop, replicate, refl, arith, inl, inr}
 use Rattle.std.proofs.lemmas.Bool.{cases_lt}
-use Rattle.std.proofs.lemmas.List.{get_or-drop, get_or-take, get_or_past, length-take, get_or_append_left, get_or-append_right}
+use Rattle.std.proofs.lemmas.List.{get_or-drop, get_or-take, get_or_past, get_or-replicate, length-take, length-replicate, get_or_append_left, get_or-append_right}
 use Rattle.dist_names.specs.Bytes.{IsBytes}
 
 pub IsBytes-rest : (b : ℕ) (bytes : List ℕ) → IsBytes (b ∷ bytes) → IsBytes bytes
@@ -29,4 +29,14 @@ IsBytes-front a b h i =
     elim (cases_lt i (length a)) [
       | inl lt ↦ rw (← get_or_append_left a b 0 i lt) (h i)
       | inr le ↦ rw (get_or_past a i 0 le) (omega arith)
+    ]
+
+abbrev pub zeros : ℕ → List ℕ
+zeros n = replicate n 0
+
+pub IsBytes-zeros : (n : ℕ) → IsBytes (zeros n)
+IsBytes-zeros n i =
+    elim (cases_lt i n) [
+      | inl lt ↦ rw (get_or-replicate {A = ℕ} n i 0 0 lt) (omega arith)
+      | inr le ↦ rw (get_or_past (zeros n) i 0 (omega (arith, length-replicate {A = ℕ} n 0))) (omega arith)
     ]

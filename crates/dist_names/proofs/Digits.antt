@@ -46,7 +46,7 @@ numeral radix word h =
 pub a_numeral : (radix : ℕ) (word : List ℕ) → IsNumeral radix word → is_numeral radix word ≡ true
 a_numeral radix word h = both (nat_lt 0 (length word)) (list_all (λ byte. nat_lt (digit_value byte) radix) word) (is_below 0 (length word) h.0) (are_digits radix word h.1)
 
--- an answer that comes just where a test holds
+-- an answer that is there exactly where a test holds
 pub by_test : {T : Type 0} (P : Type 0) (b : Bool) (v : T) → (b ≡ true → P) → (P → b ≡ true) → (r : Option T) → SomeIff r P v → r ≡ cond b (Some v) None
 by_test P true v f g (Some x) h = ap Some h.1
 by_test P true v f g None h = absurd (h (f refl))
@@ -56,7 +56,7 @@ by_test P false v f g None h = refl
 short_numeral : (word : List ℕ) → AllDigits 16 word → length word ≤ 16 → digits_value 16 word < 2 ^ 64
 short_numeral word digits short = let most : 16 ^ length word ≤ 16 ^ 16 = pow-le-pow_right {n = 16} (omega arith) short in omega (arith, digits_value-lt 16 word digits, most)
 
--- a number of flags is read just where the word has 1 to 16 hexadecimal digits
+-- flags are read exactly where the word has 1 to 16 hexadecimal digits
 pub short_read : (r : Option ℕ) (word : List ℕ) → length word ≤ 16 → SomeIff r (IsNumeral 16 word × (digits_value 16 word < 2 ^ 64)) (digits_value 16 word) → SomeIff r (IsNumeral 16 word × (length word ≤ 16)) (digits_value 16 word)
 short_read None word short h = λ p. h (p.0, short_numeral word p.0.1 short)
 short_read (Some v) word short h = ((h.0.0, short), h.1)

@@ -90,7 +90,7 @@ smaller (suc k) (b ∷ ours) (c ∷ theirs) x y h =
 bytes_of : (name : Name) → IsNodeName name → IsBytes name
 bytes_of name good i = omega (arith, all_below name good.bytes i)
 
--- k bytes with which both begin, as one number says, do not count
+-- where the numbers of the first k bytes are equal, these bytes do not decide
 alike : (k : ℕ) (ours theirs : Name) → k ≤ length ours → k ≤ length theirs → IsBytes ours → IsBytes theirs → front k ours ≡ front k theirs
     → name_cmp (drop k ours) (drop k theirs) ≡ name_cmp ours theirs
 alike zero ours theirs m n x y e = refl
@@ -111,7 +111,7 @@ eight_alike ours theirs m n x y e = alike 8 ours theirs m n x y (sym (is_front o
 pub returned_bytes : (name bytes : Name) → bytes ≡ name → IsNodeName name → IsBytes bytes
 returned_bytes name bytes same good = subst IsBytes (sym same) (bytes_of name good)
 
--- numbers that differ compare as their names do
+-- numbers of first bytes that differ compare as their names do
 pub front_decides : (ours theirs : Name) → IsNodeName ours → IsNodeName theirs → (o t : ℕ) → o ≡ front_number ours → t ≡ front_number theirs → o ≢ t → nat_cmp o t ≡ name_cmp ours theirs
 front_decides ours theirs x y o t a b apart =
     by_ranked (o < t) (o ≡ t) (t < o) (nat_cmp o t) (ranked o t (nat_cmp o t) refl)
@@ -119,7 +119,7 @@ front_decides ours theirs x y o t a b apart =
     (λ e same. absurd (apart same))
     (λ e more. e ∙ ap ordering_reverse (sym (smaller 8 theirs ours (bytes_of theirs y) (bytes_of ours x) (omega (arith, more, a, b, is_front ours, is_front theirs)))) ∙ sym (nat_list_cmp_total.antisymm ours theirs))
 
--- and so do the next ones, where the first are the same
+-- where the first ones are the same, the next ones that differ do
 pub next_decides : (ours theirs : Name) → IsNodeName ours → IsNodeName theirs → front_number ours ≡ front_number theirs
     → (o t : ℕ) → o ≡ next_number ours → t ≡ next_number theirs → o ≢ t → nat_cmp o t ≡ name_cmp ours theirs
 next_decides ours theirs x y same o t a b apart =
@@ -128,7 +128,7 @@ next_decides ours theirs x y same o t a b apart =
     (λ e one. absurd (apart one))
     (λ e more. e ∙ ap ordering_reverse (sym (smaller 16 theirs ours (bytes_of theirs y) (bytes_of ours x) (omega (arith, more, same, a, b, are_fronts ours, are_fronts theirs)))) ∙ sym (nat_list_cmp_total.antisymm ours theirs))
 
--- and then the names are not one
+-- numbers that differ belong to different names
 pub front_differs : (ours theirs : Name) (o t : ℕ) → o ≡ front_number ours → t ≡ front_number theirs → o ≢ t → (o == t) ≡ same_name ours theirs
 front_differs ours theirs o t a b apart = ne_eqb o t apart ∙ sym (by_answer (same_name ours theirs) refl) where
   by_answer : (answer : Bool) → same_name ours theirs ≡ answer → same_name ours theirs ≡ false

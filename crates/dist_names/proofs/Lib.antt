@@ -2,7 +2,9 @@ pub mod Places
 pub mod Orders
 pub mod Fronts
 pub mod Bytes
+pub mod Fields
 pub mod Texts
+pub mod Naming
 pub mod Digits
 pub mod Numerals
 pub mod Printable

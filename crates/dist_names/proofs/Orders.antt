@@ -9,7 +9,7 @@ use Rattle.std.specs.Ordering.{is_eq}
 use Rattle.std.proofs.lemmas.Map.Lookups.{exact_bytes}
 use Rattle.dist_names.specs.Order.{Name, name_cmp, same_name}
 
--- a front that both have does not count
+-- a common front does not decide
 front_alike : (front ours theirs : Name) → name_cmp (front ++ ours) (front ++ theirs) ≡ name_cmp ours theirs
 front_alike [] ours theirs = refl
 front_alike (b ∷ front) ours theirs =
@@ -42,7 +42,7 @@ equal_itself (b ∷ name) = ap (λ o. ordering_then o (name_cmp name name)) (sym
 pub itself_lem : (name : Name) → same_name name name ≡ true
 itself_lem name = ap is_eq (equal_itself name)
 
--- that two names compare as equal says that they are one
+-- two names compare as equal exactly where they are the same name
 pub same_each : (ours theirs : Name) → IsTrue (same_name ours theirs) ↔ (ours ≡ theirs)
 same_each ours theirs = (one_lem ours theirs, λ e. subst (λ (name : Name). IsTrue (same_name ours name)) e (itself_lem ours))
 

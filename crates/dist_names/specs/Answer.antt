@@ -8,7 +8,7 @@ abbrev pub RefusedBut : {E Y : Type 0} → Bool → E → Result Y E → Type 0
 RefusedBut true error expected = IsOk expected
 RefusedBut false error expected = expected ≡ Err error
 
--- Seen by view, the answer is the one expected, or out of memory, which the test recognizes among the errors.
+-- By its view, the answer is the one expected, or an error that the test recognizes as out of memory.
 abbrev pub AnswersBut : {E X Y : Type 0} → (E → Bool) → (X → Y) → Result X E → Result Y E → Type 0
 AnswersBut is_name_memory_error view (Ok value) expected = expected ≡ Ok (view value)
 AnswersBut is_name_memory_error view (Err error) expected = RefusedBut (is_name_memory_error error) error expected
@@ -18,6 +18,6 @@ abbrev pub is_name_memory_error : NameError → Bool
 is_name_memory_error NoMemory = true
 is_name_memory_error _ = false
 
--- the same of a name
+-- the same for a call that returns a name
 abbrev pub AnswersName : {Y : Type 0} → Result Y NameError → Result Y NameError → Type 0
 AnswersName result expected = AnswersBut is_name_memory_error (λ value. value) result expected

@@ -1,4 +1,4 @@
--- Rows of bytes, which of them show, and numbers in them.
+-- Rows of bytes, which of them are printable, and numbers in them.
 use Rattle.std.specs.Prelude.{ℕ, ◌<◌, Bool, ◌&&◌, nat_le, List, get_or}
 use Rattle.std.specs.Int.{Width, to_be_bytes}
 

@@ -28,7 +28,7 @@ escapes_of bytes = flat_map escape_of bytes
 abbrev pub escaped_lines : List ℕ → List ℕ
 escaped_lines bytes = flat_map escape_in_lines bytes
 
--- the escapes between double quotes, of which none has a third one
+-- the escapes between double quotes; no escape has a double quote itself
 abbrev pub in_double_quotes : List ℕ → List ℕ
 in_double_quotes bytes = codes "\"" ++ flat_map escape_in_quotes bytes ++ codes "\""
 
@@ -36,6 +36,6 @@ in_double_quotes bytes = codes "\"" ++ flat_map escape_in_quotes bytes ++ codes 
 abbrev pub IsPrintable : ℕ → Type 0
 IsPrintable b = (0x20 ≤ b) × (b ≤ 0x7E)
 
--- one of those, or a line feed
+-- a printable byte, or a line feed
 abbrev pub IsPrintableOrLineFeed : ℕ → Type 0
 IsPrintableOrLineFeed b = (b ≡ 0x0A) ⊎ IsPrintable b

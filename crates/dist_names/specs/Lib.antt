@@ -3,6 +3,7 @@ pub mod Order
 pub mod Front
 pub mod Answer
 pub mod Bytes
+pub mod Fields
 pub mod Flags
 pub mod Escaped
 pub mod Digits

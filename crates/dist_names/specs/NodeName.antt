@@ -1,4 +1,4 @@
--- Which bytes are a node's name, its two parts, and why other bytes are none.
+-- Which bytes are a node's name, its two parts, and why other bytes are no name.
 --
 -- The ERTS User's Guide (Distribution Protocol) gives a name as text with one `@`. That it has 3 to 255 bytes, each a
 -- printable ASCII character and no space, and that neither part is empty, is our own choice.
@@ -24,7 +24,7 @@ host_of name = after_first is_separator name
 abbrev pub has_two_parts : List ℕ → Bool
 has_two_parts name = (count_by is_separator name == 1) && (nat_lt 0 (length (short_of name)) && nat_lt 0 (length (host_of name)))
 
--- what every node name is; that it has 3 bytes follows from the others
+-- what holds of every node name; that it has at least 3 bytes follows
 pub record IsNodeName (name : List ℕ) : Type 0 where
   pub least : 3 ≤ length name
   pub most : length name ≤ 255

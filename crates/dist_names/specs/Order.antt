@@ -13,7 +13,7 @@ Name = List ℕ
 abbrev pub name_cmp : Name → Name → Ordering
 name_cmp = slice_cmp nat_cmp
 
--- two names are one
+-- two names are the same
 abbrev pub same_name : Name → Name → Bool
 same_name ours theirs = is_eq (name_cmp ours theirs)
 

@@ -27,7 +27,6 @@ fn push_digits(text: &mut String, byte: u8) -> Result<(), AllocError>
     text.push(digit(byte % 16))
 }
 
-// Puts the escape of a byte.
 fn push_escape(text: &mut String, byte: u8) -> Result<(), AllocError>
     ensures { OnOk result (string_bytes text.new ≡ string_bytes text.old ++ escape_of byte) }
 {
@@ -58,7 +57,7 @@ fn push_escape_in_quotes(text: &mut String, byte: u8) -> Result<(), AllocError>
     }
 }
 
-/// The bytes as text of the bytes from 0x20 to 0x7E alone: every other one is written `\x1b`, in two hexadecimal digits of
+/// The bytes as text of the bytes from 0x20 to 0x7E alone: every other one is written as `\x1b`, in two hexadecimal digits of
 /// lower case, and a backslash `\\`, so that the bytes can be read back. The form is our own choice.
 pub fn escape(alloc: Global, bytes: &[u8]) -> Result<String, AllocError>
     ensures text { IfOk result (λ text. string_bytes text ≡ escapes_of bytes.now) }

@@ -16,7 +16,7 @@ pub fn order_of_names()
     // Where none differs, the shorter name is smaller.
     ensures prefix { (front more : Name) (next : ℕ) → name_cmp front (front ++ next ∷ more) ≡ Less }
 
-    // Names that compare as equal are one name, and a name is one with itself.
+    // Names that compare as equal are the same name, and a name compares as equal with itself.
     ensures one { (ours theirs : Name) → same_name ours theirs ≡ true → ours ≡ theirs }
     ensures itself { (name : Name) → same_name name name ≡ true }
 {}

@@ -9,7 +9,6 @@ mod creation;
 mod escaping;
 mod flags;
 mod front;
-mod keyed_text;
 mod laws;
 mod name;
 mod name_error;

@@ -6,9 +6,10 @@ ghost use Rattle.dist_names.specs.NodeName.{short_of, host_of, has_two_parts, na
 ghost use Rattle.dist_names.specs.Order.{same_name};
 ghost use Rattle.dist_names.specs.Answer.{AnswersName};
 
-use crate::keyed_text::KeyedText;
+use crate::front::{front_number, next_number};
 use crate::name_error::NameError;
 use crate::plain::{are_visible, host_part, is_same_text, short_part};
+use smallvec::SmallVec;
 use std::alloc::{AllocError, Global};
 use std::marker::Model;
 use std::sync::Arc;
@@ -18,19 +19,25 @@ use std::sync::Arc;
 /// copy takes no further memory.
 #[derive(Debug, Drop)]
 pub struct NodeName {
-    text: Arc<KeyedText>,
+    // The first eight bytes as a number, which decides most comparisons without a look at the text.
+    front: u64,
+    // The next eight: of nodes of one short name, as a cluster has them, these decide most.
+    next: u64,
+    text: Arc<SmallVec<u8, 32>>,
 }
 
 impl Model for NodeName {
-    ghost use Rattle.std.specs.Prelude.{ℕ, List};
+    ghost use Rattle.std.specs.Prelude.{◌≡◌, ℕ, List};
     ghost use Rattle.std.specs.Arc.{arc_value};
+    ghost use Rattle.dist_names.specs.Front.{front_number, next_number};
     ghost use Rattle.dist_names.specs.NodeName.{IsNodeName};
 
     ghost Value = { List ℕ };
 
-    ghost view = { λ n. arc_value n.text };
+    ghost view = { λ n. let t = arc_value n.text in t.items };
 
-    ghost invariant = { λ n. IsNodeName (arc_value n.text) };
+    ghost invariant = { λ n. let t = arc_value n.text in
+        (n.front ≡ front_number t.items) × (n.next ≡ next_number t.items) × IsNodeName t.items };
 }
 
 const LEAST: usize = 3;
@@ -81,8 +88,10 @@ impl NodeName {
         requires { IsNodeName bytes.now }
         ensures { IfOk result (λ name. name ≡ bytes.now) }
     {
-        let text = KeyedText::new(alloc, bytes)?;
+        let text = SmallVec::from_slice(alloc, bytes)?;
         Ok(NodeName {
+            front: front_number(bytes),
+            next: next_number(bytes),
             text: Arc::new(alloc, text)?,
         })
     }
@@ -92,7 +101,7 @@ impl NodeName {
         ensures same { result.now ≡ self.now }
         ensures good { IsNodeName self.now }
     {
-        self.text.bytes()
+        self.text.as_slice()
     }
 
     // Its first bytes as a number.
@@ -100,7 +109,7 @@ impl NodeName {
         ensures same { result ≡ front_number self.now }
         ensures good { IsNodeName self.now }
     {
-        self.text.front()
+        self.front
     }
 
     // Its next bytes as a number.
@@ -108,7 +117,7 @@ impl NodeName {
         ensures same { result ≡ next_number self.now }
         ensures good { IsNodeName self.now }
     {
-        self.text.next()
+        self.next
     }
 
     /// The part before the `@`, by which the port mapper knows the node.
@@ -130,6 +139,8 @@ impl NodeName {
         ensures { IfOk result (λ copy. copy ≡ self.now) }
     {
         Ok(NodeName {
+            front: self.front,
+            next: self.next,
             text: Arc::try_clone(&self.text)?,
         })
     }

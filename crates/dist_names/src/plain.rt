@@ -1,4 +1,4 @@
-//! Plain bytes: which of them show, where the two parts of a name stand, and whether two rows are one.
+//! Plain bytes: which of them are printable, where the two parts of a name stand, and whether two rows are equal.
 
 ghost use Rattle.std.specs.Prelude.{◌≡◌, ◌↔◌, IsTrue};
 ghost use Rattle.std.specs.List.{list_all, position, position_or_len};
@@ -48,14 +48,14 @@ fn separator_place(bytes: &[u8]) -> usize
     separator(bytes).unwrap_or(bytes.len())
 }
 
-/// The bytes before the first `@`, or all where none stands there.
+/// The bytes before the first `@`, or all where there is none.
 pub fn short_part(bytes: &[u8]) -> &[u8]
     ensures { result.now ≡ short_of bytes.now }
 {
     &bytes[..separator_place(bytes)]
 }
 
-/// The bytes behind the first `@`, or none where none stands there.
+/// The bytes behind the first `@`, or none where there is no `@`.
 pub fn host_part(bytes: &[u8]) -> &[u8]
     ensures { result.now ≡ host_of bytes.now }
 {
@@ -67,7 +67,7 @@ pub fn host_part(bytes: &[u8]) -> &[u8]
     }
 }
 
-/// Whether the two rows of bytes are one.
+/// Whether the two rows have the same bytes.
 pub fn is_same_text(one: &[u8], other: &[u8]) -> bool
     ensures computed { result ≡ same_name one.now other.now }
     ensures each { IsTrue result ↔ (one.now ≡ other.now) }

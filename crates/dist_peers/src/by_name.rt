@@ -45,7 +45,7 @@ pub fn up_in(entries: &BTreeMap<NodeName, Entry>, i: usize) -> Option<EndId>
     entries.iter().filter_map(|(_, entry)| entry.up()).nth(i)
 }
 
-/// The first end that is up behind this name, in the order of the names.
+/// The first end that is up after this name, in the order of the names.
 pub fn up_behind(entries: &BTreeMap<NodeName, Entry>, name: &NodeName) -> Option<EndId>
     ensures { result ≡ up_behind (Some name.now) entries.now.entries }
 {
@@ -73,7 +73,7 @@ pub fn put_row(
     }
 }
 
-/// Gives a name that has an entry another. It takes no memory.
+/// Gives another entry to a name that has one. It takes no memory.
 pub fn set_row(entries: &mut BTreeMap<NodeName, Entry>, name: &NodeName, entry: Entry)
     requires there { IsSome (get name_cmp entries.old name.now) }
     ensures changed { Updates name_cmp entries.old entries.new name.now (Some entry) }
@@ -85,7 +85,7 @@ pub fn set_row(entries: &mut BTreeMap<NodeName, Entry>, name: &NodeName, entry: 
     }
 }
 
-/// Gives a name that has an entry another, and returns the one that it had. It takes no memory.
+/// Gives another entry to a name that has one, and returns the old one. It takes no memory.
 pub fn change_row(
     entries: &mut BTreeMap<NodeName, Entry>,
     name: &NodeName,
@@ -103,7 +103,7 @@ pub fn change_row(
     Some(was)
 }
 
-/// Takes out the row of a name, where there is one. It takes no memory.
+/// Removes the row of a name, where there is one. It takes no memory.
 pub fn drop_row(entries: &mut BTreeMap<NodeName, Entry>, name: &NodeName)
     ensures changed { Updates name_cmp entries.old entries.new name.now None }
     ensures len { btree_map_len entries.new + (if is_some (get name_cmp entries.old name.now) then 1 else 0) ≡ btree_map_len entries.old }
@@ -112,8 +112,8 @@ pub fn drop_row(entries: &mut BTreeMap<NodeName, Entry>, name: &NodeName)
     let _ = entries.remove(name);
 }
 
-/// Makes the entry of a name that has one what is left of it once this end is lost. The map is searched once, by a name that is
-/// the caller's to let go. It takes no memory.
+/// Changes the entry of a name that has one to what is left of it once this end is lost. The map is searched once, by a name that
+/// the caller gives away. It takes no memory.
 pub fn leave_row(entries: &mut BTreeMap<NodeName, Entry>, name: NodeName, id: EndId)
     requires there { IsSome (get name_cmp entries.old name) }
     ensures changed { (q : Name) → get name_cmp entries.new q

@@ -21,7 +21,7 @@ const MOST: u32 = 1024;
 /// The entries of the peers that aren't idle. `dial` and `name_came` make at most 1,024; a caller of `dial_idle` and
 /// `take_name` keeps to its own limit by asking `is_full_for` first.
 ///
-/// Contracts see a finite map from names to entries, and `at` shows it in the order of the names.
+/// Contracts see a finite map from names to entries, and `at` returns them in the order of the names.
 #[derive(Drop)]
 pub struct Peers {
     alloc: Global,
@@ -92,7 +92,7 @@ impl Peers {
         up_in(&self.by_name, i)
     }
 
-    /// The first end that is up of the peers whose names come behind this one, in their order; of all peers where there is no name.
+    /// The first end that is up of the peers whose names come after this one, in their order; of all peers where there is no name.
     /// Called again with the name of the peer that it found, it goes through all of them: each call searches the table once.
     pub fn up_behind(&self, name: Option<&NodeName>) -> Option<EndId>
         ensures { result ≡ up_behind (option_copied name.entry) (map.entries self.now) }
@@ -103,7 +103,7 @@ impl Peers {
         }
     }
 
-    /// Whether `most` entries or more are there, and this peer has none of them. A table with room is not searched.
+    /// Whether there are `most` entries or more, and none is this peer's. A table with room is not searched.
     #[tactic(auto, using(crate::proofs::Rooms::room))]
     pub fn is_full_for(&self, peer: &NodeName, most: u32) -> bool
         ensures { result ≡ is_full most self.now (entry_of self.now peer.now) }
@@ -114,7 +114,7 @@ impl Peers {
         self.is_full_with(self.entry(peer), most)
     }
 
-    // Whether `most` entries or more are there, and a peer that has this one has none of them.
+    // Whether a peer with this entry, or with none, finds no room: there are `most` entries or more, and none is its own.
     fn is_full_with(&self, entry: Option<Entry>, most: u32) -> bool
         ensures { result ≡ is_full most self.now entry }
     {
@@ -124,7 +124,7 @@ impl Peers {
         }
     }
 
-    /// Whether the peer's entry waits for this end to come up: it names it as dialled or as accepted.
+    /// Whether the peer's entry waits for this end to come up: it names the end as dialled or as accepted.
     pub fn is_waiting(&self, peer: &NodeName, id: EndId) -> bool
         ensures { result ≡ is_waiting id (entry_of self.now peer.now) }
     {
@@ -169,7 +169,7 @@ impl Peers {
         peer: &NodeName,
         id: EndId,
     ) -> Result<Verdict, PeersError>
-        // The own name is refused before; `NodeName::is_same` is the test.
+        // A caller refuses the own name before; `NodeName::is_same` is the test.
         requires { same_name me.now peer.now ≡ false }
         ensures verdict { IfOk result (λ v. v ≡ verdict_on self.old me.now peer.now id) }
         ensures entry { Does result (table_after_name self.old peer.now (is_greater me.now peer.now) id) self.old self.new }
@@ -191,7 +191,7 @@ impl Peers {
     ///
     /// Where memory runs out, nothing changes.
     pub fn dial_idle(&mut self, peer: &NodeName, id: EndId) -> Result<(), AllocError>
-        // `entry` is the test.
+        // `entry` tells whether the peer is idle.
         requires idle { entry_of self.old peer.now ≡ None }
         ensures ok { OnOk result (self.new ≡ map.insert self.old peer.now (Entry.Out id)) }
         ensures err { OnErr result (self.new ≡ self.old) }
@@ -200,8 +200,8 @@ impl Peers {
         Ok(())
     }
 
-    /// A peer's name came on this end: its entry becomes the one of the table of verdicts. An idle peer, as most are, is
-    /// searched once.
+    /// A peer's name came on this end: its entry becomes the one of the table of verdicts. For an idle peer, as most are, the table
+    /// is searched once.
     ///
     /// Where memory runs out, nothing changes.
     #[tactic(auto, using(crate::proofs::Others::put_there, crate::proofs::Others::put_over))]
@@ -218,7 +218,7 @@ impl Peers {
         Ok(())
     }
 
-    /// This end came up with the peer. Returns the end that was up before, which is closed. It takes no memory.
+    /// This end came up with the peer. Returns the end that was up before, which the caller closes. It takes no memory.
     #[tactic(auto, using(crate::proofs::Others::others_insert))]
     pub fn came_up(&mut self, peer: &NodeName, id: EndId) -> Option<EndId>
         // Only an end that was dialled, or whose name was taken, comes up; `is_waiting` is the test.
@@ -230,7 +230,7 @@ impl Peers {
         replaced_end(self.change(peer, Entry::Up(id)))
     }
 
-    /// This end is lost, or was closed by its own message. Changes nothing where the peer's entry does not name it.
+    /// This end is lost, or was closed by its own message. It changes nothing where the peer's entry does not name the end.
     /// It takes no memory.
     #[tactic(auto, using(crate::proofs::Others::others_insert, crate::proofs::Others::others_removed))]
     pub fn lost(&mut self, peer: &NodeName, id: EndId)
@@ -243,9 +243,9 @@ impl Peers {
         }
     }
 
-    /// The same as `lost`, of a peer that has an entry, and by a caller that lets its name go: the table is searched once.
+    /// The same as `lost`, for a peer that has an entry, by a caller that gives its name away: the table is searched once.
     pub fn let_go(&mut self, peer: NodeName, id: EndId)
-        // An end that holds a peer makes its entry; `entry` is the test.
+        // A peer that an end holds has an entry; `entry` is the test.
         requires { IsSome (entry_of self.old peer) }
         ensures { self.new ≡ with_entry self.old peer (left_by id (entry_of self.old peer)) }
     {
@@ -261,7 +261,7 @@ impl Peers {
         put_row(&mut self.by_name, self.alloc, peer, entry)
     }
 
-    // Gives a peer that has an entry another.
+    // Gives another entry to a peer that has one.
     fn set(&mut self, peer: &NodeName, entry: Entry)
         requires { IsSome (entry_of self.old peer.now) }
         ensures { self.new ≡ map.insert self.old peer.now entry }
@@ -269,7 +269,7 @@ impl Peers {
         set_row(&mut self.by_name, peer, entry);
     }
 
-    // Gives a peer that has an entry another, and returns the one that it had.
+    // Gives another entry to a peer that has one, and returns the old one.
     fn change(&mut self, peer: &NodeName, entry: Entry) -> Option<Entry>
         requires { IsSome (entry_of self.old peer.now) }
         ensures was { result ≡ entry_of self.old peer.now }
@@ -278,7 +278,7 @@ impl Peers {
         change_row(&mut self.by_name, peer, entry)
     }
 
-    // A peer becomes idle.
+    // Makes a peer idle.
     fn remove(&mut self, peer: &NodeName)
         ensures { self.new ≡ map.remove self.old peer.now }
     {

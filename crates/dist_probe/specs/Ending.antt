@@ -1,4 +1,4 @@
--- HOW A PROBE ENDS: what it sent, what it received upon that, and what the tables make of it.
+-- HOW A PROBE ENDS: what it sent, what it received after that, and what the tables make of it.
 use Rattle.std.specs.Prelude.{◌≡◌, ℕ, ◌⊎◌, Bool, true, false, List, Option, Some, None, Result, Ok, Err}
 use Rattle.dist_names.specs.Order.{same_name}
 use Rattle.dist_names.specs.declared.flags.Flags.{Flags}
@@ -35,12 +35,12 @@ abbrev pub peer_in : ReceivedMessage → Option Peer
 peer_in (heard.Said (message.NewChallenge flags challenge creation name)) = Some (record { flags = flags; creation = creation; name = name })
 peer_in other = None
 
--- its challenge
+-- the node's challenge
 abbrev pub challenge_in : ReceivedMessage → ℕ
 challenge_in (heard.Said (message.NewChallenge flags challenge creation name)) = challenge
 challenge_in other = 0
 
--- which flags that releases from 26 on ask for are missing
+-- which flags that releases from 26 on require are missing
 abbrev pub lacking : Setup → Flags
 lacking setup = record { 0 = missing (announced_by setup) (required_by release.Otp28) }
 
@@ -49,13 +49,13 @@ abbrev pub outcome_of : ProbeVerdict → Result (Unit {0}) ProbeVerdict
 outcome_of verdict.Up = Ok tt
 outcome_of other = Err other
 
--- ---- what is sent, and received upon it
+-- ---- what is sent, and received after it
 
 -- nothing was read or written
 abbrev pub Rests : StreamState → StreamState → ℕ → ℕ → Type 0
 Rests old new turns left = (new ≡ old) × (left ≡ turns)
 
--- what is received behind a text: the next message where all of it was sent, else why not
+-- what is received after a text: the next message where all of it was sent, else why not
 abbrev pub HearsBehindText : Option TurnError → StreamState → StreamState → ℕ → ℕ → ReceivedMessage → Type 0
 HearsBehindText None old new turns left h = HearsMessage old new turns left h
 HearsBehindText (Some error) old new turns left h = Rests old new turns left × (h ≡ heard_instead error 0)
@@ -72,36 +72,36 @@ pub record Exchanges (text : List ℕ) (h : ReceivedMessage) (old new : StreamSt
 abbrev pub Asks : List ℕ → ReceivedMessage → StreamState → StreamState → ℕ → ℕ → Type 0
 Asks text h old new turns left = (Rests old new turns left × (h ≡ heard.NoMemory)) ⊎ Exchanges text h old new turns left
 
--- the bytes of `false`, or a front of them where the stream takes no more
+-- the bytes of `false`, or a first part of them where the stream takes no more
 pub record SaysFalse (old new : StreamState) (turns left : ℕ) : Type 0 where
   pub stop : Option TurnError
   pub said : SaysFront old new turns left stop (status_text status.False)
 
--- behind `alive` the answer is `false`, so the connection that the node has stays; behind any other refusal nothing is sent
+-- after `alive` the answer is `false`, so that the node keeps the connection that it has; after any other refusal nothing is sent
 abbrev pub Leaves : ProbeVerdict → StreamState → StreamState → ℕ → ℕ → Type 0
 Leaves verdict.AlreadyUp old new turns left = SaysFalse old new turns left
 Leaves other old new turns left = Rests old new turns left
 
--- ---- the talk, from its end
+-- ---- the talk, from its end back to its beginning
 
--- The reply was sent, and what was received upon it decides.
+-- The reply was sent, and what was received after it decides.
 pub record Replies (setup : Setup) (target : List ℕ)
     (fresh challenge : ℕ) (old new : StreamState) (turns left : ℕ) (outcome : Result (Unit {0}) ProbeVerdict) : Type 0 where
   pub third : ReceivedMessage
   pub asked : Asks (reply_text setup form.New target fresh challenge) third old new turns left
   pub is : outcome ≡ outcome_of (ack_verdict (lacking setup) (own_digest setup target fresh) third)
 
--- behind the challenge of the node that was dialled: a reply where one is wanted
+-- after the challenge of the node that was dialled: a reply where one is to be made
 abbrev pub BehindChallenge : Bool → Setup → List ℕ → ℕ → ℕ → StreamState → StreamState → ℕ → ℕ → Result (Unit {0}) ProbeVerdict → Type 0
 BehindChallenge false setup target fresh challenge old new turns left outcome = Rests old new turns left × (outcome ≡ Err verdict.Reached)
 BehindChallenge true setup target fresh challenge old new turns left outcome = Replies setup target fresh challenge old new turns left outcome
 
--- behind what was received where the challenge was due
+-- after what was received where the challenge was due
 abbrev pub Decides : Option ProbeVerdict → Bool → Setup → List ℕ → ℕ → ℕ → StreamState → StreamState → ℕ → ℕ → Result (Unit {0}) ProbeVerdict → Type 0
 Decides (Some v) replies setup target fresh challenge old new turns left outcome = Rests old new turns left × (outcome ≡ Err v)
 Decides None replies setup target fresh challenge old new turns left outcome = BehindChallenge replies setup target fresh challenge old new turns left outcome
 
--- The status went on: one message was received where the challenge is due, and the table says how it goes on.
+-- The status let the handshake go on: one message was received where the challenge is due, and the table says how it goes on.
 pub record GoesOn (replies : Bool) (setup : Setup) (target : List ℕ) (fresh : ℕ) (old new : StreamState) (turns left : ℕ) (report : Report) : Type 0 where
   pub second : ReceivedMessage
   pub mid : StreamState
@@ -110,12 +110,12 @@ pub record GoesOn (replies : Bool) (setup : Setup) (target : List ℕ) (fresh : 
   pub peer : report.peer ≡ peer_in second
   pub decides : Decides (challenge_verdict (lacking setup) target second) replies setup target fresh (challenge_in second) mid new between left report.outcome
 
--- behind what was received where the status was due
+-- after what was received where the status was due
 abbrev pub BehindName : Option ProbeVerdict → Bool → Setup → List ℕ → ℕ → StreamState → StreamState → ℕ → ℕ → Report → Type 0
 BehindName (Some v) replies setup target fresh old new turns left report = Leaves v old new turns left × (report.peer ≡ None) × (report.outcome ≡ Err v)
 BehindName None replies setup target fresh old new turns left report = GoesOn replies setup target fresh old new turns left report
 
--- THE TALK: the own name was sent, and what was received upon it decides, by the tables of Verdicts.antt, how it goes on, what
+-- THE TALK: the own name was sent, and by the tables of Verdicts.antt what was received after it decides how the talk goes on, what
 -- is sent next, and what is reported. Never more reads and writes are made than there are turns.
 pub record Ends (replies : Bool) (setup : Setup) (target : List ℕ) (fresh : ℕ) (old new : StreamState) (turns : ℕ) (report : Report) : Type 0 where
   pub first : ReceivedMessage

@@ -1,4 +1,4 @@
--- What is received of a node, where one message of it is awaited.
+-- What is received from a node, where one message of it is awaited.
 use Rattle.std.specs.Prelude.{◌≡◌, ℕ, false, List, [], ◌∷◌, ◌++◌, length, Option, Some, None}
 use Rattle.std.specs.Int.{w16}
 use Rattle.dist_names.specs.Bytes.{number}
@@ -21,7 +21,7 @@ use Rattle.dist_probe.specs.declared.hearing.ReceivedMessage.TheVariants as hear
 abbrev pub tags : List ℕ
 tags = 0x73 ∷ 0x6e ∷ 0x4e ∷ 0x61 ∷ []
 
--- what is received where the stream gave or took no more, behind so many bytes of a message
+-- what is received where the stream gave or took no more, after this many bytes of a message
 abbrev pub heard_instead : TurnError → ℕ → ReceivedMessage
 heard_instead fault.ReadFailed count = heard.Broken
 heard_instead fault.WriteFailed count = heard.Broken
@@ -47,12 +47,12 @@ IsWhole (heard.Length front) bytes = (first : ℕ) × (bytes ≡ number w16 fron
 IsWhole heard.NoMemory bytes = Unit {0}
 IsWhole other bytes = ⊥
 
--- these bytes came, and that was received: a message, or that the stream gave no more inside of a frame
+-- these bytes came, and this was received: a message, or that the stream gave no more inside a frame
 abbrev pub IsHeardAs : Option TurnError → ReceivedMessage → List ℕ → Type 0
 IsHeardAs None h bytes = IsWhole h bytes
 IsHeardAs (Some error) h bytes = (h ≡ heard_instead error (length bytes)) × IsInside bytes
 
--- ONE MESSAGE WAS RECEIVED, or why none was, within the turns that were there; nothing was written.
+-- ONE MESSAGE WAS RECEIVED, or this is why none was, within the turns that were there; nothing was written.
 pub record HearsMessage (old new : StreamState) (turns left : ℕ) (h : ReceivedMessage) : Type 0 where
   pub bytes : List ℕ
   pub stop : Option TurnError

@@ -1,4 +1,4 @@
--- What is reported of a place that was not reached: what happened, and what can be done.
+-- What is reported of a place that was not reached: what happened, and what can be done about it.
 use Rattle.std.specs.Prelude.{ℕ, List, codes, ◌++◌}
 use Rattle.dist_probe.specs.declared.unreached.Unreached.{Unreached}
 use Rattle.dist_probe.specs.declared.unreached.Unreached.TheVariants as unreached
@@ -16,7 +16,7 @@ mapper_cause unreached.NoMemory = codes "memory ran out here"
 mapper_cause unreached.NoDescriptors = codes "no descriptor is left here"
 mapper_cause unreached.Failed = codes "this machine could not open a connection"
 
--- what can be done there
+-- what can be done about it
 abbrev pub mapper_remedy : Unreached → List ℕ
 mapper_remedy unreached.Refused =
     codes "is a node running there at all? then start epmd, or look at ERL_EPMD_PORT and ERL_EPMD_ADDRESS on both hosts (--epmd-port); " ++
@@ -50,7 +50,7 @@ port_cause unreached.NoMemory = codes "memory ran out here"
 port_cause unreached.NoDescriptors = codes "no descriptor is left here"
 port_cause unreached.Failed = codes "this machine could not open a connection"
 
--- what can be done there
+-- what can be done about it
 abbrev pub port_remedy : Unreached → List ℕ
 port_remedy unreached.Refused =
     codes "the registration may be stale, or the node listens at another address of its host (inet_dist_use_interface); " ++

@@ -8,7 +8,7 @@ use Rattle.dist_probe.specs.declared.verdict.Party.TheVariants as party
 use Rattle.dist_probe.specs.declared.verdict.ProbeVerdict.{ProbeVerdict}
 use Rattle.dist_probe.specs.declared.verdict.ProbeVerdict.TheVariants as verdict
 
--- a connect that made no connection: nothing answered where this machine itself could not send
+-- how far a connect got that made no connection: less far where this machine itself could not send
 abbrev pub unreached_reach : Unreached → ℕ
 unreached_reach unreached.NoRoute = 0
 unreached_reach unreached.NoMemory = 0
@@ -16,7 +16,7 @@ unreached_reach unreached.NoDescriptors = 0
 unreached_reach unreached.Failed = 0
 unreached_reach other = 1
 
--- a talk that ended where this was awaited
+-- how far a talk got that ended where this was awaited
 abbrev pub awaited_reach : AwaitedMessage → ℕ
 awaited_reach awaited.Status = 0
 awaited_reach awaited.Challenge = 2
@@ -57,6 +57,6 @@ reach verdict.NoDescriptors = 14
 abbrev pub is_found : ProbeVerdict → Bool
 is_found v = nat_le 12 (reach v)
 
--- the first of two got further
+-- the first of the two got further
 abbrev pub is_further : ProbeVerdict → ProbeVerdict → Bool
 is_further first second = nat_lt (reach second) (reach first)

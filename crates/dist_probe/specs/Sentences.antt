@@ -24,7 +24,7 @@ what_is_there service.Http = codes "what listens there speaks HTTP, and is no no
 what_is_there service.Ssh = codes "what listens there speaks SSH, and is no node"
 what_is_there service.Other = codes "what listens there answers in no way a node does"
 
--- what can be done about it
+-- what can be done where something else listens there
 abbrev pub what_helps_foreign : Service → List ℕ
 what_helps_foreign service.Tls = codes "dial it from a node with the same -proto_dist and -ssl_dist_optfile"
 what_helps_foreign service.Http = codes "look which program has that port; the registration may be stale"
@@ -37,19 +37,19 @@ what_is_gone awaited.Status = codes "the connection was closed upon our name, be
 what_is_gone awaited.Challenge = codes "the node took our name, and closed the connection before its challenge"
 what_is_gone awaited.Ack = codes "the connection was closed upon our reply"
 
--- it was reset there
+-- the connection was reset where this was awaited
 abbrev pub what_is_reset : AwaitedMessage → List ℕ
 what_is_reset awaited.Status = codes "the connection was reset upon our name, before a whole message"
 what_is_reset awaited.Challenge = codes "the node took our name, and the connection was reset before its challenge"
 what_is_reset awaited.Ack = codes "the connection was reset upon our reply"
 
--- nothing came there
+-- nothing came where this was awaited
 abbrev pub what_is_silent : AwaitedMessage → List ℕ
 what_is_silent awaited.Status = codes "the connection was accepted, and nothing was said"
 what_is_silent awaited.Challenge = codes "the node took our name, and never said its challenge"
 what_is_silent awaited.Ack = codes "the node never answered our reply"
 
--- bytes came there, and no whole message
+-- bytes came where this was awaited, but no whole message
 abbrev pub what_is_cut : AwaitedMessage → List ℕ
 what_is_cut awaited.Status = codes "the connection was accepted, and bytes came, but no whole message"
 what_is_cut awaited.Challenge = codes "the node took our name, and its challenge did not come whole"
@@ -71,7 +71,7 @@ what_is_unresolved unresolved.NoName = codes "the host's name has no address her
 what_is_unresolved unresolved.Failed = codes "the host's name could not be looked up: the resolver of this machine reports a failure"
 what_is_unresolved unresolved.NoAddress = codes "the host of --address has no address here"
 
--- what can be done about it
+-- what can be done where the name has no address
 abbrev pub what_helps_unresolved : Unresolved → List ℕ
 what_helps_unresolved unresolved.NoName =
     codes "correct the part behind the @, or let this host resolve it (/etc/hosts, DNS); " ++
@@ -90,7 +90,7 @@ what_is_unanswered error.WriteFailed = codes "the port mapper's port took the co
 what_is_unanswered error.Ended = codes "the port mapper's port took the connection, and closed it before an answer"
 what_is_unanswered other = codes "what listens at the port mapper's port gave no answer to the lookup"
 
--- what can be done about it
+-- what can be done where the lookup failed
 abbrev pub what_helps_unanswered : LookupError → List ℕ
 what_helps_unanswered error.Limit =
     codes "epmd may be stopped or overloaded, or another program listens there: look at that process on its host; " ++
@@ -106,17 +106,17 @@ what_helps_unanswered error.Ended =
     codes "is it epmd at all? compare with epmd -names on that host; the node itself is dialled by --port P"
 what_helps_unanswered other = codes "is it epmd at all? compare with epmd -names on that host"
 
--- whose flags are lacking
+-- whose flags are missing
 abbrev pub whose_flags : Party → List ℕ
 whose_flags party.Probe = codes "the node refuses our flags (not_allowed)"
 whose_flags party.Node = codes "every release of OTP from 23 on refuses the flags of this node"
 
--- what can be done about it
+-- what can be done where flags are missing
 abbrev pub what_helps_flags : Party → List ℕ
 what_helps_flags party.Probe = codes "the older side has to be updated: releases two apart connect, older ones lack what the newer asks for"
 what_helps_flags party.Node = codes "let the program there announce the flags that are lacking: every node of OTP announces them"
 
--- what can be done where the name that the node said is of this style
+-- what can be done where the name that the node sent is of this style
 abbrev pub what_helps_name : NameStyle → List ℕ
 what_helps_name style.Long = codes "the node was started under another host part or name: dial it by the name that it says, from a node of -name"
 what_helps_name style.Short =

@@ -1,4 +1,4 @@
--- HOW A CONNECT ENDED that made no connection, by what the system answered, and what that means.
+-- HOW A CONNECT FAILED, by what the system answered, and what that means.
 use Rattle.std.specs.Prelude.{ℕ, List, codes, ◌==◌, ◌||◌, if◌then◌else◌}
 use Rattle.std.specs.declared.io.ErrorKind.{ErrorKind}
 use Rattle.std.specs.declared.io.ErrorKind.TheVariants as kind
@@ -7,7 +7,7 @@ use Rattle.dist_probe.specs.declared.unreached.Unreached.TheVariants as unreache
 use Rattle.dist_probe.specs.declared.verdict.ProbeVerdict.{ProbeVerdict}
 use Rattle.dist_probe.specs.declared.verdict.ProbeVerdict.TheVariants as verdict
 
--- by a number of the system's that has no kind of its own (Linux): ENONET 64, EHOSTDOWN 112, ENOPROTOOPT 92, EAFNOSUPPORT 97,
+-- by an error number that has no kind of its own (Linux): ENONET 64, EHOSTDOWN 112, ENOPROTOOPT 92, EAFNOSUPPORT 97,
 -- ENFILE 23, EMFILE 24
 abbrev pub unreached_by_number : ℕ → Unreached
 unreached_by_number number =
@@ -16,7 +16,7 @@ unreached_by_number number =
     if number == 97 then unreached.NoRoute else
     if (number == 23) || (number == 24) then unreached.NoDescriptors else unreached.Failed
 
--- by the kind of the error, and behind that by its number
+-- by the kind of the error, and where that does not tell, by its number
 abbrev pub unreached_of : ErrorKind → ℕ → Unreached
 unreached_of kind.ConnectionRefused number = unreached.Refused
 unreached_of kind.ConnectionReset number = unreached.Reset
@@ -57,14 +57,14 @@ unreached_text unreached.NoMemory = codes "out of memory here"
 unreached_text unreached.NoDescriptors = codes "out of descriptors here"
 unreached_text unreached.Failed = codes "the system could not connect"
 
--- the port mapper's port was not reached
+-- the verdict where the port mapper's port was not reached
 abbrev pub mapper_verdict : Unreached → ProbeVerdict
 mapper_verdict unreached.Refused = verdict.MapperRefused
 mapper_verdict unreached.NoMemory = verdict.NoMemory
 mapper_verdict unreached.NoDescriptors = verdict.NoDescriptors
 mapper_verdict other = verdict.MapperUnreachable other
 
--- the node's port was not reached
+-- the verdict where the node's port was not reached
 abbrev pub port_verdict : Unreached → ProbeVerdict
 port_verdict unreached.Refused = verdict.PortRefused
 port_verdict unreached.NoMemory = verdict.NoMemory

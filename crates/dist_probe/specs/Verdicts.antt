@@ -16,21 +16,21 @@ use Rattle.dist_probe.specs.declared.verdict.ProbeVerdict.TheVariants as verdict
 use Rattle.dist_probe.specs.Services.{service_of}
 use Rattle.dist_probe.specs.Styles.{style_of}
 
--- `not_allowed`: the name is the node's own, or a flag that releases from 26 on ask for is missing, or the name is not on the
+-- `not_allowed`: the name is the node's own, or a flag that releases from 26 on require is missing, or the name is not on the
 -- node's list
 abbrev pub not_allowed : Bool → Flags → ProbeVerdict
 not_allowed is_own lacking = if is_own then verdict.OwnName else if lacking.0 == 0 then verdict.NotOnList else verdict.LacksFlags party.Probe lacking
 
--- `nok`: the name is the node's own, or the node dials it just now
+-- `nok`: the name is the node's own, or the node is dialling it just now
 abbrev pub refused_nok : Bool → ProbeVerdict
 refused_nok is_own = if is_own then verdict.OwnName else verdict.Busy
 
--- the flags of the node that was dialled: each release refuses them, and OTP 23 asks for the least; or some release takes them
+-- the flags of the node that was dialled: each release refuses them, and OTP 23 requires the least; or some release accepts them
 abbrev pub flags_verdict : Flags → Option ProbeVerdict
 flags_verdict flags =
     if is_refused_by_all flags.0 then Some (verdict.LacksFlags party.Node (record { 0 = objection release.Otp23 flags.0 })) else None
 
--- anything but the message that is awaited
+-- what was received is not the message that is awaited
 abbrev pub verdict_of_other : AwaitedMessage → ReceivedMessage → ProbeVerdict
 verdict_of_other a (heard.Said m) = verdict.Unexpected a
 verdict_of_other a (heard.NoMessage error) = verdict.Unexpected a
@@ -40,7 +40,7 @@ verdict_of_other a heard.Broken = verdict.Reset a
 verdict_of_other a (heard.Silent count) = verdict.Silent a count
 verdict_of_other a heard.NoMemory = verdict.NoMemory
 
--- behind the own name
+-- after the own name
 abbrev pub status_verdict : Bool → Flags → ReceivedMessage → Option ProbeVerdict
 status_verdict is_own lacking (heard.Said (message.Status status.Ok)) = None
 status_verdict is_own lacking (heard.Said (message.Status status.OkSimultaneous)) = None
@@ -49,7 +49,7 @@ status_verdict is_own lacking (heard.Said (message.Status status.NotAllowed)) = 
 status_verdict is_own lacking (heard.Said (message.Status status.Alive)) = Some verdict.AlreadyUp
 status_verdict is_own lacking other = Some (verdict_of_other awaited.Status other)
 
--- behind a status that goes on
+-- after a status that lets the handshake go on
 abbrev pub challenge_verdict : Flags → List ℕ → ReceivedMessage → Option ProbeVerdict
 challenge_verdict lacking target (heard.Said (message.NewChallenge flags challenge creation name)) = if pointwise ◌==◌ name target then flags_verdict flags
     else Some (verdict.OtherName (style_of name))
@@ -57,7 +57,7 @@ challenge_verdict lacking target (heard.Said (message.OldChallenge flags challen
 challenge_verdict lacking target (heard.Said (message.Status status.NotAllowed)) = Some (not_allowed false lacking)
 challenge_verdict lacking target other = Some (verdict_of_other awaited.Challenge other)
 
--- behind the own reply: an end of the stream there is what a node that has another cookie does
+-- after the own reply: a node that has another cookie ends the stream there
 abbrev pub ack_verdict : Flags → List ℕ → ReceivedMessage → ProbeVerdict
 ack_verdict lacking wanted (heard.Said (message.Ack digest)) = if pointwise ◌==◌ digest wanted then verdict.Up else verdict.WrongAck
 ack_verdict lacking wanted (heard.Said (message.Status status.NotAllowed)) = not_allowed false lacking

@@ -19,7 +19,7 @@ use std::alloc::Global;
 /// What a node says of itself.
 #[derive(Drop)]
 pub struct Peer {
-    /// What it announces.
+    /// The flags that it announces.
     pub flags: Flags,
     /// The incarnation of the node that answered.
     pub creation: Creation,
@@ -32,14 +32,14 @@ pub struct Peer {
 pub struct Report {
     /// The status that the node sent.
     pub status: Option<Status>,
-    /// What it said of itself.
+    /// What the node said of itself.
     pub peer: Option<Peer>,
     /// Whether the node came up, or why not.
     pub outcome: Result<(), ProbeVerdict>,
 }
 
 impl Report {
-    /// What it comes to.
+    /// The verdict: `Up`, or why the node did not come up.
     pub fn verdict(&self) -> ProbeVerdict
         ensures up { IsOk self.now.outcome → result ≡ ProbeVerdict.Up }
         ensures other { IfErr self.now.outcome (λ v. result ≡ v) }
@@ -51,14 +51,13 @@ impl Report {
     }
 }
 
-/// The flags that a node of OTP 26 or newer asks for, and that a node of this setup does not announce.
+/// The flags that a node of OTP 26 or newer requires, and that a node of this setup does not announce.
 pub fn lacking(setup: &Setup) -> Flags
     ensures { result ≡ lacking setup.now }
 {
     missing(announced_by(setup), Release::Otp28.required())
 }
 
-// The status that was sent.
 fn status_in(heard: &ReceivedMessage) -> Option<Status>
     ensures { result ≡ status_in heard.now }
 {
@@ -99,7 +98,6 @@ fn peer_in(heard: ReceivedMessage) -> Option<Peer>
     }
 }
 
-// A verdict, as an outcome.
 fn outcome_of(verdict: ProbeVerdict) -> Result<(), ProbeVerdict>
     ensures { result ≡ outcome_of verdict }
 {
@@ -109,7 +107,7 @@ fn outcome_of(verdict: ProbeVerdict) -> Result<(), ProbeVerdict>
     }
 }
 
-// Sends a text, and receives the message behind it.
+// Sends a text, and receives the message after it.
 fn exchange<S: Stream>(
     alloc: Global,
     limited: &mut Limited<'_, S>,
@@ -124,7 +122,7 @@ fn exchange<S: Stream>(
     }
 }
 
-// Sends the own name, and receives what comes upon it.
+// Sends the own name, and receives what comes after it.
 fn greet<S: Stream>(alloc: Global, limited: &mut Limited<'_, S>, setup: &Setup) -> ReceivedMessage
     ensures asks { Asks (name_text setup.now form.New) result
         (S.meaning limited.old.stream.now) (S.meaning limited.new.stream.now) limited.old.left limited.new.left }
@@ -136,7 +134,7 @@ fn greet<S: Stream>(alloc: Global, limited: &mut Limited<'_, S>, setup: &Setup) 
     }
 }
 
-// Replies to a challenge, and receives what comes upon that.
+// Replies to a challenge, and receives what comes after that.
 fn reply<S: Stream>(
     alloc: Global,
     limited: &mut Limited<'_, S>,
@@ -158,7 +156,7 @@ fn reply<S: Stream>(
 // The frame of `false`, which takes no memory.
 const FALSE: [u8; 8] = [0, 6, 0x73, 0x66, 0x61, 0x6c, 0x73, 0x65];
 
-// Sends `false`, so that the node keeps the connection that it has under the own name.
+// Sends `false`, so that the node keeps the connection that it has with the own name.
 fn leave_alone<S: Stream>(limited: &mut Limited<'_, S>)
     ensures says { SaysFalse (S.meaning limited.old.stream.now) (S.meaning limited.new.stream.now) limited.old.left limited.new.left }
     ensures loan { limited.new.stream.ghost_name ≡ limited.old.stream.ghost_name }
@@ -166,7 +164,7 @@ fn leave_alone<S: Stream>(limited: &mut Limited<'_, S>)
     let _ = limited.write_all(&FALSE);
 }
 
-// What comes of the challenge of the node that was dialled.
+// What the challenge of the node that was dialled leads to.
 fn answer_challenge<S: Stream>(
     alloc: Global,
     limited: &mut Limited<'_, S>,
@@ -188,7 +186,7 @@ fn answer_challenge<S: Stream>(
     outcome_of(ack_verdict(lacking(setup), wanted, &heard))
 }
 
-// Receives the challenge, and goes on from there. What the node said of itself is reported, whether or not it was dialled.
+// Receives the challenge, and goes on from there. What the node said of itself is reported, whether or not it is the one dialled.
 fn go_on<S: Stream>(
     alloc: Global,
     limited: &mut Limited<'_, S>,
@@ -216,7 +214,7 @@ fn go_on<S: Stream>(
     }
 }
 
-// Ends a talk that the node refused behind the own name.
+// Ends a talk that the node refused after the own name.
 fn end_refused<S: Stream>(
     limited: &mut Limited<'_, S>,
     status: Option<Status>,
@@ -240,8 +238,8 @@ fn end_refused<S: Stream>(
 /// whether both have the same cookie. `fresh` is the own challenge.
 ///
 /// The opening is the newer name. Where `replies` is false the talk ends at the node's challenge, so nothing of a cookie is
-/// shown, and the node never counts the probe as up. Where the node sends `alive` the answer is `false`: what it has under that
-/// name stays. The connection is the caller's to close, at once: an end that comes up is not kept.
+/// shown, and the node never counts the probe as up. Where the node sends `alive`, the answer is `false`: its old connection
+/// stays. The caller closes the connection, at once: an end that comes up is not kept.
 pub fn ask_node<S: Stream>(
     alloc: Global,
     stream: &mut S,
@@ -260,7 +258,7 @@ pub fn ask_node<S: Stream>(
     talk(alloc, &mut limited, setup, target, fresh, replies)
 }
 
-// The talk as far as it goes.
+// The talk, as far as it goes.
 fn talk<S: Stream>(
     alloc: Global,
     limited: &mut Limited<'_, S>,

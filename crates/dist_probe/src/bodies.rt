@@ -1,4 +1,4 @@
-//! One frame, read where what comes may be no frame at all.
+//! One frame, read where what comes may not be a frame at all.
 
 ghost use Rattle.std.specs.Prelude.{◌≡◌, ◌<◌, ◌∷◌, IfErr, IfOk, length};
 ghost use Rattle.dist_probe.specs.Bodies.{Fills, HearsBehind, HearsByte, HearsFrameOf, HearsLen, HearsRest};
@@ -12,15 +12,15 @@ use std::alloc::{AllocError, Global};
 pub enum Came {
     /// The body of a frame.
     Body(ByteString),
-    /// Two bytes that are the length of no frame that is awaited: the byte behind them begins no body. Nothing more was read.
+    /// Two bytes that are not the length of an awaited frame: the byte behind them begins no body. Nothing more was read.
     Front(u16),
-    /// The stream gave no more inside of the frame, behind this many bytes of it.
+    /// The stream gave no more inside the frame, after this many bytes of it.
     Stopped(TurnError, usize),
     /// No memory was left for the body.
     NoMemory,
 }
 
-// Fills the room. Where the stream gives no more: why, and how many bytes came before.
+// Fills the buffer. Where the stream gives no more: why, and how many bytes came before.
 fn fill<S: Stream>(limited: &mut Limited<'_, S>, room: &mut [u8]) -> Result<(), (TurnError, usize)>
     ensures hears { Fills (S.meaning limited.old.stream.now) (S.meaning limited.new.stream.now) limited.old.left limited.new.left result room.new }
     ensures len { length room.new ≡ length room.old }
@@ -37,7 +37,7 @@ fn fill<S: Stream>(limited: &mut Limited<'_, S>, room: &mut [u8]) -> Result<(), 
     Ok(())
 }
 
-// The length of the next frame, which is read into the header.
+// Reads the length of the next frame into the header.
 fn read_len<S: Stream>(
     limited: &mut Limited<'_, S>,
     header: &mut [u8],
@@ -50,7 +50,6 @@ fn read_len<S: Stream>(
     Ok(u16::from_be_bytes([header[0], header[1]]))
 }
 
-// The next byte.
 fn read_byte<S: Stream>(limited: &mut Limited<'_, S>) -> Result<u8, TurnError>
     ensures hears { HearsByte (S.meaning limited.old.stream.now) (S.meaning limited.new.stream.now) limited.old.left limited.new.left result }
     ensures loan { limited.new.stream.ghost_name ≡ limited.old.stream.ghost_name }
@@ -60,7 +59,7 @@ fn read_byte<S: Stream>(limited: &mut Limited<'_, S>) -> Result<u8, TurnError>
     Ok(byte[0])
 }
 
-// The body that this tag begins, with this rest.
+// The body of this tag and this rest.
 fn body_of(alloc: Global, tag: u8, rest: &[u8]) -> Result<ByteString, AllocError>
     ensures { IfOk result (λ body. body ≡ tag ∷ rest.now) }
 {
@@ -69,7 +68,7 @@ fn body_of(alloc: Global, tag: u8, rest: &[u8]) -> Result<ByteString, AllocError
     Ok(body)
 }
 
-// The body of this many bytes that this tag begins, of which the rest is still to be read.
+// Reads the rest of a body of this many bytes, whose first byte is this tag.
 fn read_rest<S: Stream>(alloc: Global, limited: &mut Limited<'_, S>, len: u16, tag: u8) -> Came
     requires { 0 < len }
     ensures hears { HearsRest (S.meaning limited.old.stream.now) (S.meaning limited.new.stream.now) limited.old.left limited.new.left len tag result }
@@ -87,7 +86,7 @@ fn read_rest<S: Stream>(alloc: Global, limited: &mut Limited<'_, S>, len: u16, t
     }
 }
 
-// What stands behind a length: this many bytes where one of these tags begins them, else the first alone.
+// Reads what stands behind a length: this many bytes where one of these tags begins them, else only the first.
 fn read_behind<S: Stream>(
     alloc: Global,
     limited: &mut Limited<'_, S>,
@@ -110,8 +109,8 @@ fn read_behind<S: Stream>(
     }
 }
 
-/// Reads the next frame, where what comes may be no frame at all: a length counts only if one of these tags begins the body, or
-/// there is none. Else the length and the byte behind it are all that is read, so that nobody waits for bytes that another
+/// Reads the next frame, where what comes may not be a frame at all: a length counts only if one of these tags begins the body, or
+/// if it is 0. Otherwise only the length and the byte behind it are read, so that nobody waits for bytes that another
 /// service never sends. It reads no byte behind the frame, and writes nothing.
 ///
 /// Source: our own choice.

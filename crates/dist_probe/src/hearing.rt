@@ -13,26 +13,26 @@ use std::alloc::Global;
 pub enum ReceivedMessage {
     /// A message of the accepting side.
     Said(Message),
-    /// A body that is no message of the accepting side.
+    /// A body that is not a message of the accepting side.
     NoMessage(MessageError),
-    /// Two bytes that are the length of no frame of a handshake: what stands behind them is no tag of the accepting side.
+    /// Two bytes that are not the length of a frame of a handshake: the byte behind them is no tag of the accepting side.
     Length(u16),
     /// The other side closed the connection.
     Gone,
     /// The connection broke: a read or a write failed.
     Broken,
-    /// Nothing whole came or went, and no turn is left. So many bytes of a message came.
+    /// Nothing whole came or went, and no turn is left. This many bytes of a message came.
     Silent(usize),
     /// Memory ran out here.
     NoMemory,
 }
 
 // The tags of the accepting side: a status, an older challenge, a newer one, an acknowledgement. Source: ERTS User's Guide,
-// Distribution Handshake. A length counts only before one of them: two bytes of another service may look like one, and nobody is
-// to wait for a body that never comes. Our own choice.
+// Distribution Handshake. A length counts only before one of them: two bytes of another service may look like one, and nobody should
+// wait for a body that never comes. Our own choice.
 const TAGS: [u8; 4] = [0x73, 0x6e, 0x4e, 0x61];
 
-/// What is received where the stream gave or took no more, behind so many bytes of a message.
+/// What is received where the stream gave or took no more, after this many bytes of a message.
 pub fn heard_instead(fault: TurnError, count: usize) -> ReceivedMessage
     ensures { result ≡ heard_instead fault count }
 {
@@ -43,7 +43,7 @@ pub fn heard_instead(fault: TurnError, count: usize) -> ReceivedMessage
     }
 }
 
-// What a body says.
+// What is received where this body came.
 fn heard_in(alloc: Global, body: &[u8]) -> ReceivedMessage
     ensures { IsHeardIn result body.now }
 {
@@ -56,7 +56,7 @@ fn heard_in(alloc: Global, body: &[u8]) -> ReceivedMessage
 
 /// The next message of the node, within the turns that are left. It writes nothing.
 ///
-/// A body has up to 65,535 bytes. Where the byte behind a length is no tag, those three bytes alone are read.
+/// A body has up to 65,535 bytes. Where the byte behind a length is no tag, only those three bytes are read.
 pub fn hear<S: Stream>(alloc: Global, limited: &mut Limited<'_, S>) -> ReceivedMessage
     ensures hears { HearsMessage (S.meaning limited.old.stream.now) (S.meaning limited.new.stream.now) limited.old.left limited.new.left result }
     ensures loan { limited.new.stream.ghost_name ≡ limited.old.stream.ghost_name }

@@ -11,7 +11,6 @@ use dist_flags::{Release, is_refused_by_all};
 use dist_messages::{Message, Status};
 use dist_names::Flags;
 
-// What `not_allowed` means.
 fn meaning_of_not_allowed(is_own: bool, lacking: Flags) -> ProbeVerdict
     ensures { result ≡ not_allowed is_own lacking }
 {
@@ -35,7 +34,7 @@ fn refused_nok(is_own: bool) -> ProbeVerdict
     }
 }
 
-// The verdict upon the flags of the node that was dialled, and `None` where some release takes them.
+// The verdict on the flags of the node that was dialled, and `None` where some release accepts them.
 fn flags_verdict(flags: Flags) -> Option<ProbeVerdict>
     ensures { result ≡ flags_verdict flags }
 {
@@ -46,7 +45,7 @@ fn flags_verdict(flags: Flags) -> Option<ProbeVerdict>
     }
 }
 
-// What anything means but the message that is awaited.
+// What anything means that is not the awaited message.
 fn verdict_of_other(awaited: AwaitedMessage, heard: &ReceivedMessage) -> ProbeVerdict
     ensures { result ≡ verdict_of_other awaited heard.now }
 {
@@ -62,8 +61,8 @@ fn verdict_of_other(awaited: AwaitedMessage, heard: &ReceivedMessage) -> ProbeVe
     }
 }
 
-/// The verdict upon what came behind the own name, and `None` where the handshake goes on. `is_own` says that the probe has
-/// the node's name, and `lacking` which of the flags that releases from 26 on ask for it does not announce.
+/// The verdict on what came after the own name, and `None` where the handshake goes on. `is_own` says that the probe has
+/// the node's name, and `lacking` which of the flags that releases from 26 on require the probe does not announce.
 pub fn status_verdict(is_own: bool, lacking: Flags, heard: &ReceivedMessage) -> Option<ProbeVerdict>
     ensures { result ≡ status_verdict is_own lacking heard.now }
 {
@@ -79,8 +78,8 @@ pub fn status_verdict(is_own: bool, lacking: Flags, heard: &ReceivedMessage) -> 
     }
 }
 
-/// The verdict upon what came behind a status that goes on, and `None` where it is the challenge of the node that was
-/// dialled, with flags that some release takes.
+/// The verdict on what came after a status that lets the handshake go on, and `None` where it is the challenge of the node that was
+/// dialled, with flags that some release accepts.
 pub fn challenge_verdict(
     lacking: Flags,
     target: &[u8],
@@ -104,7 +103,7 @@ pub fn challenge_verdict(
     }
 }
 
-/// The verdict upon what came behind the own reply: `Up` where it is the digest of the own challenge.
+/// The verdict on what came after the own reply: `Up` where it is the digest of the own challenge.
 pub fn ack_verdict(lacking: Flags, wanted: [u8; 16], heard: &ReceivedMessage) -> ProbeVerdict
     ensures { result ≡ ack_verdict lacking wanted heard.now }
 {

@@ -1,8 +1,8 @@
 //! Why a node does not come up with another: what a node sends when it is dialled, and what that means.
 //!
-//! One call dials nobody: it speaks the dialling side of the handshake over any stream, writes down what it received, and
+//! A call here dials nobody: it speaks the dialling side of the handshake over any stream, notes what it received, and
 //! returns a verdict. Which verdict belongs to what was received is a table (`specs/Verdicts`). No sockets, no clock, no
-//! randomness, no node that is kept: an end that comes up is left at once.
+//! randomness, and no node: an end that comes up is not kept.
 #![tactic(auto)]
 
 mod asking;

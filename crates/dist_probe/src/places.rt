@@ -1,4 +1,4 @@
-//! What is reported of a place that was not reached: what happened, and what can be done.
+//! What is reported of a place that was not reached: what happened, and what can be done about it.
 
 ghost use Rattle.std.specs.Prelude.{◌≡◌};
 ghost use Rattle.dist_probe.specs.Places.{mapper_cause, mapper_remedy, port_cause, port_remedy};
@@ -27,7 +27,7 @@ pub fn mapper_cause(unreached: Unreached) -> &'static str
     }
 }
 
-/// What can be done there.
+/// What can be done about it.
 pub fn mapper_remedy(unreached: Unreached) -> &'static str
     ensures { result.now ≡ mapper_remedy unreached }
 {
@@ -80,7 +80,7 @@ pub fn port_cause(unreached: Unreached) -> &'static str
     }
 }
 
-/// What can be done there.
+/// What can be done about it.
 pub fn port_remedy(unreached: Unreached) -> &'static str
     ensures { result.now ≡ port_remedy unreached }
 {

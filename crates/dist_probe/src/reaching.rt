@@ -1,4 +1,4 @@
-//! How far a probe got on its way to a node, where it goes several ways: one for each address of the host.
+//! How far a probe got on its way to a node, where there are several ways: one for each address of the host.
 
 ghost use Rattle.std.specs.Prelude.{◌≡◌, ◌<◌, length};
 ghost use Rattle.std.specs.List.{IsFirstBest};
@@ -7,7 +7,7 @@ ghost use Rattle.dist_probe.specs.Reaching.{awaited_reach, is_found, is_further,
 use crate::unreached::Unreached;
 use crate::verdict::{AwaitedMessage, Party, ProbeVerdict};
 
-// How far a connect got that made no connection: what no system on the way answered is less.
+// How far a connect got that made no connection: less far where this machine itself could not send.
 fn unreached_reach(unreached: Unreached) -> u8
     ensures { result ≡ unreached_reach unreached }
 {
@@ -61,7 +61,7 @@ pub fn reach(verdict: ProbeVerdict) -> u8
     }
 }
 
-/// Whether the node itself was found, under its name, so that no further address of its host is tried: or a fault of this machine
+/// Whether the node itself was found, under its name, so that no further address of its host is tried; or a fault of this machine
 /// ended the way.
 pub fn is_found(verdict: ProbeVerdict) -> bool
     ensures { result ≡ is_found verdict }
@@ -69,16 +69,16 @@ pub fn is_found(verdict: ProbeVerdict) -> bool
     12 <= reach(verdict)
 }
 
-// Whether the first of two got further.
+// Whether the first of the two got further.
 fn is_further(first: ProbeVerdict, second: ProbeVerdict) -> bool
     ensures { result ≡ is_further first second }
 {
     reach(second) < reach(first)
 }
 
-/// Where in these verdicts, one at least, the first stands of those that got furthest.
+/// The position of the first of these verdicts, at least one, that got furthest.
 pub fn furthest(verdicts: &[ProbeVerdict]) -> usize
-    // A list of one at least has one that got furthest.
+    // The caller has at least one verdict.
     requires { 0 < length verdicts.now }
     ensures { IsFirstBest is_further verdicts.now (length verdicts.now) result }
 {

@@ -1,4 +1,4 @@
-//! How a connect ended that made no connection, and what that means.
+//! How a connect failed, and what that means.
 
 ghost use Rattle.std.specs.Prelude.{◌≡◌};
 ghost use Rattle.dist_probe.specs.Unreached.{mapper_verdict, port_verdict, unreached_by_number, unreached_of, unreached_text, unreached_word};
@@ -6,16 +6,16 @@ ghost use Rattle.dist_probe.specs.Unreached.{mapper_verdict, port_verdict, unrea
 use crate::verdict::ProbeVerdict;
 use std::io::ErrorKind;
 
-/// How a connect ended that made no connection, by what the system answered.
+/// How a connect failed, by what the system answered.
 #[derive(Clone, Copy, Debug, PartialEq, Eq)]
 pub enum Unreached {
     /// The host answered that nobody listens there, or a firewall answered so in its place.
     Refused,
-    /// The connection was reset or broken off while it was made.
+    /// The connection was reset or aborted while it was made.
     Reset,
     /// This machine has no route to the address, or no address of that kind itself.
     NoRoute,
-    /// A router, a firewall or this machine answered that the host is not to be reached.
+    /// A router, a firewall or this machine answered that the host cannot be reached.
     HostDown,
     /// A firewall or a rule of this machine answered that it is not allowed.
     Prohibited,
@@ -29,7 +29,7 @@ pub enum Unreached {
     Failed,
 }
 
-// How a connect ended by a number of the system's that has no kind of its own. The numbers are those of Linux: ENONET and
+// How a connect failed, by an error number of the system that has no kind of its own. The numbers are those of Linux: ENONET and
 // EHOSTDOWN, as for an ICMP answer that the host is not known; ENOPROTOOPT, as for one that it refuses the protocol; EAFNOSUPPORT,
 // where the system has no addresses of that kind; ENFILE and EMFILE, where no descriptor is left.
 fn unreached_by_number(number: u32) -> Unreached
@@ -44,8 +44,8 @@ fn unreached_by_number(number: u32) -> Unreached
     }
 }
 
-/// How a connect ended whose error has this kind, and this number of the system's, 0 where it has none. Linux maps answers of ICMP
-/// to its numbers: `tcp(7)`, `icmp(7)`. A route that drops all is an invalid input.
+/// How a connect failed whose error has this kind, and this number of the system's, 0 where it has none. Linux maps answers of ICMP
+/// to its numbers: `tcp(7)`, `icmp(7)`. A route that drops everything gives an invalid input.
 pub fn unreached_of(kind: ErrorKind, number: u32) -> Unreached
     ensures { result ≡ unreached_of kind number }
 {
@@ -84,7 +84,7 @@ impl Unreached {
         }
     }
 
-    /// What was answered, for a line behind a port.
+    /// What was answered, for a line after a port.
     pub fn text(self) -> &'static str
         ensures { result.now ≡ unreached_text self }
     {
@@ -104,7 +104,7 @@ impl Unreached {
     }
 }
 
-/// What it means that a connect to the port mapper's port ended so.
+/// What it means that a connect to the port mapper's port failed in this way.
 pub fn mapper_verdict(unreached: Unreached) -> ProbeVerdict
     ensures { result ≡ mapper_verdict unreached }
 {
@@ -116,7 +116,7 @@ pub fn mapper_verdict(unreached: Unreached) -> ProbeVerdict
     }
 }
 
-/// What it means that a connect to the node's port ended so.
+/// What it means that a connect to the node's port failed in this way.
 pub fn port_verdict(unreached: Unreached) -> ProbeVerdict
     ensures { result ≡ port_verdict unreached }
 {

@@ -17,6 +17,6 @@ left_of b step.Talk = b.talk
 abbrev pub share_of : ℕ → ℕ → ℕ
 share_of left addresses = if addresses == 0 then 0 else left / addresses
 
--- what a step took of its share, in nanoseconds, where so many were unused
+-- what a step took of its share, in nanoseconds, where this much of the share was unused
 abbrev pub spent_of : Budget → TimedStep → ℕ → ℕ
 spent_of b step unused = share_of (as_nanos (left_of b step)) b.addresses - unused

@@ -1,10 +1,10 @@
--- Which file a cookie may stand in, and what is read of it.
+-- Which file may hold a cookie, and what is read of it.
 use Rattle.std.specs.Prelude.{ℕ, Bool, List, Option, Result, Ok, Err, ◌==◌, bit_and}
 use Rattle.dist_secret.specs.Hearing.{Hears}
 use Rattle.dist_program.specs.declared.cookie_fault.CookieFault.{CookieFault}
 use Rattle.dist_program.specs.declared.cookie_fault.CookieFault.TheVariants as fault
 
--- the mode of a file gives no leave to its group nor to others: nobody but its owner can read, write or run it
+-- the mode of a file gives no permission to its group nor to others: only its owner can read, write or run it
 abbrev pub is_private : ℕ → Bool
 is_private mode = bit_and mode 0o077 == 0
 

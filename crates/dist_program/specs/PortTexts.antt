@@ -9,22 +9,22 @@ use Rattle.dist_program.specs.declared.port_error.PortError.TheVariants as error
 abbrev pub NamesPort : List ℕ → Type 0
 NamesPort text = IsNumeral 10 text × (0 < digits_value 10 text) × (digits_value 10 text < 2 ^ 16)
 
--- the sentence that refuses a text, which stands in it between double quotes, safe to print
+-- the sentence that refuses a text, with the text in it between double quotes, safe to print
 abbrev pub refusal_of : List ℕ → List ℕ
 refusal_of text = codes "ERL_EPMD_PORT is no port number from 1 to 65535: " ++ in_double_quotes text
 
--- what is printed of a text that names none: that sentence, unless memory runs out
+-- what is printed of a text that names no port: that sentence, unless memory runs out
 abbrev pub Refuses : List ℕ → PortError → Type 0
 Refuses text (error.Bad sentence) = string_bytes sentence ≡ refusal_of text
 Refuses text error.NoText = ⊥
 Refuses text error.NoMemory = Unit {0}
 
--- WHAT A TEXT GIVES: the number that it writes, exactly where it names a port, and else its refusal
+-- WHAT A TEXT GIVES: the number that it writes, exactly where it names a port, else its refusal
 abbrev pub GivesPort : List ℕ → Result ℕ PortError → Type 0
 GivesPort text (Ok port) = NamesPort text × (port ≡ digits_value 10 text)
 GivesPort text (Err e) = (NamesPort text → ⊥) × Refuses text e
 
--- what is printed of it
+-- the text that is printed for a refusal
 abbrev pub port_error_text : PortError → List ℕ
 port_error_text (error.Bad sentence) = string_bytes sentence
 port_error_text error.NoText = codes "ERL_EPMD_PORT is no port number from 1 to 65535: it is no UTF-8"

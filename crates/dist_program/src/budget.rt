@@ -1,5 +1,5 @@
-//! How long each step on the way to a node may take, where its host has several addresses: the time of a step is for all of them
-//! together.
+//! How long each step on the way to a node may take, where its host has several addresses: the time of a step is shared by all of
+//! them.
 
 ghost use Rattle.std.specs.Prelude.{◌≡◌, ◌-◌, ◌≤◌};
 ghost use Rattle.std.specs.Duration.{as_nanos};
@@ -16,7 +16,7 @@ pub enum TimedStep {
     Lookup,
     /// The connect to the node's port.
     Port,
-    /// What is said with the node: the handshake, or a probe's part of it.
+    /// The talk with the node: the handshake, or a probe's part of it.
     Talk,
 }
 
@@ -31,11 +31,11 @@ pub struct Budget {
     pub port: Duration,
     /// For talks.
     pub talk: Duration,
-    /// How many addresses are still to be tried, with that of now.
+    /// How many addresses are still to be tried, the present one included.
     pub addresses: u32,
 }
 
-// What is left of a time once so much of it is spent.
+// What is left of a time once this much of it is spent.
 fn less(left: Duration, spent: Duration) -> Duration
     ensures { as_nanos result ≡ as_nanos left - as_nanos spent }
 {
@@ -43,7 +43,7 @@ fn less(left: Duration, spent: Duration) -> Duration
 }
 
 impl Budget {
-    /// So many seconds for each step, at so many addresses in all.
+    /// This many seconds for each step, for this many addresses in all.
     pub fn new(seconds: u16, addresses: u32) -> Budget
         ensures count { result.addresses ≡ addresses }
     {
@@ -69,7 +69,7 @@ impl Budget {
         }
     }
 
-    /// How long this step may take at the address of now: an equal part of what is left, for each address that is still to be tried.
+    /// How long this step may take at the present address: an equal part of what is left for each address that is still to be tried.
     pub fn share(&self, step: TimedStep) -> Duration
         ensures share { as_nanos result ≡ share_of (as_nanos (left_of self.now step)) self.now.addresses }
     {
@@ -82,7 +82,7 @@ impl Budget {
         }
     }
 
-    // So much of the time of this step is spent.
+    // Subtracts what was spent from the time of this step.
     fn spend(&mut self, step: TimedStep, spent: Duration)
         ensures spent { as_nanos (left_of self.new step) ≡ as_nanos (left_of self.old step) - as_nanos spent }
         ensures count { self.new.addresses ≡ self.old.addresses }
@@ -95,7 +95,7 @@ impl Budget {
         }
     }
 
-    /// This step has ended where so much of its share was unused: the rest of the share is spent.
+    /// Ends this step, where this much of its share was unused: the rest of the share is spent.
     pub fn settle(&mut self, step: TimedStep, unused: Duration)
         ensures left { as_nanos (left_of self.new step) ≡ as_nanos (left_of self.old step) - spent_of self.old step (as_nanos unused) }
         ensures count { self.new.addresses ≡ self.old.addresses }
@@ -104,7 +104,7 @@ impl Budget {
         self.spend(step, spent)
     }
 
-    /// The address of now is done with.
+    /// Leaves the present address for the next one.
     pub fn go_on(&mut self)
         ensures { self.new.addresses ≡ self.old.addresses - 1 }
     {

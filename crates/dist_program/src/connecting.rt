@@ -1,4 +1,4 @@
-//! Connections, and how long they may take: one limit for a connect, one for an answer of the port mapper, one length of a turn.
+//! Connections, and how long they may take: a limit for a connect, a limit for an answer of the port mapper, the length of a turn.
 
 ghost use Rattle.std.specs.Prelude.{◌≡◌, None, IfOk};
 ghost use Rattle.std.specs.Duration.{as_nanos};
@@ -12,13 +12,13 @@ use std::time::{Clock, Duration, Instant};
 
 /// How many seconds a connect may take, unless the command line says otherwise. Where so many connections wait to be accepted that
 /// the system drops further ones, a connect without a limit waits some two minutes. A node gives up a handshake after 7 seconds, and
-/// this is one more. Our own choice.
+/// this is one second more. Our own choice.
 pub const CONNECT_SECONDS: u16 = 8;
 
-/// How many seconds the port mapper of this host has for its answer, whatever comes meanwhile. Our own choice.
+/// How many seconds the port mapper of this host has for its answer, no matter what comes meanwhile. Our own choice.
 pub const ANSWER_SECONDS: u16 = 5;
 
-/// How many milliseconds a turn lasts that is quiet: one read, one write or one accept of a connection that has no deadline.
+/// How many milliseconds a quiet turn lasts: one read, one write or one accept of a connection that has no deadline.
 const TURN_MILLISECONDS: u64 = 10;
 
 /// How long a read, a write or an accept waits.
@@ -45,12 +45,12 @@ pub fn at_port(address: &SocketAddr, port: u16) -> SocketAddr
     place
 }
 
-/// The time that is so many seconds from now, one at least. An error is the clock's.
+/// The time that is this many seconds from now, at least one. An error is the clock's.
 pub fn deadline_in<C: Clock>(clock: &C, seconds: u16) -> io::Result<Instant> {
     deadline_after(clock, Duration::from_secs(u64::from(seconds.max(1))))
 }
 
-/// The stream over a connection for a talk of so many seconds, one at least: from then on it is quiet. An error is the clock's.
+/// The stream over a connection, for a talk of this many seconds, at least one: after them it is quiet. An error is the clock's.
 pub fn talk_over<C: Clock + Drop>(
     clock: C,
     stream: SocketStream,
@@ -62,7 +62,7 @@ pub fn talk_over<C: Clock + Drop>(
     Ok(DeadlineStream::new(stream, clock, until))
 }
 
-/// A connection to this address, made within so many seconds, one at least.
+/// A connection to this address, made within this many seconds, at least one.
 ///
 /// An error is the system's or the clock's: ConnectionRefused where nobody listens there, TimedOut where no answer came in time.
 pub fn connect<R: Net<Listener = TcpListener, Stream = TcpStream> + Clock>(
@@ -76,7 +76,7 @@ pub fn connect<R: Net<Listener = TcpListener, Stream = TcpStream> + Clock>(
     Ok(connect_by(rt, address, until)?.into_inner())
 }
 
-/// A connection to the port mapper at this port of this host: made within 8 seconds, and quiet 5 seconds later.
+/// A connection to the port mapper at this port of this host: made within 8 seconds, and quiet 5 seconds after that.
 pub fn talk_here<'a, R: Net<Listener = TcpListener, Stream = TcpStream> + Clock>(
     rt: &'a R,
     port: u16,
@@ -87,7 +87,7 @@ pub fn talk_here<'a, R: Net<Listener = TcpListener, Stream = TcpStream> + Clock>
     talk_over(rt, stream, ANSWER_SECONDS)
 }
 
-/// A connection to a port of this host, made within 8 seconds, each read and write of which waits for a turn.
+/// A connection to a port of this host, made within 8 seconds, each read and write of which waits at most one turn.
 pub fn connect_here<R: Net<Listener = TcpListener, Stream = TcpStream>>(
     rt: &R,
     port: u16,

@@ -6,16 +6,16 @@ ghost use Rattle.dist_program.specs.declared.cookie_fault.CookieFault.TheVariant
 use dist_secret::CookieError;
 use std::alloc::AllocError;
 
-/// Why a file gives no cookie: the first that holds, but for `NoMemory`, which comes where memory runs out. The status of each is 1.
+/// Why a file gives no cookie: the first that holds, except for `NoMemory`, which comes where memory runs out. Each has status 1.
 #[derive(Drop)]
 pub enum CookieFault {
-    /// It could not be opened.
+    /// The file could not be opened.
     OpenFailed,
-    /// It is a pipe, a socket or a device.
+    /// The file is a pipe, a socket or a device.
     NotStored,
-    /// Others than its owner may use it, or the system does not say whether they may. The path is as it was named.
+    /// Others than the file's owner may use it, or the system does not say whether they may. The path is as it was named.
     NotPrivate(String),
-    /// It has no cookie.
+    /// The file has no cookie.
     NoCookie(CookieError),
     /// No memory was left.
     NoMemory,

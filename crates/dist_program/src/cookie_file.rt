@@ -1,5 +1,5 @@
-//! The cookie: which file it stands in, and whether that file may be read. As a node does, a program takes no file that others than
-//! its owner may use, unless it is told to, and none whose bytes come from somebody else while it waits.
+//! The cookie: which file has it, and whether that file may be read. Like a node, a program takes no file that others than
+//! its owner may use, unless it is told to, and none whose bytes somebody else sends while it waits.
 
 ghost use Rattle.std.specs.Prelude.{◌≡◌, ◌↔◌, ◌⊎◌, IsTrue};
 ghost use Rattle.std.specs.Fs.{IsDir, IsFile};
@@ -14,17 +14,17 @@ use std::fs::{self, File, FileType};
 use std::io::Read;
 use std::os::unix::fs::PermissionsExt;
 
-// The bits of a file's mode that give its group and all others leave to read, write and run it.
+// The bits of a file's mode by which its group and all others may read, write and run it.
 const OTHERS: u32 = 0o077;
 
-/// Whether a file of this mode gives leave to nobody but its owner.
+/// Whether only the owner of a file of this mode may use it.
 pub fn is_private(mode: u32) -> bool
     ensures { result ≡ is_private mode }
 {
     mode & OTHERS == 0
 }
 
-// Whether nobody but its owner may use an open file: not one whose mode the system does not give.
+// Whether nobody but its owner may use an open file: false where the system does not give its mode.
 fn is_private_file(file: &File) -> bool {
     match file.metadata() {
         Ok(metadata) => is_private(metadata.permissions().mode()),
@@ -40,8 +40,8 @@ fn is_stored(kind: FileType) -> bool
     kind.is_file() || kind.is_dir()
 }
 
-/// The file at this path, opened, where its kind is one that is read without waiting. The kind is looked at before: to open a named
-/// pipe alone waits until somebody writes into it.
+/// Opens the file at this path, where its kind is one that is read without waiting. The kind is checked before: a named pipe
+/// cannot even be opened before somebody writes into it.
 pub fn open_cookie(rt: &HostRuntime, path: &str) -> Result<File, CookieFault> {
     let Ok(metadata) = fs::metadata(rt, path) else {
         return Err(CookieFault::OpenFailed);
@@ -55,7 +55,7 @@ pub fn open_cookie(rt: &HostRuntime, path: &str) -> Result<File, CookieFault> {
     }
 }
 
-/// The cookie of an open file.
+/// The cookie in an open file.
 pub fn cookie_in<F: Read>(alloc: Global, file: &mut F) -> Result<Cookie, CookieFault>
     ensures { ReadsCookie (F.remaining file.old) (F.remaining file.new) result }
 {
@@ -65,7 +65,7 @@ pub fn cookie_in<F: Read>(alloc: Global, file: &mut F) -> Result<Cookie, CookieF
     }
 }
 
-/// The cookie of the file at this path. The file that was opened is the one that is looked at, so that no other can be put in its
+/// The cookie in the file at this path. The file that was opened is the one that is checked, so that no other can be put in its
 /// place in between. With `is_unsafe` it may be one that others than its owner can use.
 pub fn cookie_at(rt: &HostRuntime, path: &str, is_unsafe: bool) -> Result<Cookie, CookieFault> {
     let mut file = open_cookie(rt, path)?;
@@ -76,7 +76,7 @@ pub fn cookie_at(rt: &HostRuntime, path: &str, is_unsafe: bool) -> Result<Cookie
     }
 }
 
-// The file of the home folder that has the cookie, as `erl` finds it. A folder whose name is no UTF-8 is none.
+// The file of the home folder that has the cookie, where `erl` looks for it. A folder whose name is not UTF-8 counts as none.
 fn home_file(rt: &HostRuntime) -> Result<Option<String>, AllocError> {
     match variable(rt, "HOME") {
         Ok(Some(home)) => Ok(Some(format!(in rt.alloc(); "{home}/.erlang.cookie")?)),

@@ -1,8 +1,8 @@
 //! The port of the port mapper, where the command line names none.
 //!
-//! One rule for all programs: ERL_EPMD_PORT names it, and where that is not set it is 4369. A text that is no port number from 1 to
-//! 65,535 is refused. `epmd` and Erlang nodes take whatever number its front is, 0 if there is none; a wrong port is never meant, so
-//! a program of ours does not go to another one in silence. Our own choice.
+//! One rule for all programs: ERL_EPMD_PORT names it, and where that is not set it is 4369. A text that is not a port number from 1
+//! to 65,535 is refused. `epmd` and Erlang nodes take the number at its beginning, or 0 if there is none; nobody wants a wrong
+//! port, so our programs do not silently go to another one. Our own choice.
 
 ghost use Rattle.std.specs.Prelude.{◌≡◌, IfOk, SomeIff, string_bytes};
 ghost use Rattle.std.specs.Str.Parse.{digits_value};
@@ -46,8 +46,8 @@ fn bad_port(alloc: Global, text: &str) -> PortError
     }
 }
 
-/// The port that the text of ERL_EPMD_PORT names: decimal digits, leading zeros allowed, of a number from 1 to 65,535. `Bad` with
-/// every other text; where even the memory to say so is not there, `NoMemory`.
+/// The port that the text of ERL_EPMD_PORT names: decimal digits, leading zeros allowed, of a number from 1 to 65,535. `Bad` for
+/// every other text; `NoMemory` where there is no memory even for that refusal.
 pub fn port_in(alloc: Global, text: &str) -> Result<u16, PortError>
     ensures { GivesPort text.now result }
 {

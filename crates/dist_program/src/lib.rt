@@ -2,7 +2,7 @@
 //! mapper, the cookie, addresses, random numbers, connections with their limits, the time of each step on the way to a node, the
 //! sentences that refuse a word, and the line and status of a fault.
 //!
-//! Each of these has one rule here, for all programs. What a program then does is its own, and so are the texts of its faults.
+//! Each of these has one rule here, for all programs. What a program does then is its own, and so are the texts of its faults.
 #![tactic(auto)]
 
 mod budget;

@@ -1,8 +1,8 @@
 //! All addresses of a host, from a resolver that may be silent.
 //!
-//! The C library's resolver takes no limit: it asks each name server for seconds. So a thread asks it, and is given up where the
-//! time is over. It goes on then until the resolver answers, or the program ends; it has a copy of the name, and no lock that
-//! another waits for.
+//! The C library's resolver takes no limit: it asks each name server for seconds. So a thread asks it, and is left alone once the
+//! time is over. It then goes on until the resolver answers, or the program ends; it has a copy of the name, and no lock that
+//! others wait for.
 
 use crate::host_error::HostError;
 use dist_stream::{deadline_after, time_left};
@@ -13,22 +13,22 @@ use std::sync::{Arc, OnceLock, Wait};
 use std::thread::{self, Parker, Threads};
 use std::time::{Clock, Duration};
 
-/// What a lookup with a limit uses of the system beside the resolver: a thread, waiting and the clock.
+/// What a lookup with a limit uses of the system besides the resolver: a thread, waiting and the clock.
 pub trait Resolving: Threads + Wait + Clock {}
 
 impl<T: Threads + Wait + Clock> Resolving for T {}
 
-/// What the resolver answered: addresses at port 0 in its order, one at least and each once, or why there are none.
+/// What the resolver answered: addresses at port 0 in its order, at least one and each once, or why there are none.
 pub type Addresses = Result<Vec<SocketAddr>, HostError>;
 
-// Where the thread leaves the answer, and who waits for it sleeps.
+// Where the thread leaves the answer, and where the caller sleeps until it is there.
 #[derive(Drop)]
 struct Handover {
     answer: OnceLock<Addresses>,
     parker: Parker,
 }
 
-// What the system says where it has no address for a name. Its resolver has no number for it.
+// What the system says where it has no address for a name. The resolver's error has no number for this.
 const NO_NAME: [&str; 2] = [
     "Name or service not known",
     "No address associated with hostname",
@@ -39,12 +39,12 @@ fn is_no_name(text: &str) -> bool {
     NO_NAME.iter().any(|end| text.ends_with(*end))
 }
 
-// Whether the process, or the whole system, may have no more descriptors open: EMFILE, ENFILE.
+// Whether the process, or the whole system, may open no more descriptors: EMFILE, ENFILE.
 fn lacks_descriptors(error: &io::Error) -> bool {
     matches!(error.raw_os_error(), Some(23 | 24))
 }
 
-// What an error of the resolver says.
+// What an error of the resolver means.
 fn host_error(alloc: Global, error: &io::Error) -> HostError {
     if error.kind() == ErrorKind::OutOfMemory {
         return HostError::NoMemory;
@@ -59,7 +59,7 @@ fn host_error(alloc: Global, error: &io::Error) -> HostError {
     }
 }
 
-// One more address, unless it is there already.
+// Adds an address, unless it is there already.
 fn push_new(addresses: &mut Vec<SocketAddr>, address: SocketAddr) -> Result<(), HostError> {
     if !addresses.contains(&address) {
         addresses.push(address)?;
@@ -67,7 +67,7 @@ fn push_new(addresses: &mut Vec<SocketAddr>, address: SocketAddr) -> Result<(), 
     Ok(())
 }
 
-// The addresses that were found, of which there has to be one.
+// The addresses that were found, or `NoName` where there are none.
 fn one_at_least(addresses: Vec<SocketAddr>) -> Addresses {
     if addresses.is_empty() {
         return Err(HostError::NoName);
@@ -88,13 +88,12 @@ fn ask_resolver<R: Net>(rt: &R, alloc: Global, host: &str) -> Addresses {
     one_at_least(addresses)
 }
 
-// Leaves the answer where it is waited for.
+// Leaves the answer where the caller waits for it.
 fn leave_answer(desk: &Handover, answer: Addresses) {
     let _ = desk.answer.try_set(answer);
     desk.parker.unpark();
 }
 
-// The same addresses once more.
 fn copy_of(alloc: Global, answer: &Addresses) -> Addresses {
     match answer {
         Ok(addresses) => Ok(Vec::from_slice(alloc, addresses.as_slice())?),
@@ -102,7 +101,7 @@ fn copy_of(alloc: Global, answer: &Addresses) -> Addresses {
     }
 }
 
-// Waits for the answer, so long at most.
+// Waits for the answer, at most this long.
 fn await_answer<R: Resolving>(
     rt: &R,
     alloc: Global,
@@ -125,7 +124,7 @@ fn await_answer<R: Resolving>(
     unreachable!()
 }
 
-// Starts a thread that asks the resolver. None where the system has none.
+// Starts a thread that asks the resolver. `None` where the system has no thread.
 fn start_asking<R: Resolving>(
     rt: &R,
     own: HostRuntime,
@@ -141,7 +140,7 @@ fn start_asking<R: Resolving>(
     }
 }
 
-// Asks the resolver in a thread, and waits for its answer, so long at most.
+// Asks the resolver in a thread, and waits for its answer, at most this long.
 fn ask_in_thread<R: Resolving>(
     rt: &R,
     own: HostRuntime,
@@ -161,7 +160,7 @@ fn ask_in_thread<R: Resolving>(
     await_answer(rt, alloc, &desk, limit)
 }
 
-/// The host without the square brackets that stand round an IPv6 address in a URL.
+/// The host without the square brackets that enclose an IPv6 address in a URL.
 pub fn without_brackets(host: &str) -> &str {
     match host.strip_prefix('[') {
         Some(rest) => rest.strip_suffix(']').unwrap_or(host),
@@ -169,9 +168,9 @@ pub fn without_brackets(host: &str) -> &str {
     }
 }
 
-/// All addresses of a host at port 0, in the resolver's order, each once: those that it gives within this time. An address itself,
-/// also an IPv6 one in square brackets, is its own, and nobody is asked. The first handle is for the thread and the waiting; the
-/// second, the same, is what the thread asks.
+/// All addresses of a host at port 0, in the resolver's order, each once: those that it gives within this time. An address, also an
+/// IPv6 one in square brackets, stands for itself, and nobody is asked. The first handle is for the thread and the waiting; the
+/// second one, for the same runtime, is what the thread asks.
 pub fn lookup_host<R: Resolving>(
     rt: &R,
     own: HostRuntime,

@@ -12,17 +12,17 @@ use std::io::Write;
 /// Why ERL_EPMD_PORT names no port.
 #[derive(Debug, Drop)]
 pub enum PortError {
-    /// Its text is no port number from 1 to 65,535: the sentence that says so, with the text between double quotes, in which all
-    /// is safe to print. Whoever set the variable is to blame.
+    /// Its text is not a port number from 1 to 65,535: the sentence that says so, with the text between double quotes, all of it
+    /// safe to print. Whoever set the variable is to blame.
     Bad(String),
-    /// Its text is no UTF-8.
+    /// Its text is not UTF-8.
     NoText,
     /// No memory was left to read it, or to report that it is bad.
     NoMemory,
 }
 
 impl PortError {
-    /// The sentence that is printed.
+    /// The text that is printed.
     pub fn text(&self) -> &str
         ensures { result.now ≡ port_error_text self.now }
     {
@@ -43,7 +43,7 @@ impl PortError {
         }
     }
 
-    /// Prints it on standard error after the program's name, and returns the exit status.
+    /// Prints the error on standard error after the program's name, and returns the exit status.
     pub fn report_to<E: Write>(&self, program: &str, err: &mut E) -> u8
         ensures { result ≡ port_error_status self.now }
     {

@@ -1,4 +1,4 @@
-//! What is asked of the system's resolver.
+//! What the system's resolver is asked.
 
 use std::net::{Net, SocketAddr, ToSocketAddrs};
 

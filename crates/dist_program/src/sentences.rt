@@ -1,5 +1,5 @@
 //! The sentences that refuse a word of the command line, with that word in them: between double quotes or escaped, so that all of it
-//! is safe to print. They are one for all programs that take their words in this way.
+//! is safe to print. They are the same for all programs that take their words in this way.
 
 ghost use Rattle.std.specs.Prelude.{◌≡◌, ◌++◌, IfOk, string_bytes};
 ghost use Rattle.dist_names.specs.Escaped.{in_double_quotes};
@@ -8,7 +8,7 @@ ghost use Rattle.dist_program.specs.Sentences.{name_sentence};
 use dist_names::{escape, quote};
 use std::alloc::{AllocError, Global};
 
-/// A text, and a word behind it between double quotes.
+/// A text, and behind it a word between double quotes.
 pub fn with_word(alloc: Global, text: &str, word: &str) -> Result<String, AllocError>
     ensures { IfOk result (λ sentence. string_bytes sentence ≡ text.now ++ in_double_quotes word.now) }
 {
@@ -17,7 +17,7 @@ pub fn with_word(alloc: Global, text: &str, word: &str) -> Result<String, AllocE
     Ok(sentence)
 }
 
-/// The sentence of a word that should be a node's name.
+/// The sentence that refuses a word that should be a node's name.
 pub fn name_sentence(alloc: Global, word: &str) -> Result<String, AllocError>
     ensures { IfOk result (λ sentence. string_bytes sentence ≡ name_sentence word.now) }
 {
@@ -25,7 +25,7 @@ pub fn name_sentence(alloc: Global, word: &str) -> Result<String, AllocError>
     with_word(alloc, text, word)
 }
 
-/// The sentence of a word that should be a number, behind the option `--ID`.
+/// The sentence that refuses a word that should be a number, behind the option `--ID`.
 pub fn number_sentence(
     alloc: Global,
     program: &str,
@@ -38,13 +38,13 @@ pub fn number_sentence(
     )
 }
 
-// What the parser says, in its first line, behind `error: `.
+// What the parser says in its first line, behind `error: `.
 fn parser_text(text: &str) -> &str {
     let line = text.lines().next().unwrap_or("");
     line.strip_prefix("error: ").unwrap_or(line)
 }
 
-/// The sentence of words that the parser of command lines does not take, of which it says this.
+/// The sentence that refuses words that the parser of command lines does not take, by what the parser says.
 pub fn parser_sentence(alloc: Global, program: &str, text: &str) -> Result<String, AllocError> {
     let escaped = escape(alloc, parser_text(text).as_bytes())?;
     format!(in alloc; "bad command line: {escaped} ({program} --help)")

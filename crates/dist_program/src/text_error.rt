@@ -8,7 +8,7 @@ use std::alloc::AllocError;
 /// Why the words of the command line, or a variable of the environment, give no text: the first that holds.
 #[derive(Clone, Copy, Debug, PartialEq, Eq)]
 pub enum TextError {
-    /// One of them is no UTF-8. Whoever started the program is to blame.
+    /// One of them is not UTF-8. Whoever started the program is to blame.
     NoText,
     /// No memory was left to read them.
     NoMemory,

@@ -5,7 +5,7 @@ use std::alloc::{AllocError, Global};
 use std::env::{self, VarError};
 use std::io::ErrorKind;
 
-/// The words behind the program's name. One that is no UTF-8 is no word of a command: `NoText`.
+/// The words behind the program's name. `NoText` where one is not UTF-8.
 pub fn words_of(rt: &HostRuntime) -> Result<Vec<String>, TextError> {
     match env::args(rt) {
         Ok(words) => Ok(words.skip(1).collect(rt.alloc())?),
@@ -14,13 +14,13 @@ pub fn words_of(rt: &HostRuntime) -> Result<Vec<String>, TextError> {
     }
 }
 
-/// The words as texts.
+/// The same words, borrowed.
 pub fn texts(alloc: Global, words: &[String]) -> Result<Vec<&str>, AllocError> {
     words.iter().map(|word| word.as_str()).collect(alloc)
 }
 
-/// What the environment says by this name, if it says anything. A text that is no UTF-8 is `NoText`, and the caller decides
-/// whether that says nothing or is refused.
+/// The value that the environment has for this name, if any. A value that is not UTF-8 is `NoText`, and the caller decides
+/// whether that counts as no value or is refused.
 pub fn variable(rt: &HostRuntime, name: &str) -> Result<Option<String>, TextError> {
     match env::var(rt, name) {
         Ok(text) => Ok(Some(text)),

@@ -38,7 +38,8 @@ fn fill_crew<'s, E, R: Threads + Wait + Clock + Sync, G>(
             break;
         }
         let listener = &crew.host().listener.socket;
-        let passed = wait_for_connection(site.rt, listener, site.turns - quiet);
+        let turns = crew.longest_wait(site.turns - quiet);
+        let passed = wait_for_connection(site.rt, listener, turns);
         crew.join_ended();
         match accept(site.rt, listener) {
             Some(connection) => {

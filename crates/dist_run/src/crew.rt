@@ -7,7 +7,7 @@ use dist_drive::SocketStream;
 use dist_locked::{Seat, lose};
 use dist_names::ByteString;
 use dist_peers::EndId;
-use dist_run_hosts::{Challenges, Host, Pool, end_reads, say_goodbye, socket_of};
+use dist_run_hosts::{Challenges, Host, Pool, TURNS_AT_ONCE, end_reads, say_goodbye, socket_of};
 use std::mem;
 use std::os::fd::RawFd;
 use std::sync::Wait;
@@ -126,6 +126,16 @@ impl<'s, E, R: Threads + Wait + Clock + Sync, G> Crew<'s, E, R, G> {
     pub fn give_up(&mut self, end_: EndId, why: Why, carrier: Carrier) {
         self.lose(end_, why);
         self.part_with(carrier);
+    }
+
+    /// For how many of these turns its own thread may wait: for all of them where it has no thread to join, and else for a second at most,
+    /// so that the seats and the connections of those that have ended come back.
+    pub fn longest_wait(&self, turns: usize) -> usize {
+        if self.running.is_empty() {
+            turns
+        } else {
+            turns.min(TURNS_AT_ONCE)
+        }
     }
 
     /// How many connections it has and has not let go.

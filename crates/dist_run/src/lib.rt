@@ -2,8 +2,8 @@
 //! for each connection.
 //!
 //! What a node does stands in the crates below, and nothing is printed or read from a file here: these are sockets and
-//! threads alone. No thread holds a lock while it reads or writes. Every thread is joined, and every wait returns after at most
-//! a second, one for a connection after 8 seconds, so that a run always terminates, by its number of turns.
+//! threads alone. No thread holds a lock while it reads or writes. Every thread is joined, and every wait has a limit: the run's
+//! turns at a listener, a second at a connection, 8 seconds for one that is made. So a run always terminates, by its number of turns.
 #![tactic(auto)]
 
 mod accepting;

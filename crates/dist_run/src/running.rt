@@ -286,24 +286,21 @@ where
 /// connections have ended or made as many. Faults of the start, in order: NoRandomBytes, ListenFailed of the port mapper,
 /// ThreadFailed, then of each node in the order of the plan those of its start, then ThreadFailed. NoMemory may come
 /// anywhere. What is closed is compared with the plan: OtherSetup is returned for a node that differs, and then OtherOrders where the
-/// dials that were made and the orders that are reported are not the plan's, each once. No run that was seen has had either.
+/// dials that were made, with their openings, and the orders that are reported are not the plan's, each once. No run that was seen
+/// has had either.
 pub fn run_plan<R, G>(rt: &R, alloc: Global, plan: &Plan, gate: &G) -> Result<Ran, RunError>
 where
     R: Machine,
     G: Gate + Sync,
     ensures order { IfOk result (λ ran. AreInOrder ran.faults.items) }
     ensures nodes { IfOk result (λ ran. AreOfPlans plan.now.node ran.closed.items) }
-    ensures orders { IfOk result (λ ran. AreObeyed plan.now.dial ran.faults.items ran.closed.items) }
+    ensures orders { IfOk result (λ ran. AreObeyed plan.now ran.faults.items ran.closed.items) }
 {
     let ran = carry_out(rt, alloc, plan, gate)?;
     if !are_of_plans(plan.node.as_slice(), ran.closed.as_slice()) {
         return Err(RunError::OtherSetup);
     }
-    if !are_obeyed(
-        plan.dial.as_slice(),
-        ran.faults.as_slice(),
-        ran.closed.as_slice(),
-    ) {
+    if !are_obeyed(plan, ran.faults.as_slice(), ran.closed.as_slice()) {
         return Err(RunError::OtherOrders);
     }
     Ok(ran)

@@ -1,7 +1,7 @@
 //! What all threads of a run share.
 
 use dist_names::NodeName;
-use dist_run_hosts::{Host, Places};
+use dist_run_hosts::{Host, Places, stop_listening};
 use std::alloc::Global;
 use std::sync::atomic::{AtomicBool, AtomicU64, Ordering};
 
@@ -54,9 +54,12 @@ pub struct Site<'a, R, G> {
 }
 
 impl<'a, R, G> Site<'a, R, G> {
-    /// Has the run fail. The threads that accept stop then.
+    /// Has the run fail. The threads that accept stop then: none of them waits at its listener any more.
     pub fn fail(&self) {
         self.failed.store(true, Ordering::SeqCst);
+        for host in self.hosts {
+            stop_listening(&host.listener);
+        }
     }
 
     /// Whether the run has failed.

@@ -1,12 +1,19 @@
 -- THE ORDERS OF A NODES FILE, and what came of them.
 use Rattle.std.specs.Prelude.{◌≡◌, ℕ, ◌+◌, ◌<◌, ◌≤◌, Bool, false, ◌&&◌, List, []}
 use Rattle.std.specs.Prelude.{◌∷◌, length, Option, Some, None, slice_get, All, count_by}
+use Rattle.dist_names.specs.NodeName.{short_of}
 use Rattle.dist_names.specs.Order.{Name, same_name}
+use Rattle.dist_messages.specs.declared.opening.Opening.{Opening}
+use Rattle.dist_messages.specs.declared.opening.Opening.TheVariants as openings
+use Rattle.dist_core_setup.specs.declared.version.Version.{Version}
+use Rattle.dist_core_setup.specs.declared.version.Version.TheVariants as versions
 use Rattle.dist_core.specs.declared.event.Event.{Event}
 use Rattle.dist_core.specs.declared.event.Event.TheVariants as event
 use Rattle.dist_locked_book.specs.declared.line.Line.{Line}
 use Rattle.dist_locked_book.specs.declared.closing.Closed.{Closed}
 use Rattle.dist_run_plan.specs.declared.plan.DialPlan.{DialPlan}
+use Rattle.dist_run_plan.specs.declared.plan.NodePlan.{NodePlan}
+use Rattle.dist_run_plan.specs.declared.plan.Plan.{Plan}
 use Rattle.dist_run_hosts.specs.declared.order_fault.OrderFault.{OrderFault}
 
 -- the event is a dial of this peer
@@ -44,9 +51,29 @@ pub record IsObeyed (orders : List DialPlan) (faults : List OrderFault) (closed 
   pub count : count_dials to (lines_in closed) + count_by (is_fault_of orders (name_of closed) to) faults
       ≡ count_by (is_order (name_of closed) to) orders
 
--- the same of all its orders: it dialled no peer that the file does not have it dial
-pub record IsObedient (orders : List DialPlan) (faults : List OrderFault) (closed : Closed) : Type 0 where
-  pub each : (to : Name) → IsObeyed orders faults closed to
+-- how a node of this version is dialled
+abbrev pub opening_of : Version → Opening
+opening_of versions.Five = openings.Old
+opening_of versions.Six = openings.New
+
+-- a dial of this node has the opening of its version; the port mapper finds the node by its short name
+abbrev pub HasOpeningFor : Event → NodePlan → Type 0
+HasOpeningFor (event.Dial peer opening) node = short_of peer ≡ short_of node.name → opening ≡ opening_of node.version
+HasOpeningFor _ node = Unit {0}
+
+-- so it is with each of these nodes
+unfoldable pub HasOpening : List NodePlan → Event → Type 0
+HasOpening nodes v = All (HasOpeningFor v) nodes
+
+-- and with each line
+unfoldable pub HaveOpenings : List NodePlan → List Line → Type 0
+HaveOpenings nodes lines = All (λ (line : Line). HasOpening nodes line.event) lines
+
+-- THE SAME OF ALL ITS ORDERS, and it dialled each node of the file with the opening of that node's version
+pub record IsObedient (plan : Plan) (faults : List OrderFault) (closed : Closed) : Type 0 where
+  -- it dialled no peer that the file does not have it dial
+  pub each : (to : Name) → IsObeyed plan.dial faults closed to
+  pub openings : HaveOpenings plan.node (lines_in closed)
 
 -- the numbers of faults rise, so that none stands twice: each is at least this, and below that
 abbrev pub RiseWithin : ℕ → ℕ → List OrderFault → Type 0
@@ -54,11 +81,11 @@ RiseWithin least most [] = Unit {0}
 RiseWithin least most (fault ∷ faults) = (least ≤ fault.number) × (fault.number < most) × RiseWithin (fault.number + 1) most faults
 
 -- EACH ORDER OF THE FILE WAS FOLLOWED ONCE, or it is reported and was not; and no node made another dial
-pub record AreObeyed (orders : List DialPlan) (faults : List OrderFault) (closed : List Closed) : Type 0 where
+pub record AreObeyed (plan : Plan) (faults : List OrderFault) (closed : List Closed) : Type 0 where
   -- each fault is of an order of the file, and no two of one
-  pub numbers : RiseWithin 0 (length orders) faults
-  -- each node dialled each peer as often as the file orders it to, less the orders that are reported
-  pub dials : All (IsObedient orders faults) closed
+  pub numbers : RiseWithin 0 (length plan.dial) faults
+  -- each node dialled each peer as often as the file orders it to, less the orders that are reported, and with its opening
+  pub dials : All (IsObedient plan faults) closed
 
 -- ---- what the code looks at
 

@@ -9,6 +9,7 @@ mod descriptors;
 mod end_marks;
 mod host;
 mod mapping;
+mod openings;
 mod order_fault;
 mod orders;
 mod patient_stream;
@@ -31,5 +32,6 @@ pub use seats::{Pool, Shares};
 pub use setups::are_of_plans;
 pub use sockets::{
     LinkStream, LocalListener, accept, connect_to_port, end_reads, link_of, listen, say_goodbye,
-    socket_of, wait_for_connection,
+    socket_of, stop_listening, wait_for_connection,
 };
+pub use waiting::TURNS_AT_ONCE;

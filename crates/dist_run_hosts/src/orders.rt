@@ -5,11 +5,12 @@ ghost use Rattle.std.specs.List.{AllByRecursion};
 ghost use Rattle.dist_run_hosts.specs.Orders.{is_dial_of, is_order, is_fault_of, count_dials, RiseWithin};
 ghost use Rattle.dist_run_hosts.specs.Orders.{IsObeyed, IsObedient, AreObeyed, PeerIsObeyed, OrderIsObeyed, LineIsObeyed};
 
+use crate::openings::have_openings;
 use crate::order_fault::OrderFault;
 use dist_core::Event;
 use dist_locked::{Closed, SharedLine};
 use dist_names::NodeName;
-use dist_run_plan::DialPlan;
+use dist_run_plan::{DialPlan, Plan};
 
 fn is_dial_of(event: &Event, to: &NodeName) -> bool
     ensures { result ≡ is_dial_of to.now event.now }
@@ -173,18 +174,20 @@ fn are_named(
     are_followed(orders, faults, closed, orders) && are_ordered(orders, faults, closed, lines)
 }
 
-// The same of all peers.
-fn is_obedient(orders: &[DialPlan], faults: &[OrderFault], closed: &Closed) -> bool
-    ensures { IsTrue result ↔ IsObedient orders.now faults.now closed.now }
+// The same of all peers, and each was dialled with its opening.
+fn is_obedient(plan: &Plan, faults: &[OrderFault], closed: &Closed) -> bool
+    ensures { IsTrue result ↔ IsObedient plan.now faults.now closed.now }
 {
-    are_named(orders, faults, closed, closed.history.as_slice())
+    let (nodes, orders) = (plan.node.as_slice(), plan.dial.as_slice());
+    let lines = closed.history.as_slice();
+    have_openings(nodes, lines) && are_named(orders, faults, closed, lines)
 }
 
 // The same of all nodes.
-fn are_obedient(orders: &[DialPlan], faults: &[OrderFault], closed: &[Closed]) -> bool
-    ensures { IsTrue result ↔ All (IsObedient orders.now faults.now) closed.now }
+fn are_obedient(plan: &Plan, faults: &[OrderFault], closed: &[Closed]) -> bool
+    ensures { IsTrue result ↔ All (IsObedient plan.now faults.now) closed.now }
 {
-    closed.iter().all(|node| is_obedient(orders, faults, node))
+    closed.iter().all(|node| is_obedient(plan, faults, node))
 }
 
 // Whether the numbers of faults rise, the first of them from here.
@@ -201,21 +204,22 @@ fn rise_within(least: usize, most: usize, faults: &[OrderFault]) -> bool
 }
 
 // Whether each fault is of an order of the file, and no two of one.
-fn are_numbered(orders: &[DialPlan], faults: &[OrderFault]) -> bool
-    ensures { IsTrue result ↔ RiseWithin 0 (length orders.now) faults.now }
+fn are_numbered(plan: &Plan, faults: &[OrderFault]) -> bool
+    ensures { IsTrue result ↔ RiseWithin 0 (length plan.now.dial) faults.now }
 {
-    rise_within(0, orders.len(), faults)
+    rise_within(0, plan.dial.as_slice().len(), faults)
 }
 
-fn are_both(orders: &[DialPlan], faults: &[OrderFault], closed: &[Closed]) -> bool
-    ensures { IsTrue result ↔ (RiseWithin 0 (length orders.now) faults.now × All (IsObedient orders.now faults.now) closed.now) }
+fn are_both(plan: &Plan, faults: &[OrderFault], closed: &[Closed]) -> bool
+    ensures { IsTrue result ↔ (RiseWithin 0 (length plan.now.dial) faults.now × All (IsObedient plan.now faults.now) closed.now) }
 {
-    are_numbered(orders, faults) && are_obedient(orders, faults, closed)
+    are_numbered(plan, faults) && are_obedient(plan, faults, closed)
 }
 
-/// Whether each order of the file was followed once, or is reported and was not, and no node made another dial.
-pub fn are_obeyed(orders: &[DialPlan], faults: &[OrderFault], closed: &[Closed]) -> bool
-    ensures { IsTrue result ↔ AreObeyed orders.now faults.now closed.now }
+/// Whether each order of the file was followed once, with the opening of its peer's version where the peer is of the file, or is
+/// reported and was not, and no node made another dial.
+pub fn are_obeyed(plan: &Plan, faults: &[OrderFault], closed: &[Closed]) -> bool
+    ensures { IsTrue result ↔ AreObeyed plan.now faults.now closed.now }
 {
-    are_both(orders, faults, closed)
+    are_both(plan, faults, closed)
 }

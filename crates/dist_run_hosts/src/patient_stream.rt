@@ -11,9 +11,8 @@ use std::time::Clock;
 
 /// A connection whose reads wait for as long as it has been quiet: a turn at first, and a second at most.
 ///
-/// A turn that passes is a quiet one as ever: those that a wait took beyond its first are returned by the reads behind it, which
-/// wait for nothing. So a call over this stream ends after as many turns, and as much time, as over the connection itself, and
-/// no wait is longer than the turns last.
+/// It counts the turns of the call, each that passes in a wait too. Once none is left, its reads wait for nothing. So a call over this
+/// stream takes as much time as over the connection itself, and until then it asks once for each wait.
 #[derive(Drop)]
 pub struct PatientStream<'a, C> {
     stream: SocketStream,
@@ -22,8 +21,6 @@ pub struct PatientStream<'a, C> {
     left: usize,
     // For how many turns it has been quiet.
     quiet: usize,
-    // How many of these were not returned yet.
-    owed: usize,
     calls: u64,
 }
 
@@ -38,50 +35,54 @@ impl<'a, C: Clock> PatientStream<'a, C> {
             clock,
             left: turns,
             quiet: 0,
-            owed: 0,
             calls: 0,
         }
     }
 
-    // Begins a turn.
-    fn spend(&mut self)
+    // Begins a read or a write.
+    fn begin(&mut self)
         ensures stream { self.new.stream ≡ self.old.stream }
         ensures calls { self.new.calls ≡ one_more self.old.calls }
-        ensures left { self.new.left ≡ self.old.left - 1 }
-        ensures owed { self.new.owed ≡ self.old.owed }
+        ensures left { self.new.left ≡ self.old.left }
     {
         self.calls = self.calls.saturating_add(1);
-        self.left = self.left.saturating_sub(1);
     }
 
-    // Waits for bytes where the last turn was quiet, as long as it has been so. Whether all of the wait was quiet.
-    fn wait(&mut self, left: usize) -> bool
+    // Counts turns that pass.
+    fn spend(&mut self, turns: usize)
         ensures stream { self.new.stream ≡ self.old.stream }
         ensures calls { self.new.calls ≡ self.old.calls }
-        ensures quiet { result ≡ true → self.new.owed + 1 ≡ turns_of_wait self.old.quiet left }
-        ensures cut { result ≡ false → self.new.owed < turns_of_wait self.old.quiet left }
+        ensures left { self.new.left ≡ self.old.left - turns }
     {
-        let turns = turns_of_wait(self.quiet, left);
-        self.owed = 0;
-        if turns == 1 {
-            return false;
+        self.left = self.left.saturating_sub(turns);
+    }
+
+    // Waits for bytes where it has been quiet, as long as it has been so. Whether all of the wait was quiet, so also where no turn is left.
+    fn wait(&mut self) -> bool
+        ensures stream { self.new.stream ≡ self.old.stream }
+        ensures calls { self.new.calls ≡ self.old.calls }
+        ensures quiet { result ≡ true → self.new.left + turns_of_wait self.old.quiet self.old.left ≡ self.old.left }
+        ensures cut { result ≡ false → self.old.left < self.new.left + turns_of_wait self.old.quiet self.old.left }
+    {
+        let turns = turns_of_wait(self.quiet, self.left);
+        // A read waits for one turn by itself.
+        if turns <= 1 {
+            return turns == 0;
         }
         let passed = wait_for_input(self.clock, socket_of(&self.stream), turns);
         self.quiet = self.quiet.saturating_add(passed);
-        if passed == turns {
-            self.owed = turns - 1;
-            return true;
-        }
-        self.owed = passed;
-        false
+        self.spend(passed);
+        passed == turns
     }
 
-    // Reads what has come.
+    // Reads what has come, within a turn.
     fn hear(&mut self, room: &mut [u8]) -> Heard
         requires { 0 < length room.old }
         ensures reads { Reads (⟦<SocketStream as Stream>⟧.meaning self.old.stream) (⟦<SocketStream as Stream>⟧.meaning self.new.stream) room.new result }
         ensures calls { self.new.calls ≡ self.old.calls }
+        ensures left { self.new.left ≡ self.old.left - 1 }
     {
+        self.spend(1);
         let heard = self.stream.read(room);
         self.quiet = match heard {
             Heard::Quiet => self.quiet.saturating_add(1),
@@ -99,7 +100,7 @@ impl<'a, C: Clock> PatientStream<'a, C> {
 }
 
 impl<'a, C: Clock> Stream for PatientStream<'a, C> {
-    // that of the connection, with the turns that were returned here as its calls
+    // that of the connection, with the reads and writes that were asked for here as its calls
     ghost meaning = { λ s. let inner = ⟦<SocketStream as Stream>⟧.meaning s.stream in record {
       unread = inner.unread;
       written = inner.written;
@@ -110,20 +111,16 @@ impl<'a, C: Clock> Stream for PatientStream<'a, C> {
     } };
 
     fn read(&mut self, room: &mut [u8]) -> Heard {
-        let left = self.left;
-        self.spend();
-        if self.owed > 0 {
-            self.owed -= 1;
-            return Heard::Quiet;
-        }
-        if self.wait(left) {
+        self.begin();
+        if self.wait() {
             return Heard::Quiet;
         }
         self.hear(room)
     }
 
     fn write(&mut self, bytes: &[u8]) -> Took {
-        self.spend();
+        self.begin();
+        self.spend(1);
         self.stream.write(bytes)
     }
 }

@@ -2,7 +2,7 @@
 
 ghost use Rattle.std.specs.Prelude.{◌≡◌, ◌≢◌, ◌≤◌, ◌+◌, ◌*◌, IfOk};
 
-use crate::waiting::{TURNS_AT_ONCE, wait_for_input};
+use crate::waiting::{MOST_TURNS, wait_for_input};
 use dist_program::{connect_here, one_turn};
 use dist_stream::SocketStream;
 use std::io::ErrorKind;
@@ -79,11 +79,11 @@ fn take_connection(listener: &TcpListener) -> io::Result<LinkStream> {
     })
 }
 
-/// Waits until a connection has come, for so many turns at most, and no longer than a second. Returns how many of them passed.
+/// Waits until a connection has come, or none comes any more, for so many turns at most. Returns how many of them passed.
 pub fn wait_for_connection<R: Clock>(rt: &R, listener: &TcpListener, turns: usize) -> usize
     ensures { result ≤ turns }
 {
-    wait_for_input(rt, listener.as_raw_fd(), turns.min(TURNS_AT_ONCE))
+    wait_for_input(rt, listener.as_raw_fd(), turns.min(MOST_TURNS))
 }
 
 /// The next connection, where one has come. Where the system refuses to give one out, for lack of descriptors say, a turn passes.
@@ -97,6 +97,11 @@ pub fn accept<R: Clock>(rt: &R, listener: &TcpListener) -> Option<LinkStream> {
             None
         }
     }
+}
+
+/// Ends what comes to a listener: whoever waits for a connection there, in whatever thread, waits no more.
+pub fn stop_listening(listener: &LocalListener) {
+    end_reads(listener.socket.as_raw_fd());
 }
 
 /// The system's number of a connection's socket. It is this socket's until the stream is dropped.

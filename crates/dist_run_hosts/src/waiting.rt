@@ -14,21 +14,24 @@ const TURN_MILLISECONDS: i32 = 10;
 
 const TURN_NANOSECONDS: u128 = 10_000_000;
 
-/// The most turns of one wait: a second. So a thread sees within a second that the run has failed, or that its end is gone. Our
-/// own choice.
+/// The most turns of one wait of a thread that has more to look after than its descriptor: a second. So it sees within a second that
+/// its end is gone, or that a thread which it has to join has ended. Our own choice.
 pub const TURNS_AT_ONCE: usize = 100;
 
+/// The most turns of any wait: no nodes file has more.
+pub const MOST_TURNS: usize = 1_000_000;
+
 /// How many turns one wait for bytes takes, where it was quiet for so many turns and so many are left: as many as it was quiet, so
-/// that a wait at most doubles the silence; one at least; at most a second, and no more than are left. Our own choice.
+/// that a wait at most doubles the silence, but one at least; at most a second, and no more than are left. Our own choice.
 pub fn turns_of_wait(quiet: usize, left: usize) -> usize
     ensures { result ≡ turns_of_wait quiet left }
 {
-    quiet.min(left).min(TURNS_AT_ONCE).max(1)
+    quiet.max(1).min(left).min(TURNS_AT_ONCE)
 }
 
 fn milliseconds_of(turns: usize) -> i32
-    // a wait takes 100 turns at most
-    requires { turns ≤ 100 }
+    // no wait takes more turns
+    requires { turns ≤ 1000000 }
     ensures { result ≡ pos (turns * 10) }
 {
     turns as i32 * TURN_MILLISECONDS
@@ -53,8 +56,8 @@ fn turns_since<C: Clock>(clock: &C, start: &Instant, turns: usize) -> usize
 
 // Waits until something can be read at a descriptor, for so many turns at most. Where the system does not wait, a turn passes.
 fn poll_input<C: Clock>(clock: &C, descriptor: RawFd, turns: usize)
-    // a wait takes 100 turns at most
-    requires { turns ≤ 100 }
+    // no wait takes more turns
+    requires { turns ≤ 1000000 }
 {
     let mut waits = [pollfd {
         fd: descriptor,
@@ -67,10 +70,10 @@ fn poll_input<C: Clock>(clock: &C, descriptor: RawFd, turns: usize)
 }
 
 /// Waits until something can be read at a descriptor, for so many turns at most. Returns how many of them passed: fewer than all
-/// only where something came.
+/// only where something came, or the descriptor's socket was shut.
 pub fn wait_for_input<C: Clock>(clock: &C, descriptor: RawFd, turns: usize) -> usize
-    // a wait takes 100 turns at most
-    requires { turns ≤ 100 }
+    // no wait takes more turns
+    requires { turns ≤ 1000000 }
     ensures { result ≤ turns }
 {
     let Ok(start) = Instant::now(clock) else {

@@ -1,3 +1,4 @@
+pub mod Reading
 pub mod Receiving
 pub mod Lines
 pub mod Stages
@@ -5,4 +6,3 @@ pub mod Worlds
 pub mod Steps
 pub mod Pages
 pub mod Faults
-pub mod Kept

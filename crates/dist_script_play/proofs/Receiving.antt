@@ -1,41 +1,22 @@
 -- What frames print, in turn.
-use Rattle.std.proofs.Common.{◌≡◌, ◌∙◌, ℕ, Bool, true, false, cond, List, [], ◌∷◌, ◌++◌, Option, Some, None, Result, Ok, Err, refl, sym, ap, subst, append_assoc, append-nil}
-use Rattle.std.specs.Int.{w16}
+use Rattle.std.proofs.Common.{◌≡◌, ◌∙◌, ◌<◌, ◌≤◌, ℕ, zero, suc, Bool, true, false, List, [], ◌∷◌, ◌++◌, length, Option, Some, None, Result, Ok, Err, refl, sym, ap, subst, arith, append_assoc, append-nil}
+use Rattle.std.proofs.lemmas.List.{set-get_or}
 use Rattle.std.specs.Io.KnownBytes.{Appends}
 use Rattle.std.proofs.KnownBytes.{Appends-nil, Appends-trans}
-use Rattle.dist_frames.specs.Reader.{Reader, next_body, to_come, without_next, unreported, without_count}
-use Rattle.dist_frames.specs.Reader.Reader.{Short, Linked}
-use Rattle.dist_frames.specs.Stream.{has_first, front, behind, bodies_up_to}
+use Rattle.dist_frames.specs.Reader.{next_body, to_come, without_next, unreported, without_count}
+use Rattle.dist_frames.specs.Reader.Reader.{Short}
 use Rattle.dist_peers.specs.declared.entry.EndId.{EndId}
 use Rattle.dist_core.specs.declared.event.Event.TheVariants as event
 use Rattle.dist_core.specs.declared.reply.Reply.{Reply}
 use Rattle.dist_core.specs.declared.step_error.StepError.{StepError}
 use Rattle.dist_core.specs.Node.{NodeState}
 use Rattle.dist_core.specs.Step.{step}
-use Rattle.dist_script_play.specs.declared.scene.Then.{Then}
-use Rattle.dist_script_play.specs.declared.scene.Then.TheVariants as then
-use Rattle.dist_script_play.specs.Played.{Standing, Received, step_text, reply_in, after_step, then_on, reader_on, no_more, behind_text, received_on, received_frames, received_text, after_received, with_reader, is_said, packets_text}
+use Rattle.dist_script_play.specs.Played.{Readers, reader_of, with_reader, with_received, Standing, Received, step_text, without_frame, after_frame, behind_text, frame_received, received_frames, received, received_text, after_received, is_said, packets_text}
 use Rattle.dist_script_play.specs.Scenes.{Receives}
-
--- where no body is next, none is dropped
-pub no_next : (r : Reader) → next_body r ≡ None → without_next r ≡ r
-no_next (Linked ended rest) e = refl
-no_next (Short pending) e =
-    elim (has_first w16 pending) as (λ b. cond b (Some (front w16 pending)) None ≡ None → Short (cond b (behind w16 pending) pending) ≡ Short pending) [
-      | true ↦ λ e. absurd cc
-      | false ↦ λ e. refl
-    ] e
-
--- the frames behind one are those that its reader has to give
-more_received : (x : EndId) (fresh : ℕ) (t : Then) (s : Standing) (r : Reader) → received_on t s r (received_frames x fresh (to_come r) s r) ≡ received_frames x fresh (to_come (reader_on t r)) s (reader_on t r)
-unfolding bodies_up_to
-more_received x fresh then.GoesOn s r = refl
-more_received x fresh then.Links s (Short pending) = refl
-more_received x fresh then.Links s (Linked ended rest) = refl
-more_received x fresh then.Stops s r = refl
+use Rattle.dist_script_play.proofs.Reading.{no_next, fewer}
 
 both_behind : (a b : List ℕ) (h : Received) → behind_text (a ++ b) h ≡ behind_text a (behind_text b h)
-both_behind a b h = ap (λ t. record { text = t; after = h.after; reader = h.reader }) (append_assoc a b h.text)
+both_behind a b h = ap (λ t. record { text = t; after = h.after }) (append_assoc a b h.text)
 
 step_said : (made : Result (Reply × NodeState) StepError) (a : List ℕ) → is_said (a ++ step_text made) ≡ true
 step_said (Ok x) [] = refl
@@ -44,67 +25,101 @@ step_said (Err e) [] = refl
 step_said (Err e) (c ∷ cs) = refl
 
 -- the lines so far, and those of what is left, are those of all
-pub record SoFar (x : EndId) (fresh : ℕ) (all : Received) (some : Bool) (old new : Option (List ℕ)) (s : Standing) (r : Reader) : Type 0 where
+pub record SoFar (x : EndId) (fresh : ℕ) (all : Received) (some : Bool) (old new : Option (List ℕ)) (s : Standing) : Type 0 where
   pub done : List ℕ
   pub put : Appends old new done
   pub any : some ≡ is_said done
-  pub rest : behind_text done (received_frames x fresh (to_come r) s r) ≡ all
+  -- at most this many are left
+  pub most : ℕ
+  pub few : length (to_come (reader_of s.readers x)) ≤ most
+  pub rest : behind_text done (received_frames x fresh most s) ≡ all
 
 -- before the first
-pub none_yet : (x : EndId) (fresh : ℕ) (old : Option (List ℕ)) (s : Standing) (r : Reader) → SoFar x fresh (received_frames x fresh (to_come r) s r) false old old s r
-none_yet x fresh old s r = record { done = []; put = Appends-nil old; any = refl; rest = refl }
+pub none_yet : (x : EndId) (fresh : ℕ) (old : Option (List ℕ)) (s : Standing) → SoFar x fresh (received_frames x fresh (length (to_come (reader_of s.readers x))) s) false old old s
+none_yet x fresh old s = record { done = []; put = Appends-nil old; any = refl; most = length (to_come (reader_of s.readers x)); few = omega arith; rest = refl }
 
 -- one more
-pub one_more : (x : EndId) (fresh : ℕ) (all : Received) (any : Bool) (old mid new : Option (List ℕ)) (s : Standing) (r r1 : Reader) (body : List ℕ) (t1 : Then) (s2 : Standing) (r2 : Reader)
-    → SoFar x fresh all any old mid s r → to_come r ≡ body ∷ to_come r1 → r1 ≡ without_next r
-    → Appends mid new (step_text (step s.node (event.Frame x body) fresh)) → t1 ≡ then_on x (reply_in (step s.node (event.Frame x body) fresh))
-    → s2 ≡ after_step s (step s.node (event.Frame x body) fresh) → r2 ≡ reader_on t1 r1
-    → SoFar x fresh all true old new s2 r2
-one_more x fresh all any old mid new s r r1 body t1 s2 r2 so first without put is_then is_after is_reader =
-    let made = step s.node (event.Frame x body) fresh in
-    let t = then_on x (reply_in made) in
-    let after = after_step s made in
-    let next : r2 ≡ reader_on t r1 = is_reader ∙ ap (λ o. reader_on o r1) is_then in
-    let step1 : received_frames x fresh (to_come r2) s2 r2 ≡ received_frames x fresh (to_come (reader_on t r1)) after (reader_on t r1) =
-    ap (λ q. received_frames x fresh (to_come q) s2 q) next ∙ ap (λ z. received_frames x fresh (to_come (reader_on t r1)) z (reader_on t r1)) is_after in
-    let step2 : received_frames x fresh (to_come (reader_on t r1)) after (reader_on t r1) ≡ received_on t after (without_next r) (received_frames x fresh (to_come r1) after (without_next r)) =
-    sym (more_received x fresh t after r1) ∙ ap (λ q. received_on t after q (received_frames x fresh (to_come r1) after q)) without in
-    let step3 : behind_text (step_text made) (received_frames x fresh (to_come r2) s2 r2) ≡ received_frames x fresh (to_come r) s r =
-    ap (behind_text (step_text made)) (step1 ∙ step2) ∙ ap (λ bs. received_frames x fresh bs s r) (sym first) in
-    record {
-      done = so.done ++ step_text made;
-      put = Appends-trans old mid new so.done (step_text made) so.put put;
-      any = sym (step_said made so.done);
-      rest = both_behind so.done (step_text made) (received_frames x fresh (to_come r2) s2 r2) ∙ ap (behind_text so.done) step3 ∙ so.rest;
-    }
+module _ (x : EndId) (fresh : ℕ) (all : Received) (old mid new : Option (List ℕ)) (s : Standing) (body : List ℕ) (next : Some body ≡ next_body (reader_of s.readers x)) (s2 : Standing)
+    (put : Appends mid new (step_text (step s.node (event.Frame x body) fresh)))
+    (after : s2 ≡ after_frame (without_frame s x) x (step s.node (event.Frame x body) fresh))
+    (less : length (to_come (reader_of s2.readers x)) < length (to_come (reader_of s.readers x))) where
+  one_of : (done : List ℕ) (some : Bool) (most : ℕ) → Appends old mid done → length (to_come (reader_of s.readers x)) ≤ most → behind_text done (received_frames x fresh most s) ≡ all
+      → SoFar x fresh all true old new s2
+  one_of done some zero so few rest = absurd (omega (arith, few, less))
+  one_of done some (suc most) so few rest =
+      let made = step s.node (event.Frame x body) fresh in
+      let others : received_frames x fresh (suc most) s ≡ behind_text (step_text made) (received_frames x fresh most s2) =
+      ap (λ o. frame_received x fresh o s (λ t. received_frames x fresh most t)) (sym next)
+      ∙ ap (λ t. behind_text (step_text made) (received_frames x fresh most t)) (sym after) in
+      record {
+        done = done ++ step_text made;
+        put = Appends-trans old mid new done (step_text made) so put;
+        any = sym (step_said made done);
+        most = most;
+        few = omega (arith, few, less);
+        rest = both_behind done (step_text made) (received_frames x fresh most s2) ∙ ap (behind_text done) (sym others) ∙ rest;
+      }
+
+-- one less is to come
+pub one_less : (x : EndId) (fresh : ℕ) (s : Standing) (rs : Readers) (body : List ℕ) (s2 : Standing) → to_come (reader_of s.readers x) ≡ body ∷ to_come (reader_of rs x)
+    → s2 ≡ after_frame (record { node = s.node; readers = rs }) x (step s.node (event.Frame x body) fresh)
+    → length (to_come (reader_of s2.readers x)) < length (to_come (reader_of s.readers x))
+one_less x fresh s rs body s2 first after =
+    let left : length (to_come (reader_of s2.readers x)) ≤ length (to_come (reader_of rs x)) =
+    subst (λ (t : Standing). length (to_come (reader_of t.readers x)) ≤ length (to_come (reader_of rs x))) (sym after)
+    (fewer (record { node = s.node; readers = rs }) x (step s.node (event.Frame x body) fresh)) in
+    let one : length (to_come (reader_of s.readers x)) ≡ suc (length (to_come (reader_of rs x))) = ap length first in
+    omega (arith, left, one)
+
+pub one_more : (x : EndId) (fresh : ℕ) (all : Received) (some : Bool) (old mid new : Option (List ℕ)) (s : Standing) (rs : Readers) (body : List ℕ) (s2 : Standing)
+    → SoFar x fresh all some old mid s → Some body ≡ next_body (reader_of s.readers x) → rs ≡ with_reader s.readers x (without_next (reader_of s.readers x))
+    → to_come (reader_of s.readers x) ≡ body ∷ to_come (reader_of rs x)
+    → Appends mid new (step_text (step s.node (event.Frame x body) fresh))
+    → s2 ≡ after_frame (record { node = s.node; readers = rs }) x (step s.node (event.Frame x body) fresh)
+    → SoFar x fresh all true old new s2
+one_more x fresh all some old mid new s rs body s2 so next without first put after =
+    one_of x fresh all old mid new s body next s2 put (after ∙ ap (λ r. after_frame (record { node = s.node; readers = r }) x (step s.node (event.Frame x body) fresh)) without)
+    (one_less x fresh s rs body s2 first after) so.done some so.most so.put so.few so.rest
 
 -- no frame is left
-pub no_frame_left : (x : EndId) (fresh : ℕ) (all : Received) (any : Bool) (old new : Option (List ℕ)) (s : Standing) (r r1 : Reader)
-    → SoFar x fresh all any old new s r → to_come r ≡ [] → r1 ≡ r → Receives all any old new s r1
-no_frame_left x fresh all any old new s r r1 so none same =
-    let ends : behind_text so.done (no_more s r) ≡ all = ap (λ bs. behind_text so.done (received_frames x fresh bs s r)) (sym none) ∙ so.rest in
+no_more : (x : EndId) (fresh most : ℕ) (s : Standing) → None ≡ next_body (reader_of s.readers x) → received_frames x fresh most s ≡ record { text = []; after = s }
+no_more x fresh zero s none = refl
+no_more x fresh (suc most) s none = ap (λ o. frame_received x fresh o s (λ t. received_frames x fresh most t)) (sym none)
+
+pub no_frame_left : (x : EndId) (fresh : ℕ) (all : Received) (some : Bool) (old new : Option (List ℕ)) (s s1 : Standing) (rs : Readers)
+    → SoFar x fresh all some old new s → None ≡ next_body (reader_of s.readers x) → rs ≡ with_reader s.readers x (without_next (reader_of s.readers x))
+    → s1 ≡ record { node = s.node; readers = rs } → Receives all some old new s1
+no_frame_left x fresh all some old new s s1 rs so none without is =
+    let ends : behind_text so.done (record { text = []; after = s }) ≡ all = ap (behind_text so.done) (sym (no_more x fresh so.most s none)) ∙ so.rest in
     let texts : so.done ≡ all.text = sym (append-nil so.done) ∙ ap (λ h. h.text) ends in
+    let kept : rs ≡ s.readers = without ∙ ap (λ r. with_reader s.readers x r) (no_next (reader_of s.readers x) none) ∙ set-get_or s.readers x.0 (Short []) in
     record {
       text = subst (Appends old new) texts so.put;
       any = so.any ∙ ap is_said texts;
-      after = ap (λ h. h.after) ends;
-      reader = same ∙ ap (λ h. h.reader) ends;
+      after = is ∙ ap (λ r. record { node = s.node; readers = r }) kept ∙ ap (λ h. h.after) ends;
     }
 
 -- the frames, and what stands behind their lines
-module _ (x : EndId) (fresh : ℕ) (s0 : Standing) (r0 r1 : Reader) (any : Bool) (a b : Option (List ℕ)) (s : Standing) (r : Reader)
-    (same : r1 ≡ r0) (receives : Receives (received_frames x fresh (to_come r1) s0 r1) any a b s r) where
+module _ (x : EndId) (fresh : ℕ) (bytes : List ℕ) (s0 : Standing) (fed : Readers) (any : Bool) (a b : Option (List ℕ)) (s : Standing)
+    (is_fed : fed ≡ with_received s0.readers x bytes)
+    (receives : Receives (received_frames x fresh (length (to_come (reader_of fed x))) (record { node = s0.node; readers = fed })) any a b s) where
   abbrev h : Received
-  h = received_frames x fresh (to_come r1) s0 r1
+  h = received s0 x bytes fresh
 
-  pub put_behind : (c : Option (List ℕ)) (k : ℕ) → k ≡ unreported r → Appends b c (packets_text any k) → Appends a c (received_text (received_frames x fresh (to_come r0) s0 r0))
+  there : Receives h any a b s
+  there =
+      subst (λ q. Receives q any a b s)
+      (ap (λ r. received_frames x fresh (length (to_come (reader_of r x))) (record { node = s0.node; readers = r })) is_fed) receives
+
+  pub put_behind : (c : Option (List ℕ)) (k : ℕ) → k ≡ unreported (reader_of s.readers x) → Appends b c (packets_text any k) → Appends a c (received_text x (received s0 x bytes fresh))
   put_behind c k count put =
-      let line : Appends b c (packets_text (is_said h.text) (unreported h.reader)) =
-      subst (λ q. Appends b c (packets_text (is_said h.text) q)) (count ∙ ap unreported receives.reader) (subst (λ q. Appends b c (packets_text q k)) receives.any put) in
-      subst (λ q. Appends a c (received_text (received_frames x fresh (to_come q) s0 q))) same (Appends-trans a b c h.text (packets_text (is_said h.text) (unreported h.reader)) receives.text line)
+      let line : Appends b c (packets_text (is_said h.text) (let t = h.after in unreported (reader_of t.readers x))) =
+      subst (λ q. Appends b c (packets_text (is_said h.text) q)) (count ∙ ap (λ (t : Standing). unreported (reader_of t.readers x)) there.after)
+      (subst (λ q. Appends b c (packets_text q k)) there.any put) in
+      Appends-trans a b c h.text (packets_text (is_said h.text) (let t = h.after in unreported (reader_of t.readers x))) there.text line
 
-  pub stand_after : (new : Standing) (r2 : Reader) → r2 ≡ without_count r → new ≡ record { node = s.node; readers = with_reader s.readers x r2 } → new ≡ after_received x (received_frames x fresh (to_come r0) s0 r0)
-  stand_after new r2 count is =
-      subst (λ q. new ≡ after_received x (received_frames x fresh (to_come q) s0 q)) same (
-      is ∙ ap (λ q. record { node = s.node; readers = with_reader s.readers x q }) (count ∙ ap without_count receives.reader)
-      ∙ ap (λ (t : Standing). record { node = t.node; readers = with_reader t.readers x (without_count h.reader) }) receives.after)
+  pub stand_after : (new : Standing) (rs : Readers) → rs ≡ with_reader s.readers x (without_count (reader_of s.readers x)) → new ≡ record { node = s.node; readers = rs }
+      → new ≡ after_received x (received s0 x bytes fresh)
+  stand_after new rs count is =
+      is ∙ ap (λ r. record { node = s.node; readers = r }) count
+      ∙ ap (λ (t : Standing). record { node = t.node; readers = with_reader t.readers x (without_count (reader_of t.readers x)) }) there.after

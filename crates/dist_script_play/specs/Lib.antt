@@ -1,4 +1,3 @@
 pub mod Played
 pub mod Pages
 pub mod Scenes
-pub mod Kept

@@ -1,12 +1,8 @@
 -- WHAT A SCRIPT PRINTS. docs/RUNNING.md has the language of scripts, and what they print; the lines are those of dist_script_lines.
-use Rattle.std.specs.Prelude.{◌≡◌, ◌⊎◌, ℕ, zero, suc, ◌==◌, Bool, true, false, nat_lt, if◌then◌else◌, List, [], ◌∷◌, ◌++◌, length, codes}
-use Rattle.std.specs.Prelude.{is_some, Option, Some, None, Result, Ok, Err, slice_get}
+use Rattle.std.specs.Prelude.{◌≡◌, ◌⊎◌, ℕ, zero, suc, ◌-◌, Bool, true, false, nat_lt, if◌then◌else◌, List, [], ◌∷◌, ◌++◌, length, codes}
+use Rattle.std.specs.Prelude.{get_or, set, replicate, is_some, Option, Some, None, Result, Ok, Err, slice_get}
 use Rattle.std.specs.Io.{StartsWith}
-use Rattle.std.specs.Option.{unwrap_or}
-use Rattle.std.specs.Ordering.{nat_cmp}
-use Rattle.std.specs.Map.{lookup, remove_entry}
-use Rattle.std.specs.BTreeMap.{is_at, insert_entry}
-use Rattle.dist_frames.specs.Reader.{Reader, with_bytes, to_come, without_next, as_linked, unreported, without_count}
+use Rattle.dist_frames.specs.Reader.{Reader, with_bytes, next_body, to_come, without_next, as_linked, unreported, without_count}
 use Rattle.dist_frames.specs.Reader.Reader.{Short}
 use Rattle.dist_peers.specs.declared.entry.EndId.{EndId}
 use Rattle.dist_core_ends.specs.declared.why.Why.{Why}
@@ -34,31 +30,33 @@ use Rattle.dist_script.specs.Scripts.{Says, script_in}
 use Rattle.dist_script.specs.Scripts.Says.{Events, Happenings}
 use Rattle.dist_script_lines.specs.Lines.{reply_line, refused_line, skipped_line, table_text, closed_line, applied_line}
 use Rattle.dist_script_lines.specs.Worlds.{nodes_text, AreAgreements}
-use Rattle.dist_script_play.specs.declared.scene.Then.{Then}
-use Rattle.dist_script_play.specs.declared.scene.Then.TheVariants as then
 
 -- ---- what the ends of a node have received
 
--- a reader for each end that has received bytes, with the end's number, in the order of the numbers
+-- the reader of each end, by the end's number, up to the last end that has received bytes
 abbrev pub Readers : Type 0
-Readers = List (ℕ × Reader)
+Readers = List Reader
 
--- the reader of an end; if none is kept, it has received nothing
+-- the reader of an end; where there is none, it has received nothing
 abbrev pub reader_of : Readers → EndId → Reader
-reader_of readers x = unwrap_or (lookup (is_at (nat_cmp x.0)) readers) (Short [])
+reader_of readers x = get_or readers x.0 (Short [])
 
--- this one is kept for an end
+-- another in its place
 abbrev pub with_reader : Readers → EndId → Reader → Readers
-with_reader readers x reader = insert_entry nat_cmp readers x.0 reader
+with_reader readers x reader = set readers x.0 reader
 
--- none is kept for an end
-abbrev pub without_reader : Readers → EndId → Readers
-without_reader readers x = remove_entry (is_at (nat_cmp x.0)) readers
+-- readers up to that of this end
+abbrev pub readers_to : Readers → EndId → Readers
+readers_to readers x = readers ++ replicate (suc x.0 - length readers) (Short [])
 
--- none is kept for the end that was closed
+-- an end receives more bytes
+abbrev pub with_received : Readers → EndId → List ℕ → Readers
+with_received readers x bytes = let all = readers_to readers x in with_reader all x (with_bytes (reader_of all x) bytes)
+
+-- what the end that was closed has received is dropped
 abbrev pub open_readers : Readers → Option (EndId × Why) → Readers
 open_readers readers None = readers
-open_readers readers (Some closed) = without_reader readers closed.0
+open_readers readers (Some closed) = with_reader readers closed.0 (Short [])
 
 -- a node, and what its ends have received
 pub record Standing : Type 0 where
@@ -84,54 +82,39 @@ after_step s (Err e) = s
 
 -- ---- bytes for an end
 
--- a step closed this end
-abbrev pub is_end : EndId → Option (EndId × Why) → Bool
-is_end x None = false
-is_end x (Some closed) = (let y = closed.0 in y.0) == x.0
+-- the next frame of an end is taken out
+abbrev pub without_frame : Standing → EndId → Standing
+without_frame s x = record s { readers = with_reader s.readers x (without_next (reader_of s.readers x)) }
 
--- what follows a frame: packets if it brought its end up, nothing if it closed its end, else further frames
-abbrev pub then_after : EndId → Reply → Then
-then_after x r = if is_some r.up then then.Links else (if is_end x r.closed then then.Stops else then.GoesOn)
+-- the readers after that frame was given to the node: what follows it is packets if it brought the end up, and dropped if it was refused
+abbrev pub readers_on : Readers → EndId → Option Reply → Readers
+readers_on readers x None = with_reader readers x (Short [])
+readers_on readers x (Some r) = if is_some r.up then with_reader readers x (as_linked (reader_of readers x)) else readers
 
--- nothing if the frame was refused
-abbrev pub then_on : EndId → Option Reply → Then
-then_on x None = then.Stops
-then_on x (Some r) = then_after x r
+-- the state after that
+abbrev pub after_frame : Standing → EndId → Result (Reply × NodeState) StepError → Standing
+after_frame s x made = let after = after_step s made in record { node = after.node; readers = readers_on after.readers x (reply_in made) }
 
--- the reader of the end, once a frame was taken out and given to the node
-abbrev pub reader_on : Then → Reader → Reader
-reader_on then.GoesOn reader = reader
-reader_on then.Links reader = as_linked reader
-reader_on then.Stops reader = Short []
-
--- what frames print, the state after them, and the reader of their end
+-- what frames print, and the state after them
 pub record Received : Type 0 where
   pub text : List ℕ
   pub after : Standing
-  pub reader : Reader
-
--- nothing more is printed
-abbrev pub no_more : Standing → Reader → Received
-no_more s reader = record { text = []; after = s; reader = reader }
 
 -- the same, after this text
 abbrev pub behind_text : List ℕ → Received → Received
-behind_text text h = record { text = text ++ h.text; after = h.after; reader = h.reader }
+behind_text text h = record { text = text ++ h.text; after = h.after }
 
--- what the frames print after one that was given to the node
-abbrev pub received_on : Then → Standing → Reader → Received → Received
-received_on then.GoesOn s reader others = others
-received_on then.Links s reader others = no_more s (as_linked reader)
-received_on then.Stops s reader others = no_more s (Short [])
-
--- FRAMES OF AN END, IN TURN: a line for each, until one of them stops that
-abbrev pub received_frames : EndId → ℕ → List (List ℕ) → Standing → Reader → Received
-received_frames x fresh [] s reader = no_more s reader
-received_frames x fresh (body ∷ bodies) s reader =
+-- the next frame of an end is given to the node, and then the others; without one nothing is printed
+abbrev pub frame_received : EndId → ℕ → Option (List ℕ) → Standing → (Standing → Received) → Received
+frame_received x fresh None s others = record { text = []; after = s }
+frame_received x fresh (Some body) s others =
     let made = step s.node (event.Frame x body) fresh in
-    let after = after_step s made in
-    behind_text (step_text made) (received_on (then_on x (reply_in made)) after (without_next reader)
-    (received_frames x fresh bodies after (without_next reader)))
+    behind_text (step_text made) (others (after_frame (without_frame s x) x made))
+
+-- FRAMES OF AN END, IN TURN, as long as its reader has a whole one; at most this many
+abbrev pub received_frames : EndId → ℕ → ℕ → Standing → Received
+received_frames x fresh zero s = record { text = []; after = s }
+received_frames x fresh (suc most) s = frame_received x fresh (next_body (reader_of s.readers x)) s (λ after. received_frames x fresh most after)
 
 -- something was printed
 abbrev pub is_said : List ℕ → Bool
@@ -147,23 +130,23 @@ packets_text false zero = codes "waiting\n"
 -- the frames that are whole once an open end received these bytes
 abbrev pub received : Standing → EndId → List ℕ → ℕ → Received
 received s x bytes fresh =
-    let reader = with_bytes (reader_of s.readers x) bytes in
-    received_frames x fresh (to_come reader) (record { node = s.node; readers = without_reader s.readers x }) reader
+    let now = with_received s.readers x bytes in
+    received_frames x fresh (length (to_come (reader_of now x))) (record { node = s.node; readers = now })
 
 -- what is printed of them
-abbrev pub received_text : Received → List ℕ
-received_text h = h.text ++ packets_text (is_said h.text) (unreported h.reader)
+abbrev pub received_text : EndId → Received → List ℕ
+received_text x h = h.text ++ packets_text (is_said h.text) (let s = h.after in unreported (reader_of s.readers x))
 
 -- the state after them; packets are counted once
 abbrev pub after_received : EndId → Received → Standing
-after_received x h = let s = h.after in record { node = s.node; readers = with_reader s.readers x (without_count h.reader) }
+after_received x h = let s = h.after in record s { readers = with_reader s.readers x (without_count (reader_of s.readers x)) }
 
 -- what is printed of bytes for an end, by the end's state
 abbrev pub bytes_text : Still → Standing → EndId → List ℕ → ℕ → List ℕ
 bytes_text still.NoSuchEnd s x bytes fresh = refused_line refusal.NoSuchEnd
 bytes_text (still.Gone why) s x bytes fresh = refused_line (refusal.Gone why)
-bytes_text still.Pending s x bytes fresh = received_text (received s x bytes fresh)
-bytes_text still.Up s x bytes fresh = received_text (received s x bytes fresh)
+bytes_text still.Pending s x bytes fresh = received_text x (received s x bytes fresh)
+bytes_text still.Up s x bytes fresh = received_text x (received s x bytes fresh)
 
 abbrev pub after_bytes : Still → Standing → EndId → List ℕ → ℕ → Standing
 after_bytes still.NoSuchEnd s x bytes fresh = s

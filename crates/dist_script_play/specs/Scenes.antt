@@ -1,7 +1,6 @@
 -- What the calls of a scene do, in the words of Played.antt.
 use Rattle.std.specs.Prelude.{◌≡◌, ◌⊎◌, ℕ, Bool, true, false, nat_lt, if◌then◌else◌, List, [], ◌++◌, length, Option, Some}
 use Rattle.std.specs.Io.KnownBytes.{Appends, Keeps, Consumes, IsAtEnd}
-use Rattle.dist_frames.specs.Reader.{Reader, without_count}
 use Rattle.dist_peers.specs.declared.entry.EndId.{EndId}
 use Rattle.dist_core_ends.specs.declared.why.Why.{Why}
 use Rattle.dist_core_setup.specs.declared.setup.Setup.{Setup}
@@ -12,16 +11,15 @@ use Rattle.dist_world.specs.Setups.{names_repeat}
 use Rattle.dist_script.specs.Fault.{status_of}
 use Rattle.dist_script.specs.declared.fault.ScriptFault.{ScriptFault}
 use Rattle.dist_script.specs.declared.fault.ScriptFault.TheVariants.{TooLong, SameName, ReadFailed, NoMemory}
-use Rattle.dist_script_play.specs.Played.{Standing, Received, received_text, is_said, IsEnd, IsOfWorld, IsPlayed, IsPlayedPart}
+use Rattle.dist_script_play.specs.Played.{Standing, Received, is_said, IsEnd, IsOfWorld, IsPlayed, IsPlayedPart}
 use Rattle.dist_script_play.specs.Played.{fault_in, happenings_text, closed_now}
 use Rattle.dist_script_play.specs.Pages.{IsOfSystem, Puts, PutsPart, BreaksOff}
 
 -- the lines of frames were written, it was returned whether there is one, and the state is that after them
-pub record Receives (h : Received) (some : Bool) (old new : Option (List ℕ)) (s : Standing) (r : Reader) : Type 0 where
+pub record Receives (h : Received) (some : Bool) (old new : Option (List ℕ)) (s : Standing) : Type 0 where
   pub text : Appends old new h.text
   pub any : some ≡ is_said h.text
   pub after : s ≡ h.after
-  pub reader : r ≡ h.reader
 
 -- the end of a world was written
 abbrev pub PutsEnd : World → ℕ → ℕ → Option (List ℕ) → Option (List ℕ) → Type 0

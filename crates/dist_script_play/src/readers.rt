@@ -1,105 +1,109 @@
 //! The readers of frames of a node's ends.
 
-ghost use Rattle.std.specs.Prelude.{◌≡◌, [], Some, None, OnOk, MatchOption};
-ghost use Rattle.std.specs.Ordering.{nat_cmp};
-ghost use Rattle.std.specs.Map.{lookup};
-ghost use Rattle.std.specs.BTreeMap.{is_at};
-ghost use Rattle.dist_script_play.specs.Kept.{IsOfOther};
-ghost use Rattle.dist_script_play.specs.Played.{reader_of, with_reader, without_reader};
+ghost use Rattle.std.specs.Prelude.{◌≡◌, ◌<◌, [], OnOk, IfOk, MatchOption, length, ◌∷◌, option_map};
+ghost use Rattle.dist_frames.specs.Reader.{next_body, to_come, without_next, as_linked, unreported, without_count};
+ghost use Rattle.dist_frames.specs.Reader.Reader.{Short};
+ghost use Rattle.dist_script_play.specs.Played.{reader_of, with_reader, readers_to, with_received};
 
 use dist_frames::Frames;
 use dist_peers::EndId;
 use std::alloc::{AllocError, Global};
-use std::collections::BTreeMap;
 use std::marker::Model;
 
-/// A reader for each end that has received bytes. Contracts see a finite map from the ends' numbers to readers, as rows in order.
+/// A reader for each end, by the end's number, up to the last end that has received bytes. Contracts see their list.
 #[derive(Drop)]
 pub struct Readers {
-    // The reader used last, and its end's number. The next bytes are mostly for the same end.
-    last: Option<(u32, Frames)>,
-    // The others.
-    kept: BTreeMap<u32, Frames>,
+    alloc: Global,
+    kept: Vec<Frames>,
 }
 
 impl Model for Readers {
-    ghost use Rattle.std.specs.Prelude.{ℕ, List};
+    ghost use Rattle.std.specs.Prelude.{List};
     ghost use Rattle.dist_frames.specs.Reader.{Reader};
-    ghost use Rattle.dist_script_play.specs.Kept.{with_last};
 
-    ghost Value = { List (ℕ × Reader) };
+    ghost Value = { List Reader };
 
-    ghost view = { λ r. with_last r.kept.entries r.last };
-}
-
-// Takes out the reader used last, if it is this end's.
-fn take_last(last: &mut Option<(u32, Frames)>, end_: EndId) -> Option<Frames>
-    ensures { MatchOption result ((last.new ≡ last.old) × IsOfOther last.old end_.0)
-        (λ reader. (last.new ≡ None) × (last.old ≡ Some (end_.0, reader))) }
-{
-    match last {
-        Some((number, _)) if *number == end_.0 => {}
-        _ => return None,
-    }
-    match last.take() {
-        Some((_, reader)) => Some(reader),
-        None => None,
-    }
+    ghost view = { λ r. r.kept.items };
 }
 
 impl Readers {
-    /// No bytes yet. It takes no memory.
+    /// No end has received bytes. It takes no memory.
     pub fn new(alloc: Global) -> Readers
         ensures { result ≡ [] }
     {
         Readers {
-            last: None,
-            kept: BTreeMap::new(alloc),
+            alloc,
+            kept: Vec::new(alloc),
         }
     }
 
-    // Takes out the reader of this end, if one is kept.
-    #[tactic(auto, using(crate::proofs::Kept::removed))]
-    fn remove(&mut self, end_: EndId) -> Option<Frames>
-        ensures reader { result ≡ lookup (is_at (nat_cmp end_.0)) self.old }
-        ensures rest { self.new ≡ without_reader self.old end_ }
+    // Makes readers up to that of this end.
+    #[tactic(auto, using(crate::proofs::Reading::one_more_reader, crate::proofs::Reading::room))]
+    fn make_room(&mut self, end_: EndId) -> Result<(), AllocError>
+        ensures ok { OnOk result (self.new ≡ readers_to self.old end_) }
+        ensures room { OnOk result (end_.0 < length self.new) }
     {
-        let _ = self.kept.len();
-        let kept = self.kept.remove(&end_.0);
-        match take_last(&mut self.last, end_) {
-            Some(reader) => Some(reader),
-            None => kept,
+        'room: while self.kept.len() <= end_.0 as usize {
+            self.kept.push(Frames::new(self.alloc))?;
         }
-    }
-
-    /// Takes out the reader of this end, or makes a new one if none is kept.
-    pub fn take(&mut self, alloc: Global, end_: EndId) -> Frames
-        ensures reader { result ≡ reader_of self.old end_ }
-        ensures rest { self.new ≡ without_reader self.old end_ }
-    {
-        match self.remove(end_) {
-            Some(reader) => reader,
-            None => Frames::new(alloc),
-        }
-    }
-
-    /// Keeps this reader for an end.
-    pub fn put(&mut self, end_: EndId, reader: Frames) -> Result<(), AllocError>
-        ensures { OnOk result (self.new ≡ with_reader self.old end_ reader) }
-    {
-        if let Some((number, other)) = self.last.take() {
-            if self.kept.insert(number, other).is_err() {
-                return Err(AllocError);
-            }
-        }
-        self.last = Some((end_.0, reader));
         Ok(())
     }
 
-    /// Drops the reader of an end that is closed.
-    pub fn forget(&mut self, end_: EndId)
-        ensures { self.new ≡ without_reader self.old end_ }
+    /// Gives bytes to the reader of an end.
+    pub fn feed(&mut self, end_: EndId, bytes: &[u8]) -> Result<(), AllocError>
+        ensures { OnOk result (self.new ≡ with_received self.old end_ bytes.now) }
     {
-        let _ = self.remove(end_);
+        self.make_room(end_)?;
+        self.kept[end_.0 as usize].feed(bytes)
+    }
+
+    /// Moves the next whole frame of an end out.
+    #[tactic(auto, using(crate::proofs::Reading::none_past))]
+    pub fn next_short(&mut self, end_: EndId) -> Result<Option<Vec<u8>>, AllocError>
+        ensures ok { IfOk result (λ body. (option_map (λ b. b.items) body ≡ next_body (reader_of self.old end_))
+            × (self.new ≡ with_reader self.old end_ (without_next (reader_of self.old end_)))) }
+        ensures first { IfOk result (λ body. MatchOption (option_map (λ b. b.items) body)
+            (to_come (reader_of self.old end_) ≡ [])
+            (λ b. to_come (reader_of self.old end_) ≡ b ∷ to_come (reader_of self.new end_))) }
+    {
+        let place = end_.0 as usize;
+        if place < self.kept.len() {
+            self.kept[place].next_short()
+        } else {
+            Ok(None)
+        }
+    }
+
+    /// Treats what comes for an end as packets from now on.
+    pub fn to_linked(&mut self, end_: EndId)
+        ensures { self.new ≡ with_reader self.old end_ (as_linked (reader_of self.old end_)) }
+    {
+        let place = end_.0 as usize;
+        if place < self.kept.len() {
+            self.kept[place].to_linked();
+        }
+    }
+
+    /// Returns how many packets of an end were not counted yet.
+    pub fn skip_long(&mut self, end_: EndId) -> usize
+        ensures count { result ≡ unreported (reader_of self.old end_) }
+        ensures after { self.new ≡ with_reader self.old end_ (without_count (reader_of self.old end_)) }
+    {
+        let place = end_.0 as usize;
+        if place < self.kept.len() {
+            self.kept[place].skip_long()
+        } else {
+            0
+        }
+    }
+
+    /// Drops what an end has received.
+    pub fn forget(&mut self, end_: EndId)
+        ensures { self.new ≡ with_reader self.old end_ (Short []) }
+    {
+        let place = end_.0 as usize;
+        if place < self.kept.len() {
+            self.kept[place] = Frames::new(self.alloc);
+        }
     }
 }

@@ -1,18 +1,18 @@
 //! A node to which a script gives events and bytes, with a reader of frames for each of its ends.
 
-ghost use Rattle.std.specs.Prelude.{◌≡◌, ◌≤◌, length, None, IfOk, OnOk};
+ghost use Rattle.std.specs.Prelude.{◌≡◌, length, None, IfOk, OnOk};
 ghost use Rattle.std.specs.Io.KnownBytes.{Appends};
 ghost use Rattle.dist_frames.specs.Reader.{to_come};
 ghost use Rattle.dist_core.specs.Step.{step};
 ghost use Rattle.dist_core.specs.declared.reply.Note.TheVariants as note;
 ghost use Rattle.dist_script_lines.specs.Lines.{refused_line, reply_line, table_text};
-ghost use Rattle.dist_script_play.specs.Played.{at_first, step_text, reply_in, after_step, open_readers, is_end, then_on, reader_on};
+ghost use Rattle.dist_script_play.specs.Played.{at_first, step_text, reply_in, after_step, open_readers, reader_of, after_frame};
 ghost use Rattle.dist_script_play.specs.Played.{received_frames, received, received_text, after_received, packets_text, line_text, after_line};
 ghost use Rattle.dist_script_play.specs.Scenes.{Receives};
 
 use crate::readers::Readers;
 use dist_core::{Event, Node, Reply, Setup, StepError, Still, Why};
-use dist_frames::{Frames, tick};
+use dist_frames::tick;
 use dist_names::ByteString;
 use dist_peers::EndId;
 use dist_script::{ScriptFault, ScriptLine, or_write_failed};
@@ -34,43 +34,6 @@ impl Model for NodeScene {
     ghost Value = { Standing };
 
     ghost view = { λ s. record { node = s.node; readers = s.readers } };
-}
-
-// What follows a frame that was given to the node.
-#[derive(Clone, Copy)]
-enum Then {
-    // Further frames.
-    GoesOn,
-    // Packets, since it brought its end up.
-    Links,
-    // Nothing, since it closed its end or was refused.
-    Stops,
-}
-
-// Whether a step closed this end.
-fn is_end(end_: EndId, closed: Option<(EndId, Why)>) -> bool
-    ensures { result ≡ is_end end_ closed }
-{
-    match closed {
-        Some((closed, _)) => closed.0 == end_.0,
-        None => false,
-    }
-}
-
-// What follows a frame of this end, by the reply to it, which is `None` if the frame was refused.
-fn then_after(end_: EndId, reply: &Option<Reply>) -> Then
-    ensures { result ≡ then_on end_ reply.now }
-{
-    let Some(reply) = reply else {
-        return Then::Stops;
-    };
-    if reply.up.is_some() {
-        Then::Links
-    } else if is_end(end_, reply.closed) {
-        Then::Stops
-    } else {
-        Then::GoesOn
-    }
 }
 
 // Prints why a step was refused. Out of memory stops the run.
@@ -96,18 +59,6 @@ fn print_brief<W: Write>(
         (reply_line (record { end_ = id; say = say.now; closed = closed; up = None; note = note.Nothing }))) }
 {
     or_write_failed(print::brief_reply(out, id, say, closed))
-}
-
-// Prepares a reader for what follows, after a frame of its end was given to the node.
-fn go_on(alloc: Global, reader: &mut Frames, then: Then)
-    ensures reader { reader.new ≡ reader_on then reader.old }
-    ensures fewer { length (to_come reader.new) ≤ length (to_come reader.old) }
-{
-    match then {
-        Then::GoesOn => {}
-        Then::Links => reader.to_linked(),
-        Then::Stops => *reader = Frames::new(alloc),
-    }
 }
 
 // Prints what follows the lines of the frames.
@@ -255,18 +206,35 @@ impl NodeScene {
         fresh: u32,
         out: &mut W,
     ) -> Result<(), ScriptFault>
-        ensures text { OnOk result (Appends (W.contents out.old) (W.contents out.new) (received_text (received self.old end_ bytes.now fresh))) }
+        ensures text { OnOk result (Appends (W.contents out.old) (W.contents out.new) (received_text end_ (received self.old end_ bytes.now fresh))) }
         ensures after { OnOk result (self.new ≡ after_received end_ (received self.old end_ bytes.now fresh)) }
     {
-        let mut reader = self.readers.take(alloc, end_);
-        reader.feed(bytes.as_slice())?;
-        let any = self.receive_frames(alloc, end_, &mut reader, fresh, out)?;
-        print_packets(any, reader.skip_long(), out)?;
-        self.readers.put(end_, reader)?;
-        Ok(())
+        self.readers.feed(end_, bytes.as_slice())?;
+        let any = self.receive_frames(alloc, end_, fresh, out)?;
+        print_packets(any, self.readers.skip_long(end_), out)
     }
 
-    // Gives the node a frame, and prints the result. Returns what follows.
+    // Gives the node each whole frame of an end, and returns whether there was one.
+    #[tactic(auto, using(crate::proofs::Receiving::none_yet, crate::proofs::Receiving::no_frame_left))]
+    fn receive_frames<W: Write>(
+        &mut self,
+        alloc: Global,
+        end_: EndId,
+        fresh: u32,
+        out: &mut W,
+    ) -> Result<bool, ScriptFault>
+        ensures { IfOk result (λ any. Receives (received_frames end_ fresh (length (to_come (reader_of self.old.readers end_))) self.old) any
+            (W.contents out.old) (W.contents out.new) self.new) }
+    {
+        let mut any = false;
+        while let Some(body) = self.readers.next_short(end_)? {
+            any = true;
+            self.play_frame(alloc, end_, body, fresh, out)?;
+        }
+        Ok(any)
+    }
+
+    // Gives the node a frame, and prints the result.
     fn play_frame<W: Write>(
         &mut self,
         alloc: Global,
@@ -274,35 +242,16 @@ impl NodeScene {
         body: Vec<u8>,
         fresh: u32,
         out: &mut W,
-    ) -> Result<Then, ScriptFault>
+    ) -> Result<(), ScriptFault>
         ensures text { OnOk result (Appends (W.contents out.old) (W.contents out.new) (step_text (step self.old.node (Event.Frame end_ body.items) fresh))) }
-        ensures after { OnOk result (self.new ≡ after_step self.old (step self.old.node (Event.Frame end_ body.items) fresh)) }
-        ensures follows { IfOk result (λ then_. then_ ≡ then_on end_ (reply_in (step self.old.node (Event.Frame end_ body.items) fresh))) }
+        ensures after { OnOk result (self.new ≡ after_frame self.old end_ (step self.old.node (Event.Frame end_ body.items) fresh)) }
     {
         let body = ByteString::from_vec(body);
-        let reply = self.step(alloc, &Event::Frame { end_, body }, fresh, out)?;
-        Ok(then_after(end_, &reply))
-    }
-
-    // Gives the node each whole frame, and returns whether there was one.
-    #[tactic(auto, using(crate::proofs::Receiving::none_yet, crate::proofs::Receiving::no_frame_left))]
-    fn receive_frames<W: Write>(
-        &mut self,
-        alloc: Global,
-        end_: EndId,
-        reader: &mut Frames,
-        fresh: u32,
-        out: &mut W,
-    ) -> Result<bool, ScriptFault>
-        ensures { IfOk result (λ any. Receives (received_frames end_ fresh (to_come reader.old) self.old reader.old) any
-            (W.contents out.old) (W.contents out.new) self.new reader.new) }
-    {
-        let mut any = false;
-        while let Some(body) = reader.next_short()? {
-            any = true;
-            let then = self.play_frame(alloc, end_, body, fresh, out)?;
-            go_on(alloc, reader, then);
+        match self.step(alloc, &Event::Frame { end_, body }, fresh, out)? {
+            Some(reply) if reply.up.is_none() => {}
+            Some(_) => self.readers.to_linked(end_),
+            None => self.readers.forget(end_),
         }
-        Ok(any)
+        Ok(())
     }
 }

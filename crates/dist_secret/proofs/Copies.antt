@@ -1,4 +1,4 @@
--- Rows that are inserted in their order stand in it.
+-- Rows that are inserted one after the other, in order, stand in order.
 use Rattle.std.proofs.Common.{◌≡◌, ℕ, List, [], ◌∷◌, ◌++◌, refl, sym, ap, ◌∙◌, subst, append_assoc}
 use Rattle.std.specs.List.{AllByRecursion}
 use Rattle.std.specs.List.Sorted.{IsStrictlySortedBy}
@@ -17,7 +17,7 @@ Row = Name × List ℕ
 order : IsTotalOrder name_cmp
 order = nat_list_cmp_total
 
--- what holds of all names holds of one in the middle
+-- what holds of all names holds of one among them
 among : (P : Name → Type 0) (xs ys : List Row) (e : Row) → AllByRecursion P (keys_of (xs ++ e ∷ ys)) → P (e.0)
 among P [] ys e all = all.0
 among P (x ∷ xs) ys e all = among P xs ys e (all.1)
@@ -31,13 +31,13 @@ last (x ∷ xs) ys e s =
     ap (λ o. match_ordering o (e ∷ x ∷ xs) ((x.0, e.1) ∷ xs) (x ∷ insert_entry name_cmp xs (e.0) (e.1))) above
     ∙ ap (λ (l : List Row). x ∷ l) (last xs ys e (sorted_tail name_cmp (x.0) (keys_of (xs ++ e ∷ ys)) s))
 
--- ONE ROW MORE IS COPIED: of what was copied and what is left
+-- ONE ROW MORE IS COPIED: what was copied and what is left are still all rows
 pub one_more : (all copy after left : List Row) (e : Row) → IsStrictlySortedBy name_cmp (keys_of all) → copy ++ e ∷ left ≡ all → after ≡ insert_entry name_cmp copy (e.0) (e.1) → after ++ left ≡ all
 one_more all copy after left e s whole is =
     let sorted : IsStrictlySortedBy name_cmp (keys_of (copy ++ e ∷ left)) = subst (λ (rows : List Row). IsStrictlySortedBy name_cmp (keys_of rows)) (sym whole) s in
     ap (λ (rows : List Row). rows ++ left) (is ∙ last copy left e sorted) ∙ append_assoc copy (e ∷ []) left ∙ whole
 
--- the same of the next row of those that were left
+-- the same for the first row of those that are left
 pub next_more : (all copy after before left : List Row) (row : Row) (name cookie : List ℕ) → IsStrictlySortedBy name_cmp (keys_of all)
     → copy ++ before ≡ all → before ≡ row ∷ left → name ≡ row.0 → cookie ≡ row.1 → after ≡ insert_entry name_cmp copy name cookie → after ++ left ≡ all
 next_more all copy after before left row name cookie s whole next n k is =

@@ -5,7 +5,7 @@ use Rattle.std.specs.Int.{w32, to_le_bytes}
 use Rattle.md5.specs.Md5.{md5, digest_bytes, hash_after, padded_message}
 use Rattle.dist_secret.specs.Digest.{digest_of}
 
--- four words of four bytes
+-- four words of four bytes are 16 bytes
 four_words : (h : List ℕ) → length (digest_bytes h 4) ≡ 16
 unfolding digest_bytes
 four_words h = omega (arith, length-append (((([] ++ to_le_bytes w32 (slice_index h 0)) ++ to_le_bytes w32 (slice_index h 1)) ++ to_le_bytes w32 (slice_index h 2))) (to_le_bytes w32 (slice_index h 3)), length-append ((([] ++ to_le_bytes w32 (slice_index h 0)) ++ to_le_bytes w32 (slice_index h 1))) (to_le_bytes w32 (slice_index h 2)), length-append (([] ++ to_le_bytes w32 (slice_index h 0))) (to_le_bytes w32 (slice_index h 1)))

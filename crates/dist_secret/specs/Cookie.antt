@@ -1,11 +1,11 @@
--- The cookie of a text, and why a text has none.
+-- The cookie of a text, or why the text has none.
 use Rattle.std.specs.Prelude.{◌≡◌, ℕ, ◌<◌, ◌≤◌, Bool, false, ◌||◌, not, List, ◌∷◌, ◌++◌, length, drop, Result, Ok, Err, nat_lt, ◌==◌, IsTrue, if◌then◌else◌}
 use Rattle.std.specs.List.{list_all, position_or_len, before_first}
 use Rattle.dist_names.specs.Bytes.{is_printable}
 use Rattle.dist_secret.specs.declared.cookie_error.CookieError.{CookieError}
 use Rattle.dist_secret.specs.declared.cookie_error.CookieError.TheVariants.{Empty, BadByte, TooLong}
 
--- a byte that stands in no cookie
+-- a byte that no cookie has
 abbrev pub is_other : ℕ → Bool
 is_other byte = not (is_printable byte)
 
@@ -13,17 +13,17 @@ is_other byte = not (is_printable byte)
 abbrev pub may_follow : ℕ → Bool
 may_follow byte = (byte == 0x0A) || ((byte == 0x0D) || (byte == 0x20))
 
--- what every cookie is
+-- what holds of every cookie
 pub record IsCookie (cookie : List ℕ) : Type 0 where
   pub least : 0 < length cookie
   pub most : length cookie ≤ 255
   pub bytes : IsTrue (list_all is_printable cookie)
 
--- no byte of a cookie stands at the front
+-- the text does not begin with a byte of a cookie
 abbrev pub StartsOtherwise : List ℕ → Type 0
 StartsOtherwise rest = (first : ℕ) (more : List ℕ) → rest ≡ first ∷ more → is_printable first ≡ false
 
--- The text is short. It is the cookie and then bytes that may follow, of which the first is no byte of a cookie.
+-- The text is short. It is the cookie and then bytes that may follow; the first of these is not a byte of a cookie.
 pub record IsCookieOf (text cookie : List ℕ) : Type 0 where
   pub short : length text ≤ 4096
   pub good : IsCookie cookie

@@ -8,7 +8,7 @@ use Rattle.dist_names.specs.Order.{Name, name_cmp, same_name}
 use Rattle.dist_secret.specs.declared.cookies_error.CookiesError.{CookiesError}
 use Rattle.dist_secret.specs.declared.cookies_error.CookiesError.TheVariants.{Full, NoMemory}
 
--- the cookie of each name that has its own, in the order of the names, and that of all others
+-- the cookie of each name that has its own, in the order of the names, and the usual one, that of all others
 pub record CookieTable : Type 0 where
   pub usual : List ℕ
   pub own : List (Name × List ℕ)
@@ -21,20 +21,20 @@ own_cookie table name = lookup (is_at (name_cmp name)) table.own
 abbrev pub cookie_for : CookieTable → Name → List ℕ
 cookie_for table name = unwrap_or (own_cookie table name) table.usual
 
--- the cookies in which this name has this one, and every other name has what it had
+-- the cookies where this name has this cookie, and every other name has what it had
 abbrev pub with_cookie : CookieTable → Name → List ℕ → CookieTable
 with_cookie table name cookie = record table { own = insert_entry name_cmp table.own name cookie }
 
--- the cookies in which this name has none of its own, and every other name has what it had
+-- the cookies where this name has no cookie of its own, and every other name has what it had
 abbrev pub without_cookie : CookieTable → Name → CookieTable
 without_cookie table name = record table { own = remove_entry (is_at (name_cmp name)) table.own }
 
--- the cookies once this name has this one of its own, or none
+-- the cookies once this name has this cookie of its own, or none
 abbrev pub keyed : CookieTable → Name → Option (List ℕ) → CookieTable
 keyed table name (Some cookie) = with_cookie table name cookie
 keyed table name None = without_cookie table name
 
--- this cookie of its own is another one than the name has; none always counts as another one
+-- this cookie differs from the one for this name; none always counts as different
 abbrev pub rekeys : CookieTable → Name → Option (List ℕ) → Bool
 rekeys table name (Some cookie) = not (pointwise ◌==◌ (cookie_for table name) cookie)
 rekeys table name None = true
@@ -43,11 +43,11 @@ rekeys table name None = true
 abbrev pub owns : CookieTable → Name → Bool
 owns table name = is_some (own_cookie table name)
 
--- the cookies in which every name has this one that has none of its own
+-- the cookies with this usual one, that of every name that has none of its own
 abbrev pub with_usual : CookieTable → List ℕ → CookieTable
 with_usual table cookie = record table { usual = cookie }
 
--- a further name finds no room: 1,024 have cookies of their own (our own limit), and this one is none of them
+-- a further name finds no room: 1,024 names have cookies of their own (our own limit), and this name has none
 abbrev pub is_full_for : CookieTable → Name → Bool
 is_full_for table name = is_none (own_cookie table name) && nat_le 1024 (length table.own)
 
@@ -63,7 +63,7 @@ OwnersKeep old new = (name : Name) → owns old name ≡ true → cookie_for new
 abbrev pub OthersHave : List ℕ → CookieTable → CookieTable → Type 0
 OthersHave cookie old new = (name : Name) → owns old name ≡ false → cookie_for new name ≡ cookie
 
--- a call set the cookie; a refusal changed nothing, and memory runs out only where there was room
+-- the call set the cookie; or it was refused and changed nothing, and memory runs out only where there was room
 abbrev pub Sets : {T : Type 0} → Result T CookiesError → Name → List ℕ → CookieTable → CookieTable → Type 0
 Sets (Ok x) name cookie old new = (is_full_for old name ≡ false) × (new ≡ with_cookie old name cookie)
 Sets (Err Full) name cookie old new = (is_full_for old name ≡ true) × (new ≡ old)

@@ -44,7 +44,7 @@ fn first_other(text: &[u8]) -> Option<usize>
     text.iter().position(|byte| !is_printable(*byte))
 }
 
-// How many bytes of a cookie stand at the front.
+// How many bytes of a cookie the text begins with.
 #[tactic(auto, using(dist_names::proofs::Places::place_or_length, dist_names::proofs::Places::place_within, crate::proofs::Fronts::front_good))]
 fn front_len(text: &[u8]) -> usize
     ensures place { result ≡ position_or_len is_other text.now }
@@ -96,7 +96,7 @@ impl Cookie {
     pub fn from_bytes(alloc: Global, text: &[u8]) -> Result<Cookie, CookieError>
         ensures exact { AnswersCookie result (cookie_of text.now) }
 
-        // What is answered is the cookie of the text, and it is answered unless memory runs out.
+        // The cookie of the text is returned, unless memory runs out.
         ensures found { IfOk result (λ cookie. IsCookieOf text.now cookie) }
         ensures only { (cookie : List ℕ) → IsCookieOf text.now cookie → AnswersCookie result (Ok cookie) }
     {
@@ -127,7 +127,7 @@ impl Cookie {
         })
     }
 
-    /// Whether the two have the same bytes. The time that it takes shows how much of their fronts is alike: it is for one who
+    /// Whether the two have the same bytes. The time that it takes shows how long their common front is: it is for a caller who
     /// holds both.
     pub fn is_same(&self, other: &Cookie) -> bool
         ensures computed { result ≡ pointwise ◌==◌ self.now other.now }

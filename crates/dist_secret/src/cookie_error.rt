@@ -9,7 +9,7 @@ use thiserror::Error;
 
 /// Why there is no cookie. Nothing is kept of the bytes.
 ///
-/// Where several of these hold, the first of this order is returned (our own choice): a read that failed, a text that is too
+/// Where several of these hold, the first in this order is returned (our own choice): a read that failed, a text that is too
 /// long, no byte of a cookie, a cookie that is too long, a byte that may not follow, out of memory.
 #[derive(Clone, Copy, Debug, PartialEq, Eq, Error)]
 pub enum CookieError {
@@ -22,7 +22,7 @@ pub enum CookieError {
     /// The text has more than 4,096 bytes, or its cookie more than 255. The text is to blame.
     #[error("the text or the cookie is too long")]
     TooLong,
-    /// The reader failed, in whatever way, an interrupted read among them. What it had given is dropped; it is not read again.
+    /// The reader failed in any way, an interrupted read included. What it had given is dropped; it is not read again.
     #[error("a read failed")]
     ReadFailed,
     /// The text has a cookie, and no memory was left to keep it.

@@ -31,7 +31,7 @@ impl Model for Cookies {
     ghost view = { λ c. record { usual = c.usual; own = c.own.entries } };
 }
 
-// The same cookies by name.
+// A copy of the cookies by name.
 fn copy_entries(
     alloc: Global,
     cookies: &BTreeMap<NodeName, Cookie>,
@@ -68,7 +68,7 @@ impl Cookies {
         }
     }
 
-    /// How many names have cookies of their own, at most 1,024 where each was set.
+    /// How many names have cookies of their own: at most 1,024 if each was kept by `set`.
     pub fn len(&self) -> usize
         ensures { result ≡ length self.now.own }
     {
@@ -96,7 +96,7 @@ impl Cookies {
         self.own.get(peer).is_none() && MOST <= self.own.len()
     }
 
-    /// Whether this cookie is another one than the peer has; none always counts as another one.
+    /// Whether this cookie differs from the one for this peer; none always counts as different.
     pub fn is_rekeyed_by(&self, peer: &NodeName, own: &Option<Cookie>) -> bool
         ensures { result ≡ rekeys self.now peer.now own.now }
     {
@@ -106,9 +106,9 @@ impl Cookies {
         }
     }
 
-    /// Keeps a cookie for this name; a name that has one gets this in its place.
+    /// Keeps a cookie for this name, in the place of the one that the name may have.
     ///
-    /// Refused as `Full`, then `NoMemory`; the cookies then stay as they were, and the one that was given is dropped.
+    /// Refused as `Full`, then `NoMemory`; the cookies then stay as they were, and the given one is dropped.
     pub fn set(&mut self, peer: NodeName, cookie: Cookie) -> Result<(), CookiesError>
         ensures set { Sets result peer cookie self.old self.new }
 
@@ -140,7 +140,7 @@ impl Cookies {
     pub fn set_usual(&mut self, cookie: Cookie)
         ensures usual { self.new ≡ with_usual self.old cookie }
 
-        // Who has a cookie of its own keeps it, and all others have this one from then on.
+        // A name that has a cookie of its own keeps it, and all others have this one from then on.
         ensures owners { OwnersKeep self.old self.new }
         ensures others { OthersHave cookie self.old self.new }
     {
@@ -157,7 +157,7 @@ impl Cookies {
         })
     }
 
-    /// Whether both have the same cookies: the same by each name that has its own, and the same for all others.
+    /// Whether both have the same cookies: the same names with the same cookies of their own, and the same for all others.
     pub fn is_same(&self, other: &Cookies) -> bool
         ensures { IsTrue result ↔ (self.now ≡ other.now) }
     {

@@ -5,7 +5,7 @@ ghost use Rattle.dist_secret.specs.Cookies.{refusal_name};
 
 use thiserror::Error;
 
-/// Why a cookie is not kept for a peer. The cookies are then those that they were.
+/// Why a cookie is not kept for a peer. The cookies then stay as they were.
 ///
 /// `Full` comes before `NoMemory`.
 #[derive(Clone, Copy, Debug, PartialEq, Eq, Error)]

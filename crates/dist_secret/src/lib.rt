@@ -1,4 +1,4 @@
-//! The secret that two nodes share, its cookie: which bytes of a text it is, and the digest that shows that one has it.
+//! The secret that two nodes share, the cookie: which bytes of a text it is, and the digest that shows that a node has it.
 //!
 //! It opens no file, draws no challenge and compares no digests, and it has no function that prints a cookie.
 #![tactic(auto)]

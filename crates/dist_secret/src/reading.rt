@@ -29,7 +29,7 @@ fn read_once<R: Read>(reader: &mut R, has_failed: &mut bool, room: &mut [u8]) ->
     }
 }
 
-// Fills the room from the front until it is full or nothing more comes, and says how far. `None` where a read failed.
+// Fills the buffer from the front until it is full or nothing more comes, and returns how far. `None` where a read failed.
 fn fill<R: Read>(reader: &mut R, has_failed: &mut bool, room: &mut [u8]) -> Option<usize>
     requires { has_failed.old ≡ false }
     ensures marks { has_failed.new ≡ is_none result }
@@ -51,7 +51,7 @@ fn fill<R: Read>(reader: &mut R, has_failed: &mut bool, room: &mut [u8]) -> Opti
     Some(at)
 }
 
-// Reads until the room is full or nothing more comes, and takes the cookie of that.
+// Reads until the buffer is full or nothing more comes, and takes the cookie of the bytes read.
 fn take_cookie<R: Read>(
     alloc: Global,
     reader: &mut R,
@@ -70,15 +70,15 @@ fn take_cookie<R: Read>(
     Cookie::from_bytes(alloc, &room[..len])
 }
 
-/// The cookie of what a reader gives, to its end, in pieces of whatever size.
+/// The cookie of all that a reader gives, in pieces of any size.
 ///
 /// At most 4,097 bytes are read, and no read is made after one that failed, one that gave no bytes, or the one that
 /// filled the 4,097. Refusals, the first that holds: ReadFailed, and then those of [`Cookie::from_bytes`].
 pub fn read_cookie<R: Read>(alloc: Global, reader: &mut R) -> Result<Cookie, CookieError>
-    // Unless a read failed, the answer is that for all that the reader had to give.
+    // Unless a read failed, the answer is the cookie of all that the reader had to give, or the refusal of that.
     ensures exact { IfSome (R.remaining reader.old) (λ text. AnswersUnlessFailed result text) }
 
-    // What was taken from the reader, and what was answered to that.
+    // What was taken from the reader, and what was returned for it.
     ensures hears { Hears (R.remaining reader.old) (R.remaining reader.new) result }
 {
     let mut has_failed = false;

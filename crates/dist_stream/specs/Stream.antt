@@ -1,4 +1,4 @@
--- What a stream shows of itself, and what a read and a write do to it.
+-- What contracts see of a stream, and how a read and a write change it.
 use Rattle.std.specs.Prelude.{◌≡◌, ℕ, ◌+◌, ◌-◌, ◌^◌, ◌≤◌, min, Bool, true, false, ◌||◌, ◌==◌, List, length, take, Option, IsTrue}
 use Rattle.std.specs.Io.KnownBytes.{prepend_known, append_known, IsAtEnd}
 use Rattle.dist_stream.specs.declared.stream.Heard.{Heard}
@@ -6,13 +6,13 @@ use Rattle.dist_stream.specs.declared.stream.Heard.TheVariants as heard
 use Rattle.dist_stream.specs.declared.stream.Took.{Took}
 use Rattle.dist_stream.specs.declared.stream.Took.TheVariants as took
 
--- what a stream shows of itself
+-- a stream, as contracts see it
 pub record StreamState : Type 0 where
   -- the bytes that reads will give, where the stream shows them
   pub unread : Option (List ℕ)
   -- the bytes that writes took, where the stream shows them
   pub written : Option (List ℕ)
-  -- how many reads and writes were made; it stays at the greatest u64
+  -- how many reads and writes were made; the count stops at the greatest u64
   pub calls : ℕ
   -- a read gave no bytes
   pub ended : Bool
@@ -49,7 +49,7 @@ is_failed_read (heard.Bytes n) = false
 is_failed_read heard.Quiet = false
 is_failed_read heard.Failed = true
 
--- A read takes the next unread bytes into the front of the room, and marks an end and a failure.
+-- A read takes the next unread bytes into the front of the buffer, and marks an end or a failure.
 pub record Reads (old new : StreamState) (room : List ℕ) (result : Heard) : Type 0 where
   pub fits : heard_count result ≤ length room
   pub unread : old.unread ≡ prepend_known (take (heard_count result) room) new.unread
@@ -68,7 +68,7 @@ took_count (took.Bytes n) = n
 took_count took.Quiet = 0
 took_count took.Failed = 0
 
--- the write failed: one that took no bytes did
+-- the write failed, or took no bytes
 abbrev pub is_failed_write : Took → Bool
 is_failed_write (took.Bytes n) = n == 0
 is_failed_write took.Quiet = false

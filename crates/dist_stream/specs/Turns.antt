@@ -1,4 +1,4 @@
--- What some reads and writes did, how many turns they took, and what a fault shows.
+-- What some reads and writes did, how many turns they took, and what a fault means.
 use Rattle.std.specs.Prelude.{◌≡◌, ℕ, ◌+◌, ◌-◌, ◌^◌, ◌<◌, ◌≤◌, Bool, true, false, ◌||◌, List, length, take, Option, Some, None, Result, Ok, Err}
 use Rattle.std.specs.Io.KnownBytes.{prepend_known, append_known, IsAtEnd}
 use Rattle.dist_stream.specs.declared.turn_error.TurnError.{TurnError}
@@ -51,7 +51,7 @@ pub record Rises (made old new : ℕ) : Type 0 where
   pub most : new ≤ old + made
   pub exact : new < 2 ^ 64 - 1 → new ≡ old + made
 
--- This many of the turns are left. Each mark is set exactly where its fault is returned, or was set before.
+-- This many of the turns are left. Each mark is set exactly if its fault is returned, or if it was set before.
 pub record Spends (old new : StreamState) (turns left : ℕ) (error : Option TurnError) : Type 0 where
   pub within : left ≤ turns
   pub calls : Rises (turns - left) old.calls new.calls
@@ -79,21 +79,21 @@ abbrev pub count_of : Result ℕ TurnError → ℕ
 count_of (Ok count) = count
 count_of (Err error) = 0
 
--- ---- whole texts and rooms
+-- ---- whole texts and buffers
 
--- all of it where no fault is returned, else less
+-- the whole length where no fault is returned, else less
 abbrev pub IsAllUnless : Option TurnError → ℕ → ℕ → Type 0
 IsAllUnless None count all = count ≡ all
 IsAllUnless (Some error) count all = count < all
 
--- A front of the text was written: all of it, unless a fault is returned.
+-- The first part of the text was written: all of it, unless a fault is returned.
 pub record SaysFront (old new : StreamState) (turns left : ℕ) (error : Option TurnError) (text : List ℕ) : Type 0 where
   pub count : ℕ
   pub fits : count ≤ length text
   pub says : Says old new turns left error (take count text)
   pub whole : IsAllUnless error count (length text)
 
--- The front of a room was filled: all of it, unless a fault is returned.
+-- The first part of a buffer was filled: all of it, unless a fault is returned.
 pub record HearsFront (old new : StreamState) (turns left : ℕ) (error : Option TurnError) (room : List ℕ) : Type 0 where
   pub count : ℕ
   pub fits : count ≤ length room

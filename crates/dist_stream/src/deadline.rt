@@ -1,7 +1,7 @@
 //! Connections that are quiet once a deadline is reached.
 //!
-//! A count of turns says little about time: a turn passes at once or waits. A talk that has to end by the clock is given a
-//! deadline, and turns in plenty.
+//! A count of turns says little about time: a turn passes at once or waits. A talk that has to end by the clock gets a
+//! deadline, and more turns than it needs.
 
 ghost use Rattle.std.specs.Prelude.{◌≡◌, ◌+◌, ◌<◌, ◌≤◌, ◌↔◌, length, None, IsOk, IfOk, IsErrAnd, IfErr};
 ghost use Rattle.std.specs.Duration.{as_nanos};
@@ -16,12 +16,12 @@ use std::io::{self, ErrorKind};
 use std::net::{Net, SocketAddr, TcpListener, TcpStream};
 use std::time::{Clock, Duration, Instant};
 
-/// Turns for a talk that a deadline ends: more than a talk takes that says something at each turn.
+/// Turns for a talk that a deadline ends: more than it takes, even if each turn carries bytes.
 ///
-/// Source: our own choice. A quiet turn lasts for a second, so a deadline of some 18 hours is met before they are spent.
+/// Source: our own choice. A quiet turn lasts for a second, so only a deadline after some 18 hours comes later than the last turn.
 pub const AMPLE_TURNS: usize = 65_536;
 
-// How long one read or write waits where this much time is left: a second at most. Linux rounds a socket's timeout up, by some
+// How long one read or write waits where this much time is left: at most a second. Linux rounds a socket's timeout up, by some
 // milliseconds where it is short, by up to 32 above a quarter of a second, and by up to 250 above two seconds. So the last
 // wait before the deadline is short.
 fn wait_of(left: Duration) -> Duration
@@ -42,7 +42,7 @@ fn time_until(now: Instant, deadline: Instant) -> Duration
     deadline.saturating_duration_since(now)
 }
 
-// The time that is `limit` after `now`. InvalidInput where no clock counts so far.
+// The time that is `limit` after `now`. InvalidInput where no clock reaches that far.
 fn time_after(now: Instant, limit: Duration) -> io::Result<Instant>
     ensures variant { IsOk result ↔ FitsClock (instant_nanos now + as_nanos limit) }
     ensures ok { IfOk result (λ t. instant_nanos t ≡ instant_nanos now + as_nanos limit) }
@@ -56,7 +56,7 @@ fn time_after(now: Instant, limit: Duration) -> io::Result<Instant>
 
 /// The time that is `limit` from now.
 ///
-/// InvalidInput where no clock counts so far, some 292 thousand million years after its start; any other error is the
+/// InvalidInput where no clock reaches that far, some 292 thousand million years after its start; any other error is the
 /// clock's.
 pub fn deadline_after<C: Clock>(clock: &C, limit: Duration) -> io::Result<Instant>
     ensures far { IfOk result (λ t. as_nanos limit ≤ instant_nanos t) }
@@ -66,7 +66,7 @@ pub fn deadline_after<C: Clock>(clock: &C, limit: Duration) -> io::Result<Instan
     time_after(now, limit)
 }
 
-/// How long it is until the deadline: zero once it is reached, and where the clock can't be read.
+/// How long it is until the deadline: zero once it is reached, and where the clock cannot be read.
 pub fn time_left<C: Clock>(clock: &C, deadline: Instant) -> Duration
     ensures most { as_nanos result ≤ instant_nanos deadline }
 {
@@ -78,9 +78,9 @@ pub fn time_left<C: Clock>(clock: &C, deadline: Instant) -> Duration
 
 /// A connection that is quiet once a deadline is reached.
 ///
-/// A read or a write waits for a second at most, and no longer than until the deadline; from then on each is
-/// quiet at once, and the system isn't asked, so the turns that are left of a talk pass at once. A call has failed where the
-/// system takes no timeout. No contract says which bytes come and go.
+/// A read or a write waits at most a second, and no longer than until the deadline; from then on each is
+/// quiet at once, without asking the system, so the turns that a talk has left pass at once. A call counts as failed where the
+/// system accepts no timeout. No contract says which bytes come and go.
 #[derive(Drop)]
 pub struct DeadlineStream<C> {
     stream: SocketStream,
@@ -103,21 +103,21 @@ impl<C: Clock> DeadlineStream<C> {
         }
     }
 
-    /// When it falls quiet.
+    /// When the connection becomes quiet.
     pub fn deadline(&self) -> Instant
         ensures { result ≡ self.now.deadline }
     {
         self.deadline
     }
 
-    /// How long it is until then: zero once it is quiet.
+    /// How long it is until then: zero once the connection is quiet.
     pub fn time_left(&self) -> Duration
         ensures most { as_nanos result ≤ instant_nanos self.now.deadline }
     {
         time_left(&self.clock, self.deadline)
     }
 
-    /// The connection, as to shut it.
+    /// The connection, for instance to shut it.
     pub fn get_ref(&self) -> &SocketStream
         ensures { result.now ≡ self.now.stream }
     {
@@ -126,7 +126,7 @@ impl<C: Clock> DeadlineStream<C> {
 }
 
 impl<C: Drop> DeadlineStream<C> {
-    /// The connection, given back. It keeps the timeouts of the last call.
+    /// Returns the connection. It keeps the timeouts of the last call.
     pub fn into_inner(self) -> SocketStream
         ensures { result ≡ self.stream }
     {
@@ -134,7 +134,7 @@ impl<C: Drop> DeadlineStream<C> {
     }
 }
 
-// A read that waits for this time of what is left, and is quiet where none is left.
+// A read that waits as long as what is left allows, and is quiet where nothing is left.
 fn read_within(stream: &mut SocketStream, room: &mut [u8], left: Duration) -> Heard
     requires { 0 < length room.old }
     ensures reads { Reads (⟦<SocketStream as Stream>⟧.meaning stream.old) (⟦<SocketStream as Stream>⟧.meaning stream.new) room.new result }
@@ -149,7 +149,7 @@ fn read_within(stream: &mut SocketStream, room: &mut [u8], left: Duration) -> He
     }
 }
 
-// A write that waits for this time of what is left, and is quiet where none is left.
+// A write that waits as long as what is left allows, and is quiet where nothing is left.
 fn write_within(stream: &mut SocketStream, bytes: &[u8], left: Duration) -> Took
     requires { 0 < length bytes.now }
     ensures writes { Writes (⟦<SocketStream as Stream>⟧.meaning stream.old) (⟦<SocketStream as Stream>⟧.meaning stream.new) bytes.now result }
@@ -178,7 +178,7 @@ impl<C: Clock> Stream for DeadlineStream<C> {
     }
 }
 
-// The time that is left to connect in, of which there is some.
+// The time that is left for a connect. An error where none is left.
 fn time_to_connect(left: Duration) -> io::Result<Duration>
     ensures ok { IfOk result (λ t. (t ≡ left) × (0 < as_nanos t)) }
     ensures late { as_nanos left ≡ 0 → IsErrAnd result (λ e. error_kind e ≡ ErrorKind.TimedOut) }
@@ -192,7 +192,7 @@ fn time_to_connect(left: Duration) -> io::Result<Duration>
 /// A connection to this address, made by the deadline, that is quiet once the deadline is reached.
 ///
 /// An error is the system's: ConnectionRefused where nobody listens there; TimedOut where no answer came by the deadline,
-/// and at once where it was reached before, with nobody asked.
+/// and at once, without asking anybody, where the deadline had passed before.
 pub fn connect_by<'a, R: Net<Listener = TcpListener, Stream = TcpStream> + Clock>(
     rt: &'a R,
     address: &SocketAddr,

@@ -1,4 +1,4 @@
-//! Connections that are made within a time.
+//! Connections that are made within a limit of time.
 
 ghost use Rattle.std.specs.Prelude.{◌≡◌, None, IfOk, IsErr};
 ghost use Rattle.std.specs.Duration.{as_nanos};
@@ -10,7 +10,7 @@ use std::io;
 use std::net::{Net, SocketAddr, TcpListener, TcpStream};
 use std::time::Duration;
 
-/// A connection to this address, made within `limit`, each read and write of which waits for `turn` at most.
+/// A connection to this address, made within `limit`, each read and write of which waits at most `turn`.
 ///
 /// An error is the system's: ConnectionRefused where nobody listens there, TimedOut where no answer came within `limit`, as
 /// from a host that is cut off, or where so many connections wait to be accepted that the system drops further ones, for

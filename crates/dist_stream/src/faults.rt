@@ -9,8 +9,8 @@ use std::alloc::Global;
 
 /// A stream over memory that gives and takes pieces of given sizes, and can fail. It is made for tests.
 ///
-/// The sizes bound the bytes of each read or write in turn. Where there are fewer sizes than calls they start again at
-/// their beginning; where there are none nothing is bounded. A size of 0 is a quiet turn.
+/// The sizes bound the bytes of each read or write in turn. Where there are fewer sizes than calls, they start again from
+/// the first; where there are none, nothing is bounded. A size of 0 is a quiet turn.
 #[derive(Drop)]
 pub struct FaultStream {
     /// The most bytes that each read gives, in turn.
@@ -31,7 +31,7 @@ pub struct FaultStream {
     write_failed: bool,
 }
 
-// The bound of a call, counted from 1.
+// The bound of this call; calls are counted from 1.
 fn size_at(sizes: &[usize], call: u64) -> usize {
     if sizes.is_empty() {
         return usize::MAX;
@@ -68,7 +68,7 @@ impl FaultStream {
         &self.output
     }
 
-    /// The bytes that weren't read.
+    /// The bytes that weren't read yet.
     pub fn unread(&self) -> &[u8]
         ensures { (⟦<FaultStream as Stream>⟧.meaning self.now).unread ≡ Some result.now }
     {
@@ -83,7 +83,7 @@ impl FaultStream {
     }
 }
 
-// Moves some of the input into the room. With a size of 0 it is quiet.
+// Moves some of the input into the buffer. With a size of 0 it is quiet.
 fn take_input(input: &mut Vec<u8>, room: &mut [u8], most: usize) -> Heard
     requires { 0 < length room.old }
     ensures fits { heard_count result ≤ length room.new }

@@ -2,8 +2,8 @@
 //!
 //! A stream is a trait, so what is built on it runs over a socket and over memory alike. No sleep and no threads: how
 //! long a call may go on is a number of turns, and a turn is one read or write, a quiet one among them. Where the clock is to
-//! decide, `DeadlineStream` is quiet from a deadline on, and the turns that are left pass at once; it alone reads a clock.
-//! `connect` and `connect_by` alone ask the system for a connection; nothing here accepts one.
+//! decide, `DeadlineStream` is quiet from a deadline on, and the turns that are left pass at once; only this type reads a clock.
+//! Only `connect` and `connect_by` ask the system for a connection; nothing here accepts one.
 #![tactic(auto)]
 
 mod deadline;

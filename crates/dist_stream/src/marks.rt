@@ -25,7 +25,7 @@ pub fn is_failed_read(heard: Heard) -> bool
     }
 }
 
-/// Whether the write failed. One that took no bytes did.
+/// Whether the write failed, or took no bytes.
 pub fn is_failed_write(took: Took) -> bool
     ensures { result ≡ is_failed_write took }
 {

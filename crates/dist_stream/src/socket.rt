@@ -14,7 +14,7 @@ use std::time::Duration;
 
 /// A connection of the system. No contract says which bytes come and go.
 ///
-/// A call that would wait is quiet, and so is one that a signal broke off; the caller sets how long a call waits, by
+/// A call that would wait is quiet, and so is one that a signal interrupted; the caller sets how long a call waits, by
 /// the socket's timeouts. Any other error is a failure.
 #[derive(Drop)]
 pub struct SocketStream {
@@ -40,7 +40,7 @@ impl SocketStream {
         }
     }
 
-    /// The stream over this socket, each read and write of which waits for `turn` at most. InvalidInput where `turn` is
+    /// The stream over this socket, each read and write of which waits at most `turn`. InvalidInput where `turn` is
     /// zero; any other error is the system's. Then the socket is closed.
     pub fn with_turn(socket: TcpStream, turn: Duration) -> io::Result<SocketStream>
         ensures fresh { IfOk result (λ s. ⟦<SocketStream as Stream>⟧.meaning s ≡ new_stream None None) }
@@ -52,14 +52,14 @@ impl SocketStream {
         Ok(SocketStream::new(socket))
     }
 
-    /// Lets the peer see that nothing more will be sent: it reads the end of the stream. The socket stays open, so what the
-    /// peer still sends can be read, and the own port is not used again. An error is the system's, as where the connection is
-    /// gone already.
+    /// Tells the peer that nothing more will be sent: it reads the end of the stream. The socket stays open, so what the
+    /// peer still sends can be read, and the own port is not used again. An error is the system's, for instance where the connection
+    /// is gone already.
     pub fn shut(&self) -> io::Result<()> {
         self.socket.shutdown(Shutdown::Write)
     }
 
-    /// The socket, as to say how long a call waits, or to watch a connection that is kept.
+    /// The socket, for instance to set how long a call waits, or to watch a connection that is kept.
     pub fn get_ref(&self) -> &TcpStream
         ensures { result.now ≡ self.now.socket }
     {
@@ -84,7 +84,7 @@ impl SocketStream {
         Took::Quiet
     }
 
-    /// One turn whose read has failed before the system was asked for bytes.
+    /// One turn whose read failed before the system was asked for bytes.
     pub(crate) fn fail_read(&mut self) -> Heard
         ensures failed { result ≡ Heard.Failed }
         ensures reads { (room : List ℕ) → Reads (⟦<SocketStream as Stream>⟧.meaning self.old) (⟦<SocketStream as Stream>⟧.meaning self.new) room result }
@@ -94,7 +94,7 @@ impl SocketStream {
         Heard::Failed
     }
 
-    /// One turn whose write has failed before the system was given bytes.
+    /// One turn whose write failed before the system was given bytes.
     pub(crate) fn fail_write(&mut self) -> Took
         ensures failed { result ≡ Took.Failed }
         ensures writes { (bytes : List ℕ) → Writes (⟦<SocketStream as Stream>⟧.meaning self.old) (⟦<SocketStream as Stream>⟧.meaning self.new) bytes result }
@@ -104,7 +104,7 @@ impl SocketStream {
         Took::Failed
     }
 
-    /// The socket, given back.
+    /// Returns the socket.
     pub fn into_inner(self) -> TcpStream
         ensures { result ≡ self.socket }
     {
@@ -112,7 +112,7 @@ impl SocketStream {
     }
 }
 
-// The socket is fine, and had nothing to give or no room so far.
+// The socket is fine: a read found no bytes, or a write no room, so far.
 fn is_quiet(kind: ErrorKind) -> bool
     ensures { result ≡ is_quiet kind }
 {
@@ -122,7 +122,7 @@ fn is_quiet(kind: ErrorKind) -> bool
     )
 }
 
-// What a read gave that the system answered so.
+// What a read with this answer of the system gave.
 fn read_outcome(answer: io::Result<usize>) -> Heard
     ensures { result ≡ read_outcome answer }
 {
@@ -138,7 +138,7 @@ fn read_outcome(answer: io::Result<usize>) -> Heard
     }
 }
 
-// What a write took that the system answered so.
+// What a write with this answer of the system took.
 fn write_outcome(answer: io::Result<usize>) -> Took
     ensures { result ≡ write_outcome answer }
 {

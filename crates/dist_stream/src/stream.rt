@@ -3,7 +3,7 @@
 /// What a read gave.
 #[derive(Clone, Copy, Debug, PartialEq, Eq)]
 pub enum Heard {
-    /// This many bytes, at the front of the room. 0 says that the stream has ended.
+    /// This many bytes, at the front of the buffer. 0 means that the stream has ended.
     Bytes(usize),
     /// Nothing yet.
     Quiet,
@@ -25,14 +25,14 @@ pub enum Took {
 /// Bytes that come and go: a connection, as far as a caller sees it. Both calls always return.
 ///
 /// Its meaning is the bytes that are unread and those that were written, each where the stream shows them, a count of
-/// calls, and three marks that stay once they are set: it ended, a read failed, a write failed.
+/// calls, and three marks that stay once they are set: the stream ended, a read failed, a write failed.
 pub trait Stream {
     ghost use Rattle.std.specs.Prelude.{◌<◌, length};
     ghost use Rattle.dist_stream.specs.Stream.{StreamState, Reads, Writes};
 
     ghost meaning: { Self → StreamState };
 
-    /// Reads what has come, at most as much as there is room.
+    /// Reads what has come, at most as much as fits in the buffer.
     fn read(&mut self, room: &mut [u8]) -> Heard
         requires { 0 < length room.old }
         ensures { Reads (meaning self.old) (meaning self.new) room.new result };

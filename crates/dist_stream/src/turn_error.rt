@@ -4,13 +4,13 @@ use thiserror::Error;
 
 /// Why a read or a write gave nothing, or not all: the first reason in this order.
 ///
-/// What came or went before it stands. The stream is as the failure left it; it may be used on, and its marks stay.
+/// What was read or written before it stays so. The stream is as the failure left it; it may still be used, and its marks stay.
 #[derive(Clone, Copy, Debug, PartialEq, Eq, Error)]
 pub enum TurnError {
     /// The carrier's fault.
     #[error("a read failed")]
     ReadFailed,
-    /// The carrier's fault. A write that took no bytes is one.
+    /// The carrier's fault. A write that took no bytes counts as failed.
     #[error("a write failed")]
     WriteFailed,
     /// A read gave no bytes: the peer closed its end.

@@ -1,6 +1,6 @@
 //! Reads and writes that count their turns.
 //!
-//! A turn is one read or one write, a quiet one among them. Each call lowers how many are left by those that it makes.
+//! A turn is one read or one write, a quiet one among them. Each call lowers the number that is left by the turns that it makes.
 //! The bytes, the marks and the count of calls say what was done, also before a fault.
 
 ghost use Rattle.std.specs.Prelude.{◌≡◌, ◌+◌, ◌<◌, ◌≤◌, length, take, OnOk, OnErr, IsOkUnless};
@@ -11,8 +11,8 @@ use crate::turn_error::TurnError;
 
 /// A stream, and how many turns are left on it. A turn is one read or one write, a quiet one among them.
 ///
-/// The stream is the caller's, lent for some calls. Each call promises by its clause `loan` that it has the same one
-/// afterwards, so the caller knows what became of the stream once this value is gone.
+/// The stream is borrowed from the caller. By its clause `loan` each call promises to hold the same stream afterwards, so
+/// the caller knows what became of the stream once this value is gone.
 #[derive(Drop)]
 pub struct Limited<'a, S> {
     /// The stream.
@@ -52,10 +52,10 @@ impl<'a, S: Stream> Limited<'a, S> {
         }
     }
 
-    /// One read into the front of the room, and how many bytes it gave: 0 where nothing has come yet.
+    /// One read into the front of the buffer. Returns how many bytes it gave: 0 where nothing has come yet.
     ///
     /// Limit comes where no turn is left, and then nothing is read; ReadFailed where the read failed, and Ended where it
-    /// gave no bytes. WriteFailed doesn't come.
+    /// gave no bytes. WriteFailed is never returned.
     ///
     /// Source: our own choice.
     pub fn read(&mut self, room: &mut [u8]) -> Result<usize, TurnError>
@@ -76,11 +76,11 @@ impl<'a, S: Stream> Limited<'a, S> {
         }
     }
 
-    /// Writes all bytes, in as many turns as the stream wants: in one where it takes them whole, and none where there
+    /// Writes all bytes, in as many turns as the stream needs: in one where it takes them whole, and in none where there
     /// are none.
     ///
-    /// WriteFailed comes where a write failed or took no bytes, and Limit where the turns ran out; then a front of the
-    /// bytes was written, and not all. ReadFailed and Ended don't come.
+    /// WriteFailed comes where a write failed or took no bytes, and Limit where the turns ran out; then only a first part of the
+    /// bytes was written. ReadFailed and Ended are never returned.
     ///
     /// Source: our own choice.
     pub fn write_all(&mut self, bytes: &[u8]) -> Result<(), TurnError>
@@ -94,10 +94,10 @@ impl<'a, S: Stream> Limited<'a, S> {
         Ok(())
     }
 
-    /// Fills the room, and reads not a byte more.
+    /// Fills the buffer, and reads not a byte more.
     ///
-    /// Where ReadFailed, Ended or Limit comes, the front of the room has what was read before it. WriteFailed doesn't
-    /// come.
+    /// Where ReadFailed, Ended or Limit comes, the front of the buffer has what was read before it. WriteFailed is never
+    /// returned.
     ///
     /// Source: our own choice.
     pub fn read_exact(&mut self, room: &mut [u8]) -> Result<(), TurnError>

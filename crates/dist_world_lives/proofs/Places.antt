@@ -1,6 +1,5 @@
 -- A connection that is changed among all.
-use Rattle.std.proofs.Common.{◌≡◌, ℕ, zero, suc, ◌<◌, ◌≤◌, List, [], ◌∷◌, ◌++◌, length, get_or, slice_get, Option, Some, None, refl, ap, arith}
-use Rattle.std.proofs.Math.ListN.{set}
+use Rattle.std.proofs.Common.{◌≡◌, ℕ, zero, suc, List, [], ◌∷◌, ◌++◌, slice_get, Option, Some, None, refl, ap}
 use Rattle.dist_messages.specs.declared.message.Side.{Side}
 use Rattle.dist_messages.specs.declared.message.Side.TheVariants.{Dialler, Acceptor}
 use Rattle.dist_world_model.specs.Lists.{at_place}
@@ -8,17 +7,6 @@ use Rattle.dist_world_model.specs.World.{Conn}
 use Rattle.dist_world_model.specs.Delivery.{says}
 use Rattle.dist_world_lives.specs.Wires.{undelivered_by, with_undelivered}
 use Rattle.dist_world_lives.specs.Stepping.{conns_after, conns_with, undelivered_on}
-
-module _ {A : Type 0} where
-  pub at_set : (f : A → A) (xs : List A) (i : ℕ) (x : A) → i < length xs → x ≡ get_or xs i x → set xs i (f x) ≡ at_place i f xs
-  at_set f [] i x few is = absurd (omega arith)
-  at_set f (y ∷ xs) zero x few is = ap (λ z. f z ∷ xs) is
-  at_set f (y ∷ xs) (suc i) x few is = ap (λ zs. y ∷ zs) (at_set f xs i x (omega arith) is)
-
-  pub at_past : (f : A → A) (xs : List A) (i : ℕ) → length xs ≤ i → xs ≡ at_place i f xs
-  at_past f [] i past = refl
-  at_past f (y ∷ xs) zero past = absurd (omega arith)
-  at_past f (y ∷ xs) (suc i) past = ap (λ zs. y ∷ zs) (at_past f xs i (omega arith))
 
 -- what this side sends comes behind what is undelivered
 joined : (side : Side) (cs : List Conn) (i : ℕ) (s : List ℕ) → at_place i (with_undelivered side (undelivered_by side (slice_get cs i) ++ s)) cs ≡ at_place i (says side s) cs

@@ -1,56 +1,23 @@
 -- Numbers that decimal digits write.
-use Rattle.std.proofs.Common.{◌≡◌, ℕ, ◌<◌, ◌≤◌, ◌^◌, Bool, true, false, ◌&&◌, cond, List, length, Option, Some, None, refl, sym, ap, subst, ◌∙◌, arith}
-use Rattle.std.specs.Prelude.{SomeIff, nat_lt, nat_le}
-use Rattle.std.specs.Str.{all_ascii_digits}
+use Rattle.std.proofs.Common.{◌≡◌, ℕ, ◌<◌, ◌≤◌, Bool, true, false, ◌&&◌, List, Option, nat_lt, nat_le, arith}
+use Rattle.std.specs.Prelude.{SomeIff}
 use Rattle.std.specs.Str.Parse.{IsNumeral, digits_value}
-use Rattle.std.proofs.lemmas.Bool.{and_parts, lt-ltb, ltb-true}
-use Rattle.std.proofs.lemmas.Str.Parse.{IsNumeralModel, numerals_by_value, tells_all_ascii_digits}
-use Rattle.distmapd.specs.Words.{number_of, is_number}
+use Rattle.std.proofs.lemmas.Bool.{and_parts}
+use Rattle.std.proofs.lemmas.Bool.Decides.{nat_tests}
+use Rattle.dist_names.specs.Digits.{is_numeral}
+use Rattle.dist_names.proofs.Digits.{below, is_below, both, numeral, a_numeral, by_test}
+use Rattle.distmapd.specs.Words.{number_of}
 
-digits : IsNumeralModel (λ ds. all_ascii_digits ds ≡ true) (digits_value 10)
-digits = numerals_by_value (λ ds. all_ascii_digits ds ≡ true) tells_all_ascii_digits
+within : (m n : ℕ) → nat_le m n ≡ true → m ≤ n
+within m n h = grind (arith, nat_tests)
 
-le-true : (a b : ℕ) → nat_le a b ≡ true → a ≤ b
-le-true a b e = grind (arith, Rattle.std.proofs.lemmas.Bool.leb-true)
+is_within : (m n : ℕ) → m ≤ n → nat_le m n ≡ true
+is_within m n h = grind (arith, nat_tests)
 
-true-le : (a b : ℕ) → a ≤ b → nat_le a b ≡ true
-true-le a b e = grind (arith, Rattle.std.proofs.lemmas.Bool.le-leb)
-
-numeral : (most : ℕ) (word : List ℕ) → is_number most word ≡ true → IsNumeral 10 word × (digits_value 10 word ≤ most)
-numeral most word e =
-    let a = and_parts (nat_lt 0 (length word)) (all_ascii_digits word && (nat_lt 0 (digits_value 10 word) && nat_le (digits_value 10 word) most)) e in
-    let b = and_parts (all_ascii_digits word) (nat_lt 0 (digits_value 10 word) && nat_le (digits_value 10 word) most) a.1 in
-    let c = and_parts (nat_lt 0 (digits_value 10 word)) (nat_le (digits_value 10 word) most) b.1 in
-    ((ltb-true 0 (length word) a.0, digits.to word b.0), le-true (digits_value 10 word) most c.1)
-
-pub number_none : (most : ℕ) (word : List ℕ) → most < 2 ^ 32 → (IsNumeral 10 word × (digits_value 10 word < 2 ^ 32) → ⊥) → number_of most word ≡ None
-unfolding number_of
-number_none most word fits unread = elim (is_number most word) as (λ v. is_number most word ≡ v → cond v (Some (digits_value 10 word)) None ≡ None) [
-  | true ↦ λ e. let n = numeral most word e in absurd (unread (n.0, omega (arith, n.1)))
-  | false ↦ λ e. refl
-] refl
-
-pub number_some : (most n : ℕ) (word : List ℕ) → IsNumeral 10 word → n ≡ digits_value 10 word → 0 < n → n ≤ most → Some n ≡ number_of most word
-unfolding number_of
-number_some most n word is e some few =
+pub number_read : (most : ℕ) (word : List ℕ) (r : Option ℕ) → SomeIff r (IsNumeral 10 word × (0 < digits_value 10 word) × (digits_value 10 word ≤ most)) (digits_value 10 word) → r ≡ number_of most word
+number_read most word =
     let v : ℕ = digits_value 10 word in
-    let a : nat_lt 0 (length word) ≡ true = lt-ltb 0 (length word) is.0 in
-    let b : all_ascii_digits word ≡ true = digits.from word is.1 in
-    let c : nat_lt 0 v ≡ true = lt-ltb 0 v (omega (arith, e)) in
-    let d : nat_le v most ≡ true = true-le v most (omega (arith, e)) in
-    let all : is_number most word ≡ true = all-true (nat_lt 0 (length word)) (all_ascii_digits word) (nat_lt 0 v) (nat_le v most) a b c d in
-    ap (λ (k : ℕ). Some k) e ∙ sym (ap (λ t. cond t (Some v) None) all)
-  where
-    all-true : (p q r s : Bool) → p ≡ true → q ≡ true → r ≡ true → s ≡ true → (p && (q && (r && s))) ≡ true
-    all-true true true true true i j k l = refl
-    all-true true true true false i j k l = l
-    all-true true true false s i j k l = k
-    all-true true false r s i j k l = j
-    all-true false q r s i j k l = i
-
-pub lacks : (r : Option ℕ) (P : Type 0) (v : ℕ) → SomeIff r P v → r ≡ None → P → ⊥
-lacks None P v h e p = h p
-lacks (Some x) P v h e p = cc
-
-pub has : (r : Option ℕ) (P : Type 0) (v n : ℕ) → SomeIff r P v → r ≡ Some n → P × (n ≡ v)
-has r P v n h e = subst (λ (o : Option ℕ). SomeIff o P v) e h
+    let in_range : Bool = nat_lt 0 v && nat_le v most in
+    by_test (IsNumeral 10 word × (0 < v) × (v ≤ most)) (is_numeral 10 word && in_range) v
+    (λ e. let p = and_parts (is_numeral 10 word) in_range e in let q = and_parts (nat_lt 0 v) (nat_le v most) p.1 in (numeral 10 word p.0, below 0 v q.0, within v most q.1))
+    (λ p. both (is_numeral 10 word) in_range (a_numeral 10 word p.0) (both (nat_lt 0 v) (nat_le v most) (is_below 0 v p.1) (is_within v most p.2)))

@@ -3,7 +3,6 @@ pub mod Json
 pub mod Lines
 pub mod Listing
 pub mod Logging
-pub mod Logs
 pub mod Metrics
 pub mod Rates
 pub mod Words

@@ -2,11 +2,10 @@
 use Rattle.std.specs.Prelude.{◌≡◌, ◌⊎◌, ℕ, ◌==◌, Bool, true, false, List, [], ◌∷◌, Option, take, nat_lt, if◌then◌else◌}
 use Rattle.std.specs.Io.KnownBytes.{Appends, Keeps}
 use Rattle.dist_epmd_clients.specs.declared.event.ClientEvent.{ClientEvent}
-use Rattle.dist_epmd_clients.specs.Journal.{kind_of}
-use Rattle.distmapd.specs.declared.form.LogForm.{LogForm}
+use Rattle.distmapd.specs.declared.settings.LogForm.{LogForm}
 use Rattle.distmapd.specs.declared.rates.Rates.{Rates}
 use Rattle.distmapd.specs.Lines.{event_line, left_out_line}
-use Rattle.distmapd.specs.Rates.{after_admitting, is_admitted, leaving_out, rate_of, with_none_left_out}
+use Rattle.distmapd.specs.Rates.{after_admitting, after_missing, is_admitted, leaving_out, rate_of, with_none_left_out}
 
 -- A line is put: all of it was written, or a prefix, or nothing.
 abbrev pub Puts : List ℕ → Bool → Option (List ℕ) → Option (List ℕ) → Type 0
@@ -17,15 +16,16 @@ Puts line false before after = Keeps before after ⊎ ((count : ℕ) × Appends 
 abbrev pub PutsFor : ℕ → List ℕ → ℕ → Rates → Rates → Option (List ℕ) → Option (List ℕ) → Type 0
 PutsFor count line now old new before after = (taken : Bool) × Puts line taken before after × (new ≡ (if taken then old else leaving_out count now old))
 
--- an event, by whether a line of its kind is admitted; if not, it is left out, and nothing is written
-abbrev pub LogsWhere : Bool → List ℕ → ℕ → Rates → Rates → Option (List ℕ) → Option (List ℕ) → Type 0
-LogsWhere true line now asked new before after = PutsFor 1 line now asked new before after
-LogsWhere false line now asked new before after = (new ≡ leaving_out 1 now asked) × (after ≡ before)
+-- A line is put or not; if not, these are the rates after it, and nothing is written.
+abbrev pub PutsIf : Bool → ℕ → List ℕ → ℕ → Rates → Rates → Rates → Option (List ℕ) → Option (List ℕ) → Type 0
+PutsIf true count line now old others new before after = PutsFor count line now old new before after
+PutsIf false count line now old others new before after = (new ≡ others) × (after ≡ before)
 
--- AN EVENT IS LOGGED: its line is put if its kind may have one more line in this second
+-- AN EVENT IS LOGGED: its line is put if its kind may have one more line in this second, else it is left out
 abbrev pub LogsEvent : LogForm → ℕ → ClientEvent → Rates → Rates → Option (List ℕ) → Option (List ℕ) → Type 0
 LogsEvent form now e old new before after =
-    LogsWhere (is_admitted now (rate_of (kind_of e) old)) (event_line form e) now (after_admitting (kind_of e) now old) new before after
+    let asked = after_admitting e now old in
+    PutsIf (is_admitted now (rate_of e old)) 1 (event_line form e) now asked (leaving_out 1 now asked) new before after
 
 -- EVENTS ARE LOGGED, one after the other
 abbrev pub LogsEvents : LogForm → ℕ → List ClientEvent → Rates → Rates → Option (List ℕ) → Option (List ℕ) → Type 0
@@ -37,20 +37,11 @@ LogsEvents form now (e ∷ es) old new before after =
 abbrev pub left_out_at : ℕ → Rates → ℕ
 left_out_at now r = if now == r.second then 0 else r.left_out
 
--- a line is put if some were left out
-abbrev pub ReportsWhere : Bool → ℕ → List ℕ → ℕ → Rates → Rates → Option (List ℕ) → Option (List ℕ) → Type 0
-ReportsWhere true count line now old new before after = PutsFor count line now old new before after
-ReportsWhere false count line now old new before after = (new ≡ old) × (after ≡ before)
-
 -- THE NUMBER OF LINES LEFT OUT IS REPORTED, once the second of the last one is over
 abbrev pub ReportsLeftOut : LogForm → ℕ → Rates → Rates → Option (List ℕ) → Option (List ℕ) → Type 0
 ReportsLeftOut form now old new before after =
-    let count = left_out_at now old in
-    ReportsWhere (nat_lt 0 count) count (left_out_line form count) now (with_none_left_out now old) new before after
-
--- the rates after this many events were missed before the log looked
-abbrev pub after_missing : ℕ → ℕ → Rates → Rates
-after_missing count now r = if nat_lt 0 count then leaving_out count now r else r
+    let count = left_out_at now old in let none = with_none_left_out now old in
+    PutsIf (nat_lt 0 count) count (left_out_line form count) now none none new before after
 
 -- WHAT A LOG DOES IN A ROUND: it reports how many lines were left out, counts the events missed since, and logs the events.
 pub record LogsRound (form : LogForm) (now missed : ℕ) (events : List ClientEvent) (old new : Rates) (before after : Option (List ℕ)) : Type 0 where

@@ -1,9 +1,9 @@
 -- How many lines a log may have of each kind in a second.
-use Rattle.std.specs.Prelude.{ℕ, ◌+◌, Bool, ◌||◌, not, ◌==◌, nat_lt, if◌then◌else◌}
-use Rattle.dist_epmd_clients.specs.declared.event.EventKind.{EventKind}
-use Rattle.dist_epmd_clients.specs.declared.event.EventKind.TheVariants as kind
+use Rattle.std.specs.Prelude.{ℕ, ◌+◌, ◌-◌, Bool, ◌||◌, not, ◌==◌, nat_lt, get_or, replicate, set, if◌then◌else◌}
+use Rattle.dist_epmd_clients.specs.declared.event.ClientEvent.{ClientEvent}
+use Rattle.dist_epmd_clients.specs.declared.event.ClientEvent.TheVariants as event
 use Rattle.dist_epmd_clients.specs.Journal.{at_most}
-use Rattle.distmapd.specs.declared.rate.Rate.{Rate}
+use Rattle.distmapd.specs.declared.rates.Rate.{Rate}
 use Rattle.distmapd.specs.declared.rates.Rates.{Rates}
 
 -- ---- one kind
@@ -24,52 +24,39 @@ after_admit now rate = if is_admitted now rate then record { second = now; lines
 
 -- no line was written, and none left out
 abbrev pub new_rates : Rates
-new_rates = record {
-  registered = new_rate;
-  ended = new_rate;
-  refused = new_rate;
-  unanswered = new_rate;
-  made_room = new_rate;
-  late = new_rate;
-  no_memory = new_rate;
-  answered = new_rate;
-  left_out = 0;
-  second = 0;
-}
+new_rates = record { kinds = replicate 8 new_rate; left_out = 0; second = 0; missed = 0 }
 
--- the rate of a kind; all kinds without a line share one
-abbrev pub rate_of : EventKind → Rates → Rate
-rate_of kind.Registered r = r.registered
-rate_of kind.Ended r = r.ended
-rate_of kind.Refused r = r.refused
-rate_of kind.Unanswered r = r.unanswered
-rate_of kind.MadeRoom r = r.made_room
-rate_of (kind.Late count) r = r.late
-rate_of kind.NoMemory r = r.no_memory
-rate_of kind.LookedUp r = r.answered
-rate_of kind.Listed r = r.answered
+-- the place of an event's kind; all kinds without a line share one
+abbrev pub place_of : ClientEvent → ℕ
+place_of (event.Registered conn name port) = 0
+place_of (event.Ended conn name) = 1
+place_of (event.Refused conn name taken) = 2
+place_of (event.Unanswered conn local) = 3
+place_of (event.MadeRoom conn) = 4
+place_of (event.Late count) = 5
+place_of (event.NoMemory conn) = 6
+place_of event.LookedUp = 7
+place_of event.Listed = 7
 
--- the rates with this one for a kind
-abbrev pub with_rate : EventKind → Rate → Rates → Rates
-with_rate kind.Registered rate r = record r { registered = rate }
-with_rate kind.Ended rate r = record r { ended = rate }
-with_rate kind.Refused rate r = record r { refused = rate }
-with_rate kind.Unanswered rate r = record r { unanswered = rate }
-with_rate kind.MadeRoom rate r = record r { made_room = rate }
-with_rate (kind.Late count) rate r = record r { late = rate }
-with_rate kind.NoMemory rate r = record r { no_memory = rate }
-with_rate kind.LookedUp rate r = record r { answered = rate }
-with_rate kind.Listed rate r = record r { answered = rate }
+-- the rate of an event's kind
+abbrev pub rate_of : ClientEvent → Rates → Rate
+rate_of e r = get_or r.kinds (place_of e) new_rate
 
--- the rates after a line of a kind was asked for; those of other kinds stay
-abbrev pub after_admitting : EventKind → ℕ → Rates → Rates
-after_admitting k now r = with_rate k (after_admit now (rate_of k r)) r
+-- the rates after a line of an event's kind was asked for; those of other kinds stay
+abbrev pub after_admitting : ClientEvent → ℕ → Rates → Rates
+after_admitting e now r = record r { kinds = set r.kinds (place_of e) (after_admit now (rate_of e r)) }
 
 -- ---- what is left out
 
 -- this many more are left out in this second
 abbrev pub leaving_out : ℕ → ℕ → Rates → Rates
 leaving_out count now r = record r { left_out = at_most r.left_out count; second = now }
+
+-- the rates once this many events were missed: those that the log had not yet counted are left out
+abbrev pub after_missing : ℕ → ℕ → Rates → Rates
+after_missing missed now r =
+    let known = record r { missed = missed } in
+    if nat_lt 0 (missed - r.missed) then leaving_out (missed - r.missed) now known else known
 
 -- none is left out any more, once the second of the last one is over
 abbrev pub with_none_left_out : ℕ → Rates → Rates

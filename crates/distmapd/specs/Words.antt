@@ -1,139 +1,103 @@
 -- What the words of a port mapper ask for (ERTS Reference Manual, epmd).
-use Rattle.std.specs.Prelude.{ℕ, Bool, true, false, ◌&&◌, ◌==◌, List, [], ◌∷◌, Option, Some, None}
-use Rattle.std.specs.Prelude.{Result, Ok, Err, length, codes, nat_lt, nat_le, if◌then◌else◌}
-use Rattle.std.specs.List.{find}
+use Rattle.std.specs.Prelude.{ℕ, true, false, ◌&&◌, ◌==◌, List, [], ◌∷◌, Option, Some, None}
+use Rattle.std.specs.Prelude.{Result, Ok, Err, codes, nat_lt, nat_le, if◌then◌else◌}
 use Rattle.std.proofs.Common.{Bor}
 use Rattle.std.specs.Cmp.Lexicographic.{pointwise}
-use Rattle.std.specs.Str.{all_ascii_digits}
 use Rattle.std.specs.Str.Parse.{digits_value}
+use Rattle.dist_names.specs.Digits.{is_numeral}
 use Rattle.distmapd.specs.declared.key.Key.{Key}
-use Rattle.distmapd.specs.declared.key.Key.TheVariants as key
-use Rattle.distmapd.specs.declared.reading.Awaits.{Awaits}
-use Rattle.distmapd.specs.declared.reading.Awaits.TheVariants as awaits
+use Rattle.distmapd.specs.declared.key.Key.TheVariants.{Takes, Does, Systemd, Quiet, NotDone}
+use Rattle.distmapd.specs.declared.key.AwaitedValue.{AwaitedValue}
+use Rattle.distmapd.specs.declared.key.AwaitedValue.TheVariants as value
 use Rattle.distmapd.specs.declared.reading.ParsedWords.{ParsedWords}
 use Rattle.distmapd.specs.declared.refusal.WordError.{WordError}
-use Rattle.distmapd.specs.declared.refusal.WordError.TheVariants.{UnknownWord, NotDone, BadPort, BadTimeout, BadClients, BadLog, BadMetrics}
-use Rattle.distmapd.specs.declared.refusal.BadWords.{BadWords}
-use Rattle.distmapd.specs.declared.refusal.BadWords.TheVariants.{At, NoValue}
-use Rattle.distmapd.specs.declared.form.LogForm.{LogForm}
-use Rattle.distmapd.specs.declared.form.LogForm.TheVariants as form
+use Rattle.distmapd.specs.declared.refusal.WordError.TheVariants as error
+use Rattle.distmapd.specs.declared.refusal.BadWord.{BadWord}
+use Rattle.distmapd.specs.declared.settings.LogForm.{LogForm}
+use Rattle.distmapd.specs.declared.settings.LogForm.TheVariants as form
 use Rattle.distmapd.specs.declared.settings.Settings.{Settings}
 use Rattle.distmapd.specs.declared.settings.Task.TheVariants as task
 
 -- ---- options and switches
 
-abbrev pub name_of : Key → List ℕ
-name_of key.Port = codes "-port"
-name_of key.Mapper = codes "--epmd-port"
-name_of key.Address = codes "-address"
-name_of key.LongAddress = codes "--address"
-name_of key.Timeout = codes "-packet_timeout"
-name_of key.Clients = codes "-max_clients"
-name_of key.Systemd = codes "-systemd"
-name_of key.Names = codes "-names"
-name_of key.Quiet = codes "-quiet"
-name_of key.Log = codes "-log"
-name_of key.Metrics = codes "-metrics"
-name_of key.Help = codes "--help"
-name_of key.ShortHelp = codes "-help"
-name_of key.Version = codes "--version"
-name_of key.Daemon = codes "-daemon"
-name_of key.Kill = codes "-kill"
-name_of key.Stop = codes "-stop"
-name_of key.Debug = codes "-d"
-name_of key.Relaxed = codes "-relaxed_command_check"
-
-abbrev pub has_name : List ℕ → Key → Bool
-has_name word k = pointwise ◌==◌ (name_of k) word
-
-abbrev pub all_keys : List Key
+abbrev pub all_keys : List (List ℕ × Key)
 all_keys =
-    key.Port ∷ key.Mapper ∷ key.Address ∷ key.LongAddress ∷ key.Timeout ∷ key.Clients ∷ key.Systemd ∷ key.Names ∷ key.Quiet ∷ key.Log ∷ key.Metrics
-    ∷ key.Help ∷ key.ShortHelp ∷ key.Version ∷ key.Daemon ∷ key.Kill ∷ key.Stop ∷ key.Debug ∷ key.Relaxed ∷ []
+    (codes "-port", Takes value.Port) ∷ (codes "--epmd-port", Takes value.Port)
+    ∷ (codes "-address", Takes value.Addresses) ∷ (codes "--address", Takes value.Addresses)
+    ∷ (codes "-packet_timeout", Takes value.Seconds) ∷ (codes "-max_clients", Takes value.Clients)
+    ∷ (codes "-systemd", Systemd) ∷ (codes "-names", Does task.Names) ∷ (codes "-quiet", Quiet)
+    ∷ (codes "-log", Takes value.Log) ∷ (codes "-metrics", Takes value.Metrics)
+    ∷ (codes "--help", Does task.Help) ∷ (codes "-help", Does task.Help) ∷ (codes "--version", Does task.Version)
+    ∷ (codes "-daemon", NotDone) ∷ (codes "-kill", NotDone) ∷ (codes "-stop", NotDone) ∷ (codes "-d", NotDone)
+    ∷ (codes "-relaxed_command_check", NotDone) ∷ []
 
-unfoldable pub key_named : List ℕ → Option Key
-key_named word = find (has_name word) all_keys
+-- what a word asks for, by the first of these that has it
+abbrev pub key_in : List (List ℕ × Key) → List ℕ → Option Key
+key_in [] word = None
+key_in (row ∷ rows) word = if pointwise ◌==◌ row.0 word then Some row.1 else key_in rows word
 
--- ---- numbers
+-- ---- values
 
 -- a number from 1 to this one, in decimal digits; leading zeros are allowed
-abbrev pub is_number : ℕ → List ℕ → Bool
-is_number most word = nat_lt 0 (length word) && (all_ascii_digits word && (nat_lt 0 (digits_value 10 word) && nat_le (digits_value 10 word) most))
-
-unfoldable pub number_of : ℕ → List ℕ → Option ℕ
-number_of most word = if is_number most word then Some (digits_value 10 word) else None
-
--- ---- forms of the log
+abbrev pub number_of : ℕ → List ℕ → Option ℕ
+number_of most word =
+    if is_numeral 10 word && (nat_lt 0 (digits_value 10 word) && nat_le (digits_value 10 word) most) then Some (digits_value 10 word) else None
 
 unfoldable pub form_named : List ℕ → Option LogForm
 form_named word = if pointwise ◌==◌ word (codes "text") then Some form.Text else (if pointwise ◌==◌ word (codes "json") then Some form.Json else None)
 
 -- ---- one word
 
--- what the words so far say
-abbrev pub Read : Type 0
-Read = Result ParsedWords WordError
-
-abbrev pub reading_of : Settings → Awaits → Read
-reading_of settings what = Ok (record { settings = settings; awaits = what })
-
--- the state after an option or a switch
-abbrev pub after_key : Settings → Option Key → Read
-after_key s None = Err UnknownWord
-after_key s (Some key.Port) = reading_of s awaits.Port
-after_key s (Some key.Mapper) = reading_of s awaits.Port
-after_key s (Some key.Address) = reading_of s awaits.Address
-after_key s (Some key.LongAddress) = reading_of s awaits.Address
-after_key s (Some key.Timeout) = reading_of s awaits.Timeout
-after_key s (Some key.Clients) = reading_of s awaits.Clients
-after_key s (Some key.Systemd) = reading_of (record s { systemd = true }) awaits.Key
-after_key s (Some key.Names) = reading_of (record s { task = task.Names }) awaits.Key
-after_key s (Some key.Quiet) = reading_of (record s { log = None }) awaits.Key
-after_key s (Some key.Log) = reading_of s awaits.Log
-after_key s (Some key.Metrics) = reading_of s awaits.Metrics
-after_key s (Some key.Help) = reading_of (record s { task = task.Help }) awaits.Key
-after_key s (Some key.ShortHelp) = reading_of (record s { task = task.Help }) awaits.Key
-after_key s (Some key.Version) = reading_of (record s { task = task.Version }) awaits.Key
-after_key s (Some key.Daemon) = Err NotDone
-after_key s (Some key.Kill) = Err NotDone
-after_key s (Some key.Stop) = Err NotDone
-after_key s (Some key.Debug) = Err NotDone
-after_key s (Some key.Relaxed) = Err NotDone
-
--- the state after a number that an option wants, or why the word is not one
-abbrev pub with_number : Option ℕ → WordError → (ℕ → Settings) → Read
-with_number None refusal with = Err refusal
-with_number (Some n) refusal with = reading_of (with n) awaits.Key
-
--- the state after the form that -log wants, or why the word is not one
-abbrev pub with_form : Option LogForm → Settings → Read
-with_form None s = Err BadLog
-with_form (Some f) s = reading_of (record s { log = Some f }) awaits.Key
-
 -- a word of the command line
 abbrev pub Word : Type 0
 Word = Bor (List ℕ)
 
+-- what the words so far say, or why the last of them is bad
+abbrev pub Read : Type 0
+Read = Result ParsedWords WordError
+
+-- the settings so far, and the option whose value the next word is
+abbrev pub reading_of : Settings → Option (AwaitedValue × Word) → Read
+reading_of settings awaits = Ok (record { settings = settings; awaits = awaits })
+
+-- the state after an option or a switch
+abbrev pub after_key : Settings → Word → Option Key → Read
+after_key s word None = Err error.UnknownWord
+after_key s word (Some NotDone) = Err error.NotDone
+after_key s word (Some (Takes value)) = reading_of s (Some (value, word))
+after_key s word (Some (Does task)) = reading_of (record s { task = task }) None
+after_key s word (Some Systemd) = reading_of (record s { systemd = true }) None
+after_key s word (Some Quiet) = reading_of (record s { log = None }) None
+
+-- the state after a value, or why the word is not one
+abbrev pub with_value : {A : Type 0} → Option A → WordError → (A → Settings) → Read
+with_value None why with = Err why
+with_value (Some x) why with = reading_of (with x) None
+
+-- the state after the value of an option
+abbrev pub after_value : Settings → AwaitedValue → Word → Read
+after_value s value.Port word = with_value (number_of 65535 word.now) error.BadPort (λ n. record s { port = n })
+after_value s value.Addresses word = reading_of (record s { addresses = Some word }) None
+after_value s value.Seconds word = with_value (number_of 4294967295 word.now) error.BadTimeout (λ n. record s { seconds = n })
+after_value s value.Clients word = with_value (number_of 4294967295 word.now) error.BadClients (λ n. record s { clients = n })
+after_value s value.Log word = with_value (form_named word.now) error.BadLog (λ f. record s { log = Some f })
+after_value s value.Metrics word = with_value (number_of 65535 word.now) error.BadMetrics (λ n. record s { metrics = Some n })
+
 -- the state after a word, by what that word should be
-abbrev pub after_word : Settings → Awaits → Word → Read
-after_word s awaits.Key word = after_key s (key_named word.now)
-after_word s awaits.Port word = with_number (number_of 65535 word.now) BadPort (λ n. record s { port = n })
-after_word s awaits.Address word = reading_of (record s { addresses = Some word }) awaits.Key
-after_word s awaits.Timeout word = with_number (number_of 4294967295 word.now) BadTimeout (λ n. record s { seconds = n })
-after_word s awaits.Clients word = with_number (number_of 4294967295 word.now) BadClients (λ n. record s { clients = n })
-after_word s awaits.Log word = with_form (form_named word.now) s
-after_word s awaits.Metrics word = with_number (number_of 65535 word.now) BadMetrics (λ n. record s { metrics = Some n })
+abbrev pub after_word : Settings → Option (AwaitedValue × Word) → Word → Read
+after_word s None word = after_key s word (key_in all_keys word.now)
+after_word s (Some option) word = after_value s option.0 word
 
 -- ---- all words
 
 -- what all words so far say, or the first that is bad
 abbrev pub ReadAll : Type 0
-ReadAll = Result ParsedWords BadWords
+ReadAll = Result ParsedWords BadWord
 
 -- the state after a word, or the word itself if it is bad
 abbrev pub at_word : Word → Read → ReadAll
 at_word word (Ok r) = Ok r
-at_word word (Err refusal) = Err (At word refusal)
+at_word word (Err why) = Err (record { word = word; why = why })
 
 -- Words are read in order: a later one overrides an earlier one, and the first bad one is refused.
 abbrev pub after_words : ReadAll → List Word → ReadAll
@@ -147,19 +111,14 @@ usual_settings port address =
     record { task = task.Serve; port = port; addresses = address; seconds = 60; clients = 4096; systemd = false; log = Some form.Text; metrics = None }
 
 -- after the last word, no value may be missing
-abbrev pub final_settings : Settings → Awaits → Result Settings BadWords
-final_settings s awaits.Key = Ok s
-final_settings s awaits.Port = Err NoValue
-final_settings s awaits.Address = Err NoValue
-final_settings s awaits.Timeout = Err NoValue
-final_settings s awaits.Clients = Err NoValue
-final_settings s awaits.Log = Err NoValue
-final_settings s awaits.Metrics = Err NoValue
+abbrev pub final_settings : Settings → Option (AwaitedValue × Word) → Result Settings BadWord
+final_settings s None = Ok s
+final_settings s (Some option) = Err (record { word = option.1; why = error.NoValue })
 
-abbrev pub settings_after : ReadAll → Result Settings BadWords
+abbrev pub settings_after : ReadAll → Result Settings BadWord
 settings_after (Ok r) = final_settings r.settings r.awaits
 settings_after (Err bad) = Err bad
 
 -- WHAT THE WORDS ASK FOR, with the port and the addresses that the environment names
-abbrev pub settings_of : ℕ → Option Word → List Word → Result Settings BadWords
-settings_of port address words = settings_after (after_words (Ok (record { settings = usual_settings port address; awaits = awaits.Key })) words)
+abbrev pub settings_of : ℕ → Option Word → List Word → Result Settings BadWord
+settings_of port address words = settings_after (after_words (Ok (record { settings = usual_settings port address; awaits = None })) words)

@@ -16,9 +16,9 @@ pub enum Fault {
     /// A word is not UTF-8. The user is to blame.
     #[error("a word of the command line or the environment is no UTF-8")]
     NoText,
-    /// ERL_EPMD_PORT is not a port. The user is to blame.
+    /// ERL_EPMD_PORT is not a port, and the user is to blame, or no memory was left to read it.
     #[error("{0}")]
-    BadMapperPort(PortError),
+    BadMapperPort(#[from] PortError),
     /// An address is not an IP address. The user is to blame.
     #[error("-address and ERL_EPMD_ADDRESS want IP addresses with commas between them")]
     BadAddress,
@@ -52,7 +52,8 @@ impl Fault {
     /// The exit status.
     pub fn status(&self) -> u8 {
         match self {
-            Fault::BadWords(_) | Fault::NoText | Fault::BadMapperPort(_) | Fault::BadAddress => 2,
+            Fault::BadWords(_) | Fault::NoText | Fault::BadAddress => 2,
+            Fault::BadMapperPort(error) => error.status(),
             _ => 1,
         }
     }
@@ -63,15 +64,6 @@ impl From<TextError> for Fault {
         match error {
             TextError::NoText => Fault::NoText,
             TextError::NoMemory => Fault::NoMemory,
-        }
-    }
-}
-
-impl From<PortError> for Fault {
-    fn from(error: PortError) -> Fault {
-        match error {
-            PortError::NoMemory => Fault::NoMemory,
-            bad => Fault::BadMapperPort(bad),
         }
     }
 }

@@ -1,123 +1,75 @@
 //! The words of the command line that are not values: options and switches.
 
-ghost use Rattle.std.specs.Prelude.{◌≡◌, Some, IfSome};
-ghost use Rattle.std.specs.List.{find};
-ghost use Rattle.distmapd.specs.declared.key.Key.{Key};
-ghost use Rattle.distmapd.specs.Words.{has_name, key_named, name_of};
+ghost use Rattle.std.specs.Prelude.{◌≡◌, Some, map};
+ghost use Rattle.std.specs.List.{AllByRecursion};
+ghost use Rattle.distmapd.specs.Words.{all_keys, key_in};
 
-/// A word of the command line that is not the value of another.
+use crate::settings::Task;
+
+/// What the next word is, after an option.
+#[derive(Clone, Copy, PartialEq, Eq)]
+pub enum AwaitedValue {
+    /// The port.
+    Port,
+    /// The addresses.
+    Addresses,
+    /// The seconds.
+    Seconds,
+    /// The most clients.
+    Clients,
+    /// The form of the log.
+    Log,
+    /// The port at which the figures are served.
+    Metrics,
+}
+
+/// What a word asks for that is not the value of another.
 #[derive(Clone, Copy, PartialEq, Eq)]
 pub enum Key {
-    /// The next word is the port.
-    Port,
-    /// The same, spelled as by the other programs.
-    Mapper,
-    /// The next word is the addresses.
-    Address,
-    /// The same, with two dashes.
-    LongAddress,
-    /// The next word is the seconds.
-    Timeout,
-    /// The next word is the most clients.
-    Clients,
+    /// The next word is this.
+    Takes(AwaitedValue),
+    /// Do this, and don't serve.
+    Does(Task),
     /// The sockets are handed over.
     Systemd,
-    /// Print the names.
-    Names,
     /// Log nothing.
     Quiet,
-    /// The next word is the form of the log.
-    Log,
-    /// The next word is the port at which the figures are served.
-    Metrics,
-    /// Print the help.
-    Help,
-    /// The same, with one dash.
-    ShortHelp,
-    /// Print the version.
-    Version,
-    /// `epmd` would run in the background.
-    Daemon,
-    /// `epmd` would be stopped.
-    Kill,
-    /// A node would be unregistered.
-    Stop,
-    /// `epmd` would print what it does.
-    Debug,
-    /// `epmd` would be stopped although nodes are registered, and nodes unregistered.
-    Relaxed,
+    /// `epmd` would run in the background, be stopped, unregister a node or print what it does; this program does not.
+    NotDone,
 }
 
-const ALL: [Key; 19] = [
-    Key::Port,
-    Key::Mapper,
-    Key::Address,
-    Key::LongAddress,
-    Key::Timeout,
-    Key::Clients,
-    Key::Systemd,
-    Key::Names,
-    Key::Quiet,
-    Key::Log,
-    Key::Metrics,
-    Key::Help,
-    Key::ShortHelp,
-    Key::Version,
-    Key::Daemon,
-    Key::Kill,
-    Key::Stop,
-    Key::Debug,
-    Key::Relaxed,
+/// All words; some are spelled in two ways, as by `epmd` and as by the other programs.
+pub const KEYS: [(&str, Key); 19] = [
+    ("-port", Key::Takes(AwaitedValue::Port)),
+    ("--epmd-port", Key::Takes(AwaitedValue::Port)),
+    ("-address", Key::Takes(AwaitedValue::Addresses)),
+    ("--address", Key::Takes(AwaitedValue::Addresses)),
+    ("-packet_timeout", Key::Takes(AwaitedValue::Seconds)),
+    ("-max_clients", Key::Takes(AwaitedValue::Clients)),
+    ("-systemd", Key::Systemd),
+    ("-names", Key::Does(Task::Names)),
+    ("-quiet", Key::Quiet),
+    ("-log", Key::Takes(AwaitedValue::Log)),
+    ("-metrics", Key::Takes(AwaitedValue::Metrics)),
+    ("--help", Key::Does(Task::Help)),
+    ("-help", Key::Does(Task::Help)),
+    ("--version", Key::Does(Task::Version)),
+    ("-daemon", Key::NotDone),
+    ("-kill", Key::NotDone),
+    ("-stop", Key::NotDone),
+    ("-d", Key::NotDone),
+    ("-relaxed_command_check", Key::NotDone),
 ];
 
-impl Key {
-    /// The word as it is written.
-    pub fn name(self) -> &'static str
-        ensures { result.now ≡ name_of self }
-    {
-        match self {
-            Key::Port => "-port",
-            Key::Mapper => "--epmd-port",
-            Key::Address => "-address",
-            Key::LongAddress => "--address",
-            Key::Timeout => "-packet_timeout",
-            Key::Clients => "-max_clients",
-            Key::Systemd => "-systemd",
-            Key::Names => "-names",
-            Key::Quiet => "-quiet",
-            Key::Log => "-log",
-            Key::Metrics => "-metrics",
-            Key::Help => "--help",
-            Key::ShortHelp => "-help",
-            Key::Version => "--version",
-            Key::Daemon => "-daemon",
-            Key::Kill => "-kill",
-            Key::Stop => "-stop",
-            Key::Debug => "-d",
-            Key::Relaxed => "-relaxed_command_check",
+/// What a word asks for, by the first of these that has it. In [`KEYS`] no word stands twice.
+pub fn key_in(keys: &[(&'static str, Key)], word: &str) -> Option<Key>
+    ensures found { result ≡ key_in (map (λ row. (row.0.now, row.1)) keys.now) word.now }
+    ensures once { AllByRecursion (λ row. key_in all_keys row.0 ≡ Some row.1) all_keys }
+{
+    for (known, key) in keys {
+        if known.as_bytes() == word.as_bytes() {
+            return Some(*key);
         }
     }
-
-    /// What this word means.
-    pub fn of_word(word: &str) -> Option<Key>
-        ensures found { IfSome result (λ key. name_of key ≡ word.now) }
-        ensures every { (key : Key) → name_of key ≡ word.now → result ≡ Some key }
-        ensures named { result ≡ key_named word.now }
-    {
-        key_of(word, &ALL)
-    }
-
-    // Whether it is this word.
-    fn has_name(self, word: &str) -> bool
-        ensures { result ≡ has_name word.now self }
-    {
-        self.name().as_bytes() == word.as_bytes()
-    }
-}
-
-// The first of these keys with this word.
-fn key_of(word: &str, keys: &[Key]) -> Option<Key>
-    ensures { result ≡ find (has_name word.now) keys.now }
-{
-    keys.iter().copied().find(|key| key.has_name(word))
+    None
 }

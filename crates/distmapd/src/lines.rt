@@ -4,8 +4,8 @@ ghost use Rattle.std.specs.Prelude.{◌≡◌, ◌++◌, IfOk, codes};
 ghost use Rattle.std.specs.String.{string_bytes};
 ghost use Rattle.distmapd.specs.Lines.{event_line, left_out_line, line, name_front, name_part, port_part, refused_words, silence, spelling};
 
-use crate::form::LogForm;
 use crate::json::json_string;
+use crate::settings::LogForm;
 use dist_epmd_clients::ClientEvent;
 use dist_names::quote;
 use std::alloc::{AllocError, Global};

@@ -2,7 +2,7 @@
 
 ghost use Rattle.std.specs.Prelude.{◌≡◌, IfOk};
 ghost use Rattle.std.specs.String.{string_bytes};
-ghost use Rattle.distmapd.specs.Listing.{Prints, has_whole_lines, is_whole, line_end, listing};
+ghost use Rattle.distmapd.specs.Listing.{Prints, has_whole_lines, line_end, listing};
 
 use crate::answer::ReceivedAnswer;
 use crate::fault::Fault;
@@ -16,13 +16,6 @@ fn has_whole_lines(text: &[u8]) -> bool
     ensures { result ≡ has_whole_lines text.now }
 {
     text.is_empty() || text.ends_with(b"\n")
-}
-
-// Whether an answer with this text is whole.
-fn is_whole(is_ended: bool, text: &[u8]) -> bool
-    ensures { result ≡ is_whole is_ended text.now }
-{
-    is_ended && has_whole_lines(text)
 }
 
 // A line feed if the last line was cut.
@@ -58,7 +51,7 @@ pub fn print_answer<W: Write>(
     };
     let printed = listing(alloc, u32::from_be_bytes(*port), text)?;
     print(out, &printed)?;
-    if is_whole(answer.is_ended, text) {
+    if answer.is_ended && has_whole_lines(text) {
         Ok(())
     } else {
         Err(Fault::AnswerCut)

@@ -1,15 +1,14 @@
 //! The log. A writer that fails, or takes no more, neither stops nor delays the program: the lines that it does not take are left out.
 
-ghost use Rattle.std.specs.Prelude.{◌≡◌, ◌-◌, ℕ, List, IfOk};
+ghost use Rattle.std.specs.Prelude.{◌≡◌, ℕ, List, IfOk};
 ghost use Rattle.std.specs.String.{string_bytes};
 ghost use Rattle.dist_epmd_clients.specs.Reporting.{counts_of, events_of};
-ghost use Rattle.distmapd.specs.Logging.{after_missing, LogsEvent, LogsEvents, LogsRound, Puts, PutsFor, ReportsLeftOut};
-ghost use Rattle.distmapd.specs.Logs.{form_in, missed_in, rates_in};
+ghost use Rattle.distmapd.specs.Logging.{LogsEvent, LogsEvents, LogsRound, Puts, PutsFor, ReportsLeftOut};
 ghost use Rattle.distmapd.specs.Rates.{new_rates};
 
-use crate::form::LogForm;
 use crate::lines::{event_line, left_out_line};
 use crate::rates::Rates;
+use crate::settings::LogForm;
 use dist_epmd_clients::{ClientEvent, Clients};
 use std::alloc::{AllocError, Global};
 use std::io::Write;
@@ -32,21 +31,17 @@ fn put<W: Write>(out: &mut W, line: Result<String, AllocError>) -> bool
 pub struct Log {
     form: LogForm,
     rates: Rates,
-    // How many events had been missed when it last looked.
-    missed: u64,
 }
 
 impl Log {
     /// A log in this form, with no line written.
     pub fn new(form: LogForm) -> Log
-        ensures form { form_in result ≡ form }
-        ensures rates { rates_in result ≡ new_rates }
-        ensures missed { missed_in result ≡ 0 }
+        ensures form { result.form ≡ form }
+        ensures rates { result.rates ≡ new_rates }
     {
         Log {
             form,
             rates: Rates::new(),
-            missed: 0,
         }
     }
 
@@ -59,9 +54,8 @@ impl Log {
         now: u64,
     )
         ensures puts { (text : List ℕ) → IfOk line (λ l. string_bytes l ≡ text) →
-            PutsFor count text now (rates_in self.old) (rates_in self.new) (W.contents out.old) (W.contents out.new) }
-        ensures form { form_in self.new ≡ form_in self.old }
-        ensures missed { missed_in self.new ≡ missed_in self.old }
+            PutsFor count text now self.old.rates self.new.rates (W.contents out.old) (W.contents out.new) }
+        ensures form { self.new.form ≡ self.old.form }
     {
         if !put(out, line) {
             self.rates.leave_out(count, now);
@@ -70,11 +64,10 @@ impl Log {
 
     // Writes the line of an event, if its kind may have one more line in this second.
     fn write_event<W: Write>(&mut self, alloc: Global, out: &mut W, event: &ClientEvent, now: u64)
-        ensures logs { LogsEvent (form_in self.old) now event.now (rates_in self.old) (rates_in self.new) (W.contents out.old) (W.contents out.new) }
-        ensures form { form_in self.new ≡ form_in self.old }
-        ensures missed { missed_in self.new ≡ missed_in self.old }
+        ensures logs { LogsEvent self.old.form now event.now self.old.rates self.new.rates (W.contents out.old) (W.contents out.new) }
+        ensures form { self.new.form ≡ self.old.form }
     {
-        if self.rates.admit(event.kind(), now) {
+        if self.rates.admit(event, now) {
             let line = event_line(alloc, self.form, event);
             self.put_for(out, 1, line, now);
         } else {
@@ -84,9 +77,8 @@ impl Log {
 
     // Writes the lines of events.
     fn write_all<W: Write>(&mut self, alloc: Global, out: &mut W, events: &[ClientEvent], now: u64)
-        ensures logs { LogsEvents (form_in self.old) now events.now (rates_in self.old) (rates_in self.new) (W.contents out.old) (W.contents out.new) }
-        ensures form { form_in self.new ≡ form_in self.old }
-        ensures missed { missed_in self.new ≡ missed_in self.old }
+        ensures logs { LogsEvents self.old.form now events.now self.old.rates self.new.rates (W.contents out.old) (W.contents out.new) }
+        ensures form { self.new.form ≡ self.old.form }
     {
         for event in events {
             self.write_event(alloc, out, event, now);
@@ -95,27 +87,13 @@ impl Log {
 
     // Writes how many lines were left out, once the second of the last one is over.
     fn write_left_out<W: Write>(&mut self, alloc: Global, out: &mut W, now: u64)
-        ensures reports { ReportsLeftOut (form_in self.old) now (rates_in self.old) (rates_in self.new) (W.contents out.old) (W.contents out.new) }
-        ensures form { form_in self.new ≡ form_in self.old }
-        ensures missed { missed_in self.new ≡ missed_in self.old }
+        ensures reports { ReportsLeftOut self.old.form now self.old.rates self.new.rates (W.contents out.old) (W.contents out.new) }
+        ensures form { self.new.form ≡ self.old.form }
     {
         let count = self.rates.take_left_out(now);
         if count > 0 {
             let line = left_out_line(alloc, self.form, count);
             self.put_for(out, count, line, now);
-        }
-    }
-
-    // Counts the events missed since it last looked as left out.
-    fn leave_out_missed(&mut self, missed: u64, now: u64)
-        ensures rates { rates_in self.new ≡ after_missing (missed - missed_in self.old) now (rates_in self.old) }
-        ensures form { form_in self.new ≡ form_in self.old }
-        ensures missed { missed_in self.new ≡ missed }
-    {
-        let count = missed.saturating_sub(self.missed);
-        self.missed = missed;
-        if count > 0 {
-            self.rates.leave_out(count, now);
         }
     }
 
@@ -127,14 +105,12 @@ impl Log {
         clients: &Clients<S>,
         now: u64,
     )
-        ensures logs { let missed = (counts_of clients.now).missed in
-            LogsRound (form_in self.old) now (missed - missed_in self.old) (events_of clients.now)
-            (rates_in self.old) (rates_in self.new) (W.contents out.old) (W.contents out.new) }
-        ensures form { form_in self.new ≡ form_in self.old }
-        ensures missed { missed_in self.new ≡ (counts_of clients.now).missed }
+        ensures logs { LogsRound self.old.form now (counts_of clients.now).missed (events_of clients.now)
+            self.old.rates self.new.rates (W.contents out.old) (W.contents out.new) }
+        ensures form { self.new.form ≡ self.old.form }
     {
         self.write_left_out(alloc, out, now);
-        self.leave_out_missed(clients.counts().missed, now);
+        self.rates.leave_out_missed(clients.counts().missed, now);
         self.write_all(alloc, out, clients.events(), now);
     }
 }

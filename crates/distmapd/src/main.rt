@@ -3,7 +3,6 @@
 
 mod answer;
 mod fault;
-mod form;
 mod json;
 mod key;
 mod lines;
@@ -15,7 +14,6 @@ mod names;
 mod notice;
 mod output;
 mod page;
-mod rate;
 mod rates;
 mod reading;
 mod refusal;
@@ -32,7 +30,7 @@ use crate::names::print_names;
 use crate::notice::say_ready;
 use crate::output::print;
 use crate::reading::settings_of;
-use crate::refusal::BadWords;
+use crate::refusal::BadWord;
 use crate::serving::{Beside, serve};
 use crate::settings::{Settings, Task};
 use crate::sockets::{handed_over, listeners, port_of};
@@ -97,10 +95,9 @@ fn perform<R: Net + Wait + Clock, W: Write>(
     let words = texts(alloc, &words)?;
     let port = mapper_port(rt)?;
     let address = variable(rt, "ERL_EPMD_ADDRESS")?;
-    let address = address.as_ref().map(|word| word.as_str());
-    let settings = match settings_of(&words, port, address) {
+    let settings = match settings_of(&words, port, address.as_deref()) {
         Ok(settings) => settings,
-        Err(bad) => return Err(Fault::BadWords(sentence(alloc, &words, bad)?)),
+        Err(bad) => return Err(Fault::BadWords(sentence(alloc, bad)?)),
     };
     match settings.task {
         Task::Help => print(out, HELP),
@@ -111,17 +108,10 @@ fn perform<R: Net + Wait + Clock, W: Write>(
 }
 
 // The sentence that refuses the words, with the bad one in it.
-fn sentence(alloc: Global, words: &[&str], bad: BadWords<'_>) -> Result<String, AllocError> {
-    match bad {
-        BadWords::At(word, refusal) => {
-            let quoted = quote(alloc, word.as_bytes())?;
-            format!(in alloc; "{quoted}: {refusal}")
-        }
-        BadWords::NoValue => {
-            let quoted = quote(alloc, words.last().copied().unwrap_or("").as_bytes())?;
-            format!(in alloc; "{quoted}: the last word wants a value behind it")
-        }
-    }
+fn sentence(alloc: Global, bad: BadWord<'_>) -> Result<String, AllocError> {
+    let quoted = quote(alloc, bad.word.as_bytes())?;
+    let why = bad.why;
+    format!(in alloc; "{quoted}: {why}")
 }
 
 // The first creation: the seconds since 1970. So a mapper that is restarted gives out no creation twice, unless it registers more than
@@ -143,9 +133,7 @@ fn sockets_handed_over(rt: &HostRuntime, settings: &Settings<'_>) -> Result<u16,
     }
     let said = variable(rt, "LISTEN_FDS")?;
     let process = variable(rt, "LISTEN_PID")?;
-    let said = said.as_ref().map(|word| word.as_str());
-    let process = process.as_ref().map(|word| word.as_str());
-    handed_over(said, process, libc::getpid()).ok_or(Fault::ListenFailed)
+    handed_over(said.as_deref(), process.as_deref(), libc::getpid()).ok_or(Fault::ListenFailed)
 }
 
 // What runs beside the port mapper.
@@ -177,17 +165,14 @@ fn run<R: Net + Wait + Clock>(
 ) -> Result<(), Fault> {
     let alloc = rt.alloc();
     let sockets = listeners(host, alloc, settings, sockets_handed_over(rt, settings)?)?;
-    let Ok(port) = port_of(&sockets) else {
-        return Err(Fault::ListenFailed);
-    };
+    let port = port_of(&sockets).map_err(|_| Fault::ListenFailed)?;
     let mut beside = beside(host, alloc, settings)?;
     let limits = MapperLimits {
         clients: settings.clients as usize,
         seconds: settings.seconds as u64,
     };
-    let Ok(mut server) = server_at(host, alloc, sockets, port, limits) else {
-        return Err(Fault::ServeFailed);
-    };
+    let server = server_at(host, alloc, sockets, port, limits);
+    let mut server = server.map_err(|_| Fault::ServeFailed)?;
     report_ready(rt)?;
     serve(host, alloc, &mut server, &mut beside).map_err(|_| Fault::ServeFailed)
 }

@@ -1,11 +1,11 @@
 //! Monitoring clients are answered at a port of their own, on the same thread, which never waits for one.
 
-use crate::metrics::{Standing, figures_text};
-use crate::page::{page_text, request_of};
+use crate::metrics::figures_text;
+use crate::page::page_text;
 use crate::spares::Spares;
 use dist_epmd_server::{Server, other_of};
 use dist_names::ByteString;
-use dist_stream::{Heard, SocketStream, Stream, Took};
+use dist_stream::{Heard, SocketStream, Stream};
 use mio::net::TcpListener;
 use mio::{Events, Token};
 use std::alloc::{AllocError, Global};
@@ -28,13 +28,6 @@ const ACCEPTS: usize = 16;
 // The most reads from one connection before the next is served.
 const READS: usize = 16;
 
-// The result of a read from a connection.
-enum ReadOutcome {
-    Bytes,
-    Nothing,
-    End,
-}
-
 // A monitoring client: its connection, and what it sent. After the answer, further bytes are read and dropped: if bytes stayed unread,
 // the system would reset the connection, and the answer would be lost.
 #[derive(Drop)]
@@ -46,59 +39,29 @@ struct Watcher {
     is_answered: bool,
 }
 
-// Whether the rest of a request's head, after a line feed, begins with an empty line.
-fn begins_empty(rest: &[u8]) -> bool {
-    rest.starts_with(b"\n") || rest.starts_with(b"\r\n")
-}
-
 // Whether the head of a request has ended, by an empty line or by its length. A line ends with a line feed, with or without a carriage
 // return before it (RFC 9112, section 2.2). After the head comes the body.
 fn is_whole(head: &[u8]) -> bool {
-    if head.len() >= HEAD {
-        return true;
-    }
-    for (place, byte) in head.iter().enumerate() {
-        if *byte == b'\n' && begins_empty(head.get(place + 1..).unwrap_or(b"")) {
-            return true;
-        }
-    }
-    false
+    head.len() >= HEAD
+        || head.windows(2).any(|end_| end_.starts_with(b"\n\n"))
+        || head.windows(3).any(|end_| end_.starts_with(b"\n\r\n"))
 }
 
 impl Watcher {
-    // Keeps a piece of the request.
-    fn keep(&mut self, piece: &[u8]) -> ReadOutcome {
-        if self.is_answered || self.head.append(piece).is_ok() {
-            ReadOutcome::Bytes
-        } else {
-            ReadOutcome::End
-        }
-    }
-
-    // Reads a piece of the request.
-    fn read(&mut self, room: &mut [u8]) -> ReadOutcome {
+    // Reads a piece of the request. Returns whether one came; `None`: the connection is over, or memory ran out.
+    fn read(&mut self, room: &mut [u8]) -> Option<bool> {
         if room.is_empty() {
-            return ReadOutcome::End;
+            return None;
         }
         match self.stream.read(room) {
-            Heard::Bytes(0) | Heard::Failed => ReadOutcome::End,
-            Heard::Bytes(count) => self.keep(&room[..count]),
-            Heard::Quiet => ReadOutcome::Nothing,
+            Heard::Bytes(0) | Heard::Failed => None,
+            Heard::Bytes(_) if self.is_answered => Some(true),
+            Heard::Bytes(count) => {
+                self.head.append(&room[..count]).ok()?;
+                Some(true)
+            }
+            Heard::Quiet => Some(false),
         }
-    }
-
-    // Whether the answer is due.
-    fn is_due(&self) -> bool {
-        !self.is_answered && is_whole(self.head.as_slice())
-    }
-
-    // Sends an answer in one write. What the socket does not take at once is lost, so that nothing waits.
-    fn answer(&mut self, text: &str) {
-        self.is_answered = true;
-        if !text.is_empty() {
-            let _ = self.stream.write(text.as_bytes());
-        }
-        let _ = self.stream.shut();
     }
 }
 
@@ -165,39 +128,32 @@ impl Monitor {
         });
     }
 
-    // Accepts the next connection that waits. Returns whether there may be another.
-    fn accept_next(&mut self, server: &Server, now: u64) -> bool {
-        match self.listener.accept() {
-            Ok((stream, _from)) => {
-                self.admit(server, net::TcpStream::from(stream), now);
-                true
-            }
-            Err(error) => {
-                self.waits = error.kind() != ErrorKind::WouldBlock;
-                false
-            }
-        }
-    }
-
     // Accepts connections that wait, with the descriptors that were kept back for them.
     fn accept_some(&mut self, server: &Server, now: u64) {
         self.spares.release();
         for _ in 0..ACCEPTS {
-            if !self.accept_next(server, now) {
-                return;
+            match self.listener.accept() {
+                Ok((stream, _from)) => self.admit(server, net::TcpStream::from(stream), now),
+                Err(error) => {
+                    self.waits = error.kind() != ErrorKind::WouldBlock;
+                    return;
+                }
             }
         }
     }
 
-    // The answer to a request.
-    fn answer(&self, server: &Server, head: &[u8]) -> Result<String, AllocError> {
-        let clients = server.clients();
-        let standing = Standing {
-            clients: clients.len() as u64,
-            owed: server.owing() as u64,
-        };
-        let text = figures_text(self.alloc, clients.counts(), standing)?;
-        page_text(self.alloc, request_of(head), !server.is_stuck(), &text)
+    // Answers a request in one write. What the socket does not take at once is lost, so that nothing waits.
+    fn answer(&self, server: &Server, seat: &mut Watcher) -> Result<(), AllocError> {
+        let (clients, owed) = (server.clients(), server.owing() as u64);
+        let figures = figures_text(self.alloc, clients.counts(), clients.len() as u64, owed)?;
+        let is_ready = !server.is_stuck();
+        let text = page_text(self.alloc, seat.head.as_slice(), is_ready, &figures)?;
+        seat.is_answered = true;
+        if !text.is_empty() {
+            let _ = seat.stream.write(text.as_bytes());
+        }
+        let _ = seat.stream.shut();
+        Ok(())
     }
 
     // Takes out the seat at a place.
@@ -214,15 +170,13 @@ impl Monitor {
     fn hear(&self, server: &Server, seat: &mut Watcher, room: &mut [u8]) -> bool {
         for _ in 0..READS {
             match seat.read(room) {
-                ReadOutcome::Bytes => {}
-                ReadOutcome::Nothing => return true,
-                ReadOutcome::End => return false,
+                Some(true) => {}
+                Some(false) => return true,
+                None => return false,
             }
-            if seat.is_due() {
-                match self.answer(server, seat.head.as_slice()) {
-                    Ok(text) => seat.answer(&text),
-                    Err(_) => return false,
-                }
+            let is_due = !seat.is_answered && is_whole(seat.head.as_slice());
+            if is_due && self.answer(server, seat).is_err() {
+                return false;
             }
         }
         true

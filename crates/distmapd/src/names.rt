@@ -41,9 +41,7 @@ pub fn print_names<R: Net<Listener = TcpListener, Stream = TcpStream> + Clock, W
     port: u16,
     out: &mut W,
 ) -> Result<(), Fault> {
-    let Ok(mut stream) = talk_with(rt, port) else {
-        return Err(Fault::ConnectFailed);
-    };
+    let mut stream = talk_with(rt, port).map_err(|_| Fault::ConnectFailed)?;
     let answer = ask(alloc, &mut stream)?;
     print_answer(alloc, &answer, out)
 }

@@ -2,33 +2,12 @@
 
 ghost use Rattle.std.specs.Prelude.{◌≡◌, IfOk};
 ghost use Rattle.std.specs.String.{string_bytes};
-ghost use Rattle.distmapd.specs.Metrics.{asks_path, answer_text, head_text, page_at, page_text, request_of};
+ghost use Rattle.distmapd.specs.Metrics.{asks_path, answer_text, head_text, page_at, page_text};
 
 use std::alloc::{AllocError, Global};
 
-/// What a request asks for.
-#[derive(Clone, Copy)]
-pub enum Resource {
-    /// The figures.
-    Metrics,
-    /// Whether connections are accepted.
-    Ready,
-    /// Whether the program answers.
-    Health,
-    /// A path that is not served.
-    Unknown,
-    /// A method that is neither GET nor HEAD.
-    Refused,
-}
-
-/// A request.
-#[derive(Clone, Copy)]
-pub struct HttpRequest {
-    /// What it asks for.
-    pub page: Resource,
-    /// Whether it wants the body: HEAD does not.
-    pub wants_body: bool,
-}
+// A status and a body.
+type FigurePage<'a> = (&'a str, &'a str);
 
 // Whether a target is this path, with or without a query.
 fn asks_path(target: &[u8], path: &[u8]) -> bool
@@ -40,40 +19,21 @@ fn asks_path(target: &[u8], path: &[u8]) -> bool
     }
 }
 
-// The page at a target.
-fn page_at(target: &[u8]) -> Resource
-    ensures { result ≡ page_at target.now }
+// The page at a target: the figures, whether connections are accepted, or whether the program answers.
+fn page_at<'a>(target: &[u8], is_ready: bool, figures: &'a str) -> FigurePage<'a>
+    ensures { (result.0.now, result.1.now) ≡ page_at target.now is_ready figures.now }
 {
     if asks_path(target, b"/metrics") {
-        Resource::Metrics
-    } else if asks_path(target, b"/ready") {
-        Resource::Ready
+        ("200 OK", figures)
     } else if asks_path(target, b"/health") {
-        Resource::Health
+        ("200 OK", "alive\n")
+    } else if !asks_path(target, b"/ready") {
+        ("404 Not Found", "/metrics, /ready and /health are here\n")
+    } else if is_ready {
+        ("200 OK", "ready\n")
     } else {
-        Resource::Unknown
-    }
-}
-
-/// What a request asks for, by its first bytes.
-pub fn request_of(head: &[u8]) -> HttpRequest
-    ensures { result ≡ request_of head.now }
-{
-    if let Some(target) = head.strip_prefix(b"GET ") {
-        return HttpRequest {
-            page: page_at(target),
-            wants_body: true,
-        };
-    }
-    if let Some(target) = head.strip_prefix(b"HEAD ") {
-        return HttpRequest {
-            page: page_at(target),
-            wants_body: false,
-        };
-    }
-    HttpRequest {
-        page: Resource::Refused,
-        wants_body: true,
+        let why = "no descriptor or no memory is left\n";
+        ("503 Service Unavailable", why)
     }
 }
 
@@ -88,14 +48,10 @@ fn head_text(alloc: Global, status: &str, length: usize) -> Result<String, Alloc
 }
 
 // The whole answer; the connection is closed after it.
-fn answer_text(
-    alloc: Global,
-    status: &str,
-    body: &str,
-    wants_body: bool,
-) -> Result<String, AllocError>
-    ensures { IfOk result (λ text. string_bytes text ≡ answer_text status.now body.now wants_body) }
+fn answer_text(alloc: Global, page: FigurePage<'_>, wants_body: bool) -> Result<String, AllocError>
+    ensures { IfOk result (λ text. string_bytes text ≡ answer_text (page.entry.0.now, page.entry.1.now) wants_body) }
 {
+    let (status, body) = page;
     let mut text = head_text(alloc, status, body.len())?;
     if wants_body {
         text.push_str(body)?;
@@ -103,31 +59,22 @@ fn answer_text(
     Ok(text)
 }
 
-/// The answer to a request, by whether connections are accepted, and with the text of the figures.
+/// The answer to a request, by its first bytes, by whether connections are accepted, and with the text of the figures. HEAD does not
+/// want the body.
 pub fn page_text(
     alloc: Global,
-    request: HttpRequest,
+    head: &[u8],
     is_ready: bool,
     figures: &str,
 ) -> Result<String, AllocError>
-    ensures { IfOk result (λ text. string_bytes text ≡ page_text request.page is_ready figures.now request.wants_body) }
+    ensures { IfOk result (λ text. string_bytes text ≡ page_text head.now is_ready figures.now) }
 {
-    let wants_body = request.wants_body;
-    match request.page {
-        Resource::Metrics => answer_text(alloc, "200 OK", figures, wants_body),
-        Resource::Health => answer_text(alloc, "200 OK", "alive\n", wants_body),
-        Resource::Ready if is_ready => answer_text(alloc, "200 OK", "ready\n", wants_body),
-        Resource::Ready => {
-            let body = "no descriptor or no memory is left\n";
-            answer_text(alloc, "503 Service Unavailable", body, wants_body)
-        }
-        Resource::Unknown => {
-            let body = "/metrics, /ready and /health are here\n";
-            answer_text(alloc, "404 Not Found", body, wants_body)
-        }
-        Resource::Refused => {
-            let status = "405 Method Not Allowed\r\nAllow: GET, HEAD";
-            answer_text(alloc, status, "GET and HEAD alone are served\n", wants_body)
-        }
+    if let Some(target) = head.strip_prefix(b"GET ") {
+        return answer_text(alloc, page_at(target, is_ready, figures), true);
     }
+    if let Some(target) = head.strip_prefix(b"HEAD ") {
+        return answer_text(alloc, page_at(target, is_ready, figures), false);
+    }
+    let status = "405 Method Not Allowed\r\nAllow: GET, HEAD";
+    answer_text(alloc, (status, "GET and HEAD alone are served\n"), true)
 }

@@ -1,26 +1,71 @@
-//! How many lines of each kind a log may have, so that no kind crowds out the lines of others.
+//! How many lines of each kind a log may have in a second, so that no client fills a disk, and no kind crowds out the lines of others.
 
-ghost use Rattle.std.specs.Prelude.{◌≡◌, ◌==◌, if◌then◌else◌};
-ghost use Rattle.distmapd.specs.Rates.{after_admitting, is_admitted, leaving_out, new_rates, rate_of, with_none_left_out, with_rate};
+ghost use Rattle.std.specs.Prelude.{◌≡◌, ◌<◌, ◌==◌, if◌then◌else◌};
+ghost use Rattle.distmapd.specs.Rates.{after_admit, after_admitting, after_missing, is_admitted, leaving_out};
+ghost use Rattle.distmapd.specs.Rates.{new_rates, place_of, rate_of, with_none_left_out};
 
-use crate::rate::Rate;
-use dist_epmd_clients::EventKind;
+use dist_epmd_clients::ClientEvent;
+
+/// The most lines of a kind in a second. Our own choice.
+const LINES: u32 = 100;
+
+/// How many lines of a kind were written in the second of the last one.
+#[derive(Clone, Copy)]
+pub struct Rate {
+    second: u64,
+    lines: u32,
+}
 
 /// The rates of all kinds of events, and how many lines were left out and not yet reported.
 #[derive(Clone, Copy)]
 pub struct Rates {
-    registered: Rate,
-    ended: Rate,
-    refused: Rate,
-    unanswered: Rate,
-    made_room: Rate,
-    late: Rate,
-    no_memory: Rate,
-    // For the kinds without a line.
-    answered: Rate,
+    // By the place of the kind.
+    kinds: [Rate; 8],
     left_out: u64,
     // The second in which a line was last left out.
     second: u64,
+    // How many events had been missed when the log last looked.
+    missed: u64,
+}
+
+// The place of an event's kind; all kinds without a line share one.
+fn place_of(event: &ClientEvent) -> usize
+    ensures place { result ≡ place_of event.now }
+    ensures bound { result < 8 }
+{
+    match event {
+        ClientEvent::Registered { .. } => 0,
+        ClientEvent::Ended { .. } => 1,
+        ClientEvent::Refused { .. } => 2,
+        ClientEvent::Unanswered { .. } => 3,
+        ClientEvent::MadeRoom { .. } => 4,
+        ClientEvent::Late { .. } => 5,
+        ClientEvent::NoMemory { .. } => 6,
+        ClientEvent::LookedUp | ClientEvent::Listed => 7,
+    }
+}
+
+impl Rate {
+    // Whether one more line is admitted in this second.
+    fn is_admitted(self, now: u64) -> bool
+        ensures { result ≡ is_admitted now self }
+    {
+        now != self.second || self.lines < LINES
+    }
+
+    // The rate with one more line in this second, if it is admitted.
+    fn after_admit(self, now: u64) -> Rate
+        ensures { result ≡ after_admit now self }
+    {
+        if !self.is_admitted(now) {
+            return self;
+        }
+        let before = if now == self.second { self.lines } else { 0 };
+        Rate {
+            second: now,
+            lines: before + 1,
+        }
+    }
 }
 
 impl Rates {
@@ -28,73 +73,46 @@ impl Rates {
     pub fn new() -> Rates
         ensures { result ≡ new_rates }
     {
-        let rate = Rate::new();
+        let none = Rate {
+            second: 0,
+            lines: 0,
+        };
         Rates {
-            registered: rate,
-            ended: rate,
-            refused: rate,
-            unanswered: rate,
-            made_room: rate,
-            late: rate,
-            no_memory: rate,
-            answered: rate,
+            kinds: [none; 8],
             left_out: 0,
             second: 0,
+            missed: 0,
         }
     }
 
-    // The rate of a kind.
-    fn rate(&self, kind: EventKind) -> Rate
-        ensures { result ≡ rate_of kind self.now }
+    /// Asks for one more line of an event's kind in this second.
+    pub fn admit(&mut self, event: &ClientEvent, now: u64) -> bool
+        ensures admitted { result ≡ is_admitted now (rate_of event.now self.old) }
+        ensures after { self.new ≡ after_admitting event.now now self.old }
     {
-        match kind {
-            EventKind::Registered => self.registered,
-            EventKind::Ended => self.ended,
-            EventKind::Refused => self.refused,
-            EventKind::Unanswered => self.unanswered,
-            EventKind::MadeRoom => self.made_room,
-            EventKind::Late(_) => self.late,
-            EventKind::NoMemory => self.no_memory,
-            EventKind::LookedUp | EventKind::Listed => self.answered,
-        }
-    }
-
-    // Sets the rate of a kind.
-    fn set(&mut self, kind: EventKind, rate: Rate)
-        ensures { self.new ≡ with_rate kind rate self.old }
-    {
-        match kind {
-            EventKind::Registered => self.registered = rate,
-            EventKind::Ended => self.ended = rate,
-            EventKind::Refused => self.refused = rate,
-            EventKind::Unanswered => self.unanswered = rate,
-            EventKind::MadeRoom => self.made_room = rate,
-            EventKind::Late(_) => self.late = rate,
-            EventKind::NoMemory => self.no_memory = rate,
-            EventKind::LookedUp | EventKind::Listed => self.answered = rate,
-        }
-    }
-
-    /// Asks for one more line of a kind in this second.
-    pub fn admit(&mut self, kind: EventKind, now: u64) -> bool
-        ensures admitted { result ≡ is_admitted now (rate_of kind self.old) }
-        ensures after { self.new ≡ after_admitting kind now self.old }
-    {
-        let mut rate = self.rate(kind);
-        let is_admitted = rate.admit(now);
-        self.set(kind, rate);
-        is_admitted
+        let place = place_of(event);
+        let rate = self.kinds[place];
+        self.kinds[place] = rate.after_admit(now);
+        rate.is_admitted(now)
     }
 
     /// Counts this many more lines as left out in this second.
     pub fn leave_out(&mut self, count: u64, now: u64)
         ensures { self.new ≡ leaving_out count now self.old }
     {
-        self.left_out = match self.left_out.checked_add(count) {
-            Some(sum) => sum,
-            None => u64::MAX,
-        };
+        self.left_out = self.left_out.saturating_add(count);
         self.second = now;
+    }
+
+    /// Counts the events that were missed since the log last looked as left out, by how many were missed before now.
+    pub fn leave_out_missed(&mut self, missed: u64, now: u64)
+        ensures { self.new ≡ after_missing missed now self.old }
+    {
+        let count = missed.saturating_sub(self.missed);
+        self.missed = missed;
+        if count > 0 {
+            self.leave_out(count, now);
+        }
     }
 
     /// How many lines were left out since the last call, once the second of the last one is over.

@@ -2,14 +2,14 @@
 //!
 //! It does not read the environment, and does not parse addresses: they stay a text.
 
-ghost use Rattle.std.specs.Prelude.{◌≡◌, ◌≤◌, IfSome};
-ghost use Rattle.distmapd.specs.Words.{number_of, form_named, at_word, after_word, after_key};
-ghost use Rattle.distmapd.specs.Words.{key_named, reading_of, final_settings, settings_of, usual_settings};
+ghost use Rattle.std.specs.Prelude.{◌≡◌, ◌<◌, ◌≤◌, IfSome, SomeIff};
+ghost use Rattle.std.specs.Str.Parse.{IsNumeral, digits_value};
+ghost use Rattle.distmapd.specs.Words.{after_key, after_value, after_word, all_keys, at_word, form_named, key_in};
+ghost use Rattle.distmapd.specs.Words.{number_of, reading_of, settings_of, usual_settings};
 
-use crate::form::LogForm;
-use crate::key::Key;
-use crate::refusal::{BadWords, WordError};
-use crate::settings::{Settings, Task};
+use crate::key::{AwaitedValue, KEYS, Key, key_in};
+use crate::refusal::{BadWord, WordError};
+use crate::settings::{LogForm, Settings, Task};
 use dist_names::number_32;
 
 /// After how many seconds a client is closed that has not asked. Source: ERTS Reference Manual, epmd.
@@ -18,51 +18,42 @@ const SECONDS: u32 = 60;
 /// The most clients at once. Our own choice: four for each registration.
 const CLIENTS: u32 = 4096;
 
-/// What the next word should be.
-#[derive(Clone, Copy, PartialEq, Eq)]
-pub enum Awaits {
-    /// An option or a switch.
-    Key,
-    /// The port.
-    Port,
-    /// The addresses.
-    Address,
-    /// The seconds.
-    Timeout,
-    /// The most clients.
-    Clients,
-    /// The form of the log.
-    Log,
-    /// The port of the figures.
-    Metrics,
-}
-
 /// What the words so far say.
 #[derive(Clone, Copy)]
 pub struct ParsedWords<'a> {
     /// The settings so far.
     pub settings: Settings<'a>,
-    /// What the next word should be.
-    pub awaits: Awaits,
+    /// The option whose value the next word is, with its own word. `None`: the next is an option or a switch.
+    pub awaits: Option<(AwaitedValue, &'a str)>,
 }
 
-fn reading_of<'a>(settings: Settings<'a>, awaits: Awaits) -> Result<ParsedWords<'a>, WordError>
-    ensures { result ≡ reading_of settings.entry awaits }
+fn reading_of<'a>(
+    settings: Settings<'a>,
+    awaits: Option<(AwaitedValue, &'a str)>,
+) -> Result<ParsedWords<'a>, WordError>
+    ensures { result ≡ reading_of settings.entry awaits.entry }
 {
     Ok(ParsedWords { settings, awaits })
 }
 
-// The number that a word writes in decimal digits, from 1 to `most`.
-#[tactic(auto, unfolding(crate::specs::Words::number_of))]
-fn number_of(word: &str, most: u32) -> Option<u32>
-    ensures number { result ≡ number_of most word.now }
-    ensures bound { IfSome result (λ n. n ≤ most) }
+// The number that the bytes write in decimal digits, from 1 to `most`.
+fn number_up_to(bytes: &[u8], most: u32) -> Option<u32>
+    ensures { SomeIff result (IsNumeral 10 bytes.now × (0 < digits_value 10 bytes.now) × (digits_value 10 bytes.now ≤ most)) (digits_value 10 bytes.now) }
 {
-    let number = number_32(word.as_bytes())?;
+    let number = number_32(bytes)?;
     if number == 0 || number > most {
         return None;
     }
     Some(number)
+}
+
+// The number that a word writes, from 1 to `most`.
+#[tactic(auto, using(crate::proofs::Numbers::number_read))]
+fn number_of(word: &str, most: u32) -> Option<u32>
+    ensures number { result ≡ number_of most word.now }
+    ensures bound { IfSome result (λ n. n ≤ most) }
+{
+    number_up_to(word.as_bytes(), most)
 }
 
 // The form of the log with this name.
@@ -97,59 +88,59 @@ impl<'a> Settings<'a> {
     }
 
     // Reads an option or a switch.
-    fn after_key(mut self, word: &str) -> Result<ParsedWords<'a>, WordError>
-        ensures { result ≡ after_key self.entry (key_named word.now) }
+    fn after_key(mut self, word: &'a str) -> Result<ParsedWords<'a>, WordError>
+        ensures { result ≡ after_key self.entry word.entry (key_in all_keys word.now) }
     {
-        match Key::of_word(word) {
+        match key_in(&KEYS, word) {
             None => return Err(WordError::UnknownWord),
-            Some(Key::Port | Key::Mapper) => return reading_of(self, Awaits::Port),
-            Some(Key::Address | Key::LongAddress) => return reading_of(self, Awaits::Address),
-            Some(Key::Timeout) => return reading_of(self, Awaits::Timeout),
-            Some(Key::Clients) => return reading_of(self, Awaits::Clients),
+            Some(Key::NotDone) => return Err(WordError::NotDone),
+            Some(Key::Takes(value)) => return reading_of(self, Some((value, word))),
+            Some(Key::Does(task)) => self.task = task,
             Some(Key::Systemd) => self.systemd = true,
-            Some(Key::Names) => self.task = Task::Names,
             Some(Key::Quiet) => self.log = None,
-            Some(Key::Log) => return reading_of(self, Awaits::Log),
-            Some(Key::Metrics) => return reading_of(self, Awaits::Metrics),
-            Some(Key::Help | Key::ShortHelp) => self.task = Task::Help,
-            Some(Key::Version) => self.task = Task::Version,
-            Some(_) => return Err(WordError::NotDone),
         }
-        reading_of(self, Awaits::Key)
+        reading_of(self, None)
     }
 
-    // Reads a word that should be this.
-    fn after_word(mut self, awaits: Awaits, word: &'a str) -> Result<ParsedWords<'a>, WordError>
-        ensures { result ≡ after_word self.entry awaits word.entry }
+    // Reads the value of an option.
+    fn after_value(
+        mut self,
+        value: AwaitedValue,
+        word: &'a str,
+    ) -> Result<ParsedWords<'a>, WordError>
+        ensures { result ≡ after_value self.entry value word.entry }
     {
-        match awaits {
-            Awaits::Key => return self.after_key(word),
-            Awaits::Port => {
-                self.port = number_of(word, 65535).ok_or(WordError::BadPort)? as u16;
-            }
-            Awaits::Address => self.addresses = Some(word),
-            Awaits::Timeout => {
+        match value {
+            AwaitedValue::Port => self.port = number_of(word, 65535).ok_or(
+                WordError::BadPort,
+            )? as u16,
+            AwaitedValue::Addresses => self.addresses = Some(word),
+            AwaitedValue::Seconds => {
                 self.seconds = number_of(word, u32::MAX).ok_or(WordError::BadTimeout)?;
             }
-            Awaits::Clients => {
+            AwaitedValue::Clients => {
                 self.clients = number_of(word, u32::MAX).ok_or(WordError::BadClients)?;
             }
-            Awaits::Log => self.log = Some(form_of(word).ok_or(WordError::BadLog)?),
-            Awaits::Metrics => {
+            AwaitedValue::Log => self.log = Some(form_of(word).ok_or(WordError::BadLog)?),
+            AwaitedValue::Metrics => {
                 self.metrics = Some(number_of(word, 65535).ok_or(WordError::BadMetrics)? as u16);
             }
         }
-        reading_of(self, Awaits::Key)
+        reading_of(self, None)
     }
 }
 
 // Reads the next word.
-fn take_word<'a>(reading: ParsedWords<'a>, word: &'a str) -> Result<ParsedWords<'a>, BadWords<'a>>
+fn take_word<'a>(reading: ParsedWords<'a>, word: &'a str) -> Result<ParsedWords<'a>, BadWord<'a>>
     ensures { result ≡ at_word word.entry (after_word reading.entry.settings reading.entry.awaits word.entry) }
 {
-    match reading.settings.after_word(reading.awaits, word) {
-        Ok(next) => Ok(next),
-        Err(refusal) => Err(BadWords::At(word, refusal)),
+    let next = match reading.awaits {
+        Some((value, _)) => reading.settings.after_value(value, word),
+        None => reading.settings.after_key(word),
+    };
+    match next {
+        Ok(reading) => Ok(reading),
+        Err(why) => Err(BadWord { word, why }),
     }
 }
 
@@ -159,19 +150,18 @@ pub fn settings_of<'a>(
     words: &[&'a str],
     port: u16,
     address: Option<&'a str>,
-) -> Result<Settings<'a>, BadWords<'a>>
+) -> Result<Settings<'a>, BadWord<'a>>
     ensures { result ≡ settings_of port address.entry words.now }
 {
     let settings = Settings::usual(port, address);
-    let mut reading = ParsedWords {
-        settings,
-        awaits: Awaits::Key,
-    };
+    let awaits = None;
+    let mut reading = ParsedWords { settings, awaits };
     for word in words {
         reading = take_word(reading, word)?;
     }
+    let why = WordError::NoValue;
     match reading.awaits {
-        Awaits::Key => Ok(reading.settings),
-        _ => Err(BadWords::NoValue),
+        Some((_, word)) => Err(BadWord { word, why }),
+        None => Ok(reading.settings),
     }
 }

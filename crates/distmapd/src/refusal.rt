@@ -26,13 +26,16 @@ pub enum WordError {
     /// The port of the figures is not a number from 1 to 65,535.
     #[error("-metrics wants a port number from 1 to 65535")]
     BadMetrics,
+    /// It is the last word, and an option.
+    #[error("the last word wants a value behind it")]
+    NoValue,
 }
 
 /// The first bad word, and why. The user is to blame.
 #[derive(Clone, Copy)]
-pub enum BadWords<'a> {
-    /// This word is bad.
-    At(&'a str, WordError),
-    /// A value is missing after the last word.
-    NoValue,
+pub struct BadWord<'a> {
+    /// The word.
+    pub word: &'a str,
+    /// Why it is bad.
+    pub why: WordError,
 }

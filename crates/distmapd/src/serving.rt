@@ -5,7 +5,7 @@ use crate::monitor::Monitor;
 use crate::standard_error::StandardError;
 use dist_epmd_server::Server;
 use mio::Events;
-use std::alloc::{AllocError, Global};
+use std::alloc::Global;
 use std::io;
 use std::sync::Wait;
 use std::time::{Clock, Duration, Instant};
@@ -29,34 +29,6 @@ pub struct Beside {
     pub log: Option<Log>,
     pub monitor: Option<Monitor>,
     pub standard_error: StandardError,
-}
-
-impl Beside {
-    // Lets the server keep events for the log.
-    fn begin(&self, server: &mut Server) -> Result<(), AllocError> {
-        if self.log.is_some() {
-            server.keep_events(MOST_EVENTS)?;
-        }
-        if let Some(monitor) = &self.monitor {
-            let _ = monitor.watch(server);
-        }
-        Ok(())
-    }
-
-    // Serves the monitoring clients that were ready in a round.
-    fn serve(&mut self, server: &Server, events: &Events, room: &mut [u8], now: u64) {
-        if let Some(monitor) = &mut self.monitor {
-            monitor.serve(server, events, room, now);
-        }
-    }
-
-    // Logs what happened in a round.
-    fn write(&mut self, alloc: Global, server: &mut Server, now: u64) {
-        if let Some(log) = &mut self.log {
-            log.write_events(alloc, &mut self.standard_error, server.clients(), now);
-            server.forget_events();
-        }
-    }
 }
 
 // Serves the clients that are ready.
@@ -83,7 +55,12 @@ pub fn serve<R: Wait + Clock>(
     let start = Instant::now(rt)?;
     let mut events = Events::with_capacity(alloc, EVENTS)?;
     let mut room = vec![in alloc; 0u8; ROOM]?;
-    beside.begin(server)?;
+    if beside.log.is_some() {
+        server.keep_events(MOST_EVENTS)?;
+    }
+    if let Some(monitor) = &beside.monitor {
+        let _ = monitor.watch(server);
+    }
     for _ in rt.forever() {
         server.wait(&mut events, Duration::from_secs(SECONDS))?;
         let now = start.elapsed(rt)?.as_secs();
@@ -92,9 +69,14 @@ pub fn serve<R: Wait + Clock>(
         server.serve_unsure(now);
         serve_listeners(server, &events, now);
         // Before the sweep, which forgets whether connections wait that could not be accepted.
-        beside.serve(server, &events, &mut room, now);
+        if let Some(monitor) = &mut beside.monitor {
+            monitor.serve(server, &events, &mut room, now);
+        }
         server.sweep(now);
-        beside.write(alloc, server, now);
+        if let Some(log) = &mut beside.log {
+            log.write_events(alloc, &mut beside.standard_error, server.clients(), now);
+            server.forget_events();
+        }
     }
     Ok(())
 }

@@ -1,7 +1,5 @@
 //! The settings that the command line asks for.
 
-use crate::form::LogForm;
-
 /// What the program is to do.
 #[derive(Clone, Copy, PartialEq, Eq)]
 pub enum Task {
@@ -13,6 +11,15 @@ pub enum Task {
     Help,
     /// Print the version.
     Version,
+}
+
+/// The form in which a log is written.
+#[derive(Clone, Copy)]
+pub enum LogForm {
+    /// Words, for people to read.
+    Text,
+    /// Each line is a JSON object.
+    Json,
 }
 
 /// What the words ask for.

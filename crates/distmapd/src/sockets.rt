@@ -32,10 +32,7 @@ fn listen_at(net: &impl Net, address: IpAddr, port: u16) -> io::Result<TcpListen
 
 // All addresses, of IPv6 and IPv4 if the system has both, else of IPv4.
 fn listen_at_all(net: &impl Net, port: u16) -> io::Result<TcpListener> {
-    match listen_at(net, ALL_6, port) {
-        Ok(listener) => Ok(listener),
-        Err(_) => listen_at(net, ALL_4, port),
-    }
+    listen_at(net, ALL_6, port).or_else(|_| listen_at(net, ALL_4, port))
 }
 
 // Whether a descriptor may be a listening socket. Such a socket is never ready to be written; a UDP socket, a socket that does not
@@ -85,19 +82,9 @@ fn addresses_in(alloc: Global, text: &str) -> Result<Vec<IpAddr>, Fault> {
     Ok(addresses)
 }
 
-// Whether an address is covered by these: all of IPv4 cover those of IPv4, and all of IPv6 cover those of both.
+// Whether an address is one of these, or all of IPv4, which is among them, cover it.
 fn is_within(address: IpAddr, all: &[IpAddr]) -> bool {
-    all.iter().any(|one| {
-        *one == address || *one == ALL_6 || (*one == ALL_4 && address.is_ipv4())
-    })
-}
-
-// Whether another of these addresses covers this one: an equal one before it, or all of IPv4.
-fn is_taken(address: IpAddr, addresses: &[IpAddr], place: usize) -> bool {
-    match addresses.get(..place) {
-        Some(before) if before.contains(&address) => true,
-        _ => address != ALL_4 && address.is_ipv4() && addresses.contains(&ALL_4),
-    }
+    all.contains(&address) || (address.is_ipv4() && all.contains(&ALL_4))
 }
 
 // Listens at these addresses, each once, and at the loopback of both kinds if they don't cover it; without any addresses, at all. A
@@ -109,20 +96,26 @@ fn listen_at_each(
     port: u16,
 ) -> io::Result<Vec<TcpListener>> {
     let mut found = Vec::new(alloc);
-    if addresses.is_empty() || is_within(ALL_6, addresses) {
+    if addresses.is_empty() || addresses.contains(&ALL_6) {
         found.push(listen_at_all(net, port)?)?;
         return Ok(found);
     }
-    if !is_within(HERE_4, addresses) {
-        found.push(listen_at(net, HERE_4, port)?)?;
-    }
-    for (place, address) in addresses.iter().enumerate() {
-        if !is_taken(*address, addresses, place) {
-            found.push(listen_at(net, *address, port)?)?;
+    let first = if addresses.contains(&ALL_4) {
+        ALL_4
+    } else {
+        HERE_4
+    };
+    let mut taken = vec![in alloc; first]?;
+    for address in addresses {
+        if !is_within(*address, &taken) {
+            taken.push(*address)?;
         }
     }
+    for address in &taken {
+        found.push(listen_at(net, *address, port)?)?;
+    }
     // The host may not have this address.
-    if !is_within(HERE_6, addresses)
+    if !taken.contains(&HERE_6)
         && let Ok(listener) = listen_at(net, HERE_6, port)
     {
         found.push(listener)?;
@@ -144,14 +137,11 @@ pub fn handed_over(said: Option<&str>, process: Option<&str>, own: i32) -> Optio
     if !is_for(own, process) {
         return None;
     }
-    let Some(word) = said else {
-        return Some(1);
+    let count = match said {
+        Some(word) => number_16(word.as_bytes())?,
+        None => 1,
     };
-    let count = number_16(word.as_bytes())?;
-    if count == 0 || count > MOST_HANDED_OVER {
-        return None;
-    }
-    Some(count)
+    (1..=MOST_HANDED_OVER).contains(&count).then_some(count)
 }
 
 /// The listeners that the settings ask for, of which `handed_over` were handed over.

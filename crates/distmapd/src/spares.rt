@@ -18,23 +18,15 @@ impl Spares {
         }
     }
 
-    // Keeps one more. Returns false if there is no descriptor or memory for it.
-    fn hold_one(&mut self) -> bool {
-        let fd = os::duplicate(self.of);
-        if fd < 0 {
-            return false;
-        }
-        if self.held.push(fd).is_err() {
-            let _ = libc::close(fd);
-            return false;
-        }
-        true
-    }
-
     /// Keeps this many, as far as there are descriptors and memory.
     pub fn hold(&mut self, count: usize) {
         for _ in self.held.len()..count {
-            if !self.hold_one() {
+            let fd = os::duplicate(self.of);
+            if fd < 0 {
+                return;
+            }
+            if self.held.push(fd).is_err() {
+                let _ = libc::close(fd);
                 return;
             }
         }

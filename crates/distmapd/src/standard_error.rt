@@ -59,16 +59,14 @@ impl StandardError {
 impl Write for StandardError {
     // The runtime ignores SIGPIPE from the start, so a write that has no reader fails and does not end the program.
     fn write(&mut self, bytes: &[u8]) -> io::Result<usize> {
-        if !self.has_room() || !self.end_line() {
-            return Err(io::Error::from(ErrorKind::WouldBlock));
+        if self.has_room()
+            && self.end_line()
+            && let Ok(count) = usize::try_from(libc::write(self.fd, bytes))
+        {
+            self.is_cut = 0 < count && count < bytes.len();
+            return Ok(count);
         }
-        match usize::try_from(libc::write(self.fd, bytes)) {
-            Ok(count) => {
-                self.is_cut = 0 < count && count < bytes.len();
-                Ok(count)
-            }
-            Err(_) => Err(io::Error::from(ErrorKind::WouldBlock)),
-        }
+        Err(io::Error::from(ErrorKind::WouldBlock))
     }
 
     fn flush(&mut self) -> io::Result<()> {

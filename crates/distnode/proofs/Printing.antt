@@ -66,7 +66,7 @@ pub of_run : (status : ℕ) (fs gs : List OrderFault) (cs ds : List Closed) (a b
 of_run status fs gs cs ds a b c e d p q = (orders_text fs ++ q.0, (q.0, subst (λ x. IsAudited status x q.0) d q.1, refl), Appends-trans a b c (orders_text fs) q.0 (subst (λ x. Appends a b (orders_text x)) e p) q.2)
 
 -- the text of a nodes file, run
-pub of_text : (file : List ℕ) (plan : Plan) (faults : List OrderFault) (closed : List Closed) (status : ℕ) (a b : Option (List ℕ)) → plan_of file ≡ Some plan → AreOfPlans plan.node closed → AreInOrder faults → AreObeyed plan.dial faults closed → Puts (IsOfRun status faults closed) a b → PrintsRun file status a b
+pub of_text : (file : List ℕ) (plan : Plan) (faults : List OrderFault) (closed : List Closed) (status : ℕ) (a b : Option (List ℕ)) → plan_of file ≡ Some plan → AreOfPlans plan.node closed → AreInOrder faults → AreObeyed plan faults closed → Puts (IsOfRun status faults closed) a b → PrintsRun file status a b
 of_text file plan faults closed status a b says nodes order orders put = record { plan = plan; faults = faults; closed = closed; says = says; nodes = nodes; order = order; orders = orders; text = put }
 
 -- a nodes file that was read to its end, run

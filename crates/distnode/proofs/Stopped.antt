@@ -22,7 +22,7 @@ use Rattle.distnode.specs.Stopped.{StopsPrinting, StopsRun, StopsRunOf, IsNoNode
 use Rattle.distnode.proofs.Printing.{of_text}
 
 -- the printing of a run was stopped
-pub of_printing : (file : List ℕ) (plan : Plan) (faults : List OrderFault) (closed : List Closed) (a b : Option (List ℕ)) (f : Fault) → plan_of file ≡ Some plan → AreOfPlans plan.node closed → AreInOrder faults → AreObeyed plan.dial faults closed → StopsPrinting faults closed a b f → StopsRun file a b f
+pub of_printing : (file : List ℕ) (plan : Plan) (faults : List OrderFault) (closed : List Closed) (a b : Option (List ℕ)) (f : Fault) → plan_of file ≡ Some plan → AreOfPlans plan.node closed → AreInOrder faults → AreObeyed plan faults closed → StopsPrinting faults closed a b f → StopsRun file a b f
 of_printing file plan faults closed a b fault.WriteFailed says nodes order orders stops =
     (stops.0, stops.1, of_text file plan faults closed stops.0 (Some []) (Some stops.1) says nodes order orders stops.2, stops.3)
 of_printing file plan faults closed a b fault.NoMemory says nodes order orders stops = stops

@@ -80,7 +80,7 @@ pub record PrintsRun (file : List ℕ) (status : ℕ) (old new : Option (List �
   -- these orders are in the order of the file
   pub order : AreInOrder faults
   -- each order of the file made its dial once, or is one of these and made none; no node made another dial
-  pub orders : AreObeyed plan.dial faults closed
+  pub orders : AreObeyed plan faults closed
   -- just their text was written
   pub text : Puts (IsOfRun status faults closed) old new
 

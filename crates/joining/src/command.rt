@@ -1,10 +1,11 @@
 //! What the command line asks for.
 
 use crate::fault::Fault;
-use crate::refusing::{bad_name, bad_number, bad_words};
+use crate::{HELP, VERSION};
 use clap::error::ErrorKind;
 use clap::{Arg, ArgAction, ArgMatches, Command, Error};
 use dist_names::number_16;
+use dist_program::{name_sentence, number_sentence, parser_sentence};
 use distribution::{NameError, NodeName};
 use std::alloc::{AllocError, Global};
 
@@ -14,10 +15,8 @@ const NET_TICKTIME: u16 = 60;
 /// What the command line asks for.
 #[derive(Drop)]
 pub enum Invocation<'a> {
-    /// Print the help.
-    Help,
-    /// Print the version.
-    Version,
+    /// Print this: the help or the version.
+    Prints(&'static str),
     /// Join a node.
     Joins(JoinRequest<'a>),
 }
@@ -27,17 +26,10 @@ pub enum Invocation<'a> {
 pub struct JoinRequest<'a> {
     /// The node's name.
     pub node: NodeName,
-    /// Our name, if one is given.
-    pub name: Option<NodeName>,
-    /// The rest.
-    pub choices: JoinChoices<'a>,
-}
-
-/// What is chosen beside names.
-#[derive(Clone, Copy)]
-pub struct JoinChoices<'a> {
-    /// The host to connect to, if it is not that of the node's name.
-    pub address: Option<&'a str>,
+    /// Our name.
+    pub name: NodeName,
+    /// The host to connect to.
+    pub host: &'a str,
     /// The cookie's file, if it is not that of the home folder.
     pub cookie_file: Option<&'a str>,
     /// Whether the file is read even if others than its owner may use it.
@@ -48,15 +40,8 @@ pub struct JoinChoices<'a> {
     pub net_ticktime: u16,
 }
 
-impl<'a> JoinChoices<'a> {
-    /// The host to connect to for a node.
-    pub fn host<'b>(&'b self, node: &'b NodeName) -> &'b str {
-        match self.address {
-            Some(host) => host,
-            None => std::str::from_utf8(node.host()).unwrap_or(""),
-        }
-    }
-}
+// The program's name.
+const PROGRAM: &str = "joining";
 
 // The options that take a value.
 const VALUES: [&str; 4] = ["name", "address", "epmd-port", "net-ticktime"];
@@ -69,38 +54,24 @@ const COOKIE_FILE: &str = "cookie-file";
 // The option that takes no value.
 const UNSAFE: &str = "cookie-unsafe";
 
-// An option that takes a value.
-fn value_arg<'a>(alloc: Global, word: &'a str) -> Arg<'a> {
-    Arg::new(alloc, word).long(word).action(ArgAction::Set)
+// An option.
+fn option<'a>(alloc: Global, word: &'a str, action: ArgAction) -> Arg<'a> {
+    Arg::new(alloc, word).long(word).action(action)
 }
 
-// The command line with just the node and the cookie's file.
-fn bare_program<'a>(alloc: Global) -> Result<Command<'a>, AllocError> {
-    let cookie = value_arg(alloc, COOKIE).alias(COOKIE_FILE)?;
-    Command::new(alloc, "joining")
+// The command line.
+fn program<'a>(alloc: Global) -> Result<Command<'a>, AllocError> {
+    let cookie = option(alloc, COOKIE, ArgAction::Set).alias(COOKIE_FILE)?;
+    let mut program = Command::new(alloc, PROGRAM)
         .no_binary_name(true)
         .version("0")
         .arg(Arg::new(alloc, "node").action(ArgAction::Set))?
-        .arg(cookie)
-}
-
-fn program<'a>(alloc: Global) -> Result<Command<'a>, AllocError> {
-    let unsafe_ = Arg::new(alloc, UNSAFE)
-        .long(UNSAFE)
-        .action(ArgAction::SetTrue);
-    let mut program = bare_program(alloc)?.arg(unsafe_)?;
+        .arg(cookie)?
+        .arg(option(alloc, UNSAFE, ArgAction::SetTrue))?;
     for word in VALUES {
-        program = program.arg(value_arg(alloc, word))?;
+        program = program.arg(option(alloc, word, ArgAction::Set))?;
     }
     Ok(program)
-}
-
-// A number from 1 to 65,535.
-fn number_named(word: &str) -> Option<u16> {
-    match number_16(word.as_bytes()) {
-        Some(0) | None => None,
-        number => number,
-    }
 }
 
 // The number from 1 to 65,535 of this option, or the usual one if it is not given.
@@ -108,52 +79,49 @@ fn number_of(alloc: Global, matches: &ArgMatches<'_>, id: &str, usual: u16) -> R
     let Some(word) = matches.get_str(id) else {
         return Ok(usual);
     };
-    match number_named(word) {
+    match number_16(word.as_bytes()) {
+        None | Some(0) => Err(Fault::BadWord(number_sentence(alloc, PROGRAM, id, word)?)),
         Some(number) => Ok(number),
-        None => Err(bad_number(alloc, id, word)),
     }
 }
 
-/// The name that these bytes spell.
-pub fn name_of(alloc: Global, bytes: &[u8]) -> Result<NodeName, Fault> {
-    match NodeName::new(alloc, bytes) {
+// The name that a word of the command line spells.
+fn name_in(alloc: Global, word: &str) -> Result<NodeName, Fault> {
+    match NodeName::new(alloc, word.as_bytes()) {
+        Ok(name) => Ok(name),
+        Err(NameError::NoMemory) => Err(Fault::NoMemory),
+        Err(_) => Err(Fault::BadWord(name_sentence(alloc, word)?)),
+    }
+}
+
+// A name at the node's host, so that both names are long or both short.
+fn name_at(alloc: Global, host: &str) -> Result<NodeName, Fault> {
+    let text = format!(in alloc; "joining@{host}")?;
+    match NodeName::new(alloc, text.as_bytes()) {
         Ok(name) => Ok(name),
         Err(NameError::NoMemory) => Err(Fault::NoMemory),
         Err(_) => Err(Fault::BadName),
     }
 }
 
-// The name that a word of the command line spells.
-fn name_in(alloc: Global, word: &str) -> Result<NodeName, Fault> {
-    match name_of(alloc, word.as_bytes()) {
-        Err(Fault::BadName) => Err(bad_name(alloc, word)),
-        other => other,
-    }
-}
-
-// Our name, if one is given.
-fn own_name_in(alloc: Global, matches: &ArgMatches<'_>) -> Result<Option<NodeName>, Fault> {
-    match matches.get_str("name") {
-        None => Ok(None),
-        Some(word) => Ok(Some(name_in(alloc, word)?)),
-    }
-}
-
-// What the parser matched, without the names.
-fn choices_in<'a>(
+// The node's name and ours, which is checked first if it is given, and the node's host.
+fn names_in<'a>(
     alloc: Global,
     matches: &ArgMatches<'a>,
-    usual_port: u16,
-) -> Result<JoinChoices<'a>, Fault> {
-    let mapper_port = number_of(alloc, matches, "epmd-port", usual_port)?;
-    let net_ticktime = number_of(alloc, matches, "net-ticktime", NET_TICKTIME)?;
-    Ok(JoinChoices {
-        address: matches.get_str("address"),
-        cookie_file: matches.get_str(COOKIE),
-        is_unsafe: matches.get_flag(UNSAFE),
-        mapper_port,
-        net_ticktime,
-    })
+) -> Result<(NodeName, NodeName, &'a str), Fault> {
+    let given = match matches.get_str("name") {
+        Some(word) => Some(name_in(alloc, word)?),
+        None => None,
+    };
+    let Some(word) = matches.get_str("node") else {
+        return Err(Fault::NamesNoNode);
+    };
+    let node = name_in(alloc, word)?;
+    let (_, host) = word.split_once('@').unwrap_or(("", ""));
+    match given {
+        Some(name) => Ok((node, name, host)),
+        None => Ok((node, name_at(alloc, host)?, host)),
+    }
 }
 
 // What the parser matched.
@@ -162,25 +130,30 @@ fn wanted_in<'a>(
     matches: &ArgMatches<'a>,
     usual_port: u16,
 ) -> Result<JoinRequest<'a>, Fault> {
-    let choices = choices_in(alloc, matches, usual_port)?;
-    let name = own_name_in(alloc, matches)?;
-    let Some(word) = matches.get_str("node") else {
-        return Err(Fault::NamesNoNode);
-    };
+    let mapper_port = number_of(alloc, matches, "epmd-port", usual_port)?;
+    let net_ticktime = number_of(alloc, matches, "net-ticktime", NET_TICKTIME)?;
+    let (node, name, host) = names_in(alloc, matches)?;
     Ok(JoinRequest {
-        node: name_in(alloc, word)?,
+        node,
         name,
-        choices,
+        host: matches.get_str("address").unwrap_or(host),
+        cookie_file: matches.get_str(COOKIE),
+        is_unsafe: matches.get_flag(UNSAFE),
+        mapper_port,
+        net_ticktime,
     })
 }
 
 // What is asked for if the parser matched nothing.
 fn request_instead<'a>(alloc: Global, error: &Error) -> Result<Invocation<'a>, Fault> {
     match error.kind() {
-        ErrorKind::DisplayHelp => Ok(Invocation::Help),
-        ErrorKind::DisplayVersion => Ok(Invocation::Version),
+        ErrorKind::DisplayHelp => Ok(Invocation::Prints(HELP)),
+        ErrorKind::DisplayVersion => Ok(Invocation::Prints(VERSION)),
         ErrorKind::OutOfMemory => Err(Fault::NoMemory),
-        _ => Err(bad_words(alloc, error)),
+        _ => {
+            let text = format!(in alloc; "{error}")?;
+            Err(Fault::BadWord(parser_sentence(alloc, PROGRAM, &text)?))
+        }
     }
 }
 

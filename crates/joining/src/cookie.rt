@@ -1,39 +1,40 @@
 //! The cookie: that of the named file, or of the home folder.
 
-use crate::command::JoinChoices;
+use crate::command::JoinRequest;
 use crate::fault::Fault;
-use crate::refusing::not_private;
+use dist_names::quote;
 use dist_program::{CookieFault, cookie_at, home_cookie};
 use distribution::Cookie;
-use std::alloc::Global;
+use std::alloc::{AllocError, Global};
 
-// The fault for a file without a cookie.
-fn fault_of(alloc: Global, fault: CookieFault) -> Fault {
-    match fault {
-        CookieFault::OpenFailed => Fault::OpenFailed,
-        CookieFault::NotStored => Fault::NotStored,
-        CookieFault::NotPrivate(path) => not_private(alloc, &path),
-        CookieFault::NoCookie(error) => Fault::NoCookie(error),
-        CookieFault::NoMemory => Fault::NoMemory,
-    }
+// The sentence that refuses a file that others can use: the reason in the words of `erl`, and the remedy.
+fn sentence_of(alloc: Global, path: &str) -> Result<String, AllocError> {
+    let file = quote(alloc, path.as_bytes())?;
+    format!(in alloc;
+        "NotPrivate: cookie file {file} must be accessible by owner only: chmod 600 {file}, or --cookie-unsafe takes it"
+    )
 }
 
-// The cookie that the options choose, if there is one.
-fn chosen_cookie(
-    rt: &HostRuntime,
-    choices: &JoinChoices<'_>,
-) -> Result<Option<Cookie>, CookieFault> {
-    match choices.cookie_file {
-        Some(path) => Ok(Some(cookie_at(rt, path, choices.is_unsafe)?)),
-        None => home_cookie(rt, choices.is_unsafe),
-    }
+// The fault for a file without a cookie.
+fn fault_of(alloc: Global, fault: CookieFault) -> Result<Fault, AllocError> {
+    Ok(match fault {
+        CookieFault::OpenFailed => Fault::OpenFailed,
+        CookieFault::NotStored => Fault::NotStored,
+        CookieFault::NotPrivate(path) => Fault::NotPrivate(sentence_of(alloc, &path)?),
+        CookieFault::NoCookie(error) => Fault::NoCookie(error),
+        CookieFault::NoMemory => Fault::NoMemory,
+    })
 }
 
 /// The cookie of the named file, or of the home folder.
-pub fn cookie_of(rt: &HostRuntime, choices: &JoinChoices<'_>) -> Result<Cookie, Fault> {
-    match chosen_cookie(rt, choices) {
+pub fn cookie_of(rt: &HostRuntime, wanted: &JoinRequest<'_>) -> Result<Cookie, Fault> {
+    let found = match wanted.cookie_file {
+        Some(path) => cookie_at(rt, path, wanted.is_unsafe).map(Some),
+        None => home_cookie(rt, wanted.is_unsafe),
+    };
+    match found {
         Ok(Some(cookie)) => Ok(cookie),
         Ok(None) => Err(Fault::OpenFailed),
-        Err(fault) => Err(fault_of(rt.alloc(), fault)),
+        Err(fault) => Err(fault_of(rt.alloc(), fault)?),
     }
 }

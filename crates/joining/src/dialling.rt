@@ -1,15 +1,14 @@
 //! Joins a node. At each address of its host, until the node is found, it asks the port mapper where the node listens, connects, and
 //! drives the handshake. Each of these steps has its time by the clock.
 
-use crate::fault::Fault;
+use crate::fault::{FOUND, Fault};
 use crate::handshake::shake_hands;
 use crate::link::Link;
 use dist_program::{Budget, CONNECT_SECONDS, HostError, TimedStep, at_port, draw, one_turn};
 use distribution::{
-    DeadlineStream, EndId, Event, Node, NodeName, Opening, Packets, PortInfo, Setup, SocketStream,
-    connect_by, deadline_after, lookup, opening_for, time_left,
+    DeadlineStream, EndId, Event, LookupError, Node, NodeName, Opening, Packets, Setup,
+    SocketStream, connect_by, deadline_after, lookup, opening_for, time_left,
 };
-use std::alloc::Global;
 use std::net::SocketAddr;
 
 /// The most reads and writes of a lookup, if its time is not over before. They bound the memory that an answer takes: 4,096 reads of
@@ -36,80 +35,43 @@ pub struct NodeToJoin<'a> {
     pub mapper_port: u16,
 }
 
-/// A random number of 32 bits.
-pub fn draw_number(rt: &HostRuntime) -> Result<u32, Fault> {
-    match draw(rt) {
-        Ok(number) => Ok(number),
-        Err(_) => Err(Fault::SystemFailed),
-    }
-}
-
-// A stream over this connection, which from now on has this step's share of the time.
-fn limit_step<'a>(
+// A connection to this place, made within a step's share of the time. It is quiet once the share of a second step is over.
+fn reach<'a>(
     rt: &'a HostRuntime,
-    stream: SocketStream,
-    step: TimedStep,
-    budget: &Budget,
-) -> Result<TimedStream<'a>, Fault> {
-    match deadline_after(rt, budget.share(step)) {
-        Ok(until) => Ok(DeadlineStream::new(stream, rt, until)),
-        Err(_) => Err(Fault::SystemFailed),
-    }
-}
-
-// A connection to this place, if it is made within this step's share of the time.
-fn connect_step(
-    rt: &HostRuntime,
     place: &SocketAddr,
-    step: TimedStep,
-    budget: &mut Budget,
-) -> Result<Option<SocketStream>, Fault> {
-    let Ok(until) = deadline_after(rt, budget.share(step)) else {
-        return Err(Fault::SystemFailed);
-    };
-    let made = connect_by(rt, place, until);
-    budget.settle(step, time_left(rt, until));
-    match made {
-        Ok(stream) => Ok(Some(stream.into_inner())),
-        Err(_) => Ok(None),
-    }
-}
-
-// A connection to the port mapper at this address.
-fn mapper_at<'a>(
-    dial: &NodeToJoin<'a>,
-    address: &SocketAddr,
+    steps: (TimedStep, TimedStep),
     budget: &mut Budget,
 ) -> Result<TimedStream<'a>, Fault> {
-    let place = at_port(address, dial.mapper_port);
-    match connect_step(dial.rt, &place, TimedStep::Mapper, budget)? {
-        Some(stream) => limit_step(dial.rt, stream, TimedStep::Lookup, budget),
-        None => Err(Fault::NoMapper),
-    }
+    let (connect, talk) = steps;
+    let until = deadline_after(rt, budget.share(connect))?;
+    let made = connect_by(rt, place, until);
+    budget.settle(connect, time_left(rt, until));
+    let Ok(stream) = made else {
+        return Err(match connect {
+            TimedStep::Mapper => Fault::NoMapper,
+            _ => Fault::NoNode,
+        });
+    };
+    let until = deadline_after(rt, budget.share(talk))?;
+    Ok(DeadlineStream::new(stream.into_inner(), rt, until))
 }
 
-// What the port mapper at this address knows of the node.
-fn info_at(
+// Where the node listens, and which opening it knows, as the port mapper at this address says.
+fn way_to(
     dial: &NodeToJoin<'_>,
     address: &SocketAddr,
     budget: &mut Budget,
-) -> Result<PortInfo, Fault> {
+) -> Result<(u16, Opening), Fault> {
+    let place = at_port(address, dial.mapper_port);
+    let steps = (TimedStep::Mapper, TimedStep::Lookup);
+    let mut stream = reach(dial.rt, &place, steps, budget)?;
     let (alloc, short) = (dial.rt.alloc(), dial.peer.short());
-    let mut stream = mapper_at(dial, address, budget)?;
     let answer = lookup(alloc, &mut stream, short, TURNS_OF_A_LOOKUP);
     budget.settle(TimedStep::Lookup, stream.time_left());
-    Ok(answer?)
-}
-
-// A connection to the node at this place.
-fn node_at<'a>(
-    dial: &NodeToJoin<'a>,
-    place: &SocketAddr,
-    budget: &mut Budget,
-) -> Result<TimedStream<'a>, Fault> {
-    match connect_step(dial.rt, place, TimedStep::Port, budget)? {
-        Some(stream) => limit_step(dial.rt, stream, TimedStep::Talk, budget),
-        None => Err(Fault::NoNode),
+    match answer {
+        Ok(info) => Ok((info.port, opening_for(&info))),
+        Err(LookupError::NoMemory) => Err(Fault::NoMemory),
+        Err(error) => Err(Fault::NotFound(error)),
     }
 }
 
@@ -122,55 +84,27 @@ fn dialled_end(dial: &NodeToJoin<'_>, opening: Opening) -> Result<(Node, EndId),
     Ok((node, end_))
 }
 
-// The connection of the link, on which a read or a write waits for one turn.
-fn with_turns(stream: TimedStream<'_>) -> Result<SocketStream, Fault> {
-    match SocketStream::with_turn(stream.into_inner().into_inner(), one_turn()) {
-        Ok(stream) => Ok(stream),
-        Err(_) => Err(Fault::SystemFailed),
-    }
-}
-
-// The link over a connection to the node, once this end of our node is up.
-fn link_over(
-    alloc: Global,
-    stream: TimedStream<'_>,
-    node: Node,
-    end_: EndId,
-    challenge: u32,
-    budget: &mut Budget,
-) -> Result<Link, Fault> {
-    let mut stream = stream;
-    let shaken = shake_hands(alloc, &mut stream, node, end_, challenge);
-    budget.settle(TimedStep::Talk, stream.time_left());
-    let (record, rest) = shaken?;
-    Ok(Link {
-        stream: with_turns(stream)?,
-        record,
-        packets: Packets::behind_handshake(alloc, MOST_OF_PACKET, rest),
-        waiting: None,
-    })
-}
-
-// Joins the node at this address of its host.
+// Joins the node at this address of its host. Each read and write on the link waits for one turn.
 fn join_address(
     dial: &NodeToJoin<'_>,
     address: &SocketAddr,
     budget: &mut Budget,
 ) -> Result<Link, Fault> {
-    let info = info_at(dial, address, budget)?;
-    let challenge = draw_number(dial.rt)?;
-    let (node, end_) = dialled_end(dial, opening_for(&info))?;
-    let stream = node_at(dial, &at_port(address, info.port), budget)?;
-    link_over(dial.rt.alloc(), stream, node, end_, challenge, budget)
-}
-
-// What follows after an address failed: the next address, with the fault that got furthest, or no other.
-fn go_further(furthest: Fault, fault: Fault) -> Result<Fault, Fault> {
-    if fault.is_found() {
-        Err(fault)
-    } else {
-        Ok(furthest.or_further(fault))
-    }
+    let alloc = dial.rt.alloc();
+    let (port, opening) = way_to(dial, address, budget)?;
+    let challenge = draw(dial.rt)?;
+    let (node, end_) = dialled_end(dial, opening)?;
+    let steps = (TimedStep::Port, TimedStep::Talk);
+    let mut stream = reach(dial.rt, &at_port(address, port), steps, budget)?;
+    let shaken = shake_hands(alloc, &mut stream, node, end_, challenge);
+    budget.settle(TimedStep::Talk, stream.time_left());
+    let (record, rest) = shaken?;
+    Ok(Link {
+        stream: SocketStream::with_turn(stream.into_inner().into_inner(), one_turn())?,
+        record,
+        packets: Packets::behind_handshake(alloc, MOST_OF_PACKET, rest),
+        is_held_up: false,
+    })
 }
 
 /// Joins the node at the first of these addresses of its host at which it is found. If it is found at none, the fault is that of the
@@ -182,7 +116,9 @@ pub fn join_node(dial: &NodeToJoin<'_>, addresses: &[SocketAddr]) -> Result<Link
     for address in addresses {
         match join_address(dial, address, &mut budget) {
             Ok(link) => return Ok(link),
-            Err(fault) => furthest = go_further(furthest, fault)?,
+            Err(fault) if FOUND <= fault.reach() => return Err(fault),
+            Err(fault) if furthest.reach() < fault.reach() => furthest = fault,
+            Err(_) => {}
         }
         budget.go_on();
     }

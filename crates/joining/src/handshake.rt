@@ -2,41 +2,26 @@
 
 use crate::fault::Fault;
 use distribution::{
-    AMPLE_TURNS, Awaited, ByteString, Draws, EndId, Event, MemoryDesk, Node, Outcome, Reached,
-    Stream, UpRecord, Why, handshake,
+    AMPLE_TURNS, Awaited, Draws, EndId, Event, MemoryDesk, Node, Outcome, Reached, Stream,
+    UpRecord, Why, handshake,
 };
 use std::alloc::Global;
 
 /// What a dialled end receives, in order.
 const RECEIVED: [Awaited; 3] = [Awaited::Status, Awaited::Challenge, Awaited::Ack];
 
-// A dialled end whose connection is made: what it sends first, and its challenge.
-#[derive(Drop)]
-struct OpenEnd {
-    id: EndId,
-    first: ByteString,
-    challenge: u32,
-}
-
 /// The challenge of one connection. A dialled end sends just one.
 #[derive(Drop)]
-struct LinkChallenge {
-    number: u32,
-}
+struct LinkChallenge(u32);
 
 impl Draws for LinkChallenge {
     ghost use Rattle.std.specs.Prelude.{◌≡◌};
 
-    ghost gives = { λ before number after. number ≡ before.number };
+    ghost gives = { λ before number after. number ≡ before.0 };
 
     fn draw(&mut self) -> u32 {
-        self.number
+        self.0
     }
-}
-
-// Reports to the node that the connection is made. Returns what the end sends first.
-fn open(alloc: Global, node: &mut Node, end_: EndId) -> Result<ByteString, Fault> {
-    Ok(node.step(alloc, &Event::Opened { end_, link: 0 }, 0)?.say)
 }
 
 // The message that was awaited when the connection failed: `handshake` has reported the loss, as the step after those of the frames. If
@@ -57,30 +42,6 @@ fn fault_of(desk: &MemoryDesk, end_: EndId, outcome: Outcome) -> Fault {
     }
 }
 
-// Drives the end until it is up.
-fn come_up<S: Stream>(
-    alloc: Global,
-    stream: &mut S,
-    desk: &mut MemoryDesk,
-    end_: &OpenEnd,
-) -> Result<(UpRecord, Vec<u8>), Fault> {
-    let mut challenge = LinkChallenge {
-        number: end_.challenge,
-    };
-    match handshake(
-        alloc,
-        stream,
-        desk,
-        &mut challenge,
-        end_.id,
-        end_.first.as_slice(),
-        AMPLE_TURNS,
-    ) {
-        Reached::Up { record, rest } => Ok((record, rest)),
-        Reached::Ended(outcome) => Err(fault_of(desk, end_.id, outcome)),
-    }
-}
-
 /// Performs the handshake of a dialled end whose connection is made, until the stream falls quiet for good. Returns what is known of
 /// the peer, and the bytes read after the last frame, which belong to packets.
 pub fn shake_hands<S: Stream>(
@@ -91,12 +52,20 @@ pub fn shake_hands<S: Stream>(
     challenge: u32,
 ) -> Result<(UpRecord, Vec<u8>), Fault> {
     let mut node = node;
-    let first = open(alloc, &mut node, end_)?;
+    let mut draws = LinkChallenge(challenge);
+    let first = node.step(alloc, &Event::Opened { end_, link: 0 }, 0)?.say;
     let mut desk = MemoryDesk::new(alloc, node, end_)?;
-    let end_ = OpenEnd {
-        id: end_,
+    let first = first.as_slice();
+    match handshake(
+        alloc,
+        stream,
+        &mut desk,
+        &mut draws,
+        end_,
         first,
-        challenge,
-    };
-    come_up(alloc, stream, &mut desk, &end_)
+        AMPLE_TURNS,
+    ) {
+        Reached::Up { record, rest } => Ok((record, rest)),
+        Reached::Ended(outcome) => Err(fault_of(&desk, end_, outcome)),
+    }
 }

@@ -1,10 +1,10 @@
 //! The link, once it is up: prints what arrives, sends a tick if nothing was sent for a while, and gives up a silent peer.
 
-use crate::fault::{Fault, loss_fault};
-use crate::printing::{hand_on, try_hand_on};
+use crate::fault::Fault;
+use crate::printing::{hand_on, up_text};
 use crossbeam_channel::Sender;
 use dist_program::{Resolving, one_turn};
-use distribution::{Due, Limited, Packets, SocketStream, Ticker, UpRecord, Why, tick};
+use distribution::{Due, Limited, PacketError, Packets, SocketStream, Ticker, UpRecord, Why, tick};
 use std::alloc::Global;
 use std::sync::atomic::{AtomicBool, Ordering};
 use std::thread;
@@ -38,83 +38,60 @@ pub struct Link {
     pub record: UpRecord,
     /// The packets that arrive on it.
     pub packets: Packets,
-    /// The line of the last packet, while there is no room for it. Until it is sent, nothing is read.
-    pub waiting: Option<String>,
+    /// Whether there is no room for the line of the next packet. Until there is, nothing is read.
+    pub is_held_up: bool,
 }
 
 // How many milliseconds have passed since `start`.
 fn millis_since<R: Clock>(rt: &R, start: &Instant) -> Result<u64, Fault> {
-    match start.elapsed(rt) {
-        Ok(elapsed) => Ok(u64::try_from(elapsed.as_millis()).unwrap_or(u64::MAX)),
-        Err(_) => Err(Fault::SystemFailed),
-    }
+    Ok(u64::try_from(start.elapsed(rt)?.as_millis()).unwrap_or(u64::MAX))
 }
 
 impl Link {
-    // Reads what arrives within one turn.
-    fn read_piece(&mut self, ticker: &mut Ticker, now: u64) -> Result<(), Fault> {
-        let mut room = [0u8; PIECE];
-        let mut limited = Limited {
-            stream: &mut self.stream,
-            left: 1,
-        };
-        match limited.read(&mut room) {
-            Ok(0) => Ok(()),
-            Ok(count) => {
-                ticker.note_read(now);
-                Ok(self.packets.feed(&room[..count])?)
-            }
-            Err(error) => Err(loss_fault(error)),
-        }
-    }
-
-    // Sends the line that waits, if there is room. Returns whether none waits any more.
-    fn hand_on_waiting<R: Resolving>(&mut self, with: &Keeping<'_, R>) -> Result<bool, Fault> {
-        if let Some(line) = self.waiting.take() {
-            self.waiting = try_hand_on(with.rt, with.lines, line)?;
-        }
-        Ok(self.waiting.is_none())
-    }
-
-    // Prints the next whole packet, unless it is a tick. Returns whether there was one, and no line waited.
-    fn print_packet<R: Resolving>(&mut self, with: &Keeping<'_, R>) -> Result<bool, Fault> {
-        if !self.hand_on_waiting(with)? {
-            return Ok(false);
-        }
-        let len = match self.packets.front()? {
-            Some(packet) => packet.len(),
-            None => return Ok(false),
-        };
-        self.packets.drop_front();
-        if len > 0 {
-            self.waiting = Some(format!(in with.alloc; "packet {len}\n")?);
-        }
-        Ok(true)
-    }
-
-    // Prints the whole packets, as long as there is room for lines. A piece has fewer packets than bytes.
+    // Prints the whole packets but the ticks, as long as there is room for lines. A piece has fewer packets than bytes.
     fn print_packets<R: Resolving>(&mut self, with: &Keeping<'_, R>) -> Result<(), Fault> {
         for _ in 0..PIECE {
-            if !self.print_packet(with)? {
+            let len = match self.packets.front() {
+                Ok(Some(packet)) => packet.len(),
+                Ok(None) => break,
+                Err(PacketError::TooLong(_)) => return Err(Fault::LongPacket),
+                Err(PacketError::NoMemory) => return Err(Fault::NoMemory),
+            };
+            if 0 < len {
+                let line = format!(in with.alloc; "packet {len}\n")?;
+                self.is_held_up = !hand_on(with.rt, with.lines, line)?;
+            }
+            if self.is_held_up {
                 break;
             }
+            self.packets.drop_front();
         }
         Ok(())
     }
 
-    // Reads what arrives, unless a line waits. While nothing is read, the peer does not count as silent.
+    // Reads what arrives within one turn, unless a packet is held up. While nothing is read, the peer does not count as silent.
     fn listen<R: Resolving>(
         &mut self,
         with: &Keeping<'_, R>,
         ticker: &mut Ticker,
         now: u64,
     ) -> Result<(), Fault> {
-        if self.waiting.is_some() {
+        if self.is_held_up {
             ticker.note_read(now);
             thread::sleep(with.rt, one_turn());
             return Ok(());
         }
-        self.read_piece(ticker, now)
+        let mut room = [0u8; PIECE];
+        let mut limited = Limited {
+            stream: &mut self.stream,
+            left: 1,
+        };
+        let count = limited.read(&mut room)?;
+        if 0 < count {
+            ticker.note_read(now);
+            self.packets.feed(&room[..count])?;
+        }
+        Ok(())
     }
 
     // Sends a tick.
@@ -123,13 +100,9 @@ impl Link {
             stream: &mut self.stream,
             left: TURNS_OF_A_TICK,
         };
-        match limited.write_all(&tick()) {
-            Ok(()) => {
-                ticker.note_write(now);
-                Ok(())
-            }
-            Err(error) => Err(loss_fault(error)),
-        }
+        limited.write_all(&tick())?;
+        ticker.note_write(now);
+        Ok(())
     }
 
     // Does what is due now. The ticker counts from `start`.
@@ -147,13 +120,13 @@ impl Link {
         }
     }
 
-    /// Keeps the link until `ended` is set, or the link is lost. `quarter` is a quarter of the time after which a silent peer is given
-    /// up, in milliseconds.
+    /// Reports the peer, and keeps the link until `ended` is set, which ends it, or until it is lost. `quarter` is a quarter of the time
+    /// after which a silent peer is given up, in milliseconds.
     pub fn stay<R: Resolving>(&mut self, with: &Keeping<'_, R>, quarter: u32) -> Result<(), Fault> {
-        let Ok(start) = Instant::now(with.rt) else {
-            return Err(Fault::SystemFailed);
-        };
+        let start = Instant::now(with.rt)?;
         let mut ticker = Ticker::new(quarter, 0);
+        // (there is room, since no other line was sent)
+        hand_on(with.rt, with.lines, up_text(with.alloc, &self.record)?)?;
         for _ in 0..u64::MAX {
             self.print_packets(with)?;
             if with.ended.load(Ordering::SeqCst) {
@@ -161,9 +134,7 @@ impl Link {
             }
             self.take_turn(with, &start, &mut ticker)?;
         }
-        match self.waiting.take() {
-            Some(line) => hand_on(with.rt, with.lines, line),
-            None => Ok(()),
-        }
+        let _ = self.stream.shut();
+        Ok(())
     }
 }

@@ -5,6 +5,7 @@ use crate::streams::{limit_of, stream_of};
 use dist_epmd_calls::{LookupError, ask_names, lookup, register};
 use dist_stream::FaultStream;
 use std::alloc::Global;
+use std::fmt::Write;
 
 /// Looks up `a`, registers it, or asks for all names. Reports the answer, the bytes that were written, those that were not read, and
 /// the number of reads and writes.
@@ -64,16 +65,11 @@ fn register_node(
     case: &str,
     stream: &mut FaultStream,
 ) -> Option<()> {
-    let node = node_of(alloc, name_in(case), "-")?;
+    let node = node_of(alloc, name_in(case))?;
     match register(alloc, stream, &node, limit_of(case)) {
-        Ok(creation) => put_creation(printed, creation.0),
+        Ok(creation) => write!(printed, "creation {} ", creation.0).ok(),
         Err(error) => put_refusal(printed, error),
     }
-}
-
-fn put_creation(printed: &mut String, creation: u32) -> Option<()> {
-    put_word(printed, "creation")?;
-    put_number(printed, creation as u64)
 }
 
 fn list(alloc: Global, printed: &mut String, case: &str, stream: &mut FaultStream) -> Option<()> {

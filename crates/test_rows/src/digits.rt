@@ -1,6 +1,8 @@
 //! The words of a row, bytes in hexadecimal digits, and a node as the port mapper knows it. Each word that is reported has a blank
 //! after it.
 
+ghost use Rattle.std.specs.Prelude.{◌<◌};
+
 use dist_epmd::NodeInfo;
 use dist_names::ByteString;
 use std::alloc::Global;
@@ -42,6 +44,13 @@ fn put_often(bytes: &mut Vec<u8>, part: &[u8], times: usize) -> Option<()> {
     Some(())
 }
 
+/// How many bytes of these pieces come at once.
+pub fn size_of(pieces: &str) -> usize
+    ensures { 0 < result }
+{
+    if pieces == "whole" { usize::MAX } else { 1 }
+}
+
 /// Reports a word.
 pub fn put_word(printed: &mut String, word: &str) -> Option<()> {
     printed.push_str(word).ok()?;
@@ -62,8 +71,8 @@ pub fn put_bytes(alloc: Global, printed: &mut String, bytes: &[u8]) -> Option<()
     put_word(printed, &digits)
 }
 
-/// A node at port 9001 with this name and these extra bytes, in digits.
-pub fn node_of(alloc: Global, name: &str, extra: &str) -> Option<NodeInfo> {
+/// A node at port 9001 with this name, in digits.
+pub fn node_of(alloc: Global, name: &str) -> Option<NodeInfo> {
     Some(NodeInfo {
         port: 9001,
         node_type: 77,
@@ -71,22 +80,15 @@ pub fn node_of(alloc: Global, name: &str, extra: &str) -> Option<NodeInfo> {
         highest: 6,
         lowest: 5,
         name: ByteString::from_vec(bytes_in(alloc, name)?),
-        extra: ByteString::from_vec(bytes_in(alloc, extra)?),
+        extra: ByteString::new(alloc),
     })
 }
 
 /// Reports a node: its five numbers, its name and its extra bytes.
 pub fn put_node(alloc: Global, printed: &mut String, node: &NodeInfo) -> Option<()> {
-    let versions = [
-        node.protocol as u64,
-        node.highest as u64,
-        node.lowest as u64,
-    ];
-    put_number(printed, node.port as u64)?;
-    put_number(printed, node.node_type as u64)?;
-    for version in versions {
-        put_number(printed, version)?;
-    }
+    let (port, kind, protocol) = (node.port, node.node_type, node.protocol);
+    let (highest, lowest) = (node.highest, node.lowest);
+    write!(printed, "{port} {kind} {protocol} {highest} {lowest} ").ok()?;
     put_bytes(alloc, printed, node.name.as_slice())?;
     put_bytes(alloc, printed, node.extra.as_slice())
 }

@@ -1,35 +1,16 @@
-//! Frames: `write BODY` frames a body; other rows feed a new reader, and query it.
-//!
-//! Their words are bytes to feed; `link`, which switches to packets; `drop`, which drops the first body; and a query with its answer
-//! after `=`: `next` and `front` a body or `none`, `skip` the number of packets that ended.
+//! Frames: a row feeds a new reader, and queries it. Its words are bytes to feed; `link`, which switches to packets; `drop`, which
+//! drops the first body; and a query with its answer after `=`: `next` and `front` a body or `none`, `skip` the number of packets that ended.
 
-use crate::digits::{bytes_in, put_bytes, put_number, put_word, word};
-use crate::refusals::put_refused;
-use dist_frames::{Frames, write_short};
+use crate::digits::{bytes_in, put_word, size_of};
+use dist_frames::Frames;
 use std::alloc::Global;
 
-/// Reports the length and the first bytes of the frame that is written; or the first word with another result, if there is one.
+/// Reports the first word with another result, if there is one.
 pub fn put_frames(alloc: Global, printed: &mut String, case: &str, pieces: &str) -> Option<()> {
-    if word(case, 0) == "write" {
-        return put_frame(alloc, printed, word(case, 1));
-    }
     match first_wrong(alloc, case, pieces) {
         Some(wrong) => put_word(printed, wrong),
         None => Some(()),
     }
-}
-
-fn put_frame(alloc: Global, printed: &mut String, body: &str) -> Option<()> {
-    let body = bytes_in(alloc, body)?;
-    match write_short(alloc, &body) {
-        Ok(frame) => put_front(alloc, printed, &frame),
-        Err(why) => put_refused(printed, &why),
-    }
-}
-
-fn put_front(alloc: Global, printed: &mut String, frame: &[u8]) -> Option<()> {
-    put_number(printed, frame.len() as u64)?;
-    put_bytes(alloc, printed, frame.get(..16).unwrap_or(frame))
 }
 
 fn first_wrong<'c>(alloc: Global, case: &'c str, pieces: &str) -> Option<&'c str> {
@@ -78,15 +59,7 @@ fn is_body(alloc: Global, body: Option<&[u8]>, wanted: &str) -> Option<bool> {
 
 fn feed(alloc: Global, frames: &mut Frames, bytes: &str, pieces: &str) -> Option<()> {
     let bytes = bytes_in(alloc, bytes)?;
-    if pieces == "whole" {
-        frames.feed(&bytes).ok()
-    } else {
-        feed_bytes(frames, &bytes)
-    }
-}
-
-fn feed_bytes(frames: &mut Frames, bytes: &[u8]) -> Option<()> {
-    for piece in bytes.chunks(1) {
+    for piece in bytes.chunks(size_of(pieces)) {
         frames.feed(piece).ok()?;
     }
     Some(())

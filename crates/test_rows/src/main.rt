@@ -1,6 +1,6 @@
-//! Plays rows of bytes: names, cookies and their digests, frames, packets, handshake messages, command lines, and calls of a table of
-//! peers and of a watch; over streams in memory the registry, a client and the codec of the port mapper, and a probe that talks with a
-//! node; and scripts, with what they print. The rows are files in the folder in which the program runs.
+//! Plays rows of bytes: names, cookies and their digests, frames, packets, handshake messages, command lines, and verdicts of a watch;
+//! over streams in memory the registry and a client of the port mapper, and a probe that talks with a node; and scripts, with what they
+//! print. The rows are files in the folder in which the program runs.
 //!
 //! What the rows expect is typed from the ERTS User's Guide (EPMD Protocol, Distribution Protocol), from captured handshakes, from
 //! other programs (digests) and from the rules of `docs/PROTOCOL.md`. Each file is played with its bytes in one piece and then byte by
@@ -8,7 +8,6 @@
 #![tactic(auto)]
 
 mod asked;
-mod carriers;
 mod changes;
 mod cookies;
 mod digits;
@@ -17,9 +16,7 @@ mod handshake;
 mod names;
 mod orders;
 mod packets;
-mod peer_table;
 mod readers;
-mod reading;
 mod refusals;
 mod rows;
 mod scripts;
@@ -32,21 +29,18 @@ use std::process::ExitCode;
 use std::{fs, io};
 
 /// The files of rows, and their subjects.
-const FILES: [(&str, Subject); 19] = [
+const FILES: [(&str, Subject); 16] = [
     ("node_names", Subject::Names),
     ("cookies", Subject::Cookies),
     ("digests", Subject::Cookies),
     ("frames", Subject::Frames),
     ("packets", Subject::Packets),
-    ("peer_table", Subject::PeerTable),
     ("handshake_messages", Subject::Handshake),
-    ("sentences", Subject::Refusals),
     ("registry_session", Subject::PortMapper),
     ("cut_registration", Subject::PortMapper),
     ("port_mapper_client", Subject::PortMapper),
     ("cut_answers", Subject::PortMapper),
     ("changed_messages", Subject::PortMapper),
-    ("messages", Subject::PortMapper),
     ("full_registry", Subject::PortMapper),
     ("talks", Subject::Talks),
     ("other_talks", Subject::Talks),

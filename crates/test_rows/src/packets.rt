@@ -1,6 +1,6 @@
 //! Streams of packets after a handshake: `MOST STREAM`, the longest packet that is accepted, and the bytes.
 
-use crate::digits::{bytes_in, put_bytes, put_number, put_word, word};
+use crate::digits::{bytes_in, put_bytes, put_number, put_word, size_of, word};
 use dist_frames::{PacketError, Packets};
 use std::alloc::Global;
 
@@ -8,35 +8,15 @@ use std::alloc::Global;
 const MOST_PACKETS: usize = 1000;
 
 /// Reports the packets of a stream, `-` for a tick, and what comes after them: `.` for nothing yet, or the length of a packet that is
-/// too long. In one piece, the stream arrives with the last bytes of the handshake.
+/// too long.
 pub fn put_packets(alloc: Global, printed: &mut String, case: &str, pieces: &str) -> Option<()> {
-    let most = word(case, 0).parse::<usize>().ok()?;
     let stream = bytes_in(alloc, word(case, 1))?;
-    if pieces == "whole" {
-        put_behind(
-            alloc,
-            printed,
-            Packets::behind_handshake(alloc, most, stream),
-        )
-    } else {
-        put_fed(alloc, printed, most, &stream)
-    }
-}
-
-fn put_behind(alloc: Global, printed: &mut String, packets: Packets) -> Option<()> {
-    let mut packets = packets;
-    move_out(alloc, printed, &mut packets)?;
-    put_end(printed, &packets)
-}
-
-// Feeds a stream byte by byte.
-fn put_fed(alloc: Global, printed: &mut String, most: usize, stream: &[u8]) -> Option<()> {
-    let mut packets = Packets::behind_handshake(alloc, most, Vec::new(alloc));
-    for piece in stream.chunks(1) {
+    let mut packets = Packets::new(alloc, word(case, 0).parse::<usize>().ok()?);
+    for piece in stream.chunks(size_of(pieces)) {
         packets.feed(piece).ok()?;
         move_out(alloc, printed, &mut packets)?;
     }
-    put_behind(alloc, printed, packets)
+    put_end(printed, &packets)
 }
 
 // Takes out the packets that have arrived, and reports them.

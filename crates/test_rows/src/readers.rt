@@ -1,7 +1,7 @@
-//! Readers that fail.
+//! Readers and writers that fail.
 
 use std::io;
-use std::io::{Error, ErrorKind, Read};
+use std::io::{Error, ErrorKind, Read, Write};
 
 /// Gives a text by a list of calls, repeats the last call forever, and counts the calls. A call gives at most this many bytes, ends
 /// (`E`) or fails (the others).
@@ -54,5 +54,25 @@ impl Read for Scripted<'_> {
             }
             Err(kind) => Err(Error::from(kind)),
         }
+    }
+}
+
+/// Takes what is written. It may be an output that can't be flushed.
+#[derive(Drop)]
+pub struct Sink {
+    pub taken: Vec<u8>,
+    pub is_unflushed: bool,
+}
+
+impl Write for Sink {
+    fn write(&mut self, buf: &[u8]) -> io::Result<usize> {
+        self.taken.write(buf)
+    }
+
+    fn flush(&mut self) -> io::Result<()> {
+        if self.is_unflushed {
+            return Err(Error::from(ErrorKind::Other));
+        }
+        Ok(())
     }
 }

@@ -9,9 +9,6 @@ use crate::handshake::put_message;
 use crate::names::put_name;
 use crate::orders::put_order;
 use crate::packets::put_packets;
-use crate::peer_table::put_calls;
-use crate::reading::{put_length, put_read};
-use crate::refusals::put_sentences;
 use crate::served::put_served;
 use crate::talks::put_talk;
 use dist_epmd::Registry;
@@ -24,9 +21,7 @@ pub enum Subject {
     Cookies,
     Frames,
     Packets,
-    PeerTable,
     Handshake,
-    Refusals,
     PortMapper,
     Talks,
     Orders,
@@ -109,9 +104,7 @@ fn put_answer(
         Subject::Cookies => put_cookie(alloc, printed, case, pieces),
         Subject::Frames => put_frames(alloc, printed, case, pieces),
         Subject::Packets => put_packets(alloc, printed, case, pieces),
-        Subject::PeerTable => put_calls(alloc, printed, case),
         Subject::Handshake => put_message(alloc, printed, case),
-        Subject::Refusals => put_sentences(printed),
         Subject::PortMapper => put_mapper_answer(alloc, printed, registry, case, pieces),
         Subject::Talks => put_talk(alloc, printed, case, pieces),
         Subject::Orders => put_order(alloc, printed, case),
@@ -119,7 +112,8 @@ fn put_answer(
     }
 }
 
-// A case is a question of a client, bytes to `read`, a message that may be too `long`, or a call of the registry.
+// A case is a question of a client, a new `registry` with its port and its first creation, a connection that is `closed`, or a request
+// on the connection with this number. After `closed` there may be the name that the connection is known to have registered.
 fn put_mapper_answer(
     alloc: Global,
     printed: &mut String,
@@ -128,23 +122,7 @@ fn put_mapper_answer(
     pieces: &str,
 ) -> Option<()> {
     match word(case, 0) {
-        "lookup" | "register" | "names" => put_asked(alloc, printed, case, pieces),
-        "read" => put_read(alloc, printed, case),
-        "long" => put_length(alloc, printed, case),
-        _ => put_registry_answer(alloc, printed, registry, case, pieces),
-    }
-}
-
-// A case is a new `registry` with its port and its first creation, a connection that is `closed`, or a request on the connection with
-// this number. After `closed` there may be the name that the connection is known to have registered.
-fn put_registry_answer(
-    alloc: Global,
-    printed: &mut String,
-    registry: &mut Registry,
-    case: &str,
-    pieces: &str,
-) -> Option<()> {
-    match word(case, 0) {
+        "lookup" | "register" | "names" => return put_asked(alloc, printed, case, pieces),
         "registry" => *registry = new_registry(alloc, case)?,
         "closed" => close_connection(alloc, registry, case)?,
         _ => return put_served(alloc, printed, registry, case, pieces),

@@ -9,7 +9,7 @@
 //!
 //! In `interrupted`, each read after the script is interrupted; in `unflushed`, each flush of the output fails.
 
-use crate::carriers::{Sink, Source};
+use crate::readers::{Scripted, Sink};
 use dist_script_play::enact;
 use std::alloc::Global;
 use std::io::{ErrorKind, Write};
@@ -38,26 +38,19 @@ pub fn play_files(rt: &HostRuntime) -> io::Result<()> {
     let named = fs::read_to_string(rt, "scripts/named")?;
     for file in FILES {
         let rows = fs::read_to_string(rt, file)?;
-        let out = &mut rt.stdout();
-        let count = play_all(rt.alloc(), file, named.as_str(), rows.as_str(), out)?;
+        let count = play_all(rt, file, named.as_str(), rows.as_str())?;
         println!(rt; "{file}: {count} rows")?;
     }
     Ok(())
 }
 
 // Plays the rows of a file, and returns how many there are. The first row with another result is an error, and is printed with that result.
-fn play_all<W: Write>(
-    alloc: Global,
-    file: &str,
-    named: &str,
-    rows: &str,
-    out: &mut W,
-) -> io::Result<u32> {
+fn play_all(rt: &HostRuntime, file: &str, named: &str, rows: &str) -> io::Result<u32> {
     let mut count = 0u32;
     for row in rows.split("=== ").skip(1) {
         let (name, row) = row.split_once('\n').unwrap_or((row, ""));
-        if !goes(alloc, file, named, row, out).unwrap_or(false) {
-            writeln!(out, "came of the row {name}")?;
+        if !goes(rt, file, named, row).unwrap_or(false) {
+            println!(rt; "came of the row {name}")?;
             return Err(io::Error::from(ErrorKind::InvalidData));
         }
         count = count.saturating_add(1);
@@ -66,7 +59,8 @@ fn play_all<W: Write>(
 }
 
 // Whether a row has its result; another one is printed. `None`: memory was refused, or it is not a row.
-fn goes<W: Write>(alloc: Global, file: &str, named: &str, row: &str, out: &mut W) -> Option<bool> {
+fn goes(rt: &HostRuntime, file: &str, named: &str, row: &str) -> Option<bool> {
+    let alloc = rt.alloc();
     let row = row.replace(alloc, ", ", "\n").ok()?;
     let (script, wanted) = row.as_str().split_once("---\n")?;
     let script = expand_braces(alloc, named, script)?;
@@ -74,26 +68,36 @@ fn goes<W: Write>(alloc: Global, file: &str, named: &str, row: &str, out: &mut W
     let came = play_script(alloc, file, &script)?;
     let is_so = came.as_slice() == wanted.as_slice();
     if !is_so {
-        out.write_all(&came).ok()?;
+        rt.stdout().write_all(&came).ok()?;
     }
     Some(is_so)
 }
 
 // The result of a script in a file, in the form of a row.
 fn play_script(alloc: Global, file: &str, script: &[u8]) -> Option<Vec<u8>> {
-    let mut input = Source::new(script, file == "scripts/interrupted");
-    let (mut out, mut printed) = (
-        Sink::new(alloc, file == "scripts/unflushed"),
-        Vec::new(alloc),
-    );
+    let mut input = Scripted::new(script, calls_of(file, script));
+    let mut out = Sink {
+        taken: Vec::new(alloc),
+        is_unflushed: file == "scripts/unflushed",
+    };
+    let mut printed = Vec::new(alloc);
     let status = enact(alloc, &mut input, &mut out, &mut printed);
     if status == 0 && printed.is_empty() {
-        return Some(out.into_bytes());
+        return Some(out.taken);
     }
     let mut came = format!(in alloc; "status {status} ").ok()?.into_bytes();
     came.extend_from_slice(&printed).ok()?;
-    came.extend_from_slice(&out.into_bytes()).ok()?;
+    came.extend_from_slice(&out.taken).ok()?;
     Some(came)
+}
+
+// The calls of the reader of a script: the scripts that are interrupted are shorter than a read.
+fn calls_of(file: &str, script: &[u8]) -> &'static str {
+    match (file, script.is_empty()) {
+        ("scripts/interrupted", true) => "I",
+        ("scripts/interrupted", false) => "9999 I",
+        _ => "9999",
+    }
 }
 
 // A text in which each pair of braces is replaced.

@@ -39,12 +39,7 @@ fn put_traffic(
 ) -> Option<()> {
     put_bytes(alloc, printed, stream.output())?;
     put_word(printed, "names")?;
-    put_names(alloc, printed, registry)?;
+    put_bytes(alloc, printed, registry.lines(alloc).ok()?.as_slice())?;
     put_word(printed, "calls")?;
     put_number(printed, stream.calls())
-}
-
-fn put_names(alloc: Global, printed: &mut String, registry: &Registry) -> Option<()> {
-    let lines = registry.lines(alloc).ok()?;
-    put_bytes(alloc, printed, lines.as_slice())
 }

@@ -64,18 +64,8 @@ fn verdict_over(alloc: Global, talk: &str, stream: &mut FaultStream) -> Option<P
     let target = name_at(alloc, talk, 1)?;
     let setup = setup_of(alloc, talk)?;
     let replies = word(talk, 2) != "-";
-    Some(talk_to_verdict(alloc, stream, &setup, &target, fresh, replies))
-}
-
-fn talk_to_verdict(
-    alloc: Global,
-    stream: &mut FaultStream,
-    setup: &Setup,
-    target: &NodeName,
-    fresh: u32,
-    replies: bool,
-) -> ProbeVerdict {
-    ask_node(alloc, stream, setup, target, fresh, replies, MOST_TURNS).verdict()
+    let talked = ask_node(alloc, stream, &setup, &target, fresh, replies, MOST_TURNS);
+    Some(talked.verdict())
 }
 
 fn name_at(alloc: Global, talk: &str, place: usize) -> Option<NodeName> {

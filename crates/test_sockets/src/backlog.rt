@@ -1,19 +1,16 @@
 //! Connections that no process accepts.
 
-use distribution::connect;
+use dist_stream::connect;
 use std::io::ErrorKind;
 use std::net::{Ipv4Addr, SocketAddr, TcpListener};
 use std::test::*;
 use std::time::Duration;
 
-// More connections than any listener here keeps waiting; 128 were asked for.
-const MANY: usize = 1000;
-
-// Why the first connection fails if none is accepted.
+// Why the first connection fails if none is accepted. There are more of them than any listener here keeps waiting; 128 were asked for.
 fn first_failure(rt: &HostRuntime, address: &SocketAddr) -> Option<ErrorKind> {
     let turn = Duration::from_millis(10);
     let mut kept = Vec::new(rt.alloc());
-    for _ in 0..MANY {
+    for _ in 0..1000 {
         match connect(rt, address, Duration::from_millis(50), turn) {
             Ok(stream) => kept.push(stream).ok()?,
             Err(error) => return Some(error.kind()),
@@ -22,30 +19,13 @@ fn first_failure(rt: &HostRuntime, address: &SocketAddr) -> Option<ErrorKind> {
     None
 }
 
-// A listener, and its address.
-fn listener(rt: &HostRuntime) -> Option<(TcpListener, SocketAddr)> {
+// The same for a new listener.
+fn failure_of_full(rt: &HostRuntime) -> Option<ErrorKind> {
     let listener = TcpListener::bind(rt, (Ipv4Addr::LOCALHOST, 0)).ok()?;
-    let address = listener.local_addr().ok()?;
-    Some((listener, address))
+    first_failure(rt, &listener.local_addr().ok()?)
 }
 
 #[test]
 fn a_full_listener_is_given_up_in_time(rt: HostRuntime) {
-    let Some((_listener, address)) = listener(&rt) else {
-        panic!(rt; "no listener");
-    };
-    let failure = first_failure(&rt, &address);
-    assert!(rt; failure == Some(ErrorKind::TimedOut), "{failure:?}");
-}
-
-// Whether a connection is made if the turns of its stream would have no length.
-fn is_made(rt: &HostRuntime) -> Option<bool> {
-    let (_listener, address) = listener(rt)?;
-    let (limit, turn) = (Duration::from_secs(1), Duration::from_secs(0));
-    Some(connect(rt, &address, limit, turn).is_ok())
-}
-
-#[test]
-fn a_turn_of_no_time_is_refused(rt: HostRuntime) {
-    assert!(rt; is_made(&rt) == Some(false), "a stream without turns");
+    assert_eq!(rt; failure_of_full(&rt), Some(ErrorKind::TimedOut));
 }

@@ -1,9 +1,8 @@
 //! Each allocation fails in turn: `rt try --test --fail-alloc N`. With enough memory each call succeeds.
 
 use crate::served::REGISTRATION;
-use dist_epmd::{NodeInfo, Registry};
+use dist_epmd::{NodeInfo, Registry, Request, decode_request};
 use dist_epmd_calls::{LookupError, Served, ask_names, lookup, register, serve_registry};
-use dist_names::ByteString;
 use dist_stream::FaultStream;
 use std::alloc::Global;
 use std::test::*;
@@ -70,16 +69,12 @@ fn are_served(alloc: Global) -> Option<bool> {
     Some(are_all)
 }
 
+// The node of the registration.
 fn node_a(alloc: Global) -> Option<NodeInfo> {
-    Some(NodeInfo {
-        port: 9001,
-        node_type: 77,
-        protocol: 0,
-        highest: 6,
-        lowest: 5,
-        name: ByteString::from_slice(alloc, b"a").ok()?,
-        extra: ByteString::new(alloc),
-    })
+    match decode_request(alloc, REGISTRATION.get(2..)?) {
+        Ok(Request::Alive(node)) => Some(node),
+        _ => None,
+    }
 }
 
 // Whether the question with this answer succeeds, or runs out of memory.

@@ -2,10 +2,11 @@
 //! order of a nodes file.
 
 use crate::runs::A_PEER;
-use crate::setting::{CHALLENGE, event, frame, setup_of, word};
+use crate::seats::{SeatedNode, is_made, seated_node};
+use crate::setting::{number, word};
 use dist_audit::audit;
 use dist_core::Event;
-use dist_locked::{Closed, Line, LockedNode, Seat, SharedLine, Tickets, close};
+use dist_locked::{Closed, Line, SharedLine, Tickets, close};
 use dist_names::{ByteString, Creation, Flags};
 use dist_run_hosts::are_obeyed;
 use dist_run_plan::plan_of;
@@ -14,68 +15,25 @@ use std::alloc::Global;
 use std::sync::{Arc, Wait};
 use std::test::*;
 
-// One handshake: the node of each step, and its event. The frames of node b's status `ok`, challenge and acknowledgement are in
-// hexadecimal digits, with their length. Tickets of a: 0 dial, 1 opened, 4, 5, 7 frames. Of b: 2 incoming, 3, 6 frames.
-const HANDSHAKE: &str = "\
-a dial
-a opened
-b incoming
-b name
-a 0003736f6b
-a 001e4e0000000101000104075bcd1500000006000b62403132372e302e302e31
-b reply
-a 001161d174ab98d277d9f5a5611c2c9f419d9f";
+// One handshake: the node of each step, and its event. Tickets of a: 0 dial, 1 opened, 4, 5, 7 frames. Of b: 2 incoming, 3, 6 frames.
+const HANDSHAKE: &str =
+    "a dial, a opened, b incoming, b name, a ok, a challenge, b reply, a acknowledgement";
 
-// A node with its one seat.
-#[derive(Drop)]
-struct SeatedNode {
-    node: LockedNode,
-    seats: Vec<Seat>,
-}
-
-fn side_of(alloc: Global, tickets: Arc<Tickets, Global>, is_a: bool) -> Option<SeatedNode> {
-    let setup = setup_of(alloc, is_a)?;
-    let (node, seats) = LockedNode::new(alloc, setup, tickets, 1).ok()?;
-    Some(SeatedNode { node, seats })
-}
-
-fn put_side(
-    alloc: Global,
-    sides: &mut Vec<SeatedNode>,
-    tickets: &Arc<Tickets, Global>,
-    is_a: bool,
-) -> Option<()> {
-    let tickets = Arc::try_clone(tickets).ok()?;
-    sides.push(side_of(alloc, tickets, is_a)?).ok()
-}
-
-// Nodes a and b, which draw their tickets from one counter.
+// Adds nodes a and b, which draw their tickets from one counter.
 fn put_both(alloc: Global, sides: &mut Vec<SeatedNode>) -> Option<()> {
     let tickets = Arc::new(alloc, Tickets::new()).ok()?;
-    put_side(alloc, sides, &tickets, true)?;
-    put_side(alloc, sides, &tickets, false)
-}
-
-// The event for a word, or for a frame in digits.
-fn event_or_frame(alloc: Global, noted: &str) -> Option<Event> {
-    if noted.starts_with('0') {
-        frame(alloc, noted)
-    } else {
-        event(alloc, noted)
+    for is_a in [true, false] {
+        sides.push(seated_node(alloc, &tickets, is_a)?).ok()?;
     }
-}
-
-fn step(rt: &impl Wait, alloc: Global, side: &mut SeatedNode, noted: &str) -> Option<()> {
-    let event = event_or_frame(alloc, noted)?;
-    let seat = side.seats.first_mut()?;
-    let _ = side.node.step(rt, seat, &event, CHALLENGE).ok()?;
     Some(())
 }
 
 fn play(rt: &impl Wait, alloc: Global, sides: &mut [SeatedNode], text: &str) -> Option<()> {
-    for line in text.lines() {
-        let place = usize::from(line.starts_with('b'));
-        step(rt, alloc, sides.get_mut(place)?, word(line, 1))?;
+    for step in text.split_terminator(", ") {
+        let side = sides.get_mut(usize::from(step.starts_with('b')))?;
+        if !is_made(rt, alloc, side, 0, word(step, 1))? {
+            return None;
+        }
     }
     Some(())
 }
@@ -85,25 +43,15 @@ fn put_closed(all: &mut Vec<Closed>, side: SeatedNode) -> Option<()> {
     all.push(closed).ok()
 }
 
-fn put_all_closed(all: &mut Vec<Closed>, sides: Vec<SeatedNode>) -> Option<()> {
-    for side in sides {
-        put_closed(all, side)?;
-    }
-    Some(())
-}
-
-// Adds the closed nodes a and b, after the steps in this text.
-fn put_played(rt: &impl Wait, alloc: Global, all: &mut Vec<Closed>, text: &str) -> Option<()> {
+// The closed nodes a and b, after the steps in this text. `None`: memory was refused, or the text is wrong.
+fn play_text(rt: &impl Wait, alloc: Global, text: &str) -> Option<Vec<Closed>> {
     let mut sides = Vec::new(alloc);
     put_both(alloc, &mut sides)?;
     play(rt, alloc, &mut sides, text)?;
-    put_all_closed(all, sides)
-}
-
-// The closed nodes a and b, after the steps in this text. `None`: memory was refused, or the text is wrong.
-fn play_text(rt: &impl Wait, alloc: Global, text: &str) -> Option<Vec<Closed>> {
     let mut all = Vec::new(alloc);
-    put_played(rt, alloc, &mut all, text)?;
+    for side in sides {
+        put_closed(&mut all, side)?;
+    }
     Some(all)
 }
 
@@ -154,127 +102,85 @@ fn put_altered(alloc: Global, shared: &mut SharedLine, what: &str) -> Option<()>
     Some(())
 }
 
-fn number(row: &str, place: usize) -> Option<usize> {
-    word(row, place).parse::<usize>().ok()
-}
-
-fn leave_out(history: &mut Vec<SharedLine>) {
-    let _ = history.pop();
-}
-
 // Changes a line of a history, `NODE LINE WHAT`, or removes the last line, `NODE LINE out`.
 fn alter_row(alloc: Global, all: &mut [Closed], row: &str) -> Option<()> {
-    let history = &mut all.get_mut(number(row, 0)?)?.history;
+    let history = &mut all.get_mut(number(word(row, 0), 9) as usize)?.history;
     if row.ends_with("out") {
-        leave_out(history);
+        let _ = history.pop();
         return Some(());
     }
-    put_altered(alloc, history.get_mut(number(row, 1)?)?, word(row, 2))
+    let line = history.get_mut(number(word(row, 1), 9) as usize)?;
+    put_altered(alloc, line, word(row, 2))
 }
 
-// Does what each line says, and returns the first for which the audit has another result.
-fn first_wrong(alloc: Global, all: &mut [Closed], text: &'static str) -> Option<&'static str> {
-    for line in text.lines() {
-        let is_so = match line.split_once("? ") {
+// Does what each part says, and returns how many go right: up to the first for which the audit has another result.
+fn right_parts(alloc: Global, all: &mut [Closed]) -> usize {
+    let mut right = 0usize;
+    for part in ALTERED.split(", ") {
+        let is_so = match part.split_once("? ") {
             Some((_, wanted)) => answer(alloc, all) == wanted,
-            None => alter_row(alloc, all, line).is_some(),
+            None => alter_row(alloc, all, part).is_some(),
         };
         if !is_so {
-            return Some(line);
+            return right;
         }
+        right = right.saturating_add(1);
     }
-    None
+    right
 }
 
 // A ticket of the other node; two tickets exchanged; the link of the connection that came, a byte of a frame's body, and a byte of what
 // was sent last, each undone. Then each ticket doubled plus one (shifted_tickets), that of the connection that came one below that of
 // `opened`, and one below that of the dial. Then the original tickets, without the last line.
 const ALTERED: &str = "\
-? agreed
-0 2 3
-? TicketTwice
-0 2 5
-0 3 4
-? TicketFalls
-0 2 4
-0 3 5
-? agreed
-1 0 link
-? Unpaired
-1 0 link
-1 1 body
-? NotSent
-1 1 body
-1 2 say
-? OtherReply
-1 2 say
-? agreed
-0 4 15
-0 3 11
-0 2 9
-0 1 3
-0 0 1
-1 2 13
-1 1 7
-1 0 5
-? agreed
-1 0 2
-? agreed
-1 0 0
-? OtherReply
-1 0 5
-0 4 out
-? OtherReply";
-
-// The first row with another result for the histories of a handshake.
-fn wrong<R: Wait>(rt: &R, alloc: Global) -> Option<&'static str> {
-    match play_text(rt, alloc, HANDSHAKE) {
-        Some(mut all) => first_wrong(alloc, &mut all, ALTERED),
-        None => Some("no history"),
-    }
-}
+    ? agreed, 0 2 3, ? TicketTwice, 0 2 5, 0 3 4, ? TicketFalls, 0 2 4, 0 3 5, ? agreed, \
+    1 0 link, ? Unpaired, 1 0 link, 1 1 body, ? NotSent, 1 1 body, 1 2 say, ? OtherReply, 1 2 say, ? agreed, \
+    0 4 15, 0 3 11, 0 2 9, 0 1 3, 0 0 1, 1 2 13, 1 1 7, 1 0 5, ? agreed, 1 0 2, ? agreed, 1 0 0, ? OtherReply, \
+    1 0 5, 0 4 out, ? OtherReply";
 
 #[test]
 fn audited_handshake(rt: HostRuntime) {
-    assert_eq!(rt; wrong(&rt, rt.alloc()), None);
+    let Some(mut all) = play_text(&rt, rt.alloc(), HANDSHAKE) else {
+        panic!(rt; "no history");
+    };
+    assert_eq!(rt;
+        right_parts(rt.alloc(), &mut all),
+        ALTERED.split(", ").count()
+    );
 }
 
-// The result of the audit for no history, for one node alone with a connection that no node dialled, and for two nodes of which one
-// dialled the other again after its end was lost.
-fn small(rt: &impl Wait, alloc: Global) -> Option<(&'static str, &'static str, &'static str)> {
-    let all = play_text(rt, alloc, "b incoming")?;
-    let again = play_text(rt, alloc, "a dial\na ended\na dial")?;
-    Some((
-        answer(alloc, &[]),
-        answer(alloc, all.get(1..)?),
-        answer(alloc, &again),
-    ))
-}
+// Steps, from which node on the histories are audited, the result, and whether both histories follow node a's one order to dial node
+// b: no history; one node alone with a connection that no node dialled; a dial; and a second one after its end was lost.
+const SMALL: [(&str, usize, &str, bool); 4] = [
+    ("", 2, "not agreed", false),
+    ("b incoming", 1, "Unpaired", false),
+    ("a dial", 0, "not agreed", true),
+    ("a dial, a ended, a dial", 0, "not agreed", false),
+];
 
 #[test]
 fn small_audits(rt: HostRuntime) {
-    let wanted = Some(("not agreed", "Unpaired", "not agreed"));
-    assert_eq!(rt; small(&rt, rt.alloc()), wanted);
+    for (text, first, wanted, _) in SMALL {
+        let Some(all) = play_text(&rt, rt.alloc(), text) else {
+            panic!(rt; "no history");
+        };
+        let some = all.get(first..).unwrap_or(&[]);
+        assert_eq!(rt; answer(rt.alloc(), some), wanted, "{text}");
+    }
 }
 
-// Whether node a, with one order to dial node b, counts as having followed it with these steps.
-const FOLLOWED: [(&str, bool); 3] = [
-    ("a dial", true),
-    ("b incoming", false),
-    ("a dial\na ended\na dial", false),
-];
-
-fn is_order_followed(rt: &impl Wait, alloc: Global, text: &str) -> Option<bool> {
+fn are_followed(alloc: Global, all: &[Closed]) -> Option<bool> {
     let plan = plan_of(alloc, A_PEER).ok()?;
-    let all = play_text(rt, alloc, text)?;
-    Some(are_obeyed(plan.dial.as_slice(), &[], all.as_slice()))
+    Some(are_obeyed(&plan, &[], all))
 }
 
 #[test]
 fn an_order_is_followed_once(rt: HostRuntime) {
-    for (text, wanted) in FOLLOWED {
-        let is_followed = is_order_followed(&rt, rt.alloc(), text);
-        assert_eq!(rt; is_followed, Some(wanted), "{text}");
+    for (text, _, _, wanted) in SMALL {
+        let Some(all) = play_text(&rt, rt.alloc(), text) else {
+            panic!(rt; "no history");
+        };
+        assert_eq!(rt; are_followed(rt.alloc(), &all), Some(wanted), "{text}");
     }
 }
 

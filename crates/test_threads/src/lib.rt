@@ -11,15 +11,9 @@ mod answers;
 #[cfg(test)]
 mod audits;
 #[cfg(test)]
-mod crowds;
-#[cfg(test)]
 mod desks;
 #[cfg(test)]
 mod drives;
-#[cfg(test)]
-mod registry;
-#[cfg(test)]
-mod running;
 #[cfg(test)]
 mod runs;
 #[cfg(test)]
@@ -30,7 +24,5 @@ mod setting;
 mod system;
 #[cfg(test)]
 mod threads;
-#[cfg(test)]
-mod world_memory;
 #[cfg(test)]
 mod worlds;

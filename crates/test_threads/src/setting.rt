@@ -1,22 +1,36 @@
 //! What the rows share: two nodes, what each sends in a handshake, the events, and a source of challenges.
 
-use dist_core::{Event, Limits, Opening, Setup, Still, Version, Why};
+use dist_core::{Event, Node, Opening, Setup, StepError, Why};
 use dist_drive::Draws;
-use dist_names::{ByteString, Creation, Flags, NodeName};
+use dist_names::{ByteString, NodeName};
 use dist_peers::EndId;
-use dist_secret::{Cookie, Cookies};
+use dist_script::{Script, script_of};
 use std::alloc::Global;
-
-// The frame of the name of node a, version 6.
-const NAME_OF_A: &str = "001a4e000000040100000400000005000b61403132372e302e302e31";
-
-// The frame of node a's reply to the challenge 123456789.
-const REPLY: &str = "001572075bcd15d174ab98d277d9f5a5611c2c9f419d9f";
 
 /// The challenge of node b.
 pub const CHALLENGE: u32 = 123456789;
 
-const COOKIE: &str = "ABCDEFGHIJKLMNOPQRSTUVWXYZabcdefghijklmnopqrstuvwxyz0";
+const NODE_A: &str =
+    "node a@127.0.0.1 ABCDEFGHIJKLMNOPQRSTUVWXYZabcdefghijklmnopqrstuvwxyz0 401000004 5";
+
+const NODE_B: &str =
+    "node b@127.0.0.1 ABCDEFGHIJKLMNOPQRSTUVWXYZabcdefghijklmnopqrstuvwxyz0 101000104 6";
+
+// Frames in hexadecimal digits. Node a sends its name, a reply to the challenge 123456789, one with a wrong bit, and the status
+// `true`; node b sends the other statuses, this challenge and its acknowledgement; then come a tick and a packet of 5 bytes. The old
+// name is that of a node that only knows version 5, written by hand from the ERTS User's Guide, Distribution Handshake: a tag, the
+// version 5, the flags 4 in four bytes, the name.
+const FRAMES: &str = "\
+name 001a4e000000040100000400000005000b61403132372e302e302e31
+old_name 00126e00050000000461403132372e302e302e31
+reply 001572075bcd15d174ab98d277d9f5a5611c2c9f419d9f
+wrong_reply 001572075bcd15d174ab98d277d9f5a5611c2c9f419d9e
+true 00057374727565
+ok 0003736f6b
+nok 0004736e6f6b
+challenge 001e4e0000000101000104075bcd1500000006000b62403132372e302e302e31
+acknowledgement 001161d174ab98d277d9f5a5611c2c9f419d9f
+packets 00000000000000050102030405";
 
 /// This number, then the next one, and so on.
 #[derive(Drop)]
@@ -32,82 +46,107 @@ impl Draws for Rising {
     }
 }
 
-fn name_of(alloc: Global, text: &str) -> Option<NodeName> {
-    NodeName::new(alloc, text.as_bytes()).ok()
-}
-
 /// The setup of node a, or of node b.
 pub fn setup_of(alloc: Global, is_a: bool) -> Option<Setup> {
-    let (name, flags, creation) = if is_a {
-        ("a@127.0.0.1", 0x401000004, 5)
-    } else {
-        ("b@127.0.0.1", 0x101000104, 6)
-    };
-    Some(Setup {
-        name: name_of(alloc, name)?,
-        cookies: Cookies::new(alloc, Cookie::from_bytes(alloc, COOKIE.as_bytes()).ok()?),
-        version: Version::Six,
-        flags: Flags(flags),
-        required: Flags(0),
-        creation: Creation(creation),
-        allow: None,
-        limits: Limits::usual(),
-    })
-}
-
-/// The event of a frame for end 0, in digits: its length and its body.
-pub fn frame(alloc: Global, text: &str) -> Option<Event> {
-    let body = hex::decode(alloc, text.get(4..)?).ok()?;
-    let body = ByteString::from_vec(body);
-    Some(Event::Frame {
-        end_: EndId(0),
-        body,
-    })
-}
-
-/// The event for a word: `dial` of node b; end 0 is `opened`; a connection is `incoming`; the `name` of node a and its `reply`; end 0
-/// has `ended`, or is `replaced`; a tick is due on `another` end; for any other word, a tick is due on end 0.
-pub fn event(alloc: Global, word: &str) -> Option<Event> {
-    match word {
-        "dial" => dial(alloc),
-        "name" => frame(alloc, NAME_OF_A),
-        "reply" => frame(alloc, REPLY),
-        _ => Some(short_event(word)),
+    let line = if is_a { NODE_A } else { NODE_B };
+    match script_of(alloc, line.as_bytes()).ok()? {
+        Script::Events { node, .. } => Some(node),
+        Script::Happenings { .. } => None,
     }
 }
 
+// The digits of a frame.
+fn digits_of(word: &str) -> Option<&'static str> {
+    for line in FRAMES.lines() {
+        if let Some((known, digits)) = line.split_once(' ')
+            && known == word
+        {
+            return Some(digits);
+        }
+    }
+    None
+}
+
+/// The bytes of frames joined by `+`; `-` is no byte.
+pub fn bytes_of(alloc: Global, words: &str) -> Option<Vec<u8>> {
+    let mut bytes = Vec::new(alloc);
+    for word in words.split('+') {
+        let more = hex::decode(alloc, digits_of(word).unwrap_or("")).ok()?;
+        bytes.extend_from_slice(&more).ok()?;
+    }
+    Some(bytes)
+}
+
+/// The event for a word: a frame; `dial` of node b; the end is `opened`, has `ended`, or is `replaced`; a connection is `incoming`; for
+/// any other word, a tick is due. It is for end 0, or after `1:` for end 1.
+pub fn event(alloc: Global, word: &str) -> Option<Event> {
+    let (end_, word) = match word.strip_prefix("1:") {
+        Some(word) => (EndId(1), word),
+        None => (EndId(0), word),
+    };
+    if word == "dial" {
+        return dial(alloc);
+    }
+    match digits_of(word) {
+        Some(digits) => frame(alloc, end_, digits),
+        None => Some(short_event(end_, word)),
+    }
+}
+
+fn frame(alloc: Global, end_: EndId, digits: &str) -> Option<Event> {
+    let body = ByteString::from_vec(hex::decode(alloc, digits.get(4..)?).ok()?);
+    Some(Event::Frame { end_, body })
+}
+
 fn dial(alloc: Global) -> Option<Event> {
-    let peer = name_of(alloc, "b@127.0.0.1")?;
+    let peer = NodeName::new(alloc, b"b@127.0.0.1").ok()?;
     let opening = Opening::New;
     Some(Event::Dial { peer, opening })
 }
 
 // An event that takes no memory.
-fn short_event(word: &str) -> Event {
-    let end_ = EndId(0);
+fn short_event(end_: EndId, word: &str) -> Event {
     match word {
         "opened" => Event::Opened { end_, link: 1 },
         "incoming" => Event::Incoming { link: 1 },
-        "ended" => loss_for(Why::Ended),
-        "replaced" => loss_for(Why::Replaced),
-        "another" => Event::Tick { end_: EndId(1) },
+        "ended" => Event::Lost {
+            end_,
+            why: Why::Ended,
+        },
+        "replaced" => Event::Lost {
+            end_,
+            why: Why::Replaced,
+        },
         _ => Event::Tick { end_ },
     }
 }
 
-fn loss_for(why: Why) -> Event {
-    let end_ = EndId(0);
-    Event::Lost { end_, why }
+/// Gives a node the event for a word; a number forgets the causes of the closed ends below it. `None`, here and below: memory was
+/// refused.
+pub fn do_word(alloc: Global, node: &mut Node, word: &str) -> Option<Result<(), StepError>> {
+    if let Ok(below) = word.parse::<u32>() {
+        node.forget(EndId(below));
+        return Some(Ok(()));
+    }
+    let event = event(alloc, word)?;
+    match node.step(alloc, &event, CHALLENGE) {
+        Ok(_) => Some(Ok(())),
+        Err(error) => Some(Err(error)),
+    }
 }
 
-/// How an end stands, or why it is closed.
-pub fn still_word(still: Still) -> &'static str {
-    match still {
-        Still::NoSuchEnd => "NoSuchEnd",
-        Still::Gone(why) => why.name(),
-        Still::Pending => "Pending",
-        Still::Up => "Up",
+fn do_words(alloc: Global, node: &mut Node, text: &str) -> Option<()> {
+    for word in text.split(' ').skip(1) {
+        let _ = do_word(alloc, node, word)?;
     }
+    Some(())
+}
+
+/// The node with which a text begins, a or b, after its words.
+pub fn node_after(alloc: Global, text: &str) -> Option<Node> {
+    let mut node = Node::new(alloc, setup_of(alloc, text.starts_with('a'))?);
+    do_words(alloc, &mut node, text)?;
+    Some(node)
 }
 
 /// The word at this place of a row.

@@ -1,11 +1,11 @@
 //! The system from which a run gets its sockets, threads, clock and random bytes, with its faults.
 
 use dist_locked::{Gate, Moment};
-use std::io::{ErrorKind, Write};
-use std::net::{Ipv4Addr, Net, Shutdown, SocketAddr, TcpListener, TcpStream};
+use std::io::ErrorKind;
+use std::net::{Net, Shutdown, SocketAddr, TcpListener, TcpStream};
 use std::random::RandomSource;
+use std::sync::Wait;
 use std::sync::atomic::{AtomicUsize, Ordering};
-use std::sync::{Mutex, Wait};
 use std::thread::Threads;
 use std::time::{Clock, Duration};
 use std::{io, thread};
@@ -19,10 +19,8 @@ pub enum Wrong {
     NoRandomBytes,
     /// The listener with this number is refused.
     NoListener(usize),
-    /// The connection with this number to the port mapper is refused.
-    NoMapper(usize),
-    /// Each connection to a node is refused.
-    NoPeer,
+    /// The connection with this number is refused. Each node makes one to the port mapper, and each dial one to it and one to its peer.
+    NoConnection(usize),
     /// The first three connections to nodes are cut: both ways, what the dialling node sends, what it receives.
     Cuts,
     /// No end gets the event of its connection before both workers have a connection.
@@ -32,9 +30,6 @@ pub enum Wrong {
     Overtakes,
     /// Both workers stop at this moment.
     Shut(Moment),
-    /// Before the nodes connect, clients that send nothing, and clients that send garbage, connect to the first node and to the port
-    /// mapper, and stay.
-    Strangers,
 }
 
 /// A system with a fault.
@@ -44,11 +39,10 @@ pub struct FaultySystem<'a, R> {
     wrong: Wrong,
     mapper_port: AtomicUsize,
     listeners: AtomicUsize,
-    to_mapper: AtomicUsize,
+    connections: AtomicUsize,
     to_nodes: AtomicUsize,
     held: AtomicUsize,
     passed: AtomicUsize,
-    strangers: Mutex<Option<[TcpStream; 8]>>,
 }
 
 impl<'a, R> FaultySystem<'a, R> {
@@ -59,11 +53,23 @@ impl<'a, R> FaultySystem<'a, R> {
             wrong,
             mapper_port: AtomicUsize::new(0),
             listeners: AtomicUsize::new(0),
-            to_mapper: AtomicUsize::new(0),
+            connections: AtomicUsize::new(0),
             to_nodes: AtomicUsize::new(0),
             held: AtomicUsize::new(0),
             passed: AtomicUsize::new(0),
-            strangers: Mutex::new(None),
+        }
+    }
+
+    // Cuts a connection to this port, if it is one of the first three to nodes.
+    fn cut(&self, socket: &TcpStream, port: u16) -> io::Result<()> {
+        if usize::from(port) == self.mapper_port.load(Ordering::SeqCst) {
+            return Ok(());
+        }
+        match next(&self.to_nodes) {
+            0 => socket.shutdown(Shutdown::Both),
+            1 => socket.shutdown(Shutdown::Write),
+            2 => socket.shutdown(Shutdown::Read),
+            _ => Ok(()),
         }
     }
 }
@@ -73,63 +79,11 @@ fn next(count: &AtomicUsize) -> usize {
     count.fetch_add(1, Ordering::SeqCst)
 }
 
-fn connection_refusal<T>() -> io::Result<T> {
+fn refusal<T>() -> io::Result<T> {
     Err(io::Error::from(ErrorKind::ConnectionRefused))
 }
 
-impl<'a, R: Net<Listener = TcpListener, Stream = TcpStream> + Wait> FaultySystem<'a, R> {
-    fn mapper_port(&self) -> u16 {
-        u16::try_from(self.mapper_port.load(Ordering::SeqCst)).unwrap_or(0)
-    }
-
-    // A client that has sent these bytes.
-    fn client(&self, port: u16, said: &[u8]) -> io::Result<TcpStream> {
-        let mut socket = TcpStream::connect(self.rt, (Ipv4Addr::LOCALHOST, port))?;
-        socket.write_all(said)?;
-        Ok(socket)
-    }
-
-    fn let_strangers_in(&self, node_port: u16) -> io::Result<()> {
-        let mapper_port = self.mapper_port();
-        let clients = [
-            self.client(mapper_port, b"")?,
-            self.client(mapper_port, b"")?,
-            self.client(mapper_port, b"\x00")?,
-            self.client(mapper_port, b"\x00\x0e\x78")?,
-            self.client(mapper_port, b"\xff\xff\x78")?,
-            self.client(mapper_port, b"\x00\x00")?,
-            self.client(node_port, b"")?,
-            self.client(node_port, b"\x00\x05hello")?,
-        ];
-        *self.strangers.lock(self.rt) = Some(clients);
-        Ok(())
-    }
-
-    fn to_mapper(&self, address: SocketAddr, limit: Duration) -> io::Result<TcpStream> {
-        if self.wrong == Wrong::NoMapper(next(&self.to_mapper)) {
-            return connection_refusal();
-        }
-        self.rt.connect_timeout(address, limit)
-    }
-
-    fn to_node(&self, address: SocketAddr, limit: Duration) -> io::Result<TcpStream> {
-        if self.wrong == Wrong::NoPeer {
-            return connection_refusal();
-        }
-        let socket = self.rt.connect_timeout(address, limit)?;
-        if self.wrong == Wrong::Cuts {
-            match next(&self.to_nodes) {
-                0 => socket.shutdown(Shutdown::Both)?,
-                1 => socket.shutdown(Shutdown::Write)?,
-                2 => socket.shutdown(Shutdown::Read)?,
-                _ => {}
-            }
-        }
-        Ok(socket)
-    }
-}
-
-impl<'a, R: Net<Listener = TcpListener, Stream = TcpStream> + Wait> Net for FaultySystem<'a, R> {
+impl<'a, R: Net<Listener = TcpListener, Stream = TcpStream>> Net for FaultySystem<'a, R> {
     type Stream = TcpStream;
 
     type Listener = TcpListener;
@@ -137,30 +91,30 @@ impl<'a, R: Net<Listener = TcpListener, Stream = TcpStream> + Wait> Net for Faul
     fn bind(&self, address: SocketAddr) -> io::Result<TcpListener> {
         let number = next(&self.listeners);
         if self.wrong == Wrong::NoListener(number) {
-            return connection_refusal();
+            return refusal();
         }
         let listener = self.rt.bind(address)?;
-        let port = listener.local_addr()?.port();
         if number == 0 {
+            let port = listener.local_addr()?.port();
             self.mapper_port.store(usize::from(port), Ordering::SeqCst);
-        }
-        if number == 1 && self.wrong == Wrong::Strangers {
-            self.let_strangers_in(port)?;
         }
         Ok(listener)
     }
 
     // A run makes no connection without a limit of time.
     fn connect(&self, _address: SocketAddr) -> io::Result<TcpStream> {
-        connection_refusal()
+        refusal()
     }
 
     fn connect_timeout(&self, address: SocketAddr, limit: Duration) -> io::Result<TcpStream> {
-        if address.port() == self.mapper_port() {
-            self.to_mapper(address, limit)
-        } else {
-            self.to_node(address, limit)
+        if self.wrong == Wrong::NoConnection(next(&self.connections)) {
+            return refusal();
         }
+        let socket = self.rt.connect_timeout(address, limit)?;
+        if self.wrong == Wrong::Cuts {
+            self.cut(&socket, address.port())?;
+        }
+        Ok(socket)
     }
 }
 
@@ -185,7 +139,7 @@ impl<'a, R: Clock> Clock for FaultySystem<'a, R> {
 impl<'a, R: RandomSource> RandomSource for FaultySystem<'a, R> {
     fn fill_bytes(&self, room: &mut [u8]) -> io::Result<()> {
         if self.wrong == Wrong::NoRandomBytes {
-            return connection_refusal();
+            return refusal();
         }
         self.rt.fill_bytes(room)
     }
@@ -203,39 +157,24 @@ fn are_there(count: &AtomicUsize, wanted: usize) -> bool {
     false
 }
 
-impl<'a, R> FaultySystem<'a, R> {
-    // Waits for the other worker's connection.
-    fn hold(&self, moment: Moment) -> bool {
-        if moment == Moment::BeforeStep {
-            next(&self.held);
-            let _ = are_there(&self.held, 2);
-        }
-        true
-    }
-
-    // Lets the second worker go first, once the first has a connection too.
-    fn overtake(&self, worker: u32, moment: Moment) -> bool {
-        match (worker, moment) {
-            (0, Moment::BeforeStep) => {
+impl<'a, R> Gate for FaultySystem<'a, R> {
+    fn at(&self, worker: u32, moment: Moment) -> bool {
+        match (self.wrong, worker, moment) {
+            (Wrong::Shut(shut), _, _) => moment != shut,
+            (Wrong::Holds, _, Moment::BeforeStep) => {
+                next(&self.held);
+                let _ = are_there(&self.held, 2);
+                true
+            }
+            (Wrong::Overtakes, 0, Moment::BeforeStep) => {
                 next(&self.held);
                 are_there(&self.passed, 1)
             }
-            (_, Moment::BeforeStep) => are_there(&self.held, 1),
-            (0, Moment::AfterStep) => true,
-            (_, Moment::AfterStep) => {
+            (Wrong::Overtakes, 1, Moment::BeforeStep) => are_there(&self.held, 1),
+            (Wrong::Overtakes, 1, Moment::AfterStep) => {
                 next(&self.passed);
                 true
             }
-        }
-    }
-}
-
-impl<'a, R> Gate for FaultySystem<'a, R> {
-    fn at(&self, worker: u32, moment: Moment) -> bool {
-        match self.wrong {
-            Wrong::Holds => self.hold(moment),
-            Wrong::Overtakes => self.overtake(worker, moment),
-            Wrong::Shut(shut) => moment != shut,
             _ => true,
         }
     }

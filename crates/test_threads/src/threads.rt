@@ -1,13 +1,13 @@
-//! Two threads at one node under a lock: each makes steps of its own, or drives an end.
+//! Two threads at one node under a lock, where each makes steps of its own or drives an end, and at one registry under a lock.
 //!
 //! A silent peer delays nothing: no lock is held while a stream is read.
 
-use crate::drives::NAME_AND_REPLY;
-use crate::seats::{Closing, closing, seated_node};
-use crate::setting::{CHALLENGE, Rising};
+use crate::seats::{Closing, closing, seated_b};
+use crate::setting::{CHALLENGE, Rising, bytes_of};
 use dist_core::{Event, Still};
-use dist_drive::{FaultStream, Heard, Stream, Took};
-use dist_locked::{LockedNode, Seat, drive_end};
+use dist_drive::{FaultStream, Heard, Mapper, Stream, Took};
+use dist_epmd::{Answer, Registry, decode_request};
+use dist_locked::{LockedNode, LockedRegistry, Seat, SharedMapper, drive_end};
 use dist_peers::EndId;
 use std::alloc::Global;
 use std::sync::Wait;
@@ -50,41 +50,32 @@ fn looks_until_up<R: Wait + Clock>(rt: &R, node: &LockedNode) -> u64 {
     1000
 }
 
-// Drives an end whose peer sends this. Returns the seat, and how often the stream looked.
+// Drives an end whose peer sends these frames. Returns the seat, and how often the stream looked.
 fn drive_patiently<R: Wait + Clock>(
     rt: &R,
     alloc: Global,
     node: &LockedNode,
     seat: Seat,
-    end: u32,
+    end_: EndId,
     says: &str,
 ) -> Option<(Seat, u64)> {
     let mut stream = Patient {
         rt,
         node,
         looks: 0,
-        inner: FaultStream::new(alloc, hex::decode(alloc, says).ok()?),
+        inner: FaultStream::new(alloc, bytes_of(alloc, says)?),
     };
     let mut draws = Rising(CHALLENGE);
-    let end_ = EndId(end);
     let driven = drive_end(rt, alloc, node, seat, &mut stream, &mut draws, end_, &[], 3).ok()?;
     Some((driven.seat, stream.looks))
-}
-
-// The end of a new connection.
-fn end_of<R: Wait>(rt: &R, node: &LockedNode, seat: &mut Seat, link: u64) -> Option<EndId> {
-    match node.step(rt, seat, &Event::Incoming { link }, 0) {
-        Ok((_, reply)) => Some(reply.end_),
-        Err(_) => None,
-    }
 }
 
 // Gives the node this many connections. Returns the seat, and after how many of the steps the end was pending.
 fn come<R: Wait>(rt: &R, node: &LockedNode, mut seat: Seat, links: u64) -> (Seat, u64) {
     let mut pending = 0u64;
     for link in 0..links {
-        if let Some(end_) = end_of(rt, node, &mut seat, link) {
-            let is_pending = node.still(rt, end_) == Still::Pending;
+        if let Ok((_, reply)) = node.step(rt, &mut seat, &Event::Incoming { link }, 0) {
+            let is_pending = node.still(rt, reply.end_) == Still::Pending;
             pending = pending.saturating_add(is_pending as u64);
         }
     }
@@ -94,12 +85,10 @@ fn come<R: Wait>(rt: &R, node: &LockedNode, mut seat: Seat, links: u64) -> (Seat
 // What a thread does with its seat.
 #[derive(Clone, Copy)]
 enum Work {
-    // It gives the node a hundred connections.
-    Comes,
-    // It drives end 0, whose peer is silent.
-    IsSilent,
-    // It drives end 1, whose peer sends a whole handshake.
-    ShakesHands,
+    // It gives the node this many connections.
+    Comes(u64),
+    // It drives this end, whose peer sends these frames.
+    Drives(EndId, &'static str),
 }
 
 fn do_work<R: Wait + Clock>(
@@ -110,64 +99,112 @@ fn do_work<R: Wait + Clock>(
     work: Work,
 ) -> Option<(Seat, u64)> {
     match work {
-        Work::Comes => Some(come(rt, node, seat, 100)),
-        Work::IsSilent => drive_patiently(rt, alloc, node, seat, 0, ""),
-        Work::ShakesHands => drive_patiently(rt, alloc, node, seat, 1, NAME_AND_REPLY),
+        Work::Comes(links) => Some(come(rt, node, seat, links)),
+        Work::Drives(end_, says) => drive_patiently(rt, alloc, node, seat, end_, says),
     }
 }
 
-// Gives the node this many connections; then two threads work, each with a seat. Returns what each counted, and the result of `close`.
+// Gives the node this many connections; then two threads work, each with a seat, which it puts back. Returns what each counted.
+fn work_at_once<R: Threads + Wait + Clock + Sync>(
+    rt: &R,
+    alloc: Global,
+    node: &LockedNode,
+    seats: &mut Vec<Seat>,
+    links: u64,
+    works: (Work, Work),
+) -> Option<(u64, u64)> {
+    let (first, _) = come(rt, node, seats.pop()?, links);
+    let second = seats.pop()?;
+    let (one, two) = thread::join(
+        rt,
+        move || do_work(rt, alloc, node, first, works.0),
+        move || do_work(rt, alloc, node, second, works.1),
+    );
+    let (ones, twos) = (put_back(seats, one), put_back(seats, two));
+    Some((ones?, twos?))
+}
+
+fn put_back(seats: &mut Vec<Seat>, worked: Option<(Seat, u64)>) -> Option<u64> {
+    let (seat, count) = worked?;
+    seats.push(seat).ok()?;
+    Some(count)
+}
+
+// The same for node b; and the result of `close`.
 fn by_two<R: Threads + Wait + Clock + Sync>(
     rt: &R,
     alloc: Global,
     links: u64,
     works: (Work, Work),
 ) -> Option<(u64, u64, Closing)> {
-    let (node, mut seats) = seated_node(alloc)?;
-    let (first, _) = come(rt, &node, seats.pop()?, links);
-    let second = seats.pop()?;
-    let (ones, twos) = work_at_once(rt, alloc, &node, (first, second), works, &mut seats)?;
-    Some((ones, twos, closing(node, seats)))
-}
-
-// Two threads work, each with a seat, which it puts back. Returns what each counted.
-fn work_at_once<R: Threads + Wait + Clock + Sync>(
-    rt: &R,
-    alloc: Global,
-    node: &LockedNode,
-    free: (Seat, Seat),
-    works: (Work, Work),
-    seats: &mut Vec<Seat>,
-) -> Option<(u64, u64)> {
-    let (first, second) = free;
-    let (one, two) = thread::join(
-        rt,
-        move || do_work(rt, alloc, node, first, works.0),
-        move || do_work(rt, alloc, node, second, works.1),
-    );
-    Some((put_back(seats, one?)?, put_back(seats, two?)?))
-}
-
-fn put_back(seats: &mut Vec<Seat>, worked: (Seat, u64)) -> Option<u64> {
-    let (seat, count) = worked;
-    seats.push(seat).ok()?;
-    Some(count)
+    let mut side = seated_b(alloc)?;
+    let worked = work_at_once(rt, alloc, &side.node, &mut side.seats, links, works);
+    let closing = closing(side);
+    let (ones, twos) = worked?;
+    Some((ones, twos, closing))
 }
 
 // Each line of the history has its receipt, and right after each step its end was pending.
 #[test]
 fn two_threads_on_one_node(rt: HostRuntime) {
-    let seen = by_two(&rt, rt.alloc(), 0, (Work::Comes, Work::Comes));
+    let seen = by_two(&rt, rt.alloc(), 0, (Work::Comes(100), Work::Comes(100)));
     assert_eq!(rt; seen, Some((100, 100, Ok([200, 0, 0, 200]))));
 }
 
-// The stream of end 0 sees that end 1 has come up, and then ends.
+// The stream of end 0, whose peer is silent, sees that end 1 has come up, whose peer sends a whole handshake, and then ends.
 #[test]
 fn silent_peer(rt: HostRuntime) {
-    let seen = by_two(&rt, rt.alloc(), 2, (Work::IsSilent, Work::ShakesHands));
+    let works = (
+        Work::Drives(EndId(0), "-"),
+        Work::Drives(EndId(1), "name+reply"),
+    );
+    let seen = by_two(&rt, rt.alloc(), 2, works);
     let noted = match seen {
         Some((looks, _, closing)) => Some((looks < 1000, closing)),
         None => None,
     };
     assert_eq!(rt; noted, Some((true, Ok([5, 1, 1, 1]))), "{seen:?}");
+}
+
+// The registration of `a` at port 9001.
+const REGISTRATION: &[u8] = b"x\x23\x29M\x00\x00\x06\x00\x05\x00\x01a\x00\x00";
+
+// Registers node a on this connection. Returns the result, and the creation.
+fn register_a<R: Wait>(
+    rt: &R,
+    alloc: Global,
+    shared: &LockedRegistry,
+    conn: u64,
+) -> Option<(u8, u32)> {
+    let request = decode_request(alloc, REGISTRATION).ok()?;
+    match SharedMapper::new(rt, shared).ask(alloc, conn, &request) {
+        Ok(
+            Answer::AliveX {
+                result_code,
+                creation,
+            },
+        ) => Some((result_code, creation)),
+        _ => None,
+    }
+}
+
+#[test]
+fn two_threads_register(rt: HostRuntime) {
+    let alloc = rt.alloc();
+    let registry = LockedRegistry::new(Registry::new(alloc, 4369, 1));
+    let shared = &registry;
+    let noted = thread::join(
+        &rt,
+        move || register_a(&rt, alloc, shared, 1),
+        move || register_a(&rt, alloc, shared, 2),
+    );
+    // The connection whose node was registered, if the other was refused.
+    let first = match noted {
+        (Some((0, 1)), Some((1, 0))) => 1,
+        (Some((1, 0)), Some((0, 1))) => 2,
+        _ => 0,
+    };
+    SharedMapper::new(&rt, shared).closed(first);
+    let third = register_a(&rt, alloc, shared, 3);
+    assert_eq!(rt; (first != 0, third), (true, Some((0, 2))));
 }

@@ -1,11 +1,13 @@
-//! Worlds: what two nodes agree on is the same from both sides; and a node changes its cookies and which nodes may connect.
+//! Worlds: what two nodes agree on is the same from both sides; a world stands when memory runs out; and a node changes its cookies
+//! and which nodes may connect.
 
 use crate::setting::{number, word};
-use dist_core::{Change, NameList};
+use dist_core::{Change, NameList, Setup};
 use dist_names::NodeName;
 use dist_script::{Script, script_of};
+use dist_script_lines::{print_agreements, print_nodes};
 use dist_secret::Cookie;
-use dist_world::{Agreement, Happening, World};
+use dist_world::{Agreement, Happening, Stopped, World};
 use std::alloc::Global;
 use std::test::*;
 
@@ -13,6 +15,12 @@ const NODES: &str = "\
 node a@127.0.0.1 ABCDEFGHIJKLMNOPQRSTUVWXYZabcdefghijklmnopqrstuvwxyz0 401000004 5
 node b@127.0.0.1 ABCDEFGHIJKLMNOPQRSTUVWXYZabcdefghijklmnopqrstuvwxyz0 101000104 6
 node c@127.0.0.1 ABCDEFGHIJKLMNOPQRSTUVWXYZabcdefghijklmnopqrstuvwxyz0 101000104 8
+";
+
+// Two nodes, of which the first limits which nodes may connect, so that its list of names is copied when it begins.
+const TWO_NODES: &str = "\
+node a@127.0.0.1 ABCDEFGHIJKLMNOPQRSTUVWXYZabcdefghijklmnopqrstuvwxyz0 401000004 5 allow b@127.0.0.1
+node b@127.0.0.1 ABCDEFGHIJKLMNOPQRSTUVWXYZabcdefghijklmnopqrstuvwxyz0 101000104 6
 ";
 
 // At how many moments two nodes agree, and what happens: crossing_dials, dialled_name_reached_other_node, restart_of_a_peer,
@@ -34,32 +42,38 @@ const WORLDS: &str = "\
     accept 1, deliver 1 1 999, take 1 1 11, deliver 0 0 999, take 0 0 0, take 0 0 12, accept 0, deliver 0 1 999, take 0 1 13, deliver 1 1 999, \
     take 1 1 0";
 
-// A world of three nodes in which nothing has happened, and a list of happenings.
-fn world_of(alloc: Global, text: &str) -> Option<(World, Vec<Happening>)> {
+// The setups of these nodes, and a list of happenings.
+fn happenings_of(alloc: Global, nodes: &str, text: &str) -> Option<(Vec<Setup>, Vec<Happening>)> {
     let lines = text.replace(alloc, ", ", "\n").ok()?;
-    let script = format!(in alloc; "{NODES}{lines}\n").ok()?;
+    let script = format!(in alloc; "{nodes}{lines}\n").ok()?;
     match script_of(alloc, script.as_bytes()).ok()? {
-        Script::Happenings { nodes, lines } => Some((World::new(alloc, nodes).ok()?, lines)),
+        Script::Happenings { nodes, lines } => Some((nodes, lines)),
         Script::Events { .. } => None,
     }
 }
 
-// What the second of two nodes should report, by the report of the first.
-fn mirror_of(noted: Agreement) -> Agreement {
-    Agreement {
-        conn: noted.conn,
-        common: noted.common,
-        creation_a: noted.creation_b,
-        creation_b: noted.creation_a,
-    }
+// A world of these nodes in which nothing has happened, and the list.
+fn world_of(alloc: Global, nodes: &str, text: &str) -> Option<(World, Vec<Happening>)> {
+    let (setups, list) = happenings_of(alloc, nodes, text)?;
+    Some((World::new(alloc, setups).ok()?, list))
 }
 
 // Whether two nodes agree. `None`: the two sides report differently.
 fn agree(world: &World, a: usize, b: usize) -> Option<bool> {
-    match (world.both_up(a, b), world.both_up(b, a)) {
-        (None, None) => Some(false),
-        (Some(one), Some(other)) if other == mirror_of(one) => Some(true),
-        _ => None,
+    // What the second node should report, by the report of the first.
+    let mirrored = match world.both_up(a, b) {
+        Some(noted) => Some(Agreement {
+            conn: noted.conn,
+            common: noted.common,
+            creation_a: noted.creation_b,
+            creation_b: noted.creation_a,
+        }),
+        None => None,
+    };
+    if world.both_up(b, a) == mirrored {
+        Some(mirrored.is_some())
+    } else {
+        None
     }
 }
 
@@ -73,12 +87,11 @@ fn pairs(world: &World) -> Option<u32> {
 }
 
 // How often a pair agrees: at the beginning, and after each happening.
-fn fronts(alloc: Global, text: &str) -> Option<u32> {
-    let (mut world, happenings) = world_of(alloc, text)?;
-    let mut count = pairs(&world)?;
-    for one in happenings.chunks(1) {
+fn count_of_agreed(alloc: Global, world: &mut World, list: &[Happening]) -> Option<u32> {
+    let mut count = pairs(world)?;
+    for one in list.chunks(1) {
         let _ = world.run(alloc, one).ok()?;
-        count = count.saturating_add(pairs(&world)?);
+        count = count.saturating_add(pairs(world)?);
     }
     Some(count)
 }
@@ -87,12 +100,55 @@ fn fronts(alloc: Global, text: &str) -> Option<u32> {
 fn agreement_is_symmetric(rt: HostRuntime) {
     for row in WORLDS.lines() {
         let (count, text) = row.split_once(' ').unwrap_or((row, ""));
-        assert_eq!(rt;
-            fronts(rt.alloc(), text),
-            count.parse::<u32>().ok(),
-            "{row}"
-        );
+        let Some((mut world, list)) = world_of(rt.alloc(), NODES, text) else {
+            panic!(rt; "no world");
+        };
+        let agreed = count_of_agreed(rt.alloc(), &mut world, &list);
+        assert_eq!(rt; agreed, count.parse::<u32>().ok(), "{row}");
     }
+}
+
+const CROSSED: &str = "\
+node a@127.0.0.1 running 5
+b@127.0.0.1 up 1 common 0000000001000004 creation 6
+node b@127.0.0.1 running 6
+a@127.0.0.1 up 0 common 0000000001000004 creation 5
+agree a@127.0.0.1 b@127.0.0.1 conn 1 common 0000000001000004 creations 5 6
+";
+
+// Lets the list happen. If memory runs out before its end, also lets the rest happen.
+fn run_to_end(alloc: Global, world: &mut World, list: &[Happening]) -> Option<usize> {
+    match world.run(alloc, list) {
+        Ok(applied) => Some(applied),
+        Err(Stopped { done }) => world.run(alloc, list.get(done..)?).ok(),
+    }
+}
+
+// Whether a world shows that two nodes crossed.
+fn shows_the_crossing(alloc: Global, world: &World) -> Option<bool> {
+    let mut out = Vec::new(alloc);
+    print_nodes(world, &mut out).ok()?;
+    print_agreements(alloc, world, &mut out).ok()?;
+    Some(out.as_slice() == CROSSED.as_bytes())
+}
+
+// Whether crossing_dials comes to its end, in one run or in two. `None`: memory was refused to the test itself.
+fn a_crossing_stands(alloc: Global) -> Option<bool> {
+    let (row, _) = WORLDS.split_once('\n')?;
+    let (mut world, list) = world_of(alloc, TWO_NODES, row.strip_prefix("1 ")?)?;
+    let applied = run_to_end(alloc, &mut world, &list);
+    let is_shown = shows_the_crossing(alloc, &world);
+    Some(applied.is_some() && is_shown?)
+}
+
+// Only one request is refused, so it is tried twice.
+#[test]
+fn a_world_stands_after_what_was_done_whatever_request_for_memory_is_refused(rt: HostRuntime) {
+    let stands = match a_crossing_stands(rt.alloc()) {
+        None => a_crossing_stands(rt.alloc()),
+        noted => noted,
+    };
+    assert_eq!(rt; stands, Some(true));
 }
 
 // How many of these happenings apply, whether nodes a and b then agree, and for which cause an end was last closed. Beside the lines of
@@ -151,7 +207,7 @@ fn happening_of(alloc: Global, text: &str) -> Option<Happening> {
         let change = change_of(alloc, text)?;
         return Some(Happening::Reset { node, change });
     }
-    world_of(alloc, text)?.1.pop()
+    happenings_of(alloc, NODES, text)?.1.pop()
 }
 
 // How many of these happenings apply.
@@ -175,18 +231,16 @@ fn is_row_seen(alloc: Global, world: &mut World, row: &str) -> Option<bool> {
     Some(count == number(word(row, 0), 99) && agrees == word(row, 1) && closed == word(row, 2))
 }
 
-// The first row with another result.
-fn first_wrong(alloc: Global) -> Option<Option<&'static str>> {
-    let (mut world, _) = world_of(alloc, "")?;
-    for row in CHANGES.lines() {
-        if is_row_seen(alloc, &mut world, row) != Some(true) {
-            return Some(Some(row));
-        }
-    }
-    Some(None)
-}
-
 #[test]
 fn cookies_and_allow_list_change(rt: HostRuntime) {
-    assert_eq!(rt; first_wrong(rt.alloc()), Some(None));
+    let Some((mut world, _)) = world_of(rt.alloc(), NODES, "") else {
+        panic!(rt; "no memory");
+    };
+    for row in CHANGES.lines() {
+        assert_eq!(rt;
+            is_row_seen(rt.alloc(), &mut world, row),
+            Some(true),
+            "{row}"
+        );
+    }
 }

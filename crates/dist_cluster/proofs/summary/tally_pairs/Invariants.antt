@@ -1,4 +1,4 @@
--- The words so far were counted.
+-- The words up to here were counted.
 use Rattle.std.proofs.Common.{◌≡◌, map, take}
 use Rattle.dist_cluster.specs.Summary.{how_many, tallied, shown_counts}
 use Rattle.dist_cluster.proofs.summary.tally_pairs.Given as goal

@@ -1,4 +1,4 @@
--- The words so far were counted.
+-- The words up to here were counted.
 use Rattle.std.proofs.Common.{◌≡◌, ℕ, List, count_by, map, take}
 use Rattle.dist_cluster.specs.Summary.{comes_to, tallied, shown_counts}
 use Rattle.dist_cluster.proofs.summary.tally_verdicts.Given as goal

@@ -1,4 +1,4 @@
--- The lines written and those of the rows that are left are all lines.
+-- The lines written and the lines of the rows that are left are together all lines.
 use Rattle.std.proofs.Common.{◌≡◌, ◌++◌, flat_map}
 use Rattle.std.specs.BTreeMap.{values}
 use Rattle.dist_epmd.specs.Registrations.{line_of}

@@ -1,4 +1,4 @@
--- What was read stands behind what was there.
+-- What was read is appended to what was there.
 use Rattle.std.proofs.Common.{◌≡◌, ℕ, List, ◌++◌, None}
 use Rattle.dist_stream.specs.Turns.{Hears}
 use Rattle.dist_epmd_calls.proofs.ask.read_to_end.Given as goal

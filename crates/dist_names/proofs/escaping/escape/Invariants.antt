@@ -1,4 +1,4 @@
--- What is written and the escapes of the bytes that are left are the escapes of all.
+-- What is written, then the escapes of the bytes that are left: together the escapes of all.
 use Rattle.std.proofs.Common.{◌≡◌, ◌++◌, drop}
 use Rattle.std.specs.String.{string_bytes}
 use Rattle.dist_names.specs.Escaped.{escapes_of}

@@ -1,4 +1,4 @@
--- What was copied and what is left are all cookies.
+-- What was copied and what is left are together all cookies.
 use Rattle.std.proofs.Common.{◌≡◌, ◌++◌}
 use Rattle.dist_secret.proofs.cookies.copy_entries.Given as goal
 

@@ -1,6 +1,6 @@
 use Rattle.std.proofs.Common.{arith}
 use Rattle.dist_world_model.specs.Happenings.{accepted_by}
-use Rattle.dist_world_lives.proofs.Places.{at_set, at_past}
+use Rattle.dist_world_lives.proofs.Edits.{at_set, at_past}
 use Rattle.dist_world_lives.proofs.connections.mark_accepted.Goals as goal
 
 pub returns-then-place-len : goal.returns-then-place-len

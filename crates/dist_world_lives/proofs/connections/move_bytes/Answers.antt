@@ -1,6 +1,6 @@
 use Rattle.std.proofs.Common.{arith}
 use Rattle.dist_world_model.specs.Delivery.{change_to, after_delivery}
-use Rattle.dist_world_lives.proofs.Places.{at_set}
+use Rattle.dist_world_lives.proofs.Edits.{at_set}
 use Rattle.dist_world_lives.proofs.connections.move_bytes.Goals as goal
 
 pub returns-clause-ok : goal.returns-clause-ok

@@ -11,7 +11,7 @@ use Rattle.dist_core.specs.Effects.{supersedes, superseded_end}
 use Rattle.dist_core.specs.Accepted.{name_taken, verdict_text}
 use Rattle.dist_core.proofs.node.Node.effect_of_verdict.Goals as goal
 
--- an attempt that crosses an own dial supersedes its end
+-- an attempt that crosses an own dial supersedes the end of that dial
 crossing : {E : Type 0} (r : Result Effect E) (s : Setup) (es : List End) (id : EndId) (a : Attempt) (v : Verdict) (x : EndId) (say : List ℕ)
     → v ≡ verdict.OkSimultaneous x → say ≡ verdict_text s a v → IfOk r (λ f. f ≡ supersedes id say a x (superseded_end (slice_get es x.0)))
     → IfOk r (λ f. f ≡ name_taken s es id a v)

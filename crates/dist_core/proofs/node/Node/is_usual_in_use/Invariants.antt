@@ -1,4 +1,4 @@
--- What no entry before this one has is left to be found.
+-- Any entry that is up under the usual cookie is among those that are left.
 use Rattle.std.proofs.Common.{◌≡◌, drop}
 use Rattle.std.specs.List.{list_any}
 use Rattle.std.specs.FinMap as map

@@ -16,7 +16,7 @@ use Rattle.dist_core.proofs.node.Node.lose.Goals as goal
 pub close-requires-clause-there : goal.close-requires-clause-there
 close-requires-clause-there c = slice_get_within c.self.inside.ends c.args.id.0 c.in_ok-_end._end.now c.in_ok-_end.ensures.0
 
--- an end of which it is asked what is to be done is open
+-- an end at which something can be done is open
 opened : (o : Option End) (e : End) (f : Effect) → o ≡ Some e → at_end o (λ _. Ok f) ≡ Ok f → is_open e ≡ true
 opened o ends.Unnamed f is h = refl
 opened o (ends.Attempt b) f is h = refl

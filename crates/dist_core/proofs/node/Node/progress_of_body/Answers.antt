@@ -14,5 +14,5 @@ returns-in-Ok-clause-effect c id =
     let n = c.args.self.now in
     let a = c.args.attempt.now in
     let P : Effect → Type 0 = λ f. IfOk c.in_attempt.result (λ p. effect_by n.ends id a p ≡ f) in
-    let is : read c.args.body.side c.args.body.bytes.now ≡ Ok (message_of c.in-Ok.message) = ap (read c.args.body.side) (sym c.as_slice.ensures) ∙ c.in-Ok.ensures.exact in
+    let is : read c.args.side c.args.body.now ≡ Ok (message_of c.in-Ok.message) = ap (read c.args.side) (sym c.as_slice.ensures) ∙ c.in-Ok.ensures.exact in
     subst P (ap (λ (r : Result Message MessageError). message_effect n id c.args.fresh (ends.Attempt a) r) (sym is)) (c.in_attempt.ensures.effect id)

@@ -12,7 +12,7 @@ use Rattle.dist_core_ends.proofs.Legal.{agreed}
 use Rattle.dist_core_ends.proofs.Progress.{fit-kept}
 use Rattle.dist_core_ends.proofs.ends.Ends.change.Goals as goal
 
--- the ends agree with the entries after a change, and after one for which memory ran out
+-- the ends agree with the entries after a change, also where memory ran out
 agrees : {X E : Type 0} (r : Result X E) (t u v : Table) (es fs new : List End) → Agree (map.get t) es → Agree (map.get u) fs → OnOk r (v ≡ u) → OnOk r (new ≡ fs) → OnErr r ((v ≡ t) × (new ≡ es)) → Agree (map.get v) new
 agrees (Ok x) t u v es fs new old more p e k = agreed v u new fs p e more
 agrees (Err x) t u v es fs new old more p e k = agreed v t new es (k.0) (k.1) old

@@ -6,7 +6,7 @@ use Rattle.dist_peers.specs.Verdicts.{ruling, is_greater}
 use Rattle.dist_peers.proofs.Others.{put_over}
 use Rattle.dist_peers.proofs.peers.Peers.take_name.Goals as goal
 
--- the entry of the ruling comes over the one that was put first
+-- the entry of the ruling replaces the one that was put first
 pub returns-then-is_some-clause-ok : goal.returns-then-is_some-clause-ok
 returns-then-is_some-clause-ok c =
     let p = c.args.peer.now in

@@ -1,12 +1,14 @@
 use Rattle.std.proofs.Common.{length}
 use Rattle.dist_frames.specs.Reader.{to_come}
-use Rattle.dist_script_play.specs.Played.{received_frames}
+use Rattle.dist_script_play.specs.Played.{reader_of, received_frames}
 use Rattle.dist_script_play.proofs.Receiving.{SoFar}
 use Rattle.dist_script_play.proofs.scene.NodeScene.receive_frames.Given as goal
 
 -- the lines of the frames so far stand there
 abbrev pub invariant-loop-body : goal.invariant-loop-body
-invariant-loop-body g l = SoFar l.end_ l.fresh (received_frames l.end_ l.fresh (to_come l.fn.reader) l.fn.self l.fn.reader) l.any (g.W.Write.contents l.fn.out) (g.W.Write.contents l.out) l.self l.reader
+invariant-loop-body g l =
+    SoFar l.end_ l.fresh (received_frames l.end_ l.fresh (length (to_come (reader_of l.fn.self.readers l.end_))) l.fn.self) l.any
+    (g.W.Write.contents l.fn.out) (g.W.Write.contents l.out) l.self
 
 abbrev pub decreases-loop-body : goal.decreases-loop-body
-decreases-loop-body g l = length (to_come l.reader)
+decreases-loop-body g l = length (to_come (reader_of l.self.readers l.end_))

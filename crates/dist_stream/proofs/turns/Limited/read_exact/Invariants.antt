@@ -1,4 +1,4 @@
--- What was read is the front of the room.
+-- What was read stands at the front of the buffer.
 use Rattle.std.proofs.Common.{◌≡◌, ◌≤◌, None, length, take}
 use Rattle.dist_stream.specs.Turns.{Hears}
 use Rattle.dist_stream.proofs.turns.Limited.read_exact.Given as goal

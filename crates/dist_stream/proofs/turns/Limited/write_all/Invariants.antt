@@ -1,4 +1,4 @@
--- What was written is the front of the bytes.
+-- What was written is the first part of the bytes.
 use Rattle.std.proofs.Common.{◌≡◌, ◌≤◌, None, length, take}
 use Rattle.dist_stream.specs.Turns.{Says}
 use Rattle.dist_stream.proofs.turns.Limited.write_all.Given as goal

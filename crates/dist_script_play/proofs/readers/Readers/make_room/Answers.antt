@@ -1,0 +1,8 @@
+use Rattle.std.proofs.Common.{ap, ◌∙◌, arith}
+use Rattle.dist_script_play.specs.Played.{readers_to}
+use Rattle.dist_script_play.proofs.Reading.{one_more_reader}
+use Rattle.dist_script_play.proofs.readers.Readers.make_room.Goals as goal
+
+pub room-preserved : goal.room-preserved
+room-preserved c =
+    rw (c.in_ok-push.ensures.items, c.new.ensures) (one_more_reader c.room.self-inside.kept.items c.args.end_ (omega (arith, c.len.ensures, c.room-test.true)) ∙ c.room.invariant)
