@@ -20,8 +20,8 @@
  * hands out is to be freed; a node alone is let go, by dn_node_free.
  *
  * Every function answers a dn_code. Its errors are listed in their order: the first that holds is told. A code other than
- * DN_OK leaves the node, and what the pointers lead to, as they were, but for what is told beside DN_NO_ROOM, and for the end
- * that dn_node_dial and dn_node_incoming give up to make room, which they tell beside any code. After DN_NO_MEMORY the same
+ * DN_OK leaves the node, and what the pointers lead to, as they were, but for what is told beside DN_NO_ROOM and DN_SHOWN_END, and
+ * for the end that dn_node_dial and dn_node_incoming give up to make room, which they tell beside any code. After DN_NO_MEMORY the same
  * call does its work once there is memory. */
 #ifndef DISTNODE_H
 #define DISTNODE_H
@@ -64,6 +64,7 @@ typedef enum dn_code {
     DN_SPENT = 14,          /* the node has made most_steps steps, or given out most_ends ends; a loss is still taken */
     DN_FULL = 15,           /* most_open_ends ends are up, most_entries peers have an entry, or 1,024 names have cookies */
     DN_OPEN_ENDS = 16,      /* an end is open, and the node does not begin anew */
+    DN_SHOWN_END = 17,      /* dn_node_guarded_body: an end that is up would be closed, and has to be lost first */
     DN_NAME_TOO_SHORT = 20, /* a name has fewer than 3 bytes */
     DN_NAME_TOO_LONG = 21,  /* a name has more than 255 bytes */
     DN_NAME_BAD_BYTE = 22,  /* a name has a byte that is not from 0x21 to 0x7E */
@@ -296,6 +297,17 @@ uint32_t dn_node_received(dn_node *node, uint32_t id, const uint8_t *bytes, size
  * reply->taken is len then.
  * Errors: DN_NOT_A_NODE, DN_TOO_LONG, DN_NO_SUCH_END, DN_GONE, DN_WRONG_PHASE, DN_SPENT, DN_NO_MEMORY. */
 uint32_t dn_node_body(dn_node *node, uint32_t id, const uint8_t *body, size_t len, uint32_t challenge, dn_reply *reply);
+
+/* The same, for a host that shows its peers to others, as an Erlang emulator lists them among its nodes: where the step would close
+ * an end that is up, the old connection of a peer that has connected anew, it is held. The answer is DN_SHOWN_END, nothing is done,
+ * and *reply is what dn_node_ready_body tells: reply->closed_id is the end in the way. The caller closes its connection, and once that
+ * is gone from the host it tells dn_node_lost of that end, and gives the same body with the same challenge again.
+ *
+ * Where all frames of a node are given so, an end that came up is up until its dn_node_lost. So whatever a host shows from the moment
+ * that the end came up until its connection is gone is up in the node, one end of a peer at most, and two nodes that show each other
+ * agree: the laws shown_ends_are_up and shown_peers_agree of dist_carrier.
+ * Errors: those of dn_node_body, and DN_SHOWN_END before DN_NO_MEMORY, which may also come in its place. */
+uint32_t dn_node_guarded_body(dn_node *node, uint32_t id, const uint8_t *body, size_t len, uint32_t challenge, dn_reply *reply);
 
 /* The connection of an end is lost or given up, for a cause of dn_why. It never lacks memory.
  * Errors: DN_NO_SUCH (the cause), DN_NOT_A_NODE, DN_NO_SUCH_END, DN_GONE. */

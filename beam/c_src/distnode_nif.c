@@ -7,7 +7,9 @@
  *
  * A process of a connection makes the steps of its own end. Where such a step gives out an end, closes one or brings one up,
  * the process that made the node gets a message of it before the lock is released: so the messages come in the order of the
- * steps, and a process that is killed right after its step has reported it. */
+ * steps, and a process that is killed right after its step has reported it.
+ *
+ * An end that came up stays up until gone(): a frame that would close it is held, and lost() leaves it as it is. */
 #define _GNU_SOURCE
 #include <distnode.h>
 #include <erl_nif.h>
@@ -23,7 +25,7 @@ typedef struct {
 } kept;
 
 static ErlNifResourceType *kept_type;
-static ERL_NIF_TERM a_ok, a_error, a_none, a_unknown, a_made, a_step, a_arrived, a_ready, a_other, a_changed;
+static ERL_NIF_TERM a_ok, a_error, a_none, a_unknown, a_made, a_step, a_arrived, a_ready, a_held, a_other, a_changed;
 
 static void kept_drop(ErlNifEnv *env, void *it) {
     kept *k = it;
@@ -120,6 +122,10 @@ static ERL_NIF_TERM step_term(ErlNifEnv *env, kept *k, uint32_t code, const dn_r
                             closed_term(env, reply), status_word(env, received), up_term(env, k, reply));
 }
 
+static ERL_NIF_TERM fault_step(ErlNifEnv *env, uint32_t code) {
+    return enif_make_tuple3(env, a_error, code_word(env, code), a_none);
+}
+
 /* The owner gets {distnode_made, Node, Pid, What, Step} of a step that Pid has made. */
 static void report(ErlNifEnv *env, kept *k, ERL_NIF_TERM node, ERL_NIF_TERM what, ERL_NIF_TERM step) {
     ErlNifPid self;
@@ -127,10 +133,10 @@ static void report(ErlNifEnv *env, kept *k, ERL_NIF_TERM node, ERL_NIF_TERM what
     (void)enif_send(env, &k->owner, NULL, enif_make_tuple5(env, a_made, node, enif_make_pid(env, &self), what, step));
 }
 
-/* What a step of an end's own process did. */
-static ERL_NIF_TERM own_step_term(ErlNifEnv *env, kept *k, ERL_NIF_TERM node, uint32_t code, const dn_reply *reply) {
+/* What a step of an end's own process did; `what` is the end's socket, where the step may bring it up. */
+static ERL_NIF_TERM own_step_term(ErlNifEnv *env, kept *k, ERL_NIF_TERM node, uint32_t code, const dn_reply *reply, ERL_NIF_TERM what) {
     ERL_NIF_TERM term = step_term(env, k, code, reply);
-    if (reply->closed || (!code && reply->up)) report(env, k, node, a_step, term);
+    if (reply->closed || (!code && reply->up)) report(env, k, node, what, term);
     return term;
 }
 
@@ -165,6 +171,17 @@ static ERL_NIF_TERM nif_new(ErlNifEnv *env, int argc, const ERL_NIF_TERM argv[])
     ERL_NIF_TERM node = enif_make_resource(env, k);
     enif_release_resource(k);
     return code ? fault(env, code) : enif_make_tuple2(env, a_ok, node);
+}
+
+/* drop(Node): no step is made any more */
+static ERL_NIF_TERM nif_drop(ErlNifEnv *env, int argc, const ERL_NIF_TERM argv[]) {
+    kept *k;
+    (void)argc;
+    if (!kept_of(env, argv[0], &k)) return enif_make_badarg(env);
+    enif_mutex_lock(k->lock);
+    uint32_t code = dn_node_free(&k->node);
+    enif_mutex_unlock(k->lock);
+    return code_term(env, code);
 }
 
 /* cookie(Node, Peer, Cookie) */
@@ -301,7 +318,7 @@ static ERL_NIF_TERM nif_opened(ErlNifEnv *env, int argc, const ERL_NIF_TERM argv
     if (!kept_of(env, argv[0], &k) || !enif_get_uint(env, argv[1], &id)) return enif_make_badarg(env);
     enif_mutex_lock(k->lock);
     uint32_t code = dn_node_opened(&k->node, id, &reply);
-    ERL_NIF_TERM term = own_step_term(env, k, argv[0], code, &reply);
+    ERL_NIF_TERM term = own_step_term(env, k, argv[0], code, &reply, a_step);
     enif_mutex_unlock(k->lock);
     return term;
 }
@@ -317,6 +334,13 @@ static int frame_of(ErlNifEnv *env, const ERL_NIF_TERM argv[], frame *f) {
            enif_get_uint(env, argv[3], &f->challenge);
 }
 
+/* A frame that would close an end that is up is held: that end is in closed_id then, and nothing is closed. */
+static uint32_t take(frame *f, dn_reply *reply) {
+    uint32_t code = dn_node_guarded_body(&f->k->node, f->id, f->body.data, f->body.size, f->challenge, reply);
+    if (code == DN_SHOWN_END) reply->closed = 0;
+    return code;
+}
+
 /* body(Node, Id, Body, Challenge), by the owner */
 static ERL_NIF_TERM nif_body(ErlNifEnv *env, int argc, const ERL_NIF_TERM argv[]) {
     frame f;
@@ -324,20 +348,22 @@ static ERL_NIF_TERM nif_body(ErlNifEnv *env, int argc, const ERL_NIF_TERM argv[]
     (void)argc;
     if (!frame_of(env, argv, &f)) return enif_make_badarg(env);
     enif_mutex_lock(f.k->lock);
-    uint32_t code = dn_node_body(&f.k->node, f.id, f.body.data, f.body.size, f.challenge, &reply);
+    uint32_t code = take(&f, &reply);
     ERL_NIF_TERM term = step_term(env, f.k, code, &reply);
     enif_mutex_unlock(f.k->lock);
     return term;
 }
 
-static ERL_NIF_TERM own_body(ErlNifEnv *env, frame *f, ERL_NIF_TERM node) {
+static ERL_NIF_TERM own_body(ErlNifEnv *env, frame *f, ERL_NIF_TERM node, ERL_NIF_TERM what) {
     dn_reply reply = {0};
-    uint32_t code = dn_node_body(&f->k->node, f->id, f->body.data, f->body.size, f->challenge, &reply);
-    return own_step_term(env, f->k, node, code, &reply);
+    uint32_t code = take(f, &reply);
+    if (code == DN_SHOWN_END) return enif_make_tuple2(env, a_held, enif_make_uint(env, reply.closed_id));
+    return own_step_term(env, f->k, node, code, &reply, what);
 }
 
-static int is_ready(frame *f, dn_reply *reply) {
-    return !dn_node_ready_body(&f->k->node, f->id, f->body.data, f->body.size, f->challenge, reply) && reply->up;
+/* What the step would do: where that is not known, there is no step. */
+static uint32_t foresee(frame *f, dn_reply *reply) {
+    return dn_node_ready_body(&f->k->node, f->id, f->body.data, f->body.size, f->challenge, reply);
 }
 
 /* early_body(Node, Id, Body, Challenge): as body/4, by the end's process; but {ready, Up}, and nothing done, where that would bring
@@ -348,13 +374,17 @@ static ERL_NIF_TERM nif_early_body(ErlNifEnv *env, int argc, const ERL_NIF_TERM 
     (void)argc;
     if (!frame_of(env, argv, &f)) return enif_make_badarg(env);
     enif_mutex_lock(f.k->lock);
-    ERL_NIF_TERM term = is_ready(&f, &reply) ? enif_make_tuple2(env, a_ready, up_term(env, f.k, &reply)) : own_body(env, &f, argv[0]);
+    uint32_t code = foresee(&f, &reply);
+    ERL_NIF_TERM term = code       ? fault_step(env, code)
+                        : reply.up ? enif_make_tuple2(env, a_ready, up_term(env, f.k, &reply))
+                                   : own_body(env, &f, argv[0], a_step);
     enif_mutex_unlock(f.k->lock);
     return term;
 }
 
-/* come_up(Node, Id, Body, Challenge, Common, Creation): as body/4, by the end's process; but `other`, and nothing done, where that
- * would bring the end up with other flags or another creation, 0 where the peer has none */
+/* come_up(Node, Id, Body, Challenge, Common, Creation, Socket): as body/4, by the end's process; but `other`, and nothing done, where
+ * that would bring the end up with other flags or another creation, 0 where the peer has none; and {held, Shown}, and nothing done,
+ * where that would close this end, which is up and is to be gone first */
 static ERL_NIF_TERM nif_come_up(ErlNifEnv *env, int argc, const ERL_NIF_TERM argv[]) {
     frame f;
     ErlNifUInt64 common;
@@ -364,8 +394,9 @@ static ERL_NIF_TERM nif_come_up(ErlNifEnv *env, int argc, const ERL_NIF_TERM arg
     if (!frame_of(env, argv, &f) || !enif_get_uint64(env, argv[4], &common) || !enif_get_uint(env, argv[5], &creation))
         return enif_make_badarg(env);
     enif_mutex_lock(f.k->lock);
-    int is_other = is_ready(&f, &reply) && (reply.common != common || reply.creation != creation);
-    ERL_NIF_TERM term = is_other ? a_other : own_body(env, &f, argv[0]);
+    uint32_t code = foresee(&f, &reply);
+    int is_other = reply.up && (reply.common != common || reply.creation != creation);
+    ERL_NIF_TERM term = code ? fault_step(env, code) : is_other ? a_other : own_body(env, &f, argv[0], argv[6]);
     enif_mutex_unlock(f.k->lock);
     return term;
 }
@@ -375,7 +406,7 @@ static ERL_NIF_TERM first_frame(ErlNifEnv *env, frame *f, ERL_NIF_TERM node, con
     dn_reply reply = {0};
     ERL_NIF_TERM id = enif_make_uint(env, newcomer->id);
     f->id = newcomer->id;
-    uint32_t code = dn_node_body(&f->k->node, f->id, f->body.data, f->body.size, f->challenge, &reply);
+    uint32_t code = take(f, &reply);
     ERL_NIF_TERM step = step_term(env, f->k, code, &reply);
     report(env, f->k, node, enif_make_tuple3(env, a_arrived, id, closed_term(env, newcomer)), step);
     return enif_make_tuple3(env, a_arrived, id, step);
@@ -395,25 +426,45 @@ static ERL_NIF_TERM nif_arrive(ErlNifEnv *env, int argc, const ERL_NIF_TERM argv
     enif_mutex_lock(f.k->lock);
     if (changes == f.k->changes) {
         uint32_t code = dn_node_incoming(&f.k->node, &reply);
-        term = code ? own_step_term(env, f.k, argv[0], code, &reply) : first_frame(env, &f, argv[0], &reply);
+        term = code ? own_step_term(env, f.k, argv[0], code, &reply, a_step) : first_frame(env, &f, argv[0], &reply);
     }
     enif_mutex_unlock(f.k->lock);
     return term;
 }
 
-/* lost(Node, Id, Why) with Why a number of dn_why */
-static ERL_NIF_TERM nif_lost(ErlNifEnv *env, int argc, const ERL_NIF_TERM argv[]) {
+static uint32_t phase_of(kept *k, uint32_t id, uint32_t *why) {
+    uint8_t room[255];
+    dn_end end = {0, 0, 0};
+    (void)dn_node_end(&k->node, id, &end, room, sizeof room);
+    *why = end.why;
+    return end.phase;
+}
+
+/* the end is lost, but where it is up while its socket is there */
+static ERL_NIF_TERM lost(ErlNifEnv *env, const ERL_NIF_TERM argv[], unsigned why, int is_gone) {
     kept *k;
-    unsigned id, why;
+    unsigned id, known;
     dn_reply reply = {0};
-    (void)argc;
-    if (!kept_of(env, argv[0], &k) || !enif_get_uint(env, argv[1], &id) || !enif_get_uint(env, argv[2], &why))
-        return enif_make_badarg(env);
+    if (!kept_of(env, argv[0], &k) || !enif_get_uint(env, argv[1], &id)) return enif_make_badarg(env);
     enif_mutex_lock(k->lock);
-    uint32_t code = dn_node_lost(&k->node, id, why, &reply);
+    int is_shown = !is_gone && phase_of(k, id, &known) == DN_PHASE_UP;
+    uint32_t code = is_shown ? DN_SHOWN_END : dn_node_lost(&k->node, id, why, &reply);
     ERL_NIF_TERM term = step_term(env, k, code, &reply);
     enif_mutex_unlock(k->lock);
     return term;
+}
+
+/* lost(Node, Id, Why) with Why a number of dn_why: of an end that is not up */
+static ERL_NIF_TERM nif_lost(ErlNifEnv *env, int argc, const ERL_NIF_TERM argv[]) {
+    unsigned why;
+    (void)argc;
+    return enif_get_uint(env, argv[2], &why) ? lost(env, argv, why, 0) : enif_make_badarg(env);
+}
+
+/* gone(Node, Id): the socket of this end, which came up, is gone from the emulator */
+static ERL_NIF_TERM nif_gone(ErlNifEnv *env, int argc, const ERL_NIF_TERM argv[]) {
+    (void)argc;
+    return lost(env, argv, DN_WHY_ENDED, 1);
 }
 
 /* give_up(Node, Peer): the end by which a peer that is not up is about to connect is lost; none, and nothing done, where there is none */
@@ -440,15 +491,13 @@ static ERL_NIF_TERM nif_give_up(ErlNifEnv *env, int argc, const ERL_NIF_TERM arg
 /* cause(Node, Id): why this end is closed, or none */
 static ERL_NIF_TERM nif_cause(ErlNifEnv *env, int argc, const ERL_NIF_TERM argv[]) {
     kept *k;
-    unsigned id;
-    uint8_t room[255];
-    dn_end end = {0, 0, 0};
+    unsigned id, why;
     (void)argc;
     if (!kept_of(env, argv[0], &k) || !enif_get_uint(env, argv[1], &id)) return enif_make_badarg(env);
     enif_mutex_lock(k->lock);
-    (void)dn_node_end(&k->node, id, &end, room, sizeof room);
+    uint32_t phase = phase_of(k, id, &why);
     enif_mutex_unlock(k->lock);
-    return end.phase == DN_PHASE_CLOSED ? why_word(env, end.why) : a_none;
+    return phase == DN_PHASE_CLOSED ? why_word(env, why) : a_none;
 }
 
 /* up_end(Node, Peer): the end that is up with this peer, or none */
@@ -504,6 +553,7 @@ static int load(ErlNifEnv *env, void **priv, ERL_NIF_TERM info) {
     a_step = enif_make_atom(env, "step");
     a_arrived = enif_make_atom(env, "arrived");
     a_ready = enif_make_atom(env, "ready");
+    a_held = enif_make_atom(env, "held");
     a_other = enif_make_atom(env, "other");
     a_changed = enif_make_atom(env, "changed");
     return kept_type ? 0 : 1;
@@ -514,9 +564,10 @@ static ErlNifFunc functions[] = {
     {"allow", 2, nif_allow, 0},       {"disallow", 2, nif_disallow, 0}, {"changes", 1, nif_changes, 0},
     {"forget", 2, nif_forget, 0},     {"dial", 2, nif_dial, 0},       {"incoming", 1, nif_incoming, 0},
     {"opened", 2, nif_opened, 0},     {"body", 4, nif_body, 0},       {"early_body", 4, nif_early_body, 0},
-    {"come_up", 6, nif_come_up, 0},   {"arrive", 4, nif_arrive, 0},   {"lost", 3, nif_lost, 0},
+    {"come_up", 7, nif_come_up, 0},   {"arrive", 4, nif_arrive, 0},   {"lost", 3, nif_lost, 0},
     {"cause", 2, nif_cause, 0},       {"up_end", 2, nif_up_end, 0},   {"peers", 1, nif_peers, 0},
     {"challenge", 0, nif_challenge, 0}, {"no_cookie", 2, nif_no_cookie, 0}, {"give_up", 2, nif_give_up, 0},
+    {"gone", 2, nif_gone, 0},         {"drop", 1, nif_drop, 0},
 };
 
 ERL_NIF_INIT(distnode_nif, functions, load, NULL, NULL, NULL)

@@ -5,7 +5,7 @@
 %% ends the distribution does, as it does where net_kernel ends.
 -module(distnode_core).
 -behaviour(gen_server).
--export([start_link/0, want/1, arrived/2, opened/1, early/2, come_up/1, refused/1, handed/1, done/1, lost/1]).
+-export([start_link/0, want/1, arrived/2, opened/1, early/2, come_up/2, refused/1, handed/1, done/1, lost/1]).
 -export([table/0, counts/0]).
 -export([init/1, handle_call/3, handle_cast/2, handle_info/2]).
 
@@ -20,8 +20,9 @@
 -export_type([own_end/0, info/0, received/0]).
 
 %% own: the cookies that the node has for peers while they have ends, and when each was lent; usual: for all others. dials: the access of
-%% each peer that is wanted.
--record(st, {node :: reference() | undefined, flags = 0, links = distnode_links:new(), watched = #{},
+%% each peer that is wanted. shown: the ends that came up, by the monitors of their sockets; held: the callers that wait until such an
+%% end is gone.
+-record(st, {node :: reference() | undefined, flags = 0, links = distnode_links:new(), watched = #{}, shown = #{}, held = [],
              usual :: binary() | undefined, own = #{}, dials = #{}, is_limited = false, forgotten = 0, counts = #{}}).
 
 %% Causes are forgotten each so many ends; the library keeps cookies of their own for so many peers.
@@ -82,20 +83,21 @@ early(Body, #{id := Id, node := Node} = End) ->
         Step -> outcome(Step, End)
     end.
 
-%% net_kernel has agreed, and an old connection of that peer is gone: the end comes up with the very peer, flags and creation for
-%% which net_kernel has agreed, or not at all. On an accepted end the words are the acknowledgement.
--spec come_up(info()) -> {ok, [binary()]} | received().
-come_up(#{id := Id, node := Node, frame := {Body, Challenge}, common := Common, creation := Creation} = Info) ->
-    case distnode_nif:come_up(Node, Id, Body, Challenge, Common, distnode_script:number(Creation)) of
+%% net_kernel has agreed: the end comes up with the very peer, flags and creation for which it has, or not at all. Where an old
+%% connection of that peer is up in the node, the caller waits until its socket is gone; the caller's own timer limits that. On an
+%% accepted end the words are the acknowledgement.
+-spec come_up(port(), info()) -> {ok, [binary()]} | received().
+come_up(Socket, #{id := Id, node := Node, frame := {Body, Challenge}, common := Common, creation := Creation} = Info) ->
+    case distnode_nif:come_up(Node, Id, Body, Challenge, Common, distnode_script:number(Creation), Socket) of
         {step, Id, Bodies, _, _, _, {_, Common, Creation}} -> {ok, Bodies};
+        {held, Shown} ->
+            ok = gen_server:call(?MODULE, {end_shown, Shown}, infinity),
+            come_up(Socket, Info);
         other -> {error, 'OtherFlags'};
         Step -> outcome(Step, Info)
     end.
 
-%% What a step that brought nobody up did. Nobody comes up otherwise: early/2 had said so.
-outcome({step, Id, _, _, _, _, {_, _, _}}, _) ->
-    _ = lost(Id),
-    {error, 'Gone'};
+%% What a step that brought nobody up did.
 outcome({step, Id, Bodies, _, {Id, Why}, Received, none}, _) -> {closed, Bodies, Why, Received};
 outcome({step, _, Bodies, _, _, _, none}, _) -> {more, Bodies};
 outcome({error, Code, _}, _) -> {error, Code}.
@@ -153,6 +155,11 @@ handle_call({refused, Id}, {Pid, _}, St0) ->
 handle_call({lost, Id}, {Pid, _}, St0) ->
     {Answer, St} = report({given_up, Id, Pid}, St0),
     {reply, Answer, St};
+handle_call({end_shown, Id}, From, #st{shown = Shown, held = Held, links = Links} = St) ->
+    case lists:keymember(Id, 1, maps:values(Shown)) of
+        true -> {noreply, kill(distnode_links:owner(Id, Links), St#st{held = [{Id, From} | Held]})};
+        false -> {reply, ok, St}
+    end;
 handle_call(table, _, St) -> {reply, table(St), St};
 handle_call(counts, _, St) -> {reply, St#st.counts, St};
 handle_call(_, _, St) -> {reply, {error, unknown_call}, St}.
@@ -170,6 +177,9 @@ handle_info({distnode_made, _, Pid, _, _}, St) ->
     %% Of a node that was given up since.
     exit(Pid, kill),
     {noreply, St};
+handle_info({'DOWN', Ref, port, _, _}, #st{shown = Shown} = St) when is_map_key(Ref, Shown) ->
+    {{Id, Peer}, Left} = maps:take(Ref, Shown),
+    {noreply, gone(Id, Peer, St#st{shown = Left})};
 handle_info({'DOWN', Ref, process, Pid, _}, #st{watched = Watched} = St) ->
     case Watched of
         #{Pid := Ref} ->
@@ -209,13 +219,13 @@ answer(_, {error, Code, _}) -> {error, Code}.
 follow({arrived, Id, Room}, Pid, Step, St0) ->
     {_, St} = report({accepted, Id, Pid}, watch(Pid, note(incoming, St0))),
     closed(Room, none, settle(Id, none, follow_name(Step, follow_step(Pid, Step, forget(Id, St)))));
-follow(step, Pid, Step, St) -> follow_step(Pid, Step, St).
+follow(Socket, Pid, {step, Id, _, _, _, _, {Peer, _, _}}, #st{shown = Shown} = St) ->
+    ignored(report({came_up, Id, Pid}, note(came_up, St#st{shown = Shown#{monitor(port, Socket) => {Id, Peer}}})));
+follow(_, Pid, Step, St) -> follow_step(Pid, Step, St).
 
 follow_name({step, Id, _, Peer, _, _, _}, St) when Peer =/= none -> ignored(report({named, Id, Peer}, St));
 follow_name(_, St) -> St.
 
-follow_step(Pid, {step, Id, _, _, Closed, _, {_, _, _}}, St) ->
-    ignored(report({came_up, Id, Pid}, note(came_up, closed(Closed, Pid, St))));
 follow_step(Pid, {step, _, _, _, Closed, _, none}, St) -> closed(Closed, Pid, St);
 follow_step(Pid, {error, Code, Closed}, St) -> closed(Closed, Pid, note({refused, Code}, St)).
 
@@ -230,6 +240,13 @@ closed(none, _, St) -> St;
 closed({Id, Why}, Pid, #st{links = Links} = St) ->
     take_back(distnode_links:peer(Id, Links), ignored(report({closed, Id, Why, Pid}, note({closed, Why}, St)))).
 
+%% The socket of an end that came up is gone: only now the node has it closed, and a frame that was held for it goes on.
+gone(Id, Peer, #st{node = Node, held = Held} = St) ->
+    _ = distnode_nif:gone(Node, Id),
+    {Waiting, Left} = lists:partition(fun({Shown, _}) -> Shown =:= Id end, Held),
+    _ = [gen_server:reply(From, ok) || {_, From} <- Waiting],
+    take_back(Peer, ignored(report({gone, Id, Peer}, note({lost, ended}, St#st{held = Left})))).
+
 %% ---- an event is reported to the machine, and its actions are done
 
 report(Event, #st{links = Links} = St) ->
@@ -242,9 +259,7 @@ act({send, Pid, {dial, Id}}, St) ->
 act({send, Pid, What}, St) ->
     Pid ! {distnode, What},
     St;
-act({kill, Pid}, St) ->
-    exit(Pid, kill),
-    note(killed, St);
+act({kill, Pid}, St) -> kill(Pid, St);
 act(_, #st{node = undefined} = St) ->
     %% The node has begun anew since: nothing is open, and nobody waits.
     St;
@@ -253,6 +268,11 @@ act({lose, Id, Peer, Why}, St) ->
     _ = distnode_nif:lost(St#st.node, Id, why(Why)),
     take_back(Peer, note({lost, Why}, St));
 act({dial, Peer}, St) -> dial(Peer, St).
+
+kill(none, St) -> St;
+kill(Pid, St) ->
+    exit(Pid, kill),
+    note(killed, St).
 
 why(ended) -> 1;
 why(gave_up) -> 4.
@@ -305,12 +325,20 @@ usual_or_none({error, _}) -> << <<(integer_to_binary(distnode_nif:challenge(), 1
 most_ends() -> application:get_env(kernel, distnode_most_ends, 0).
 
 %% All numbers of ends were given out, as after 25 days of 2,000 connections a second: every connection ends, and a new node is
-%% made with the next attempt, as where the emulator had begun anew with its creation.
-begin_anew(St0) ->
+%% made with the next attempt, once all their sockets are gone, as where the emulator had begun anew with its creation.
+begin_anew(#st{node = Node} = St0) ->
     error_logger:warning_msg("** distnode: all numbers of connections were given out; all are closed, and numbered anew **~n"),
-    {_, St} = report(spent, note(spent, St0)),
+    ok = distnode_nif:drop(Node),
+    {_, #st{shown = Shown} = St} = report(spent, came_up_last(note(spent, St0))),
+    _ = [receive {'DOWN', Ref, port, _, _} -> ok end || Ref <- maps:keys(Shown)],
     true = ets:delete_all_objects(?TABLE),
-    St#st{node = undefined, own = #{}, dials = #{}}.
+    St#st{node = undefined, own = #{}, dials = #{}, shown = #{}, held = []}.
+
+%% Who came up before the node was dropped, and is not known here yet.
+came_up_last(#st{node = Node} = St) ->
+    receive {distnode_made, Node, Pid, Socket, Step} when is_port(Socket) -> came_up_last(follow(Socket, Pid, Step, St))
+    after 0 -> St
+    end.
 
 %% Others read of the node what it is like now.
 publish(#st{node = undefined} = St) -> St;

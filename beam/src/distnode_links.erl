@@ -44,11 +44,12 @@
     {done, id(), pid()} |                     % net_kernel counts the peer as up
     {closed, id(), Why :: atom(), pid() | none} | % the node has closed this end, in a step of this process
     {given_up, id(), pid()} |                 % its owner gives it up
+    {gone, id(), peer()} |                    % it came up, and its socket is gone
     {down, pid()} |                           % a process has ended
     spent.                                    % the node has no numbers left and begins anew
 -type action() ::
     {send, pid(), term()} |                   % a message {distnode, Term}: {dial, Id}, {closed, Id, Why}, {failed, Code}, again
-    {kill, pid()} |                           % its end is over, and net_kernel holds it: its socket goes with it
+    {kill, pid()} |                           % its end is to go, and net_kernel holds it: its socket goes with it
     {lose, id(), peer() | none, Why :: atom()} | % report it to the node
     {dial, peer()}.                           % have the node dial, and report what became of it
 -type answer() :: ok | {give, Setup :: pid()} | retry | gone.
@@ -69,6 +70,7 @@ event({came_up, Id, Pid}, L) -> came_up(Id, Pid, L);
 event({done, Id, Pid}, L) -> done(Id, Pid, L);
 event({closed, Id, Why, By}, L) -> closed(Id, Why, By, L);
 event({given_up, Id, Pid}, L) -> given_up(Id, Pid, L);
+event({gone, Id, Peer}, L) -> gone(Id, Peer, L);
 event({down, Pid}, L) -> down(Pid, L);
 event(spent, L) -> spent(L).
 
@@ -106,14 +108,12 @@ dialled(Peer, Id, L) ->
         none -> {ok, [{lose, Id, Peer, gave_up}], L}
     end.
 
-%% net_kernel starts a setup only where it counts the peer as down. So an end that it had counted as up is over there, and the
-%% end of its process hasn't been reported here yet. Any other end with that peer is one to wait for.
+%% net_kernel starts a setup only where it counts the peer as down. So an end that it had counted as up is over there, and its socket
+%% goes with its process. Each end with that peer is one to wait for.
 busy(Peer, Up, L) ->
-    case {want_of(Peer, L), link_of(Up, L)} of
-        {none, _} -> {ok, [], L};
-        {#want{}, #link{stage = up, owner = Old}} ->
-            {ok, [{kill, Old}, {lose, Up, Peer, ended}, {dial, Peer}], drop_link(Up, L)};
-        {Want, _} -> {ok, [], put_want(Peer, Want#want{how = waiting}, L)}
+    case want_of(Peer, L) of
+        none -> {ok, [], L};
+        Want -> {ok, [{kill, owner(Up, L)} || stage(Up, L) =:= up], put_want(Peer, Want#want{how = waiting}, L)}
     end.
 
 refused(Peer, Code, L) ->
@@ -164,8 +164,8 @@ handed(Id, Giver, L) ->
         _ -> {ok, [], L}
     end.
 
-%% net_kernel has its row for the owner, so its want is over, and a setup that it had before is about to end. An end that is gone
-%% here was closed after that step, so its process is over, too.
+%% net_kernel has its row for the owner, so its want is over, and a setup that it had before is about to end. An end that was given up
+%% here in between goes with its process.
 came_up(Id, Pid, L) ->
     case link_of(Id, L) of
         #link{owner = Pid, stage = Stage, peer = Peer} = Link when Stage =:= shaking; Stage =:= ready ->
@@ -185,20 +185,14 @@ done(Id, Pid, L) ->
 
 %% ---- an end is over
 
-%% The process of an end that net_kernel may count as up is killed, and its socket and its row go with it. One that shakes
-%% hands gets a message, but for the one whose step it was, which has the answer.
+%% It was not up. Its process gets a message, but for the one whose step it was, which has the answer.
 closed(Id, Why, By, L) ->
     case link_of(Id, L) of
         none -> {ok, [], L};
-        #link{owner = By, peer = Peer, stage = Stage} when Stage =:= shaking; Stage =:= ready ->
-            {ok, again(Peer, drop_link(Id, L)), drop_link(Id, L)};
-        #link{owner = Owner, peer = Peer, stage = Stage} ->
+        #link{owner = Owner, peer = Peer} ->
             L1 = drop_link(Id, L),
-            {ok, [over(Stage, Id, Why, Owner) | again(Peer, L1)], L1}
+            {ok, [{send, Owner, {closed, Id, Why}} || Owner =/= By] ++ again(Peer, L1), L1}
     end.
-
-over(Stage, Id, Why, Owner) when Stage =:= shaking; Stage =:= ready -> {send, Owner, {closed, Id, Why}};
-over(_, _, _, Owner) -> {kill, Owner}.
 
 given_up(Id, Pid, L) ->
     case link_of(Id, L) of
@@ -208,7 +202,12 @@ given_up(Id, Pid, L) ->
         _ -> {gone, [], L}
     end.
 
-%% An end whose giver has ended without handing it over has no socket any more, and its new owner asks anew.
+gone(Id, Peer, L) ->
+    L1 = drop_link(Id, L),
+    {ok, again(Peer, L1), L1}.
+
+%% An end that came up stays until its socket is gone. One whose giver has ended without handing it over has no socket any more, and its
+%% new owner asks anew.
 down(Pid, L) ->
     {Actions, L1} = lists:foldl(fun(Held, {Done, Now}) ->
                                         {More, Next} = left(Held, Pid, Now),
@@ -217,7 +216,11 @@ down(Pid, L) ->
     {ok, Actions, L1}.
 
 left({want, Peer}, _, L) -> {[], drop_want(Peer, L)};
-left({end_of, Id}, _, L) -> lose(Id, ended, L);
+left({end_of, Id}, _, L) ->
+    case stage(Id, L) of
+        Stage when Stage =:= admitted; Stage =:= up -> {[], L};
+        _ -> lose(Id, ended, L)
+    end;
 left({given_by, Id}, _, L) ->
     #link{owner = Owner} = link_of(Id, L),
     {Actions, L1} = lose(Id, ended, L),

@@ -1,9 +1,9 @@
 %% SPDX-License-Identifier: Apache-2.0
 %% A node of the C library as functions of Erlang: c_src/distnode_nif.c.
 -module(distnode_nif).
--export([load/0, new/6, cookie/3, no_cookie/2, usual_cookie/2, allow/2, disallow/2, changes/1, forget/2]).
--export([dial/2, incoming/1, body/4, lost/3, give_up/2]).
--export([arrive/4, opened/2, early_body/4, come_up/6]).
+-export([load/0, new/6, drop/1, cookie/3, no_cookie/2, usual_cookie/2, allow/2, disallow/2, changes/1, forget/2]).
+-export([dial/2, incoming/1, body/4, lost/3, gone/2, give_up/2]).
+-export([arrive/4, opened/2, early_body/4, come_up/7]).
 -export([cause/2, up_end/2, peers/1, challenge/0]).
 -export_type([id/0, peer/0, closed/0, step/0, up/0, made/0]).
 
@@ -18,8 +18,9 @@
 -type step() ::
     {step, id(), Bodies :: [binary()], peer() | none, closed(), Received :: status(), up()} | {error, atom(), closed()}.
 %% The process that made the node gets such a message of each step of another process that gave out an end, closed one or brought
-%% one up. The messages come in the order of the steps. Closed is the end that made room for the one that arrived.
--type made() :: {distnode_made, reference(), pid(), step | {arrived, id(), Closed :: closed()}, step()}.
+%% one up. The messages come in the order of the steps. Closed is the end that made room for the one that arrived; a step that was to
+%% bring an end up comes with its socket.
+-type made() :: {distnode_made, reference(), pid(), step | port() | {arrived, id(), Closed :: closed()}, step()}.
 
 %% Loads the library: from beside ebin, else from where the code server knows this application to be. It is called where the
 %% distribution starts. That is before the server of files is there, and in a release before init runs what -on_load names, so
@@ -45,6 +46,10 @@ load_from(Folder) -> erlang:load_nif(filename:join(Folder, "distnode_nif"), 0).
 -spec new(peer(), binary(), Flags :: non_neg_integer(), Required :: non_neg_integer(), Creation :: non_neg_integer(),
           MostEnds :: non_neg_integer()) -> {ok, reference()} | {error, atom()}.
 new(_Name, _Cookie, _Flags, _Required, _Creation, _MostEnds) -> ?STUB.
+
+%% Each call is refused from then on, as NotANode.
+-spec drop(reference()) -> ok.
+drop(_Node) -> ?STUB.
 
 -spec cookie(reference(), peer(), binary()) -> ok | {error, atom()}.
 cookie(_Node, _Peer, _Cookie) -> ?STUB.
@@ -78,9 +83,13 @@ incoming(_Node) -> ?STUB.
 -spec body(reference(), id(), binary(), Challenge :: non_neg_integer()) -> step().
 body(_Node, _Id, _Body, _Challenge) -> ?STUB.
 
-%% Why is a number of dn_why.
+%% Why is a number of dn_why. An end that is up stays so, and the error is ShownEnd.
 -spec lost(reference(), id(), Why :: 1..15) -> step().
 lost(_Node, _Id, _Why) -> ?STUB.
+
+%% The socket of this end, which came up, is gone.
+-spec gone(reference(), id()) -> step().
+gone(_Node, _Id) -> ?STUB.
 
 %% Loses the end by which this peer is about to connect, as GaveUp; `none`, and nothing is done, where it has none, or is up.
 -spec give_up(reference(), peer()) -> step() | none.
@@ -101,10 +110,11 @@ opened(_Node, _Id) -> ?STUB.
 -spec early_body(reference(), id(), binary(), Challenge :: non_neg_integer()) -> step() | {ready, up()}.
 early_body(_Node, _Id, _Body, _Challenge) -> ?STUB.
 
-%% Nothing is done where the frame would bring the end up with other flags or another creation, 0 where the peer has none.
+%% Nothing is done where the frame would bring the end up with other flags or another creation, 0 where the peer has none; or where it
+%% would close this other end, which is up until it is gone.
 -spec come_up(reference(), id(), binary(), Challenge :: non_neg_integer(), Common :: non_neg_integer(),
-              Creation :: non_neg_integer()) -> step() | other.
-come_up(_Node, _Id, _Body, _Challenge, _Common, _Creation) -> ?STUB.
+              Creation :: non_neg_integer(), port()) -> step() | other | {held, id()}.
+come_up(_Node, _Id, _Body, _Challenge, _Common, _Creation, _Socket) -> ?STUB.
 
 %% ---- questions
 

@@ -5,7 +5,7 @@
 %% nodeup, ticks, statistics) is OTP's own code, whatever its release.
 %%
 %% The process of the end itself makes the step that brings it up in the node. Of an accepted peer that is where dist_util says the
-%% acknowledgement: net_kernel has agreed by then, an old connection is gone from the emulator, and dist_util refuses nobody any more.
+%% acknowledgement: net_kernel has agreed by then, an old connection is about to end, and dist_util refuses nobody any more.
 %% Of a dialled peer it is made where dist_util waits for the acknowledgement.
 -module(distnode_script).
 -export([other_started/6, we_started/6, number/1]).
@@ -127,7 +127,7 @@ await_challenge(Socket, #{driver := Driver} = Script) ->
 
 await_acknowledgement(Socket, Script) ->
     Body = next(Socket, Script),
-    case distnode_core:come_up(Script#{frame => {Body, distnode_nif:challenge()}}) of
+    case distnode_core:come_up(Socket, Script#{frame => {Body, distnode_nif:challenge()}}) of
         {ok, Bodies} -> distnode_shake:say(maps:get(driver, Script), Socket, Bodies);
         Other ->
             _ = distnode_shake:say(maps:get(driver, Script), Socket, go_on(Other, Socket, Script)),
@@ -154,7 +154,7 @@ go_on({closed, Bodies, Why, Status}, Socket, #{driver := Driver}) ->
 go_on({error, 'Gone'}, _, _) -> throw({distnode, gone});
 go_on({error, Code}, _, _) -> throw({distnode, {failed, Code}}).
 
-%% What the end will be up with, if the peer acknowledges: the node says so itself before it comes up (distnode_core:come_up/1).
+%% What the end will be up with, if the peer acknowledges: the node says so itself before it comes up (distnode_core:come_up/2).
 foreseen(#{received := <<$N, Flags:64, _Challenge:32, Creation:32, _/binary>>} = Info) -> foreseen(Flags, Creation, Info);
 foreseen(#{received := <<$n, _Version:16, Flags:32, _/binary>>} = Info) -> foreseen(Flags, unknown, Info).
 
@@ -170,7 +170,7 @@ challenged(Flags, _, #{flags := Own, peer := Peer}) ->
     exit(distnode_other_flags).
 
 admitted(Socket, #{id := Id, driver := Driver} = Script) ->
-    case distnode_core:come_up(Script) of
+    case distnode_core:come_up(Socket, Script) of
         {ok, Bodies} -> distnode_shake:say(Driver, Socket, Bodies);
         _ ->
             _ = distnode_core:lost(Id),

@@ -44,6 +44,7 @@ cases(Mapper) ->
      {"crossing_dials_ordinary_greater", fun() -> crossing(ours, otp, 40) end},
      {"random_connects_and_kills", fun random_traffic/0},
      {"kill_and_restart", fun kill_and_restart/0},
+     {"frame_is_held", fun() -> held(Mapper) end},
      {"frozen_connection_is_replaced", fun() -> [frozen(A, B, Mapper) || {A, B} <- [{ours, ours}, {otp, ours}, {ours, otp}]] end},
      {"wrong_cookie", fun wrong_cookie/0},
      {"cookies_at_run_time", fun cookies_at_run_time/0},
@@ -262,13 +263,42 @@ restarted(A, B) ->
 frozen(KindA, KindB, Mapper) ->
     with([{"a", KindA, ["-epmd_module", "relay_epmd" | ?QUIET]}, {"b", KindB, ?QUIET}],
          fun([A, B]) ->
-                 {Relay, Port} = other_side:relay(other_side:port_of("b", Mapper)),
-                 ok = c(A, relay_epmd, instead, ["b", Port]),
-                 true = connect(A, B),
-                 true = test_nodes:wait(fun() -> c(B, erlang, nodes, []) =:= [n(A)] end, 5000),
-                 ok = other_side:freeze(Relay),
-                 test_nodes:kill(B),
+                 Relay = cut_off(A, B, Mapper),
                  again(A, KindA, test_nodes:start("b", KindB, ?QUIET)),
+                 exit(Relay, kill)
+         end).
+
+%% a is connected to b by a relay, which then carries nothing more, and b is gone.
+cut_off(A, B, Mapper) ->
+    {Relay, Port} = other_side:relay(other_side:port_of("b", Mapper)),
+    ok = c(A, relay_epmd, instead, ["b", Port]),
+    true = connect(A, B),
+    true = test_nodes:wait(fun() -> c(B, erlang, nodes, []) =:= [n(A)] end, 5000),
+    ok = other_side:freeze(Relay),
+    test_nodes:kill(B),
+    Relay.
+
+%% The peer comes back while its old connection is up, and the core does not know yet that the old socket is gone: the old end stays up
+%% in the node so long, and the peer is not shown.
+held(Mapper) ->
+    with([{"a", ours, ["-epmd_module", "relay_epmd" | ?QUIET]}, {"b", ours, ?QUIET}],
+         fun([A, B]) ->
+                 Relay = cut_off(A, B, Mapper),
+                 Old = c(A, test_agent, up_end, [n(B)]),
+                 ok = c(A, sys, suspend, [distnode_core]),
+                 with([{"b", ours, ?QUIET}],
+                      fun([Again]) ->
+                              _ = c(Again, erlang, spawn, [net_kernel, connect_node, [n(A)]]),
+                              true = test_nodes:wait(fun() -> c(A, test_agent, is_held, [Old]) end, 5000),
+                              true = test_nodes:wait(fun() -> c(A, erlang, nodes, []) =:= [] end, 5000),
+                              Old = c(A, test_agent, up_end, [n(B)]),
+                              ok = c(A, sys, resume, [distnode_core]),
+                              true = test_nodes:wait(fun() -> c(A, erlang, nodes, []) =:= [n(B)] end, 5000),
+                              both_up(A, Again),
+                              agreed([A, Again]),
+                              true = c(A, test_agent, up_end, [n(B)]) > Old,
+                              false = is_map_key({closed, 'Replaced'}, c(A, distnode_core, counts, []))
+                      end),
                  exit(Relay, kill)
          end).
 

@@ -7,7 +7,8 @@
 %%   - the machine's ends are the node's open ends, but for what is in the mail;               (one core's table)
 %%   - an end's frames come from the one process that holds its socket, which is its owner;    (premises 1, 3)
 %%   - an end comes up once, by the step of its owner;                                         (premise 2)
-%%   - a process that has brought the emulator up has an end that is up in the node;           (premise 5)
+%%   - a process that has brought the emulator up has an end that is up in the node, and an end that came up is up until its socket
+%%     is gone;                                                                                (premise 5)
 %%   - whoever holds the socket of a closed end has a message that says so, or one is on its way, or it learns it where it
 %%     asks. (premise 6)
 %%
@@ -67,7 +68,7 @@ is_up(_) -> false.
 checked(#w{links = Links, node = Node, socks = Socks, procs = Procs, rows = Rows} = W) ->
     true = distnode_links:invariant(Links),
     Ends = distnode_links:ends(Links),
-    [] = (maps:keys(Node) -- Ends) -- mailed(accepted, W),
+    [] = ((maps:keys(Node) -- Ends) -- (mailed(accepted, W) ++ mailed(came_up, W))) -- [Id || {socket, Id} <- maps:keys(W#w.casts)],
     [] = (Ends -- maps:keys(Node)) -- mailed(closed, W),
     [is_held(Id, Holder, W) || {Id, Holder} <- maps:to_list(Socks)],
     [{up, Peer} = maps:get(Id, Node) || {Peer, Pid} <- maps:to_list(Rows), {true, Id} <- [emulator_up(maps:get(Pid, Procs))]],
@@ -77,7 +78,7 @@ mailed(Kind, #w{mail = Mail}) -> [element(2, Event) || {_, Events} <- Mail, Even
 
 is_held(Id, Holder, #w{links = Links, node = Node} = W) when is_map_key(Id, Node) ->
     case distnode_links:owner(Id, Links) of
-        none -> true = lists:member(Id, mailed(accepted, W));
+        none -> true = lists:member(Id, mailed(accepted, W) ++ mailed(came_up, W));
         Owner -> true = Owner =:= Holder orelse not is_alive(Owner, W)
     end;
 is_held(Id, Holder, W) -> true = hears(Id, Holder, W).
@@ -140,7 +141,7 @@ act({setup, Peer, {await, {shaking, Id} = Dial}}, Pid, W) ->
 act({setup, Peer, {await, Dial}}, Pid, W) -> await(pop(Pid, W), Peer, Dial, Pid);
 act({setup, Peer, {bring, Id}}, Pid, #w{node = Node} = W) ->
     case Node of
-        #{Id := {in, Peer}} -> put_proc(Pid, {setup, Peer, {admitted, Id}}, come_up(Peer, Id, Pid, W));
+        #{Id := {in, Peer}} -> come_up({setup, Peer, {admitted, Id}}, Peer, Id, Pid, W);
         #{} -> again(Pid, Peer, mail(Pid, [{given_up, Id, Pid}], unsocket(Id, W)))
     end;
 act({setup, Peer, {admitted, Id}}, Pid, W) -> cast(Pid, {done, Id, Pid}, put_proc(Pid, {setup, Peer, {up, Id}}, W));
@@ -163,7 +164,7 @@ act({accept, Id, {ready, Peer}}, Pid, W) ->
     end;
 act({accept, Id, {asked, Peer}}, Pid, #w{node = Node} = W) ->
     case Node of
-        #{Id := {in, Peer}} -> put_proc(Pid, {accept, Id, {admitted, Peer}}, come_up(Peer, Id, Pid, W));
+        #{Id := {in, Peer}} -> come_up({accept, Id, {admitted, Peer}}, Peer, Id, Pid, W);
         #{} -> die(Pid, mail(Pid, [{given_up, Id, Pid}], W))
     end;
 act({_, _, {ending, _}}, Pid, W) -> die(Pid, W);
@@ -214,7 +215,7 @@ own_frame({out, Peer}, Peer, Id, Pid, W) ->
     case rand:uniform(10) of
         1 -> own_end(Peer, Id, Pid, W);
         N when N < 5 -> W;
-        _ -> put_proc(Pid, {setup, Peer, {admitted, Id}}, come_up(Peer, Id, Pid, W))
+        _ -> come_up({setup, Peer, {admitted, Id}}, Peer, Id, Pid, W)
     end.
 
 %% The node has closed it in a step that its process has made.
@@ -225,11 +226,14 @@ own_end(Peer, Id, Pid, W0) ->
         _ -> again(Pid, Peer, W)
     end.
 
-%% A process that dies loses its sockets and its rows; its dialler goes with it. The core hears it later.
+%% A process that dies loses its sockets and its rows; its dialler goes with it. The core hears it later, and that the socket of an
+%% end that came up is gone.
 die(Pid, #w{procs = Procs} = W) when not is_map_key(Pid, Procs) -> W;
-die(Pid, #w{procs = Procs, socks = Socks, rows = Rows, inbox = Inbox} = W0) ->
-    W = cast(Pid, {down, Pid}, W0#w{procs = maps:remove(Pid, Procs), inbox = maps:remove(Pid, Inbox),
-                                    socks = without(Pid, Socks), rows = without(Pid, Rows)}),
+die(Pid, #w{procs = Procs, socks = Socks, rows = Rows, inbox = Inbox, node = Node} = W0) ->
+    W1 = cast(Pid, {down, Pid}, W0#w{procs = maps:remove(Pid, Procs), inbox = maps:remove(Pid, Inbox),
+                                     socks = without(Pid, Socks), rows = without(Pid, Rows)}),
+    W = lists:foldl(fun({Id, Peer}, Now) -> cast({socket, Id}, {gone, Id, Peer}, Now) end, W1,
+                    [{Id, Peer} || {Id, {up, Peer}} <- maps:to_list(Node), maps:get(Id, Socks, none) =:= Pid]),
     lists:foldl(fun die/2, W, [D || {D, {dialler, Setup, _}} <- maps:to_list(Procs), Setup =:= Pid]).
 
 %% A dialler is linked to its setup.
@@ -298,13 +302,15 @@ frame({in, Peer}, Id, Pid, W) ->
         _ -> put_proc(Pid, {accept, Id, {ready, Peer}}, W)
     end.
 
-%% The step that brings an end up, by the process that holds its socket; the old one with that peer is closed.
-come_up(Peer, Id, Pid, #w{node = Node, admitted = Admitted} = W0) ->
+%% The step that brings an end up, by the process that holds its socket. Where an old one with that peer is up, it is held, and the
+%% process asks that the old one go.
+come_up(Next, Peer, Id, Pid, #w{node = Node, admitted = Admitted} = W) ->
     false = is_map_key(Id, Admitted),
-    true = maps:get(Id, W0#w.socks) =:= Pid,
-    Olds = [Old || {Old, {up, P}} <- maps:to_list(Node), P =:= Peer],
-    W = lists:foldl(fun close/2, W0, Olds),
-    mail(Pid, [{closed, Old, 'Why', Pid} || Old <- Olds] ++ [{came_up, Id, Pid}], set(Id, {up, Peer}, W#w{admitted = Admitted#{Id => true}})).
+    true = maps:get(Id, W#w.socks) =:= Pid,
+    case [Old || {Old, {up, P}} <- maps:to_list(Node), P =:= Peer] of
+        [] -> put_proc(Pid, Next, mail(Pid, [{came_up, Id, Pid}], set(Id, {up, Peer}, W#w{admitted = Admitted#{Id => true}})));
+        [Old] -> mail(Pid, [{end_shown, Old}], W)
+    end.
 
 pending(Peer, #w{node = Node}) ->
     case [{Phase, Id} || {Id, {Phase, P}} <- maps:to_list(Node), P =:= Peer, Phase =:= in orelse Phase =:= out] of
@@ -336,6 +342,11 @@ events(Pid, Events, W) -> lists:foldl(fun(Event, Now) -> event(Event, Pid, Now) 
 
 event({refused, Id, Peer}, Pid, W) -> refused(Peer, Id, Pid, W);
 event({check, Id}, _, W) -> settle(Id, none, W);
+event({end_shown, Id}, _, #w{links = Links} = W) -> die(distnode_links:owner(Id, Links), W);
+event({gone, Id, _} = Event, _, #w{node = Node, socks = Socks} = W) ->
+    {up, _} = maps:get(Id, Node),
+    false = is_map_key(Id, Socks),
+    report_(Event, close(Id, W));
 event(Event, _, W) -> report_(Event, W).
 
 %% An end that was closed, and that isn't reported yet, or was before it was reported that it had come.
@@ -353,16 +364,22 @@ report(Event, #w{links = Links} = W) ->
 
 do({send, Pid, Message}, W) -> send(Pid, Message, W);
 do({kill, Pid}, W) -> die(Pid, W);
-do({lose, Id, _, _}, W) ->
-    true = is_map_key(Id, W#w.node) orelse lists:member(Id, mailed(closed, W)),
-    close(Id, W);
+do({lose, Id, _, _}, #w{node = Node} = W) ->
+    case Node of
+        #{Id := {up, _}} -> W;
+        #{Id := _} -> close(Id, W);
+        #{} ->
+            true = lists:member(Id, mailed(closed, W)),
+            W
+    end;
 do({dial, Peer}, W) -> dial(Peer, W).
 
 mail(Pid, Events, #w{mail = Mail} = W) -> W#w{mail = Mail ++ [{Pid, Events}]}.
 
 %% The mail in its order; what a process has cast, and its end, in no order with that of others, but after its own mail.
 deliver_any(#w{mail = Mail, casts = Casts} = W) ->
-    Late = maps:keys(Casts) -- [Pid || {Pid, _} <- Mail],
+    Early = [Pid || {Pid, _} <- Mail] ++ [{socket, Id} || Id <- mailed(came_up, W)],
+    Late = maps:keys(Casts) -- Early,
     case any([mail || Mail =/= []] ++ Late) of
         none -> W;
         {ok, mail} ->
@@ -374,7 +391,7 @@ deliver_any(#w{mail = Mail, casts = Casts} = W) ->
 deliver(Pid, #w{casts = Casts} = W) ->
     #{Pid := [Event | Rest]} = Casts,
     Left = case Rest of [] -> maps:remove(Pid, Casts); _ -> Casts#{Pid => Rest} end,
-    report_(Event, W#w{casts = Left}).
+    event(Event, Pid, W#w{casts = Left}).
 
 cast(Pid, Event, #w{casts = Casts} = W) -> W#w{casts = Casts#{Pid => maps:get(Pid, Casts, []) ++ [Event]}}.
 

@@ -3,7 +3,7 @@
 %% test's port, and ends the node with that connection.
 -module(test_agent).
 -export([main/1, row/1, connect_at/2, is_asked/1, is_agreed/0, sink/0, flood/2, watch/1, is_down/1, stay_up/2, traffic/2]).
--export([observe/1, traffic_observed/2, reconnect/2, memory/0, crowd/2, crowd_closed/0, change_cookie_once_asked/2]).
+-export([up_end/1, is_held/1, observe/1, traffic_observed/2, reconnect/2, memory/0, crowd/2, crowd_closed/0, change_cookie_once_asked/2]).
 
 main([Port]) ->
     spawn(fun() ->
@@ -50,6 +50,15 @@ busy_until(Moment) ->
 is_asked(Node) ->
     {messages, Messages} = process_info(whereis(net_kernel), messages),
     [] =/= [asked || {_, {accept_pending, _, Peer, _}} <- Messages, Peer =:= Node].
+
+%% The end that is up with a node; and does a frame wait until it is gone?
+up_end(Peer) ->
+    [{node, Node, _, _, _}] = ets:lookup(distnode_core, node),
+    distnode_nif:up_end(Node, atom_to_binary(Peer, utf8)).
+
+is_held(Id) ->
+    {messages, Messages} = process_info(whereis(distnode_core), messages),
+    [] =/= [held || {'$gen_call', _, {end_shown, Shown}} <- Messages, Shown =:= Id].
 
 %% Is each peer that net_kernel counts as up also up in the node, on the end whose process is net_kernel's owner, and the other
 %% way round; and is no other end open, and does nobody wait?

@@ -163,6 +163,19 @@ static int foresees_that_it_is_up(dn_node *node, uint32_t id) {
     return 0;
 }
 
+/* The reply would close the end that is up: it is held until that one is lost. */
+static int holds_a_frame(dn_node *node, uint32_t id, uint32_t up) {
+    dn_reply reply = {0};
+    static const uint8_t long_body[65536] = "r";
+    if (dn_node_guarded_body(node, id, long_body, sizeof long_body, 0, &reply) != DN_TOO_LONG || reply.closed) return 180;
+    if (dn_node_guarded_body(node, id, answer_came + 2, answer_len - 2, 0, &reply) != DN_SHOWN_END) return 181;
+    if (!made_room(&reply, DN_WHY_REPLACED, up) || !entry_is(node, DN_STATE_CHALLENGED, up, id)) return 182;
+    if (dn_node_lost(node, up, DN_WHY_ENDED, &reply) || !entry_is(node, DN_STATE_IN, 0, id)) return 183;
+    if (dn_node_guarded_body(node, id, answer_came + 2, answer_len - 2, 0, &reply) || reply.up != 1 || reply.closed) return 184;
+    if (reply.taken != answer_len - 2 || !entry_is(node, DN_STATE_UP, id, 0)) return 185;
+    return 0;
+}
+
 static int admits(void) {
     dn_node node = DN_NODE_INIT;
     dn_reply reply = {0};
@@ -187,7 +200,9 @@ static int admits(void) {
     if (dn_node_body(&node, 1, long_body, sizeof long_body - 1, 0, &reply) != DN_WRONG_PHASE) return 91;
     if (dn_node_incoming(&node, &reply) || dn_node_received(&node, 2, name_came, name_len, challenge, &reply)) return 92;
     if (!statuses_are(&node, DN_STATUS_ALIVE, DN_STATUS_NONE) || !entry_is(&node, DN_STATE_CHALLENGED, 1, 2)) return 93;
-    if (dn_node_body(&node, 2, TEXT("strue"), 1, &reply) || !statuses_are(&node, DN_STATUS_NONE, DN_STATUS_TRUE)) return 94;
+    if (dn_node_body(&node, 2, TEXT("strue"), challenge, &reply) || !statuses_are(&node, DN_STATUS_NONE, DN_STATUS_TRUE)) return 94;
+    failed = holds_a_frame(&node, 2, 1);
+    if (failed) return failed;
     if (dn_node_free(&node)) return 95;
     return 0;
 }

@@ -3,21 +3,7 @@ use Rattle.std.specs.Prelude.{◌≡◌, ℕ, ◌+◌, Bool, true, false, List, 
 use Rattle.dist_epmd_clients.specs.declared.counts.Counts.{Counts}
 use Rattle.dist_epmd_clients.specs.declared.event.ClientEvent.{ClientEvent}
 use Rattle.dist_epmd_clients.specs.declared.event.ClientEvent.TheVariants as event
-use Rattle.dist_epmd_clients.specs.declared.event.EventKind.{EventKind}
-use Rattle.dist_epmd_clients.specs.declared.event.EventKind.TheVariants as kind
 use Rattle.dist_epmd_clients.specs.declared.journal.Journal.{Journal}
-
--- which kind of event it is
-abbrev pub kind_of : ClientEvent → EventKind
-kind_of (event.Registered conn name port) = kind.Registered
-kind_of (event.Ended conn name) = kind.Ended
-kind_of (event.Refused conn name taken) = kind.Refused
-kind_of event.LookedUp = kind.LookedUp
-kind_of event.Listed = kind.Listed
-kind_of (event.Unanswered conn local) = kind.Unanswered
-kind_of (event.MadeRoom conn) = kind.MadeRoom
-kind_of (event.Late count) = kind.Late count
-kind_of (event.NoMemory conn) = kind.NoMemory
 
 -- whether a log has a line for it: questions that are answered have none
 abbrev pub is_line : ClientEvent → Bool
@@ -46,17 +32,17 @@ no_counts = record {
   missed = 0;
 }
 
--- the counts with one more of a kind
-abbrev pub with_one_of : EventKind → Counts → Counts
-with_one_of kind.Registered c = record c { registered = at_most c.registered 1 }
-with_one_of kind.Ended c = record c { ended = at_most c.ended 1 }
-with_one_of kind.Refused c = record c { refused = at_most c.refused 1 }
-with_one_of kind.LookedUp c = record c { looked_up = at_most c.looked_up 1 }
-with_one_of kind.Listed c = record c { listed = at_most c.listed 1 }
-with_one_of kind.Unanswered c = record c { unanswered = at_most c.unanswered 1 }
-with_one_of kind.MadeRoom c = record c { made_room = at_most c.made_room 1 }
-with_one_of (kind.Late count) c = record c { late = at_most c.late count }
-with_one_of kind.NoMemory c = record c { no_memory = at_most c.no_memory 1 }
+-- the counts with one event more; clients that were late are as many as it says
+abbrev pub with_event : ClientEvent → Counts → Counts
+with_event (event.Registered conn name port) c = record c { registered = at_most c.registered 1 }
+with_event (event.Ended conn name) c = record c { ended = at_most c.ended 1 }
+with_event (event.Refused conn name taken) c = record c { refused = at_most c.refused 1 }
+with_event event.LookedUp c = record c { looked_up = at_most c.looked_up 1 }
+with_event event.Listed c = record c { listed = at_most c.listed 1 }
+with_event (event.Unanswered conn local) c = record c { unanswered = at_most c.unanswered 1 }
+with_event (event.MadeRoom conn) c = record c { made_room = at_most c.made_room 1 }
+with_event (event.Late count) c = record c { late = at_most c.late count }
+with_event (event.NoMemory conn) c = record c { no_memory = at_most c.no_memory 1 }
 
 -- the counts with one event more that is kept nowhere
 abbrev pub missing : Counts → Counts
@@ -96,13 +82,13 @@ abbrev pub Lists : ClientEvent → Journal → Journal → Type 0
 Lists e old new = ListsWhere (nat_lt (length (events_in old)) (most_in old)) e old new
 
 -- the journal where an event is counted, and not kept
-abbrev pub with_count : EventKind → Journal → Journal
-with_count k journal = record journal { counts = with_one_of k journal.counts }
+abbrev pub with_count : ClientEvent → Journal → Journal
+with_count e journal = record journal { counts = with_event e journal.counts }
 
 -- an event is counted, and kept where a log has a line for it
 abbrev pub Notes : Bool → ClientEvent → Journal → Journal → Type 0
-Notes true e old new = Lists e (with_count (kind_of e) old) new
-Notes false e old new = new ≡ with_count (kind_of e) old
+Notes true e old new = Lists e (with_count e old) new
+Notes false e old new = new ≡ with_count e old
 
 -- WHAT A JOURNAL MAKES OF WHAT HAPPENED, if anything did
 abbrev pub Journals : Option ClientEvent → Journal → Journal → Type 0

@@ -15,8 +15,8 @@ use Rattle.dist_epmd_clients.specs.declared.client.Talk.{Talk}
 use Rattle.dist_epmd_clients.specs.declared.client.Talk.TheVariants as talk
 use Rattle.dist_epmd_clients.specs.declared.question.Question.{Question}
 use Rattle.dist_epmd_clients.specs.declared.question.Question.TheVariants.{Inside, Asks, Nothing}
-use Rattle.dist_epmd_clients.specs.declared.turn.Turn.{Turn}
-use Rattle.dist_epmd_clients.specs.declared.turn.Turn.TheVariants.{Wait, Stay, Leave}
+use Rattle.dist_epmd_clients.specs.declared.client.Turn.{Turn}
+use Rattle.dist_epmd_clients.specs.declared.client.Turn.TheVariants.{Wait, Stay, Leave}
 use Rattle.dist_epmd_clients.specs.Asking.{question}
 
 -- ---- what the registry answers
@@ -33,12 +33,6 @@ abbrev pub registrations_after : ℕ → Request → Registrations → Registrat
 registrations_after conn (request.Alive info) registrations = after_request conn info registrations
 registrations_after conn (request.PortPlease name) registrations = registrations
 registrations_after conn request.Names registrations = registrations
-
--- the name of the node that a request registers, if it registers one
-abbrev pub alive_name : Request → List ℕ
-alive_name (request.Alive info) = info.name
-alive_name (request.PortPlease name) = []
-alive_name request.Names = []
 
 -- the name that a request has, if it has one
 abbrev pub name_in : Request → List ℕ

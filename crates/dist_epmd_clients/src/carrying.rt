@@ -24,10 +24,8 @@ fn read_from_client<S: Stream>(
     ensures none { IfNone result (get nat_cmp clients.old conn ≡ None) }
     ensures unchanged { IfNone result (IsUnchanged clients.old clients.new) }
 {
-    match clients.get_mut(&conn) {
-        Some(client) => Some(client.stream.read(room)),
-        None => None,
-    }
+    let client = clients.get_mut(&conn)?;
+    Some(client.stream.read(room))
 }
 
 fn write_to_client<S: Stream>(
@@ -41,10 +39,8 @@ fn write_to_client<S: Stream>(
     ensures none { IfNone result (get nat_cmp clients.old conn ≡ None) }
     ensures unchanged { IfNone result (IsUnchanged clients.old clients.new) }
 {
-    match clients.get_mut(&conn) {
-        Some(client) => Some(client.stream.write(bytes)),
-        None => None,
-    }
+    let client = clients.get_mut(&conn)?;
+    Some(client.stream.write(bytes))
 }
 
 impl<S: Stream + Drop> Clients<S> {

@@ -3,30 +3,48 @@
 ghost use Rattle.std.specs.Prelude.{◌≡◌, ◌↔◌, ◌+◌, ◌^◌, ℕ, false, IfOk, IsOk, IsErrOf, OnOk, OnErr};
 ghost use Rattle.std.specs.Prelude.{[], IfSome, None, Some, IsSome, option_map, option_copied, length, slice_get};
 ghost use Rattle.std.specs.List.{list_any, filter_map};
+ghost use Rattle.std.specs.Ordering.{nat_cmp};
+ghost use Rattle.std.specs.BTreeMap.{get, Updates};
 ghost use Rattle.dist_epmd.specs.Registrations.{opening, after_closed, is_of};
 ghost use Rattle.dist_epmd_clients.specs.Journal.{no_counts, HasEvents, Journals};
-ghost use Rattle.dist_epmd_clients.specs.declared.event.ClientEvent.TheVariants.{NoMemory, Unanswered};
+ghost use Rattle.dist_epmd_clients.specs.declared.event.ClientEvent.TheVariants.{NoMemory};
 ghost use Rattle.dist_epmd_clients.specs.Reporting.{asked_event, ended_event, piece_event, counts_of, events_of, journal_of, most_of};
 ghost use Rattle.dist_epmd_clients.specs.Standing.{asking_since, is_registered};
-ghost use Rattle.dist_epmd_clients.specs.Replying.{after_piece, asks, leaves};
+ghost use Rattle.dist_epmd_clients.specs.Replying.{after_piece, asks, leaves, with_talk};
 ghost use Rattle.dist_epmd_clients.specs.Clients.{registrations_of, client_of, clients_of, next_of, new_client, Becomes, CanLack, Drops, IsKept, IsSame};
 
-use crate::client::{Client, Talk};
+use crate::client::{Client, OpenError, Talk, Turn};
 use crate::counts::Counts;
 use crate::event::ClientEvent;
 use crate::holding::Clients;
 use crate::journal::Journal;
-use crate::open_error::OpenError;
 use crate::question::{Question, question_of};
 use crate::replying::{drop_registration, reply_to};
-use crate::reporting::{alive_name, name_in, note_answer, note_end, note_registration};
-use crate::table::{client_in, client_name, first_asking, put_client, set_talk, take_client};
-use crate::turn::Turn;
+use crate::reporting::{answered_event, name_in, registration_event, talk_ended};
+use crate::sweeping::first_asking;
 use dist_epmd::{Registry, Request};
 use dist_epmd_calls::Served;
 use dist_names::ByteString;
 use std::alloc::{AllocError, Global};
 use std::collections::BTreeMap;
+
+// The client of a connection.
+fn client_in<S>(clients: &BTreeMap<u64, Client<S>>, conn: u64) -> Option<&Client<S>>
+    ensures { option_copied result ≡ get nat_cmp clients.now conn }
+{
+    clients.get(&conn)
+}
+
+// Sets where the talk of a client stands now. It takes no memory.
+fn set_talk<S>(clients: &mut BTreeMap<u64, Client<S>>, conn: u64, talk: Talk)
+    // The caller looked it up.
+    requires there { IsSome (get nat_cmp clients.old conn) }
+    ensures changed { Updates nat_cmp clients.old clients.new conn (option_map (with_talk talk) (get nat_cmp clients.old conn)) }
+{
+    if let Some(client) = clients.get_mut(&conn) {
+        client.talk = talk;
+    }
+}
 
 impl<S: Drop> Clients<S> {
     /// No clients, and a registry without nodes, of the port mapper at this port. It takes no memory.
@@ -71,14 +89,14 @@ impl<S: Drop> Clients<S> {
     pub fn counts(&self) -> &Counts
         ensures { result.now ≡ counts_of self.now }
     {
-        self.journal.counts()
+        &self.journal.counts
     }
 
     /// The events that wait for whoever reads them, the oldest first.
     pub fn events(&self) -> &[ClientEvent]
         ensures { result.now ≡ events_of self.now }
     {
-        self.journal.events()
+        &self.journal.events
     }
 
     /// Keeps no event that waits: they were read. As many may wait as before.
@@ -105,10 +123,8 @@ impl<S: Drop> Clients<S> {
     pub fn stream(&self, conn: u64) -> Option<&S>
         ensures { option_copied result ≡ option_map (λ client. client.stream) (client_of self.now conn) }
     {
-        match client_in(&self.clients, conn) {
-            Some(client) => Some(&client.stream),
-            None => None,
-        }
+        let client = self.clients.get(&conn)?;
+        Some(&client.stream)
     }
 
     /// The connection that is here for the longest of those that have not asked yet, and when it came.
@@ -150,7 +166,7 @@ impl<S: Drop> Clients<S> {
             since,
             talk: Talk::Asking(ByteString::new(alloc)),
         };
-        if put_client(&mut self.clients, conn, client).is_err() {
+        if self.clients.insert(conn, client).is_err() {
             return Err(OpenError::NoMemory);
         }
         self.next = next;
@@ -164,8 +180,8 @@ impl<S: Drop> Clients<S> {
         ensures next { next_of self.new ≡ next_of self.old }
         ensures journal { journal_of self.new ≡ journal_of self.old }
     {
-        drop_registration(&mut self.registry, conn, client_name(&self.clients, conn));
-        take_client(&mut self.clients, conn)
+        drop_registration(&mut self.registry, conn, self.clients.get(&conn));
+        self.clients.remove(&conn)
     }
 
     /// A connection is over, or is to be: its client leaves, and its registration with it. Gives back what carried its
@@ -176,14 +192,10 @@ impl<S: Drop> Clients<S> {
         ensures next { next_of self.new ≡ next_of self.old }
         ensures journal { Journals (ended_event conn (client_of self.old conn)) (journal_of self.old) (journal_of self.new) }
     {
-        match self.remove(conn) {
-            Some(client) => {
-                let Client { stream, talk, .. } = client;
-                note_end(&mut self.journal, conn, talk);
-                Some(stream)
-            }
-            None => None,
-        }
+        let client = self.remove(conn)?;
+        let Client { stream, talk, .. } = client;
+        self.journal.note(talk_ended(conn, talk));
+        Some(stream)
     }
 
     /// Bytes came on a connection. All that the client sent decides what is to be done, and what is left of the client and of
@@ -205,7 +217,7 @@ impl<S: Drop> Clients<S> {
             Ok(turn) => Ok(turn),
             Err(error) => {
                 let _ = self.remove(conn);
-                self.journal.note(ClientEvent::NoMemory { conn });
+                self.journal.note(Some(ClientEvent::NoMemory { conn }));
                 Err(error)
             }
         }
@@ -231,14 +243,19 @@ impl<S: Drop> Clients<S> {
         let Talk::Asking(said) = &client.talk else {
             return Ok(self.leave(alloc, conn));
         };
+        let is_local = client.local;
         let mut all = said.try_clone(alloc)?;
         all.append(piece)?;
-        match question_of(alloc, client.local, all.as_slice())? {
+        match question_of(alloc, is_local, all.as_slice())? {
             Question::Inside => {
                 set_talk(&mut self.clients, conn, Talk::Asking(all));
                 Ok(Turn::Wait)
             }
-            Question::Nothing => Ok(self.ignore(alloc, conn)),
+            Question::Nothing => {
+                self.journal
+                    .note(Some(ClientEvent::Unanswered { conn, is_local }));
+                Ok(self.leave(alloc, conn))
+            }
             Question::Asks(request) => self.reply(alloc, conn, request),
         }
     }
@@ -258,29 +275,6 @@ impl<S: Drop> Clients<S> {
         }
     }
 
-    // A client leaves that has asked for nothing that is answered.
-    fn ignore(&mut self, alloc: Global, conn: u64) -> Turn<S>
-        // The caller looked it up.
-        requires there { IsSome (client_of self.old conn) }
-        ensures after { IfSome (client_of self.old conn) (λ client. let after = leaves conn client (registrations_of self.old) in
-            (result ≡ after.turn) × Becomes after.client after.registrations conn self.old self.new) }
-        ensures next { next_of self.new ≡ next_of self.old }
-        ensures journal { IfSome (client_of self.old conn) (λ client.
-            Journals (Some (Unanswered conn client.local)) (journal_of self.old) (journal_of self.new)) }
-    {
-        match self.remove(conn) {
-            Some(client) => {
-                let Client { stream, local, .. } = client;
-                self.journal.note(ClientEvent::Unanswered {
-                    conn,
-                    is_local: local,
-                });
-                Turn::Leave(stream, ByteString::new(alloc))
-            }
-            None => Turn::Wait,
-        }
-    }
-
     // Answers the request of a client that has not asked before.
     fn reply(&mut self, alloc: Global, conn: u64, request: Request) -> Result<Turn<S>, AllocError>
         // The caller looked it up.
@@ -293,19 +287,17 @@ impl<S: Drop> Clients<S> {
         ensures journal { OnOk result (Journals (asked_event conn request (registrations_of self.old)) (journal_of self.old) (journal_of self.new)) }
         ensures no_memory { OnErr result (journal_of self.new ≡ journal_of self.old) }
     {
-        let name = alive_name(alloc, &request)?;
+        let registration = registration_event(alloc, conn, &request)?;
         let (served, text) = reply_to(&mut self.registry, alloc, conn, &request)?;
         if let Served::Registered = served {
-            note_registration(&mut self.journal, conn, name, &request);
-            set_talk(
-                &mut self.clients,
-                conn,
-                Talk::Registered(name_in(alloc, request)),
-            );
+            self.journal.note(registration);
+            let talk = Talk::Registered(name_in(alloc, request));
+            set_talk(&mut self.clients, conn, talk);
             return Ok(Turn::Stay(text));
         }
-        note_answer(&mut self.journal, &self.registry, conn, request);
-        match take_client(&mut self.clients, conn) {
+        let event = answered_event(&self.registry, conn, request);
+        self.journal.note(Some(event));
+        match self.clients.remove(&conn) {
             Some(client) => {
                 let Client { stream, .. } = client;
                 Ok(Turn::Leave(stream, text))

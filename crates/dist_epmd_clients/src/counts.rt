@@ -1,9 +1,9 @@
 //! How often what happened.
 
 ghost use Rattle.std.specs.Prelude.{◌≡◌};
-ghost use Rattle.dist_epmd_clients.specs.Journal.{at_most, with_one_of, missing, no_counts};
+ghost use Rattle.dist_epmd_clients.specs.Journal.{with_event, no_counts};
 
-use crate::event::EventKind;
+use crate::event::ClientEvent;
 
 /// How often what happened since the start. A count that has reached 18,446,744,073,709,551,615 stays.
 #[derive(Clone, Copy, Debug, PartialEq, Eq)]
@@ -30,16 +30,6 @@ pub struct Counts {
     pub missed: u64,
 }
 
-// The sum, or the greatest number.
-fn at_most(count: u64, more: u64) -> u64
-    ensures { result ≡ at_most count more }
-{
-    match count.checked_add(more) {
-        Some(sum) => sum,
-        None => u64::MAX,
-    }
-}
-
 impl Counts {
     /// Nothing happened yet.
     pub fn new() -> Counts
@@ -59,27 +49,20 @@ impl Counts {
         }
     }
 
-    /// One more of a kind.
-    pub(crate) fn count(&mut self, kind: EventKind)
-        ensures { self.new ≡ with_one_of kind self.old }
+    /// One event more.
+    pub(crate) fn count(&mut self, event: &ClientEvent)
+        ensures { self.new ≡ with_event event.now self.old }
     {
-        match kind {
-            EventKind::Registered => self.registered = at_most(self.registered, 1),
-            EventKind::Ended => self.ended = at_most(self.ended, 1),
-            EventKind::Refused => self.refused = at_most(self.refused, 1),
-            EventKind::LookedUp => self.looked_up = at_most(self.looked_up, 1),
-            EventKind::Listed => self.listed = at_most(self.listed, 1),
-            EventKind::Unanswered => self.unanswered = at_most(self.unanswered, 1),
-            EventKind::MadeRoom => self.made_room = at_most(self.made_room, 1),
-            EventKind::Late(count) => self.late = at_most(self.late, count),
-            EventKind::NoMemory => self.no_memory = at_most(self.no_memory, 1),
+        match event {
+            ClientEvent::Registered { .. } => self.registered = self.registered.saturating_add(1),
+            ClientEvent::Ended { .. } => self.ended = self.ended.saturating_add(1),
+            ClientEvent::Refused { .. } => self.refused = self.refused.saturating_add(1),
+            ClientEvent::LookedUp => self.looked_up = self.looked_up.saturating_add(1),
+            ClientEvent::Listed => self.listed = self.listed.saturating_add(1),
+            ClientEvent::Unanswered { .. } => self.unanswered = self.unanswered.saturating_add(1),
+            ClientEvent::MadeRoom { .. } => self.made_room = self.made_room.saturating_add(1),
+            ClientEvent::Late { count } => self.late = self.late.saturating_add(*count),
+            ClientEvent::NoMemory { .. } => self.no_memory = self.no_memory.saturating_add(1),
         }
-    }
-
-    /// One event more that is kept nowhere.
-    pub(crate) fn miss(&mut self)
-        ensures { self.new ≡ missing self.old }
-    {
-        self.missed = at_most(self.missed, 1);
     }
 }

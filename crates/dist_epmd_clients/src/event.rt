@@ -1,7 +1,7 @@
 //! What happened at a port mapper, for whoever keeps a log or counts.
 
 ghost use Rattle.std.specs.Prelude.{◌≡◌};
-ghost use Rattle.dist_epmd_clients.specs.Journal.{kind_of, is_line};
+ghost use Rattle.dist_epmd_clients.specs.Journal.{is_line};
 
 use dist_names::ByteString;
 
@@ -48,39 +48,7 @@ pub enum ClientEvent {
     },
 }
 
-/// Which kind of event it is.
-#[derive(Clone, Copy, PartialEq, Eq)]
-pub enum EventKind {
-    Registered,
-    Ended,
-    Refused,
-    LookedUp,
-    Listed,
-    Unanswered,
-    MadeRoom,
-    /// With the number of clients.
-    Late(u64),
-    NoMemory,
-}
-
 impl ClientEvent {
-    /// Which kind of event it is.
-    pub fn kind(&self) -> EventKind
-        ensures { result ≡ kind_of self.now }
-    {
-        match self {
-            ClientEvent::Registered { .. } => EventKind::Registered,
-            ClientEvent::Ended { .. } => EventKind::Ended,
-            ClientEvent::Refused { .. } => EventKind::Refused,
-            ClientEvent::LookedUp => EventKind::LookedUp,
-            ClientEvent::Listed => EventKind::Listed,
-            ClientEvent::Unanswered { .. } => EventKind::Unanswered,
-            ClientEvent::MadeRoom { .. } => EventKind::MadeRoom,
-            ClientEvent::Late { count } => EventKind::Late(*count),
-            ClientEvent::NoMemory { .. } => EventKind::NoMemory,
-        }
-    }
-
     /// Whether a log has a line for it.
     pub fn is_line(&self) -> bool
         ensures { result ≡ is_line self.now }

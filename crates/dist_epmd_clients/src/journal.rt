@@ -3,22 +3,22 @@
 ghost use Rattle.std.specs.Prelude.{◌≤◌, vec_capacity};
 
 use crate::counts::Counts;
-use crate::event::{ClientEvent, EventKind};
+use crate::event::ClientEvent;
 use std::alloc::{AllocError, Global};
 
 /// The events that wait for whoever reads them, at most so many, and the counts of all.
 #[derive(Drop)]
 pub struct Journal {
-    counts: Counts,
-    events: Vec<ClientEvent>,
+    pub(crate) counts: Counts,
+    pub(crate) events: Vec<ClientEvent>,
     most: usize,
     // The memory of all that may wait was taken when it was asked for.
     ghost reserved: { most ≤ vec_capacity events },
 }
 
 impl Journal {
-    ghost use Rattle.std.specs.Prelude.{◌≡◌, [], Some, OnOk, OnErr};
-    ghost use Rattle.dist_epmd_clients.specs.Journal.{counts_in, events_in, most_in, no_counts, with_count, with_miss, HasEvents, Lists, Journals};
+    ghost use Rattle.std.specs.Prelude.{◌≡◌, [], OnOk, OnErr};
+    ghost use Rattle.dist_epmd_clients.specs.Journal.{counts_in, events_in, most_in, no_counts, HasEvents, Lists, Journals};
 
     /// Nothing happened yet, and no event is kept: it only counts. It takes no memory.
     pub fn new(alloc: Global) -> Journal
@@ -31,20 +31,6 @@ impl Journal {
             events: Vec::new(alloc),
             most: 0,
         }
-    }
-
-    /// How often what happened.
-    pub fn counts(&self) -> &Counts
-        ensures { result.now ≡ counts_in self.now }
-    {
-        &self.counts
-    }
-
-    /// The events that wait, the oldest first.
-    pub fn events(&self) -> &[ClientEvent]
-        ensures { result.now ≡ events_in self.now }
-    {
-        &self.events
     }
 
     /// From now on so many events may wait: their memory is taken now.
@@ -71,24 +57,20 @@ impl Journal {
         ensures { Lists event self.old self.new }
     {
         if self.events.len() >= self.most {
-            self.counts.miss();
+            self.counts.missed = self.counts.missed.saturating_add(1);
             return;
         }
         let _ = self.events.push(event);
     }
 
-    // Counts an event of this kind.
-    fn count(&mut self, kind: EventKind)
-        ensures { self.new ≡ with_count kind self.old }
+    /// Counts an event, and keeps it where it is for a log. `None`: nothing happened.
+    pub fn note(&mut self, event: Option<ClientEvent>)
+        ensures { Journals event self.old self.new }
     {
-        self.counts.count(kind);
-    }
-
-    /// Counts an event, and keeps it where it is for a log.
-    pub fn note(&mut self, event: ClientEvent)
-        ensures { Journals (Some event) self.old self.new }
-    {
-        self.count(event.kind());
+        let Some(event) = event else {
+            return;
+        };
+        self.counts.count(&event);
         if event.is_line() {
             self.list(event);
         }

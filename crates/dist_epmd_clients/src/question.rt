@@ -27,15 +27,8 @@ fn request_question(local: bool, request: Request) -> Question
     ensures { result ≡ request_question local (Ok request) }
 {
     match request {
-        Request::Alive(info) => {
-            if local {
-                Question::Asks(Request::Alive(info))
-            } else {
-                Question::Nothing
-            }
-        }
-        Request::PortPlease(name) => Question::Asks(Request::PortPlease(name)),
-        Request::Names => Question::Asks(Request::Names),
+        Request::Alive(_) if !local => Question::Nothing,
+        request => Question::Asks(request),
     }
 }
 
@@ -47,14 +40,11 @@ pub fn question_of(alloc: Global, local: bool, said: &[u8]) -> Result<Question, 
         return Ok(Question::Inside);
     };
     let len = u16::from_be_bytes(*head) as usize;
-    if len > MOST {
+    if len > MOST || body.len() > len {
         return Ok(Question::Nothing);
     }
     if body.len() < len {
         return Ok(Question::Inside);
-    }
-    if body.len() > len {
-        return Ok(Question::Nothing);
     }
     match decode_request(alloc, front_of(body)) {
         Ok(request) => Ok(request_question(local, request)),

@@ -6,7 +6,9 @@ ghost use Rattle.dist_epmd.specs.Registrations.{after_closed, is_of, registered_
 ghost use Rattle.dist_epmd_calls.specs.Serving.{served_as};
 ghost use Rattle.dist_epmd_clients.specs.Replying.{answer_for, registrations_after, text_of};
 ghost use Rattle.dist_epmd_clients.specs.Clients.{Keeps};
+ghost use Rattle.dist_epmd_clients.specs.Standing.{client_name};
 
+use crate::client::{Client, Talk};
 use dist_epmd::{Answer, EpmdError, Registry, Request, encode_answer};
 use dist_epmd_calls::{Mapper, Served, served_as};
 use dist_names::ByteString;
@@ -66,13 +68,16 @@ pub fn reply_to(
     Ok((served_as(request, &answer), text))
 }
 
-/// Drops the registration of a connection, where it has one.
-pub fn drop_registration(registry: &mut Registry, conn: u64, name: Option<&[u8]>)
-    // The caller knows it from the client of the connection.
-    requires { registered_name conn registry.old ≡ option_copied name }
+/// Drops the registration of a connection, where its client has one.
+pub fn drop_registration<S>(registry: &mut Registry, conn: u64, client: Option<&Client<S>>)
+    // The caller looked it up, and registrations stand.
+    requires { registered_name conn registry.old ≡ client_name (option_copied client) }
     ensures { registry.new ≡ after_closed conn registry.old }
 {
-    if let Some(name) = name {
-        registry.closed_as(conn, name);
+    let Some(client) = client else {
+        return;
+    };
+    if let Talk::Registered(name) = &client.talk {
+        registry.closed_as(conn, name.as_slice());
     }
 }

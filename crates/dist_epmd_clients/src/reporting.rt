@@ -1,16 +1,13 @@
 //! What the journal hears of what is done.
 
-ghost use Rattle.std.specs.Prelude.{◌≡◌, Some, IfOk};
+ghost use Rattle.std.specs.Prelude.{◌≡◌, IfOk};
 ghost use Rattle.dist_epmd_calls.specs.declared.serve.Served.TheVariants.{Registered};
-ghost use Rattle.dist_epmd_clients.specs.declared.event.ClientEvent.TheVariants as event;
-ghost use Rattle.dist_epmd_clients.specs.Journal.{Journals};
 ghost use Rattle.dist_epmd.specs.Registrations.{Registrations};
-ghost use Rattle.dist_epmd_clients.specs.Replying.{alive_name, name_in};
+ghost use Rattle.dist_epmd_clients.specs.Replying.{name_in};
 ghost use Rattle.dist_epmd_clients.specs.Reporting.{answered_event, served_event, talk_ended};
 
 use crate::client::Talk;
 use crate::event::ClientEvent;
-use crate::journal::Journal;
 use dist_epmd::{NodeInfo, Registry, Request};
 use dist_names::ByteString;
 use std::alloc::{AllocError, Global};
@@ -30,42 +27,35 @@ pub fn name_in(alloc: Global, request: Request) -> ByteString
 }
 
 /// The connection of a client is over, whose talk stood here.
-pub fn note_end(journal: &mut Journal, conn: u64, talk: Talk)
-    ensures { Journals (talk_ended conn talk) journal.old journal.new }
+pub fn talk_ended(conn: u64, talk: Talk) -> Option<ClientEvent>
+    ensures { result ≡ talk_ended conn talk }
 {
-    if let Talk::Registered(name) = talk {
-        journal.note(ClientEvent::Ended { conn, name });
+    match talk {
+        Talk::Asking(_) => None,
+        Talk::Registered(name) => Some(ClientEvent::Ended { conn, name }),
     }
 }
 
-/// A copy of the name of the node that a request registers, for the event of it. It is made before the request is answered, so
-/// that no event is missed for lack of memory.
-pub fn alive_name(alloc: Global, request: &Request) -> Result<ByteString, AllocError>
-    ensures { IfOk result (λ name. name ≡ alive_name request.now) }
+/// What happens where the node of a request is registered. Its name is copied before the request is answered, so that no event is
+/// missed for lack of memory.
+pub fn registration_event(
+    alloc: Global,
+    conn: u64,
+    request: &Request,
+) -> Result<Option<ClientEvent>, AllocError>
+    ensures { (registrations : Registrations) → IfOk result (λ event. event ≡ served_event Registered conn request.now registrations) }
 {
     match request {
-        Request::Alive(info) => info.name.try_clone(alloc),
-        Request::PortPlease(_) | Request::Names => Ok(ByteString::new(alloc)),
+        Request::Alive(info) => {
+            let (name, port) = (info.name.try_clone(alloc)?, info.port);
+            Ok(Some(ClientEvent::Registered { conn, name, port }))
+        }
+        Request::PortPlease(_) | Request::Names => Ok(None),
     }
 }
 
-/// A request was answered so that its node is registered.
-pub fn note_registration(journal: &mut Journal, conn: u64, name: ByteString, request: &Request)
-    // The caller copied it.
-    requires { name ≡ alive_name request.now }
-    ensures { (registrations : Registrations) → Journals (served_event Registered conn request.now registrations) journal.old journal.new }
-{
-    if let Request::Alive(info) = request {
-        journal.note(ClientEvent::Registered {
-            conn,
-            name,
-            port: info.port,
-        });
-    }
-}
-
-// A request was answered, and no node is registered for it.
-fn answered_event(registry: &Registry, conn: u64, request: Request) -> ClientEvent
+/// A request was answered, and no node is registered for it.
+pub fn answered_event(registry: &Registry, conn: u64, request: Request) -> ClientEvent
     ensures { result ≡ answered_event conn request registry.now }
 {
     match request {
@@ -81,11 +71,4 @@ fn answered_event(registry: &Registry, conn: u64, request: Request) -> ClientEve
         Request::PortPlease(_) => ClientEvent::LookedUp,
         Request::Names => ClientEvent::Listed,
     }
-}
-
-/// A request was answered, and no node is registered for it.
-pub fn note_answer(journal: &mut Journal, registry: &Registry, conn: u64, request: Request)
-    ensures { Journals (Some (answered_event conn request registry.now)) journal.old journal.new }
-{
-    journal.note(answered_event(registry, conn, request));
 }

@@ -15,8 +15,6 @@ ghost use Rattle.dist_epmd_clients.specs.Sweeping.{is_late};
 use crate::client::{Client, Talk};
 use crate::event::ClientEvent;
 use crate::holding::Clients;
-use crate::journal::Journal;
-use crate::table::{first_asking, take_client};
 use std::collections::BTreeMap;
 
 // Whether a client has not asked yet, and came this many seconds ago or earlier.
@@ -33,24 +31,25 @@ fn drop_late_clients<S: Drop>(clients: &mut BTreeMap<u64, Client<S>>, now: u64, 
     clients.retain(|_conn, client| !is_late(client, now, seconds));
 }
 
-// The first client that has not asked yet, which is not registered.
-fn first_unregistered<S>(clients: &BTreeMap<u64, Client<S>>) -> Option<(u64, u64)>
+// The number of a client that has not asked yet, and when it came.
+fn asking_since<S>(conn: u64, client: &Client<S>) -> Option<(u64, u64)>
+    ensures { result ≡ asking_since (conn, client.now) }
+{
+    match client.talk {
+        Talk::Asking(_) => Some((conn, client.since)),
+        Talk::Registered(_) => None,
+    }
+}
+
+/// The first client that has not asked yet, which is not registered, and when it came.
+pub fn first_asking<S>(clients: &BTreeMap<u64, Client<S>>) -> Option<(u64, u64)>
     ensures first { result ≡ slice_get (filter_map asking_since clients.now.entries) 0 }
     ensures asking { IfSome result (λ first. is_registered (get nat_cmp clients.now first.0) ≡ false) }
 {
-    if clients.len() == 0 {
-        return None;
-    }
-    first_asking(clients)
-}
-
-// So many clients were late.
-fn note_late(journal: &mut Journal, count: u64)
-    ensures { Journals (late_event count) journal.old journal.new }
-{
-    if count > 0 {
-        journal.note(ClientEvent::Late { count });
-    }
+    clients
+        .iter()
+        .filter_map(|(conn, client)| asking_since(*conn, client))
+        .nth(0)
 }
 
 impl<S: Drop> Clients<S> {
@@ -65,7 +64,8 @@ impl<S: Drop> Clients<S> {
         let before = self.clients.len();
         drop_late_clients(&mut self.clients, now, seconds);
         let count = before.saturating_sub(self.clients.len()) as u64;
-        note_late(&mut self.journal, count);
+        let event = (count > 0).then_some(ClientEvent::Late { count });
+        self.journal.note(event);
     }
 
     /// Closes the client that is here for the longest of those that have not asked, and returns its stream. All others stay,
@@ -79,14 +79,10 @@ impl<S: Drop> Clients<S> {
         ensures journal { Journals (option_map (λ first. MadeRoom first.0) (slice_get (filter_map asking_since (clients_of self.old)) 0))
             (journal_of self.old) (journal_of self.new) }
     {
-        let (conn, _since) = first_unregistered(&self.clients)?;
-        self.journal.note(ClientEvent::MadeRoom { conn });
-        match take_client(&mut self.clients, conn) {
-            Some(client) => {
-                let Client { stream, .. } = client;
-                Some(stream)
-            }
-            None => None,
-        }
+        let (conn, _since) = first_asking(&self.clients)?;
+        self.journal.note(Some(ClientEvent::MadeRoom { conn }));
+        let client = self.clients.remove(&conn)?;
+        let Client { stream, .. } = client;
+        Some(stream)
     }
 }

@@ -4,45 +4,36 @@ use Rattle.std.specs.Option.{MatchOption}
 use Rattle.dist_stream.specs.Stream.{StreamState}
 use Rattle.dist_epmd_clients.specs.declared.holding.Clients.{Clients}
 use Rattle.dist_epmd_clients.specs.Clients.{client_of}
-use Rattle.dist_epmd_server.specs.declared.attending.Interests.{Interests}
-use Rattle.dist_epmd_server.specs.declared.attending.Interests.TheVariants as watch
 use Rattle.dist_epmd_server.specs.declared.owing.Owing.{Owing}
 use Rattle.dist_epmd_server.specs.declared.turns.ReadStep.{ReadStep}
 use Rattle.dist_epmd_server.specs.declared.turns.ReadStep.TheVariants as step
 use Rattle.dist_epmd_server.specs.Owing.{all_owed, owed_to, AfterLeave, AfterTry, OthersOwed}
 use Rattle.dist_epmd_server.specs.Turns.{Chain}
 
--- A connection is watched for room exactly where something is left to be sent.
-abbrev pub WatchIsOf : Bool → Interests → Type 0
-WatchIsOf true made = made ≡ watch.Writing
-WatchIsOf false made = made ≡ watch.Nothing
-
 module _ {S : Type 0} (meaning : S → StreamState) where
-  -- WHAT IS OWED AFTER A STEP: a client that leaves is sent its text, or the text is owed to it; no other step changes what is
-  -- owed.
-  abbrev pub SettlesOwed : ReadStep S → ℕ → ℕ → Owing S → Owing S → Interests → Type 0
-  SettlesOwed step.Quiet conn now old new made = (made ≡ watch.Nothing) × (all_owed new ≡ all_owed old)
-  SettlesOwed step.More conn now old new made = (made ≡ watch.Reading) × (all_owed new ≡ all_owed old)
-  SettlesOwed step.Closed conn now old new made = (made ≡ watch.Nothing) × (all_owed new ≡ all_owed old)
-  SettlesOwed (step.Leaves stream text) conn now old new made = (left : Bool) × WatchIsOf left made × AfterLeave meaning left stream text now conn old new
+  -- WHAT IS OWED AFTER A STEP, and whether the connection is watched again: a client that leaves is sent its text, or the text is owed
+  -- to it; no other step changes what is owed.
+  abbrev pub SettlesOwed : ReadStep S → ℕ → ℕ → Owing S → Owing S → Bool → Type 0
+  SettlesOwed step.Quiet conn now old new again = (again ≡ false) × (all_owed new ≡ all_owed old)
+  SettlesOwed step.More conn now old new again = (again ≡ true) × (all_owed new ≡ all_owed old)
+  SettlesOwed step.Closed conn now old new again = (again ≡ false) × (all_owed new ≡ all_owed old)
+  SettlesOwed (step.Leaves stream text) conn now old new again = AfterLeave meaning again stream text now conn old new
 
   -- A client is served: by reads one after another, each of which gives what came to the table, and then what the last of them
   -- asks for is done.
-  pub record ServesClient (conn now : ℕ) (old new : Clients S) (owing after : Owing S) (made : Interests) : Type 0 where
+  pub record ServesClient (conn now : ℕ) (old new : Clients S) (owing after : Owing S) (again : Bool) : Type 0 where
     pub step : ReadStep S
     pub reads : Chain meaning conn old new step
-    pub settles : SettlesOwed step conn now owing after made
+    pub settles : SettlesOwed step conn now owing after again
 
-  -- What is owed on a connection goes on by one write, and on no other.
-  pub record GoesOnOwed (conn : ℕ) (old new : Owing S) (made : Interests) : Type 0 where
-    pub left : Bool
-    pub watch : WatchIsOf left made
-    pub there : AfterTry meaning left (owed_to old conn) (owed_to new conn)
+  -- What is owed on a connection goes on by one write, and on no other. It is watched again exactly where something is left.
+  pub record GoesOnOwed (conn : ℕ) (old new : Owing S) (again : Bool) : Type 0 where
+    pub there : AfterTry meaning again (owed_to old conn) (owed_to new conn)
     pub others : OthersOwed conn old new
 
   -- WHAT IS DONE FOR A CONNECTION THAT IS READY: its client is served; where none is here, what is owed on it goes on, and no
   -- client is touched
-  abbrev pub Attends : ℕ → ℕ → Clients S → Clients S → Owing S → Owing S → Interests → Type 0
-  Attends conn now old new owing after made = MatchOption (client_of old conn)
-      ((new ≡ old) × GoesOnOwed conn owing after made)
-      (λ client. ServesClient conn now old new owing after made)
+  abbrev pub Attends : ℕ → ℕ → Clients S → Clients S → Owing S → Owing S → Bool → Type 0
+  Attends conn now old new owing after again = MatchOption (client_of old conn)
+      ((new ≡ old) × GoesOnOwed conn owing after again)
+      (λ client. ServesClient conn now old new owing after again)

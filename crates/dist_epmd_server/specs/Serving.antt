@@ -8,7 +8,6 @@ use Rattle.dist_epmd_clients.specs.declared.holding.Clients.{Clients}
 use Rattle.dist_epmd_clients.specs.Clients.{registrations_of, clients_of, next_of, new_client, Becomes, IsSame}
 use Rattle.dist_epmd_clients.specs.Journal.{most_in}
 use Rattle.dist_epmd_clients.specs.Standing.{asking_since}
-use Rattle.dist_epmd_server.specs.declared.attending.Interests.{Interests}
 use Rattle.dist_epmd_server.specs.declared.owing.Owing.{Owing}
 use Rattle.dist_epmd_server.specs.declared.server.Server.{Server}
 use Rattle.dist_epmd_server.specs.Attending.{Attends}
@@ -92,4 +91,4 @@ pub record ComesTo (now most : ℕ) (old new : Clients SocketStream) (owing left
 abbrev pub ServesNewest : (SocketStream → StreamState) → Option ℕ → ℕ →
     Clients SocketStream → Clients SocketStream → Owing SocketStream → Owing SocketStream → Type 0
 ServesNewest meaning None now old new owing after = (new ≡ old) × (after ≡ owing)
-ServesNewest meaning (Some conn) now old new owing after = (made : Interests) × Attends meaning conn now old new owing after made
+ServesNewest meaning (Some conn) now old new owing after = (again : Bool) × Attends meaning conn now old new owing after again

@@ -9,8 +9,8 @@ use Rattle.dist_stream.specs.declared.stream.Took.{Took}
 use Rattle.dist_stream.specs.declared.stream.Took.TheVariants as took
 use Rattle.dist_epmd_clients.specs.declared.client.Client.{Client}
 use Rattle.dist_epmd_clients.specs.declared.holding.Clients.{Clients}
-use Rattle.dist_epmd_clients.specs.declared.turn.Turn.{Turn}
-use Rattle.dist_epmd_clients.specs.declared.turn.Turn.TheVariants as turn
+use Rattle.dist_epmd_clients.specs.declared.client.Turn.{Turn}
+use Rattle.dist_epmd_clients.specs.declared.client.Turn.TheVariants as turn
 use Rattle.dist_epmd_clients.specs.Carrying.{Carries, Moved}
 use Rattle.dist_epmd_clients.specs.Clients.{registrations_of, client_of, OthersStay, Becomes, CanLack, Drops, IsSame}
 use Rattle.dist_epmd_clients.specs.Replying.{Outcome, after_piece}

@@ -4,8 +4,8 @@
 ghost use Rattle.std.specs.Prelude.{◌≡◌};
 ghost use Rattle.dist_epmd_server.specs.Serving.{clients_at, owing_at, ready_newest, ServesNewest};
 
-use crate::server::{Server, token_of_listener};
-use crate::waiting::{WaitResult, wait_for};
+use crate::server::Server;
+use crate::waiting::wait_for;
 use dist_stream::{SocketStream, Stream};
 use mio::Events;
 use std::io;
@@ -42,36 +42,19 @@ impl Server {
     // Waits for the newest client's socket, its listener and all others.
     fn wait_beside(&mut self, fd: i32, events: &mut Events, most: Duration) -> io::Result<()> {
         let found = wait_for(fd, self.poll.as_raw_fd(), self.unsure_socket(), most);
-        self.fetch(found, events)?;
-        // Where more may be ready than the events hold, the newest is not served before the rest.
-        self.is_newest_ready = found.is_newest_ready && events.iter().len() < events.capacity();
-        Ok(())
-    }
-
-    // Puts into the events what else is ready. A listener at which none waits is reported again when one comes; one at which some
-    // wait stays unsure only where nothing else is ready.
-    fn fetch(&mut self, found: WaitResult, events: &mut Events) -> io::Result<()> {
+        // A listener at which none waits is reported again when one comes; one at which some wait stays unsure only where nothing else
+        // is ready.
         if !found.is_listener_ready {
             self.unsure = None;
         }
-        if !found.are_others_ready {
-            events.clear();
-            return Ok(());
+        events.clear();
+        if found.are_others_ready {
+            self.poll.poll(events, Some(Duration::ZERO))?;
+            self.rearm_unsure();
         }
-        self.poll.poll(events, Some(Duration::ZERO))?;
-        self.report_unsure(events);
+        // Where more may be ready than the events hold, the newest is not served before the rest.
+        self.is_newest_ready = found.is_newest_ready && events.iter().len() < events.capacity();
         Ok(())
-    }
-
-    // Has an unsure listener reported again that is not among the events.
-    fn report_unsure(&mut self, events: &Events) {
-        let Some(place) = self.unsure.take() else {
-            return;
-        };
-        let token = token_of_listener(place);
-        if events.iter().all(|event| event.token() != token) {
-            self.rearm(place);
-        }
     }
 
     // Has an unsure listener reported again.
@@ -114,8 +97,8 @@ impl Server {
         }
     }
 
-    /// Serves the client that came last, where it is ready, and has the system watch it: behind the clients among what is ready.
-    pub fn serve_newest(&mut self, room: &mut [u8], now: u64)
+    // Serves the client that came last, where it is ready, and has the system watch it: behind the clients among what is ready.
+    pub(crate) fn serve_newest(&mut self, room: &mut [u8], now: u64)
         ensures { ServesNewest ⟦<SocketStream as Stream>⟧.meaning (ready_newest self.old) now
             (clients_at self.old) (clients_at self.new) (owing_at self.old) (owing_at self.new) }
     {
@@ -123,8 +106,8 @@ impl Server {
         self.release_newest();
     }
 
-    /// Serves the listener at which the client that came last came: behind that client, and before the other listeners.
-    pub fn serve_unsure(&mut self, now: u64) {
+    // Serves the listener at which the client that came last came: behind that client, and before the other listeners.
+    pub(crate) fn serve_unsure(&mut self, now: u64) {
         if let Some(place) = self.unsure.take() {
             self.accept_all(place, now);
         }

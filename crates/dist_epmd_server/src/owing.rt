@@ -1,11 +1,10 @@
 //! What is owed to all clients that have left.
 
-ghost use Rattle.std.specs.Prelude.{◌≡◌, ◌-◌, [], Bool, true, false, not, IfSome, IfNone, None, length, drop};
-ghost use Rattle.std.specs.Prelude.{filter, nat_le, nat_lt, option_copied, option_map, if◌then◌else◌};
+ghost use Rattle.std.specs.Prelude.{◌≡◌, ◌-◌, [], not, IfSome, IfNone, None, length, drop};
+ghost use Rattle.std.specs.Prelude.{filter, nat_le, nat_lt, option_copied, option_map};
 ghost use Rattle.std.specs.Ordering.{nat_cmp};
-ghost use Rattle.std.specs.BTreeMap.{get, insert_entry, IsUnchanged};
+ghost use Rattle.std.specs.BTreeMap.{get, IsUnchanged};
 ghost use Rattle.dist_epmd_server.specs.Owed.{stream_of, since_of};
-ghost use Rattle.dist_epmd_server.specs.declared.owed.Owed.{Owed};
 ghost use Rattle.dist_epmd_server.specs.Owing.{all_owed, but_oldest, owed_to, AfterLeave, AfterTry, FirstTry, OthersOwed, TriedIn, TryMore};
 
 use crate::owed::Owed;
@@ -48,38 +47,8 @@ fn try_more_in<S: Stream>(owed: &mut BTreeMap<u64, Owed<S>>, conn: u64) -> Optio
     ensures none { IfNone result (get nat_cmp owed.old conn ≡ None) }
     ensures unchanged { IfNone result (IsUnchanged owed.old owed.new) }
 {
-    match owed.get_mut(&conn) {
-        Some(one) => Some(try_more(one)),
-        None => None,
-    }
-}
-
-// Drops what is owed on the oldest connection. Returns whether there was one.
-fn drop_first_in<S: Drop>(owed: &mut BTreeMap<u64, Owed<S>>) -> bool
-    ensures dropped { owed.new.entries ≡ drop 1 owed.old.entries }
-    ensures any { result ≡ nat_lt 0 (length owed.old.entries) }
-{
-    owed.pop_first().is_some()
-}
-
-// Makes a place for one more.
-fn make_place_in<S: Drop>(owed: &mut BTreeMap<u64, Owed<S>>)
-    ensures { owed.new.entries ≡ but_oldest owed.old.entries }
-{
-    if owed.len() >= MOST_OWED {
-        let _ = drop_first_in(owed);
-    }
-}
-
-// Keeps what is owed on a connection. `false`: memory ran out.
-fn keep_in<S: Drop>(owed: &mut BTreeMap<u64, Owed<S>>, conn: u64, one: Owed<S>) -> bool
-    ensures kept { result ≡ true → owed.new.entries ≡ insert_entry nat_cmp owed.old.entries conn one }
-    ensures lacks { result ≡ false → IsUnchanged owed.old owed.new }
-{
-    match owed.insert(conn, one) {
-        Ok(_) => true,
-        Err(_) => false,
-    }
+    let one = owed.get_mut(&conn)?;
+    Some(try_more(one))
 }
 
 impl<S: Drop> Owing<S> {
@@ -103,10 +72,8 @@ impl<S: Drop> Owing<S> {
     pub fn stream(&self, conn: u64) -> Option<&S>
         ensures { option_copied result ≡ option_map stream_of (owed_to self.now conn) }
     {
-        match self.owed.get(&conn) {
-            Some(one) => Some(&one.stream),
-            None => None,
-        }
+        let one = self.owed.get(&conn)?;
+        Some(&one.stream)
     }
 
     /// Drops what is owed on a connection, and closes it.
@@ -122,7 +89,16 @@ impl<S: Drop> Owing<S> {
         ensures dropped { all_owed self.new ≡ drop 1 (all_owed self.old) }
         ensures any { result ≡ nat_lt 0 (length (all_owed self.old)) }
     {
-        drop_first_in(&mut self.owed)
+        self.owed.pop_first().is_some()
+    }
+
+    // Makes a place for one more.
+    fn make_place(&mut self)
+        ensures { all_owed self.new ≡ but_oldest (all_owed self.old) }
+    {
+        if self.owed.len() >= MOST_OWED {
+            let _ = self.drop_first();
+        }
     }
 }
 
@@ -137,8 +113,11 @@ impl<S: Stream + Drop> Owing<S> {
         if is_over {
             return false;
         }
-        make_place_in(&mut self.owed);
-        keep_in(&mut self.owed, conn, owed)
+        self.make_place();
+        match self.owed.insert(conn, owed) {
+            Ok(_) => true,
+            Err(_) => false,
+        }
     }
 
     /// Goes on to send what is owed on a connection, by one write. Returns whether something is left; where nothing is, or the

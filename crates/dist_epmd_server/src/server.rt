@@ -6,12 +6,11 @@ ghost use Rattle.dist_epmd_clients.specs.Journal.{HasEvents};
 ghost use Rattle.dist_epmd_clients.specs.Reporting.{counts_of, events_of, journal_of};
 ghost use Rattle.dist_epmd_clients.specs.Sweeping.{is_late};
 ghost use Rattle.dist_epmd_server.specs.Attending.{Attends};
-ghost use Rattle.dist_epmd_server.specs.declared.attending.Interests.{Interests};
 ghost use Rattle.dist_epmd_server.specs.Owed.{since_of};
 ghost use Rattle.dist_epmd_server.specs.Owing.{all_owed};
-ghost use Rattle.dist_epmd_server.specs.Serving.{clients_at, oldest_of, owing_at, most_events, most_of, seconds_of, swept_at, ComesTo, MakesRoom};
+ghost use Rattle.dist_epmd_server.specs.Serving.{clients_at, owing_at, most_events, most_of, seconds_of, swept_at, ComesTo};
 
-use crate::attending::{Interests, Ready, attend};
+use crate::attending::attend;
 use crate::owing::Owing;
 use crate::places::{Newcomer, evict_oldest, take_in};
 use dist_epmd_clients::Clients;
@@ -68,24 +67,18 @@ pub struct Server {
 
 // Whether a client at this address is on this host. At a socket for addresses of both kinds one of IPv4 comes as one of IPv6.
 fn is_local(stream: &TcpStream, from: IpAddr) -> bool {
-    if from.to_canonical().is_loopback() {
-        return true;
-    }
-    match stream.local_addr() {
-        Ok(own) => own.ip() == from,
-        Err(_) => false,
-    }
+    from.to_canonical().is_loopback() || stream.local_addr().is_ok_and(|own| own.ip() == from)
 }
 
 // The token of a listener.
-pub(crate) fn token_of_listener(place: usize) -> Token {
+fn token_of_listener(place: usize) -> Token {
     Token(usize::MAX.saturating_sub(place))
 }
 
 // Which listener a token is of.
 fn listener_of(token: Token) -> Option<usize> {
     let place = usize::MAX - token.0;
-    if place < LISTENERS { Some(place) } else { None }
+    (place < LISTENERS).then_some(place)
 }
 
 // The token of a socket that is none of the port mapper's.
@@ -96,14 +89,7 @@ fn token_of_other(place: usize) -> Token {
 /// Which socket a token is of, where it is none of the port mapper's.
 pub fn other_of(token: Token) -> Option<usize> {
     let place = (usize::MAX - LISTENERS).checked_sub(token.0)?;
-    if place < OTHERS { Some(place) } else { None }
-}
-
-fn token_of(conn: u64) -> Option<Token> {
-    match usize::try_from(conn) {
-        Ok(number) => Some(Token(number)),
-        Err(_) => None,
-    }
+    (place < OTHERS).then_some(place)
 }
 
 impl Server {
@@ -172,16 +158,23 @@ impl Server {
         self.clients.forget_events();
     }
 
+    // Asks to be notified when a socket is ready for this. Returns whether the system does so.
+    fn register(&self, fd: i32, token: Token, interest: Interest) -> bool {
+        let registry = self.poll.registry();
+        registry
+            .register(&mut SourceFd(&fd), token, interest)
+            .is_ok()
+    }
+
+    // Asks to be notified again.
+    fn reregister(&self, fd: i32, token: Token, interest: Interest) {
+        let registry = self.poll.registry();
+        let _ = registry.reregister(&mut SourceFd(&fd), token, interest);
+    }
+
     /// Asks to be notified when a socket is ready to be read that is none of its own: `place` tells it from others.
     pub fn watch_other(&self, fd: i32, place: usize) -> bool {
-        self.poll
-            .registry()
-            .register(
-                &mut SourceFd(&fd),
-                token_of_other(place),
-                Interest::READABLE,
-            )
-            .is_ok()
+        self.register(fd, token_of_other(place), Interest::READABLE)
     }
 
     /// Listens at one more socket, which does not block.
@@ -201,18 +194,9 @@ impl Server {
     // Asks to be notified again of a listener at which connections may wait.
     pub(crate) fn rearm(&self, place: usize) {
         if let Some(listener) = self.listeners.get(place) {
-            let fd = listener.as_raw_fd();
             let token = token_of_listener(place);
-            let registry = self.poll.registry();
-            let _ = registry.reregister(&mut SourceFd(&fd), token, Interest::READABLE);
+            self.reregister(listener.as_raw_fd(), token, Interest::READABLE);
         }
-    }
-
-    // Makes room for one connection more. Returns whether there was some to make.
-    fn drop_oldest(&mut self) -> bool
-        ensures { MakesRoom (oldest_of (clients_at self.old)) (clients_at self.old) (clients_at self.new) (owing_at self.old) (owing_at self.new) result }
-    {
-        evict_oldest(&mut self.clients, &mut self.owing)
     }
 
     // Takes a connection in. Where all places are taken, the oldest client that has not asked makes room; where there is
@@ -242,14 +226,7 @@ impl Server {
 
     // Asks to be notified when a connection is ready for this. Returns whether the system does so.
     pub(crate) fn watch(&self, fd: i32, conn: u64, interest: Interest) -> bool {
-        match token_of(conn) {
-            Some(token) => self
-                .poll
-                .registry()
-                .register(&mut SourceFd(&fd), token, interest)
-                .is_ok(),
-            None => false,
-        }
+        self.register(fd, Token(conn as usize), interest)
     }
 
     // The socket of a connection, and what it is to be ready for: to be read where its client is here, to be written where
@@ -269,7 +246,7 @@ impl Server {
             ErrorKind::Interrupted | ErrorKind::ConnectionAborted => true,
             // No descriptor is left, or no memory.
             _ => {
-                let has_room = self.drop_oldest();
+                let has_room = evict_oldest(&mut self.clients, &mut self.owing);
                 self.stuck = self.stuck || !has_room;
                 has_room
             }
@@ -313,46 +290,29 @@ impl Server {
         }
     }
 
-    // Asks to be notified, also again, when a connection is ready for this.
-    fn reregister(&self, conn: u64, fd: i32, interest: Interest) {
-        if let Some(token) = token_of(conn) {
-            let registry = self.poll.registry();
-            let _ = registry.reregister(&mut SourceFd(&fd), token, interest);
-        }
-    }
-
-    // Asks for what a connection is to be watched for.
-    fn watch_again(&self, conn: u64, watch: Interests) {
-        if watch == Interests::Nothing {
-            return;
-        }
-        if let Some((fd, interest)) = self.socket_of(conn) {
-            self.reregister(conn, fd, interest);
-        }
-    }
-
-    // Does what is to be done for a connection that is ready. Returns what it is to be watched for.
-    pub(crate) fn attend(&mut self, conn: u64, room: &mut [u8], now: u64) -> Interests
+    // Does what is to be done for a connection that is ready. Returns whether it is to be watched again.
+    pub(crate) fn attend(&mut self, conn: u64, room: &mut [u8], now: u64) -> bool
         ensures { Attends ⟦<SocketStream as Stream>⟧.meaning conn now
             (clients_at self.old) (clients_at self.new) (owing_at self.old) (owing_at self.new) result }
     {
         let (clients, owing) = (&mut self.clients, &mut self.owing);
-        let ready = Ready { conn, second: now };
-        attend(clients, owing, self.alloc, ready, room)
+        attend(clients, owing, self.alloc, conn, room, now)
     }
 
-    /// Serves the clients among what is ready. They come before the listeners: the end of a connection is noticed before a
-    /// later connection asks.
-    pub fn serve_client(&mut self, token: Token, room: &mut [u8], now: u64) {
-        if listener_of(token).is_none() && other_of(token).is_none() {
-            let conn = token.0 as u64;
-            let watch = self.attend(conn, room, now);
-            self.watch_again(conn, watch);
+    // Serves a client among what is ready.
+    pub(crate) fn serve_client(&mut self, token: Token, room: &mut [u8], now: u64) {
+        let conn = token.0 as u64;
+        if listener_of(token).is_none()
+            && other_of(token).is_none()
+            && self.attend(conn, room, now)
+            && let Some((fd, interest)) = self.socket_of(conn)
+        {
+            self.reregister(fd, token, interest);
         }
     }
 
-    /// Serves the listeners among what is ready.
-    pub fn serve_listener(&mut self, token: Token, now: u64) {
+    // Serves a listener among what is ready.
+    pub(crate) fn serve_listener(&mut self, token: Token, now: u64) {
         if let Some(place) = listener_of(token) {
             self.accept_all(place, now);
         }

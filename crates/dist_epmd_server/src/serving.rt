@@ -8,31 +8,23 @@ use std::sync::Wait;
 use std::sync::atomic::{AtomicBool, Ordering};
 use std::time::{Clock, Duration, Instant};
 
-// The most that is taken from the system at once.
-const EVENTS: usize = 1024;
+/// The most events that are taken from the system at once.
+pub const EVENTS: usize = 1024;
 
-// The most bytes of one read: a request and its length fit.
-const ROOM: usize = 4096;
+/// The most bytes of one read: a request and its length fit.
+pub const ROOM: usize = 4096;
 
-fn serve_clients(server: &mut Server, events: &Events, room: &mut [u8], now: u64) {
+/// One round, in this second: the clients among what is ready, then the one that came last, then the listeners. Clients come first, so
+/// that the end of a connection is noticed before a later connection asks. What is late is closed by `Server::sweep`.
+pub fn serve_ready(server: &mut Server, events: &Events, room: &mut [u8], now: u64) {
     for event in events.iter() {
         server.serve_client(event.token(), room, now);
     }
-}
-
-fn serve_listeners(server: &mut Server, events: &Events, now: u64) {
+    server.serve_newest(room, now);
+    server.serve_unsure(now);
     for event in events.iter() {
         server.serve_listener(event.token(), now);
     }
-}
-
-/// One round, in this second: the clients among what is ready, then the one that came last, then the listeners, then whoever is late.
-pub fn serve_ready(server: &mut Server, events: &Events, room: &mut [u8], now: u64) {
-    serve_clients(server, events, room, now);
-    server.serve_newest(room, now);
-    server.serve_unsure(now);
-    serve_listeners(server, events, now);
-    server.sweep(now);
 }
 
 /// Serves until it is asked to stop. Where nothing happens it waits for `most`: it takes that long to see that it is asked to
@@ -55,6 +47,7 @@ pub fn serve<R: Wait + Clock>(
         server.wait(&mut events, most)?;
         let now = start.elapsed(rt)?.as_secs();
         serve_ready(server, &events, &mut room, now);
+        server.sweep(now);
     }
     Ok(())
 }

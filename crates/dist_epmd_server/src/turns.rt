@@ -29,7 +29,7 @@ pub enum ReadStep<S> {
 
 // Sends a text by one write. Returns whether it went out whole.
 fn send_whole<S: Stream + Drop>(clients: &mut Clients<S>, conn: u64, text: &[u8]) -> bool
-    // The caller's.
+    // The answer to a registration has bytes.
     requires { 0 < length text.now }
     ensures whole { result ≡ true → Carries (SaidWhole S.meaning text.now) conn clients.old clients.new }
     ensures cut { result ≡ false → IfSome (client_of clients.old conn) (λ client. CutShort S.meaning text.now client.stream) }
@@ -42,23 +42,7 @@ fn send_whole<S: Stream + Drop>(clients: &mut Clients<S>, conn: u64, text: &[u8]
     }
 }
 
-// Sends the answer to a registration, which goes out whole and by one write; else the client is closed. Returns whether it
-// stays.
-fn answer_registration<S: Stream + Drop>(clients: &mut Clients<S>, conn: u64, text: &[u8]) -> bool
-    // Such an answer has bytes.
-    requires { 0 < length text.now }
-    ensures stays { result ≡ true → Carries (SaidWhole S.meaning text.now) conn clients.old clients.new }
-    ensures cut { result ≡ false → IfSome (client_of clients.old conn) (λ client. CutShort S.meaning text.now client.stream) }
-    ensures closed { result ≡ false → Becomes None (after_closed conn (registrations_of clients.old)) conn clients.old clients.new }
-{
-    if send_whole(clients, conn, text) {
-        return true;
-    }
-    let _ = clients.close(conn);
-    false
-}
-
-// A piece came on a connection.
+// A piece came on a connection. The answer to a registration goes out whole and by one write; else the client is closed.
 fn take_piece<S: Stream + Drop>(
     clients: &mut Clients<S>,
     alloc: Global,
@@ -73,10 +57,10 @@ fn take_piece<S: Stream + Drop>(
     match clients.hear(alloc, conn, piece) {
         Ok(Turn::Wait) => ReadStep::More,
         Ok(Turn::Stay(text)) => {
-            if answer_registration(clients, conn, text.as_slice()) {
+            if send_whole(clients, conn, text.as_slice()) {
                 ReadStep::More
             } else {
-                ReadStep::Closed
+                drop_client(clients, conn)
             }
         }
         Ok(Turn::Leave(stream, text)) => ReadStep::Leaves(stream, text),
@@ -108,15 +92,9 @@ fn follow<S: Stream + Drop>(
     ensures left { HasLeft result → client_of clients.new conn ≡ None }
 {
     match came {
-        Heard::Bytes(count) => {
-            if count == 0 {
-                drop_client(clients, conn)
-            } else {
-                take_piece(clients, alloc, conn, &room[..count])
-            }
-        }
+        Heard::Bytes(0) | Heard::Failed => drop_client(clients, conn),
+        Heard::Bytes(count) => take_piece(clients, alloc, conn, &room[..count]),
         Heard::Quiet => ReadStep::Quiet,
-        Heard::Failed => drop_client(clients, conn),
     }
 }
 

@@ -4,8 +4,9 @@ use crate::connection::Carrier;
 use crate::crew::{Crew, Post, Rest};
 use crate::site::Site;
 use dist_core::Event;
-use dist_run_hosts::{Challenges, Host, LinkStream, Pool, accept, link_of, wait_for_connection};
+use dist_run_hosts::{Challenges, Host, LinkStream, Pool, accept, link_of};
 use std::sync::Wait;
+use std::sync::atomic::Ordering;
 use std::thread::{Scope, Threads};
 use std::time::Clock;
 
@@ -15,7 +16,7 @@ fn take_in<'s, E, R: Threads + Wait + Clock + Sync, G>(
     number: usize,
     connection: LinkStream,
 ) {
-    let link = link_of(connection.dialler_port, crew.host().listener.port);
+    let link = link_of(connection.dialler_port, crew.post.host.listener.port);
     let stream = connection.stream;
     let carrier = Carrier { link, stream };
     match crew.step(&Event::Incoming { link }) {
@@ -27,24 +28,20 @@ fn take_in<'s, E, R: Threads + Wait + Clock + Sync, G>(
 // Accepts until as many turns in a row were quiet as the plan says, or until the run has failed. A connection for which there is
 // no place, also where a stranger gives way, is closed, and nothing reports it.
 fn fill_crew<'s, E, R: Threads + Wait + Clock + Sync, G>(
-    site: &Site<'_, R, G>,
     crew: &mut Crew<'s, E, R, G>,
     places: usize,
 ) {
+    let (site, host) = (crew.site, crew.post.host);
     let mut number = 0usize;
     let mut quiet = 0usize;
     for _ in site.rt.forever() {
-        if quiet >= site.turns || site.has_failed() {
+        if quiet >= site.turns || site.failed.load(Ordering::SeqCst) {
             break;
         }
-        let listener = &crew.host().listener.socket;
-        let turns = crew.longest_wait(site.turns - quiet);
-        let passed = wait_for_connection(site.rt, listener, turns);
-        crew.join_ended();
-        match accept(site.rt, listener) {
+        let passed = crew.wait(site.turns - quiet);
+        match accept(site.rt, &host.listener.socket) {
             Some(connection) => {
-                crew.make_room(places);
-                if crew.open_count() < places {
+                if crew.make_room(places) {
                     take_in(crew, number, connection);
                     number = number.saturating_add(1);
                     quiet = 0;
@@ -64,8 +61,13 @@ pub fn accept_all<'s, E, R: Threads + Wait + Clock + Sync, G>(
     pool: Pool,
     challenges: Challenges,
 ) -> Rest {
-    let dials = site.dials_to(host);
-    let places = site.places.node.saturating_add(dials);
+    // The dials that lead here: the port mapper finds the node by its short name.
+    let short = host.name.short();
+    let dials = site
+        .dials
+        .iter()
+        .filter(|dial| dial.to.short() == short)
+        .count();
     let post = Post {
         host,
         refused: &host.refused.accepting,
@@ -74,6 +76,6 @@ pub fn accept_all<'s, E, R: Threads + Wait + Clock + Sync, G>(
         spare: dials,
     };
     let mut crew = Crew::new(scope, site, post);
-    fill_crew(site, &mut crew, places);
+    fill_crew(&mut crew, site.places.node.saturating_add(dials));
     crew.join()
 }

@@ -1,8 +1,7 @@
 //! The thread of a connection.
 
-use dist_core::Why;
 use dist_drive::SocketStream;
-use dist_locked::{Seat, drive_end, lose, settle};
+use dist_locked::{Seat, drive_end, settle};
 use dist_names::ByteString;
 use dist_peers::EndId;
 use dist_run_hosts::{Challenges, Host, PatientStream, say_goodbye};
@@ -53,57 +52,38 @@ pub struct Left {
 
 impl<'a> Job<'a> {
     /// Drives the end, and marks that its seat is free. The job whose number is `refused` is the one for which no thread could
-    /// be made: its end is lost.
+    /// be made: it has no turns, so its end is lost before anything is read or written.
     pub fn run<R: Wait + Clock>(self, rt: &R, alloc: Global, refused: &AtomicUsize) -> Left {
-        let host = self.host;
-        let left = if refused.load(Ordering::SeqCst) == self.number {
-            self.give_away(rt)
+        let (host, end_, carrier) = (self.host, self.end_, self.carrier);
+        let turns = if refused.load(Ordering::SeqCst) == self.number {
+            0
         } else {
-            self.drive(rt, alloc)
+            self.turns
         };
-        host.ended.set(left.seat.number(), true);
-        left
-    }
-
-    // Loses the end before anything is read or written.
-    fn give_away<R: Wait>(self, rt: &R) -> Left {
-        let (mut seat, carrier) = (self.seat, self.carrier);
-        lose(rt, &self.host.node, &mut seat, self.end_, Why::GaveUp);
-        say_goodbye(&carrier.stream);
-        Left {
-            seat,
-            carrier,
-            is_over: true,
-        }
-    }
-
-    fn drive<R: Wait + Clock>(self, rt: &R, alloc: Global) -> Left {
-        let (node, end_, turns) = (&self.host.node, self.end_, self.turns);
-        let (seat, carrier, mut challenges) = (self.seat, self.carrier, self.challenges);
-        let first = self.first.as_slice();
+        let (seat, first, mut challenges) = (self.seat, self.first, self.challenges);
         let mut stream = PatientStream::new(rt, carrier.stream, turns);
         let driven = drive_end(
             rt,
             alloc,
-            node,
+            &host.node,
             seat,
             &mut stream,
             &mut challenges,
             end_,
-            first,
+            first.as_slice(),
             turns,
         );
-        let (seat, is_over) = settle(rt, node, end_, driven);
+        let (seat, is_over) = settle(rt, &host.node, end_, driven);
         let stream = stream.into_inner();
         if is_over {
             say_goodbye(&stream);
         }
+        host.ended.set(seat.number(), true);
+        let link = carrier.link;
+        let carrier = Carrier { link, stream };
         Left {
             seat,
-            carrier: Carrier {
-                link: carrier.link,
-                stream,
-            },
+            carrier,
             is_over,
         }
     }

@@ -7,8 +7,9 @@ use dist_drive::SocketStream;
 use dist_locked::{Seat, lose};
 use dist_names::ByteString;
 use dist_peers::EndId;
-use dist_run_hosts::{Challenges, Host, Pool, TURNS_AT_ONCE, end_reads, say_goodbye, socket_of};
-use std::mem;
+use dist_run_hosts::{
+    Challenges, Host, Pool, TURNS_AT_ONCE, end_reads, say_goodbye, socket_of, wait_for_connection,
+};
 use std::os::fd::RawFd;
 use std::sync::Wait;
 use std::sync::atomic::{AtomicUsize, Ordering};
@@ -43,17 +44,18 @@ pub struct Post<'s> {
 #[derive(Drop)]
 pub struct Crew<'s, E, R, G> {
     scope: &'s Scope<'s, E>,
-    site: &'s Site<'s, R, G>,
-    post: Post<'s>,
+    /// What all threads of the run share.
+    pub site: &'s Site<'s, R, G>,
+    pub post: Post<'s>,
     // In the order in which they were started.
     running: Vec<Running>,
     streams: Vec<SocketStream>,
 }
 
-/// What a crew leaves: its seats, and its streams.
+/// What a crew leaves: its seats, and the connections that stay open to the end of the run.
 #[derive(Drop)]
 pub struct Rest {
-    pub pool: Pool,
+    pub seats: Vec<Seat>,
     pub streams: Vec<SocketStream>,
 }
 
@@ -73,16 +75,6 @@ impl<'s, E, R: Threads + Wait + Clock + Sync, G> Crew<'s, E, R, G> {
         }
     }
 
-    /// The node.
-    pub fn host(&self) -> &'s Host {
-        self.post.host
-    }
-
-    /// What all threads of the run share.
-    pub fn site(&self) -> &'s Site<'s, R, G> {
-        self.site
-    }
-
     /// Makes a step of the crew's own. The end, and what it sends.
     pub fn step(&mut self, event: &Event) -> Result<(EndId, ByteString), StepError> {
         let host = self.post.host;
@@ -100,47 +92,30 @@ impl<'s, E, R: Threads + Wait + Clock + Sync, G> Crew<'s, E, R, G> {
         lose(self.site.rt, &host.node, own, end_, why);
     }
 
-    // Whether the connection of a closed end is to be kept. Both sockets of each dial of the run are, so that no two of them have
-    // one pair of ports. A connection may come before its link is noted, so the first few are kept, whoever made them: where no
-    // stranger comes, that is all of them.
-    fn claim_place(&mut self, link: u64) -> bool {
-        if self.site.is_of_dial(link) {
-            return true;
-        }
-        if self.post.spare == 0 {
-            return false;
-        }
-        self.post.spare -= 1;
-        true
-    }
-
-    /// Closes the connection of a closed end, or keeps it to the end of the run, where its ports must not be used again.
+    /// Closes the connection of a closed end, or keeps it to the end of the run, where its ports must not be used again. Both
+    /// sockets of each dial of the run are kept, so that no two of them have one pair of ports. A connection may come before its
+    /// link is noted, so the first few are kept, whoever made them: where no stranger comes, that is all of them.
     pub fn part_with(&mut self, carrier: Carrier) {
         say_goodbye(&carrier.stream);
-        if self.claim_place(carrier.link) {
+        let spent = usize::from(!self.site.is_of_dial(carrier.link));
+        if spent <= self.post.spare {
+            self.post.spare -= spent;
             self.site.keep(&mut self.streams, carrier.stream);
         }
     }
 
-    /// Loses an end that no thread drives.
-    pub fn give_up(&mut self, end_: EndId, why: Why, carrier: Carrier) {
-        self.lose(end_, why);
-        self.part_with(carrier);
-    }
-
-    /// For how many of these turns its own thread may wait: for all of them where it has no thread to join, and else for a second at most,
-    /// so that the seats and the connections of those that have ended come back.
-    pub fn longest_wait(&self, turns: usize) -> usize {
-        if self.running.is_empty() {
+    /// Waits for a connection, for all of these turns where it has no thread to join, and else for a second at most. Joins the threads that
+    /// have ended meanwhile, so that their seats and their connections come back. Returns how many turns passed.
+    pub fn wait(&mut self, turns: usize) -> usize {
+        let most = if self.running.is_empty() {
             turns
         } else {
-            turns.min(TURNS_AT_ONCE)
-        }
-    }
-
-    /// How many connections it has and has not let go.
-    pub fn open_count(&self) -> usize {
-        self.running.len().saturating_add(self.streams.len())
+            TURNS_AT_ONCE
+        };
+        let listener = &self.post.host.listener.socket;
+        let passed = wait_for_connection(self.site.rt, listener, turns.min(most));
+        self.join_ended();
+        passed
     }
 
     // Keeps what is left of a job. The seat comes back to its place.
@@ -153,79 +128,68 @@ impl<'s, E, R: Threads + Wait + Clock + Sync, G> Crew<'s, E, R, G> {
         }
     }
 
-    // The next thread that has ended.
-    fn take_ended(&mut self) -> Option<Running> {
-        let ended = &self.post.host.ended;
-        let place = self
-            .running
-            .iter()
-            .position(|running| ended.is_set(running.seat))?;
+    // Joins the thread at this place.
+    fn join_thread(&mut self, place: usize) {
         if place < self.running.len() {
-            Some(self.running.remove(place))
-        } else {
-            None
-        }
-    }
-
-    /// Joins the threads that have ended. Their seats come back.
-    pub fn join_ended(&mut self) {
-        for _ in 0..self.running.len() {
-            let Some(running) = self.take_ended() else {
-                return;
-            };
+            let running = self.running.remove(place);
             self.keep_rest(running.handle.join(self.site.rt));
         }
     }
 
-    // The place of the oldest thread whose end is not up, and whose connection is that of no dial of the run, as far as is known.
-    fn oldest_stranger(&self) -> Option<usize> {
+    // Joins the threads that have ended. Their seats come back.
+    fn join_ended(&mut self) {
+        let mut place = 0usize;
+        for _ in 0..self.running.len() {
+            let has_ended = match self.running.get(place) {
+                Some(running) => self.post.host.ended.is_set(running.seat),
+                None => false,
+            };
+            if has_ended {
+                self.join_thread(place);
+            } else {
+                place = place.saturating_add(1);
+            }
+        }
+    }
+
+    // The oldest thread whose end is not up, and whose connection is that of no dial of the run, as far as is known: its place, its end
+    // and its socket.
+    fn oldest_stranger(&self) -> Option<(usize, EndId, RawFd)> {
         let node = &self.post.host.node;
         for (place, running) in self.running.iter().enumerate() {
             if !self.site.is_of_dial(running.link)
                 && node.still(self.site.rt, running.end_) != Still::Up
             {
-                return Some(place);
+                return Some((place, running.end_, running.socket));
             }
         }
         None
     }
 
-    // Loses the end of a thread, which then reads the end of its stream, and joins it. The seat comes back.
-    fn stop(&mut self, running: Running) {
-        self.lose(running.end_, Why::GaveUp);
-        end_reads(running.socket);
-        self.keep_rest(running.handle.join(self.site.rt));
-    }
-
-    /// Where no seat is left for one more connection, or it would be one more than so many that are open, the oldest stranger that
-    /// is not up gives way: its end is given up. Where all are up, or of dials of the run, none does.
-    pub fn make_room(&mut self, places: usize) {
-        if !self.post.pool.free.is_empty() && self.open_count() < places {
-            return;
+    /// Makes room for one more connection: where no seat is left for it, or it would be one more than so many that are open, the oldest
+    /// stranger that is not up gives way. Its end is given up, and its thread, which then reads the end of its stream, is joined. Where
+    /// all are up, or of dials of the run, none does. Returns whether less than so many are open now.
+    pub fn make_room(&mut self, places: usize) -> bool {
+        let open = self.running.len().saturating_add(self.streams.len());
+        if (self.post.pool.free.is_empty() || open >= places)
+            && let Some((place, end_, socket)) = self.oldest_stranger()
+        {
+            self.lose(end_, Why::GaveUp);
+            end_reads(socket);
+            self.join_thread(place);
         }
-        let Some(place) = self.oldest_stranger() else {
-            return;
-        };
-        if place < self.running.len() {
-            let running = self.running.remove(place);
-            self.stop(running);
-        }
-    }
-
-    // A seat and room for a thread, or why an end gets none.
-    fn take_seat(&mut self) -> Result<Seat, Why> {
-        self.join_ended();
-        if self.running.reserve(1).is_err() {
-            return Err(Why::NoMemory);
-        }
-        self.post.pool.free.pop().ok_or(Why::GaveUp)
+        self.running.len().saturating_add(self.streams.len()) < places
     }
 
     /// Starts a thread that drives an end. Where no seat is left, or no thread can be made, the end is lost.
     pub fn start(&mut self, number: usize, end_: EndId, first: ByteString, carrier: Carrier) {
-        match self.take_seat() {
+        self.join_ended();
+        let seat = match self.running.reserve(1) {
+            Ok(()) => self.post.pool.free.pop().ok_or(Why::GaveUp),
+            Err(_) => Err(Why::NoMemory),
+        };
+        match seat {
             Ok(seat) => {
-                self.post.host.ended.set(seat.number(), false);
                 let job = Job {
                     number,
                     host: self.post.host,
@@ -238,19 +202,19 @@ impl<'s, E, R: Threads + Wait + Clock + Sync, G> Crew<'s, E, R, G> {
                 };
                 self.spawn(job);
             }
-            Err(why) => self.give_up(end_, why, carrier),
+            Err(why) => {
+                self.lose(end_, why);
+                self.part_with(carrier);
+            }
         }
     }
 
+    // Starts the thread of a job. There is room for it.
     fn spawn(&mut self, job: Job<'s>) {
-        let (rt, alloc, refused, number) = (
-            self.site.rt,
-            self.site.alloc,
-            self.post.refused,
-            job.number,
-        );
-        let (seat, end_, link) = (job.seat.number(), job.end_, job.carrier.link);
-        let socket = socket_of(&job.carrier.stream);
+        let (rt, alloc, refused) = (self.site.rt, self.site.alloc, self.post.refused);
+        let (number, seat, end_) = (job.number, job.seat.number(), job.end_);
+        let (link, socket) = (job.carrier.link, socket_of(&job.carrier.stream));
+        job.host.ended.set(seat, false);
         match self.scope.spawn(move || job.run(rt, alloc, refused)) {
             Ok(handle) => {
                 let running = Running {
@@ -260,9 +224,7 @@ impl<'s, E, R: Threads + Wait + Clock + Sync, G> Crew<'s, E, R, G> {
                     socket,
                     handle,
                 };
-                if let Err(failed) = self.running.push(running) {
-                    self.keep_rest(failed.value.handle.join(rt));
-                }
+                self.site.keep(&mut self.running, running);
             }
             Err(back) => {
                 refused.store(number, Ordering::SeqCst);
@@ -272,19 +234,18 @@ impl<'s, E, R: Threads + Wait + Clock + Sync, G> Crew<'s, E, R, G> {
         }
     }
 
-    // Joins all threads.
-    fn join_all(&mut self) {
-        let all = mem::replace(&mut self.running, Vec::new(self.site.alloc));
-        for running in all {
-            self.keep_rest(running.handle.join(self.site.rt));
-        }
-    }
-
     /// Joins all threads.
     pub fn join(mut self) -> Rest {
-        self.join_all();
+        for _ in 0..self.running.len() {
+            self.join_thread(0);
+        }
+        let Pool {
+            own,
+            free: mut seats,
+        } = self.post.pool;
+        self.site.keep(&mut seats, own);
         Rest {
-            pool: self.post.pool,
+            seats,
             streams: self.streams,
         }
     }

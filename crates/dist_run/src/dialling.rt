@@ -12,11 +12,10 @@ use dist_locked::{Gate, LAST_ORDER, Moment, Orders, TakePass};
 use dist_names::{ByteString, NodeName};
 use dist_peers::EndId;
 use dist_run_hosts::{
-    Challenges, Host, LinkStream, OrderFault, OrderRefusal, Pool, RunError, connect_to_port,
-    link_of,
+    Challenges, LinkStream, OrderFault, OrderRefusal, Pool, connect_to_port, link_of,
 };
 use std::sync::Wait;
-use std::sync::atomic::AtomicUsize;
+use std::sync::atomic::Ordering;
 use std::thread;
 use std::thread::{Scope, Threads};
 use std::time::Clock;
@@ -77,7 +76,7 @@ fn begin<'s, E, R: Threads + Wait + Clock + Sync, G>(
     to: &NodeName,
     opening: Opening,
 ) -> Result<EndId, OrderRefusal> {
-    let Ok(peer) = to.try_clone(crew.site().alloc) else {
+    let Ok(peer) = to.try_clone(crew.site.alloc) else {
         return Err(OrderRefusal::Step(StepError::NoMemory));
     };
     match crew.step(&Event::Dial { peer, opening }) {
@@ -93,7 +92,7 @@ fn open_dialled<'s, E, R: Threads + Wait + Clock + Sync, G: Gate>(
     end_: EndId,
     link: u64,
 ) -> Result<ByteString, Why> {
-    let gate = crew.site().gate;
+    let gate = crew.site.gate;
     if !gate.at(worker, Moment::BeforeStep) {
         return Err(Why::GaveUp);
     }
@@ -116,27 +115,38 @@ fn open_connection<'s, E, R: Threads + Wait + Clock + Sync, G: Gate>(
     connection: LinkStream,
 ) {
     let link = link_of(connection.dialler_port, port);
-    crew.site().note_link(task.number, link);
+    if let Some(noted) = crew.site.links.get(task.number as usize) {
+        noted.store(link, Ordering::SeqCst);
+    }
     let stream = connection.stream;
     let carrier = Carrier { link, stream };
     match open_dialled(crew, task.worker, end_, link) {
         Ok(first) => crew.start(task.number as usize, end_, first, carrier),
-        Err(why) => crew.give_up(end_, why, carrier),
+        Err(why) => {
+            crew.lose(end_, why);
+            crew.part_with(carrier);
+        }
     }
 }
 
-// Does what an order says.
-fn make_dial<'s, E, R, G: Gate>(
-    crew: &mut Crew<'s, E, R, G>,
+// Does what an order says. A plan has no dial by a node that is not one of its own.
+fn obey<'s, E, R: Machine, G: Gate>(
+    site: &Site<'_, R, G>,
+    crews: &mut [Crew<'s, E, R, G>],
     task: TakenOrder,
-    to: &NodeName,
-) -> Result<(), OrderRefusal>
-where
-    R: Machine,
-{
-    let site = crew.site();
-    let peer = find_peer(site, to)?;
-    let end_ = begin(crew, to, peer.opening)?;
+) -> Result<(), OrderRefusal> {
+    let Some(dial) = site.dials.get(task.number as usize) else {
+        return Ok(());
+    };
+    let place = site
+        .hosts
+        .iter()
+        .position(|host| host.name.is_same(&dial.from));
+    let Some(crew) = crews.get_mut(place.unwrap_or(site.hosts.len())) else {
+        return Ok(());
+    };
+    let peer = find_peer(site, &dial.to)?;
+    let end_ = begin(crew, &dial.to, peer.opening)?;
     match connect_to_port(site.rt, peer.port) {
         Ok(connection) => open_connection(crew, task, end_, peer.port, connection),
         Err(_) => crew.lose(end_, Why::DialFailed),
@@ -144,34 +154,14 @@ where
     Ok(())
 }
 
-// Finds what an order says, and does it.
-fn obey<'s, E, R, G: Gate>(
-    site: &Site<'_, R, G>,
-    crews: &mut [Crew<'s, E, R, G>],
-    task: TakenOrder,
-) -> Result<(), OrderRefusal>
-where
-    R: Machine,
-{
-    let Some(dial) = site.dials.get(task.number as usize) else {
-        return Ok(());
-    };
-    match crews.get_mut(dial.from) {
-        Some(crew) => make_dial(crew, task, &dial.to),
-        None => Ok(()),
-    }
-}
-
 // Takes orders up to the last. Those that made no `Dial` step.
-fn take_all<'s, E, R, G: Gate>(
+fn take_all<'s, E, R: Machine, G: Gate>(
     site: &Site<'_, R, G>,
     orders: &Orders,
     worker: u32,
     pass: &mut TakePass,
     crews: &mut [Crew<'s, E, R, G>],
 ) -> Vec<OrderFault>
-where
-    R: Machine,
     requires { pass.old.table ≡ orders.now.table }
     ensures { (pass.new.table ≡ pass.old.table) × (pass.new.second ≡ pass.old.second) }
 {
@@ -193,14 +183,6 @@ where
     faults
 }
 
-// Where a worker notes at a node which connection got no thread.
-fn refusal_mark(host: &Host, worker: u32) -> &AtomicUsize {
-    match worker {
-        0 => &host.refused.first,
-        _ => &host.refused.second,
-    }
-}
-
 // A crew for each node, that has started nothing.
 fn new_crews<'s, E, R: Threads + Wait + Clock + Sync, G>(
     scope: &'s Scope<'s, E>,
@@ -208,46 +190,32 @@ fn new_crews<'s, E, R: Threads + Wait + Clock + Sync, G>(
     worker: u32,
     pools: Vec<Pool>,
     mut challenges: Challenges,
-) -> Result<Vec<Crew<'s, E, R, G>>, RunError> {
+) -> Vec<Crew<'s, E, R, G>> {
     let mut crews = Vec::new(site.alloc);
-    let mut pools = pools.into_iter();
-    for host in site.hosts {
-        let Some(pool) = pools.next() else {
-            break;
+    for (host, pool) in site.hosts.iter().zip(pools) {
+        let refused = match worker {
+            0 => &host.refused.first,
+            _ => &host.refused.second,
         };
         let post = Post {
             host,
-            refused: refusal_mark(host, worker),
+            refused,
             pool,
             challenges: challenges.fork(),
             spare: 0,
         };
-        crews.push(Crew::new(scope, site, post))?;
+        site.keep(&mut crews, Crew::new(scope, site, post));
     }
-    Ok(crews)
-}
-
-// Joins the threads of all crews.
-fn join_crews<'s, E, R: Threads + Wait + Clock + Sync, G>(
-    site: &Site<'_, R, G>,
-    crews: Vec<Crew<'s, E, R, G>>,
-) -> Vec<Rest> {
-    let mut rests = Vec::new(site.alloc);
-    for crew in crews {
-        site.keep(&mut rests, crew.join());
-    }
-    rests
+    crews
 }
 
 /// Takes orders up to the last, and does what they say. Then joins the threads that were started.
-pub fn work<'s, E, R, G: Gate>(
+pub fn work<'s, E, R: Machine, G: Gate>(
     scope: &'s Scope<'s, E>,
     site: &'s Site<'s, R, G>,
     orders: &Orders,
     shift: Shift,
-) -> Result<Worked, RunError>
-where
-    R: Machine,
+) -> Worked
     requires { shift.pass.table ≡ orders.now.table }
 {
     let Shift {
@@ -256,8 +224,11 @@ where
         pools,
         challenges,
     } = shift;
-    let mut crews = new_crews(scope, site, worker, pools, challenges)?;
+    let mut crews = new_crews(scope, site, worker, pools, challenges);
     let faults = take_all(site, orders, worker, &mut pass, crews.as_mut_slice());
-    let rests = join_crews(site, crews);
-    Ok(Worked { rests, faults })
+    let mut rests = Vec::new(site.alloc);
+    for crew in crews {
+        site.keep(&mut rests, crew.join());
+    }
+    Worked { rests, faults }
 }

@@ -7,22 +7,21 @@ ghost use Rattle.dist_run.specs.Runs.{AreInOrder};
 
 use crate::crew::Rest;
 use crate::machine::Machine;
-use crate::site::{PlannedDial, Site};
+use crate::site::{NO_LINK, Site};
 use crate::threads::{Ended, Pools, run_threads};
 use dist_locked::{Book, Closed, Gate, Seat, Tickets, close};
 use dist_run_hosts::{
-    Challenges, Host, LocalListener, MapperAccess, OrderFault, Places, Pool, RunError, Shares,
+    Challenges, Host, LocalListener, MapperAccess, OrderFault, Places, RunError, Shares,
     are_obeyed, are_of_plans, connect_to_port, listen, mapper_limits, most_descriptors, places_of,
     serve_mapper, start,
 };
-use dist_run_plan::{DialPlan, NodePlan, Plan};
+use dist_run_plan::{NodePlan, Plan};
 use rand::make_rng;
 use rand::rngs::StdRng;
 use std::alloc::Global;
 use std::sync::Arc;
-use std::sync::atomic::{AtomicBool, Ordering};
+use std::sync::atomic::{AtomicBool, AtomicU64, Ordering};
 use std::thread;
-use std::vec::IntoIter;
 
 /// What a run leaves.
 #[derive(Drop)]
@@ -68,27 +67,13 @@ fn start_all<R: Machine>(
     Ok(all)
 }
 
-// The place of the node that makes a dial. A plan has no dial by another.
-fn node_index(nodes: &[NodePlan], dial: &DialPlan) -> usize {
-    nodes
-        .iter()
-        .position(|node| node.name.is_same(&dial.from))
-        .unwrap_or(nodes.len())
-}
-
-// The dials, with the places of their nodes.
-fn dials_of(
-    alloc: Global,
-    nodes: &[NodePlan],
-    plans: &[DialPlan],
-) -> Result<Vec<PlannedDial>, RunError> {
-    let mut dials = Vec::new(alloc);
-    for plan in plans {
-        let from = node_index(nodes, plan);
-        let to = plan.to.try_clone(alloc)?;
-        dials.push(PlannedDial::new(from, to))?;
+// The links of so many dials that have no connection yet.
+fn no_links(alloc: Global, count: usize) -> Result<Vec<AtomicU64>, RunError> {
+    let mut links = Vec::new(alloc);
+    for _ in 0..count {
+        links.push(AtomicU64::new(NO_LINK))?;
     }
-    Ok(dials)
+    Ok(links)
 }
 
 // What a run is made from.
@@ -100,57 +85,27 @@ struct Run<'a, R, G> {
     gate: &'a G,
 }
 
-// What is left of all threads, in the order of the nodes.
-#[derive(Drop)]
-struct Rests {
-    accepting: IntoIter<Rest>,
-    first: IntoIter<Rest>,
-    second: IntoIter<Rest>,
-}
-
-// Takes the seats out of what is left of a thread.
-fn gather(seats: &mut Vec<Seat>, rest: Option<Rest>) -> Result<(), RunError> {
-    let Some(rest) = rest else {
-        return Err(RunError::NoMemory);
-    };
-    let Pool { own, mut free } = rest.pool;
-    seats.push(own)?;
-    seats.append(&mut free)?;
+// Adds the seats that a worker leaves at each node to those of the accepting threads.
+fn gather(all: &mut [Rest], worked: Vec<Rest>) -> Result<(), RunError> {
+    for (rest, mut more) in all.iter_mut().zip(worked) {
+        rest.seats.append(&mut more.seats)?;
+    }
     Ok(())
 }
 
-// All seats of the next node.
-fn next_seats(alloc: Global, rests: &mut Rests) -> Result<Vec<Seat>, RunError> {
-    let mut seats = Vec::new(alloc);
-    gather(&mut seats, rests.accepting.next())?;
-    gather(&mut seats, rests.first.next())?;
-    gather(&mut seats, rests.second.next())?;
-    Ok(seats)
-}
-
-fn book_of(host: Host) -> Book {
-    host.node.into_book()
-}
-
-// Closes a book with its seats.
-fn close_book(book: Book, seats: Vec<Seat>) -> Result<Closed, RunError> {
-    match close(book, seats) {
+// Closes a node with its seats.
+fn close_host(host: Host, seats: Vec<Seat>) -> Result<Closed, RunError> {
+    match close(host.node.into_book(), seats) {
         Ok(closed) => Ok(closed),
         Err((error, _, _)) => Err(RunError::NotClosed(error)),
     }
 }
 
-// Closes the next node.
-fn close_next(alloc: Global, host: Host, rests: &mut Rests) -> Result<Closed, RunError> {
-    let seats = next_seats(alloc, rests)?;
-    close_book(book_of(host), seats)
-}
-
 // Closes all nodes.
-fn close_all(alloc: Global, hosts: Vec<Host>, mut rests: Rests) -> Result<Vec<Closed>, RunError> {
+fn close_all(alloc: Global, hosts: Vec<Host>, rests: Vec<Rest>) -> Result<Vec<Closed>, RunError> {
     let mut all = Vec::new(alloc);
-    for host in hosts {
-        all.push(close_next(alloc, host, &mut rests)?)?;
+    for (host, rest) in hosts.into_iter().zip(rests) {
+        all.push(close_host(host, rest.seats)?)?;
     }
     Ok(all)
 }
@@ -175,16 +130,13 @@ fn end_run(alloc: Global, hosts: Vec<Host>, ended: Ended) -> Result<Ran, RunErro
     ensures all { IfOk result (λ ran. IsPermutation (ended.first.faults.items ++ ended.second.faults.items) ran.faults.items) }
 {
     let Ended {
-        accepting,
+        mut accepting,
         first,
         second,
     } = ended;
-    let rests = Rests {
-        accepting: accepting.into_iter(),
-        first: first.rests.into_iter(),
-        second: second.rests.into_iter(),
-    };
-    let closed = close_all(alloc, hosts, rests)?;
+    gather(accepting.as_mut_slice(), first.rests)?;
+    gather(accepting.as_mut_slice(), second.rests)?;
+    let closed = close_all(alloc, hosts, accepting)?;
     Ok(Ran {
         faults: faults_of(first.faults, second.faults)?,
         closed,
@@ -192,30 +144,27 @@ fn end_run(alloc: Global, hosts: Vec<Host>, ended: Ended) -> Result<Ran, RunErro
 }
 
 // Starts the nodes, runs their threads, and closes what is left of them.
-fn run_hosts<R, G>(
+fn run_hosts<R: Machine, G: Gate + Sync>(
     run: &Run<'_, R, G>,
     mapper_port: u16,
     places: Places,
     challenges: Challenges,
-) -> Result<Ran, RunError>
-where
-    R: Machine,
-    G: Gate + Sync,
-{
+) -> Result<Ran, RunError> {
     let (rt, alloc, plan) = (run.rt, run.alloc, run.plan);
     let turns = plan.turns as usize;
-    let nodes = plan.node.as_slice();
-    let dials = dials_of(alloc, nodes, plan.dial.as_slice())?;
     let mapper = MapperAccess {
         port: mapper_port,
         turns,
     };
-    let Started { hosts, pools } = start_all(rt, alloc, nodes, mapper)?;
+    let dials = plan.dial.as_slice();
+    let links = no_links(alloc, dials.len())?;
+    let Started { hosts, pools } = start_all(rt, alloc, plan.node.as_slice(), mapper)?;
     let site = Site {
         rt,
         alloc,
         hosts: hosts.as_slice(),
-        dials: dials.as_slice(),
+        dials,
+        links: links.as_slice(),
         mapper_port,
         places,
         turns,
@@ -234,15 +183,11 @@ fn places_for(plan: &Plan) -> Places {
 }
 
 // Serves the port mapper while the nodes run. Where it stopped before it was asked to, that is the run's fault.
-fn serve_beside<R, G>(
+fn serve_beside<R: Machine, G: Gate + Sync>(
     run: &Run<'_, R, G>,
     listener: LocalListener,
     challenges: Challenges,
-) -> Result<Ran, RunError>
-where
-    R: Machine,
-    G: Gate + Sync,
-{
+) -> Result<Ran, RunError> {
     let stop = AtomicBool::new(false);
     let (rt, alloc, stop, port) = (run.rt, run.alloc, &stop, listener.port);
     let places = places_for(run.plan);
@@ -260,10 +205,12 @@ where
 }
 
 // Runs a plan to its end, whatever nodes are then closed.
-fn carry_out<R, G>(rt: &R, alloc: Global, plan: &Plan, gate: &G) -> Result<Ran, RunError>
-where
-    R: Machine,
-    G: Gate + Sync,
+fn carry_out<R: Machine, G: Gate + Sync>(
+    rt: &R,
+    alloc: Global,
+    plan: &Plan,
+    gate: &G,
+) -> Result<Ran, RunError>
     ensures { IfOk result (λ ran. AreInOrder ran.faults.items) }
 {
     let Ok(generator) = make_rng::<StdRng, R>(rt) else {

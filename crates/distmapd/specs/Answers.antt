@@ -4,6 +4,7 @@ use Rattle.std.specs.Prelude.{◌≡◌, ℕ, ◌≤◌, Bool, List, [], ◌∷�
 use Rattle.dist_stream.specs.Stream.{StreamState}
 use Rattle.dist_stream.specs.Turns.{Hears, SaysFront, reports_end}
 use Rattle.dist_stream.specs.declared.turn_error.TurnError.{TurnError}
+use Rattle.dist_program.specs.PortTexts.{port_error_status}
 use Rattle.distmapd.specs.declared.answer.ReceivedAnswer.{ReceivedAnswer}
 use Rattle.distmapd.specs.declared.fault.Fault.{Fault}
 use Rattle.distmapd.specs.declared.fault.Fault.TheVariants as fault
@@ -41,3 +42,11 @@ abbrev pub IsFaultOfAsking : Fault → Type 0
 IsFaultOfAsking fault.NoAnswer = Unit {0}
 IsFaultOfAsking fault.NoMemory = Unit {0}
 IsFaultOfAsking _ = ⊥
+
+-- the exit status after a fault: 2 if the words or the environment are refused
+abbrev pub fault_status : Fault → ℕ
+fault_status (fault.BadWords text) = 2
+fault_status fault.NoText = 2
+fault_status fault.BadAddress = 2
+fault_status (fault.BadMapperPort error) = port_error_status error
+fault_status _ = 1

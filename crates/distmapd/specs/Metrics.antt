@@ -1,6 +1,6 @@
 -- WHAT A MONITORING CLIENT GETS: the figures of the port mapper as text for Prometheus (its text format, version 0.0.4), over HTTP (RFC
 -- 9112).
-use Rattle.std.specs.Prelude.{ℕ, ◌-◌, ◌==◌, ◌||◌, ◌&&◌, Bool, true, false, List, [], ◌∷◌, ◌++◌, codes, length, drop, if◌then◌else◌}
+use Rattle.std.specs.Prelude.{ℕ, ◌-◌, ◌==◌, ◌||◌, ◌&&◌, Bool, true, false, List, [], ◌∷◌, ◌++◌, codes, length, drop, nat_le, if◌then◌else◌}
 use Rattle.std.specs.List.{flat_map, starts_with}
 use Rattle.std.specs.Fmt.{decimal}
 use Rattle.dist_epmd_clients.specs.declared.counts.Counts.{Counts}
@@ -79,3 +79,12 @@ page_text head ready figures =
     if starts_with ◌==◌ head (codes "GET ") then answer_text (page_at (drop 4 head) ready figures) true else (
     if starts_with ◌==◌ head (codes "HEAD ") then answer_text (page_at (drop 5 head) ready figures) false else
     answer_text (codes "405 Method Not Allowed\r\nAllow: GET, HEAD", codes "GET and HEAD alone are served\n") true)
+
+-- whether an empty line stands in a text: a line feed, and then another, with or without a carriage return before it
+abbrev pub has_empty_line : List ℕ → Bool
+has_empty_line [] = false
+has_empty_line (b ∷ rest) = starts_with ◌==◌ (b ∷ rest) (codes "\n\n") || starts_with ◌==◌ (b ∷ rest) (codes "\n\r\n") || has_empty_line rest
+
+-- WHETHER A REQUEST IS ANSWERED, by the bytes that came: its head has ended, or is too long
+abbrev pub is_whole : List ℕ → Bool
+is_whole head = has_empty_line head || nat_le 4096 (length head)

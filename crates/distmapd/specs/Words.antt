@@ -43,6 +43,11 @@ abbrev pub number_of : ℕ → List ℕ → Option ℕ
 number_of most word =
     if is_numeral 10 word && (nat_lt 0 (digits_value 10 word) && nat_le (digits_value 10 word) most) then Some (digits_value 10 word) else None
 
+-- how many sockets were handed over, by LISTEN_FDS: one if it is not set
+abbrev pub handed_over : Option (Bor (List ℕ)) → Option ℕ
+handed_over None = Some 1
+handed_over (Some word) = number_of 16 word.now
+
 unfoldable pub form_named : List ℕ → Option LogForm
 form_named word = if pointwise ◌==◌ word (codes "text") then Some form.Text else (if pointwise ◌==◌ word (codes "json") then Some form.Json else None)
 

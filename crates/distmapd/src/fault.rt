@@ -2,6 +2,7 @@
 
 ghost use Rattle.std.specs.Prelude.{◌≡◌};
 ghost use Rattle.distmapd.specs.declared.fault.Fault.TheVariants.{NoMemory};
+ghost use Rattle.distmapd.specs.Answers.{fault_status};
 
 use dist_program::{PortError, TextError};
 use std::alloc::AllocError;
@@ -50,7 +51,9 @@ pub enum Fault {
 
 impl Fault {
     /// The exit status.
-    pub fn status(&self) -> u8 {
+    pub fn status(&self) -> u8
+        ensures { result ≡ fault_status self.now }
+    {
         match self {
             Fault::BadWords(_) | Fault::NoText | Fault::BadAddress => 2,
             Fault::BadMapperPort(error) => error.status(),

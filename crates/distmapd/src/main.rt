@@ -1,12 +1,13 @@
 //! A port mapper for Erlang nodes, in place of `epmd`: it stays in the foreground, and serves all clients at once.
 #![tactic(auto)]
 
+ghost use Rattle.std.specs.Prelude.{◌≤◌};
+
 mod answer;
 mod fault;
 mod json;
 mod key;
 mod lines;
-mod listing;
 mod log;
 mod metrics;
 mod monitor;
@@ -39,11 +40,11 @@ use dist_epmd_server::{MapperLimits, Server};
 use dist_names::quote;
 use dist_program::{mapper_port, report, texts, variable, words_of};
 use std::alloc::{AllocError, Global};
-use std::io::{self, Write};
+use std::io::Write;
 use std::net::Net;
 use std::process::ExitCode;
 use std::sync::Wait;
-use std::time::{Clock, SystemTime, UNIX_EPOCH};
+use std::time::{Clock, Duration, SystemTime, UNIX_EPOCH};
 
 /// How the program is called.
 const HELP: &str =
@@ -116,14 +117,14 @@ fn sentence(alloc: Global, bad: BadWord<'_>) -> Result<String, AllocError> {
 
 // The first creation: the seconds since 1970. So a mapper that is restarted gives out no creation twice, unless it registers more than
 // one node a second all the time.
-fn first_creation<R: Clock>(rt: &R) -> u32 {
-    let Ok(now) = SystemTime::now(rt) else {
-        return LEAST_CREATION;
-    };
-    let Ok(since) = now.duration_since(UNIX_EPOCH) else {
-        return LEAST_CREATION;
-    };
-    u32::try_from(since.as_secs()).map_or(LEAST_CREATION, |seconds| seconds.max(LEAST_CREATION))
+fn first_creation<R: Clock>(rt: &R) -> u32
+    ensures { 4 ≤ result }
+{
+    let now = SystemTime::now(rt).unwrap_or(UNIX_EPOCH);
+    let since = now.duration_since(UNIX_EPOCH).unwrap_or(Duration::ZERO);
+    u32::try_from(since.as_secs())
+        .unwrap_or(0)
+        .max(LEAST_CREATION)
 }
 
 // How many sockets were handed over: 0 if the settings don't ask for any.
@@ -165,28 +166,18 @@ fn run<R: Net + Wait + Clock>(
 ) -> Result<(), Fault> {
     let alloc = rt.alloc();
     let sockets = listeners(host, alloc, settings, sockets_handed_over(rt, settings)?)?;
-    let port = port_of(&sockets).map_err(|_| Fault::ListenFailed)?;
+    let port = port_of(&sockets).ok_or(Fault::ListenFailed)?;
     let mut beside = beside(host, alloc, settings)?;
     let limits = MapperLimits {
         clients: settings.clients as usize,
         seconds: settings.seconds as u64,
     };
-    let server = server_at(host, alloc, sockets, port, limits);
+    let server = Server::new(host, alloc, port, first_creation(host), limits);
     let mut server = server.map_err(|_| Fault::ServeFailed)?;
+    for socket in sockets {
+        let listens = server.add_listener(socket);
+        listens.map_err(|_| Fault::ServeFailed)?;
+    }
     report_ready(rt)?;
     serve(host, alloc, &mut server, &mut beside).map_err(|_| Fault::ServeFailed)
-}
-
-fn server_at<R: Net + Clock>(
-    rt: &R,
-    alloc: Global,
-    sockets: Vec<mio::net::TcpListener>,
-    port: u16,
-    limits: MapperLimits,
-) -> io::Result<Server> {
-    let mut server = Server::new(rt, alloc, port, first_creation(rt), limits)?;
-    for socket in sockets {
-        server.add_listener(socket)?;
-    }
-    Ok(server)
 }

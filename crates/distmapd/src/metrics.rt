@@ -40,36 +40,24 @@ pub fn figures_text(
 ) -> Result<String, AllocError>
     ensures { IfOk result (λ text. string_bytes text ≡ figures_text counts.now clients owed) }
 {
-    let (gauge, counter) = ("gauge", "counter");
+    let (now, ever) = ("gauge", "counter");
     let registered = counts.registered.saturating_sub(counts.ended);
     text_of(
         alloc,
         &[
-            ("distmapd_registrations", gauge, registered),
-            ("distmapd_clients", gauge, clients),
-            ("distmapd_answers_owed", gauge, owed),
-            ("distmapd_registrations_total", counter, counts.registered),
-            ("distmapd_registrations_ended_total", counter, counts.ended),
-            (
-                "distmapd_registrations_refused_total",
-                counter,
-                counts.refused,
-            ),
-            ("distmapd_lookups_total", counter, counts.looked_up),
-            ("distmapd_listings_total", counter, counts.listed),
-            ("distmapd_unanswered_total", counter, counts.unanswered),
-            (
-                "distmapd_clients_made_room_total",
-                counter,
-                counts.made_room,
-            ),
-            ("distmapd_clients_late_total", counter, counts.late),
-            (
-                "distmapd_clients_no_memory_total",
-                counter,
-                counts.no_memory,
-            ),
-            ("distmapd_events_missed_total", counter, counts.missed),
+            ("distmapd_registrations", now, registered),
+            ("distmapd_clients", now, clients),
+            ("distmapd_answers_owed", now, owed),
+            ("distmapd_registrations_total", ever, counts.registered),
+            ("distmapd_registrations_ended_total", ever, counts.ended),
+            ("distmapd_registrations_refused_total", ever, counts.refused),
+            ("distmapd_lookups_total", ever, counts.looked_up),
+            ("distmapd_listings_total", ever, counts.listed),
+            ("distmapd_unanswered_total", ever, counts.unanswered),
+            ("distmapd_clients_made_room_total", ever, counts.made_room),
+            ("distmapd_clients_late_total", ever, counts.late),
+            ("distmapd_clients_no_memory_total", ever, counts.no_memory),
+            ("distmapd_events_missed_total", ever, counts.missed),
         ],
     )
 }

@@ -1,7 +1,9 @@
 //! Monitoring clients are answered at a port of their own, on the same thread, which never waits for one.
 
+ghost use Rattle.std.specs.Prelude.{◌≤◌, IfSome};
+
 use crate::metrics::figures_text;
-use crate::page::page_text;
+use crate::page::{is_whole, page_text};
 use crate::spares::Spares;
 use dist_epmd_server::{Server, other_of};
 use dist_names::ByteString;
@@ -15,9 +17,6 @@ use std::os::fd::AsRawFd;
 
 // The most monitoring clients at once: a later one takes the place of the oldest. Our own choice.
 const SEATS: usize = 8;
-
-// The most bytes of a request's head. Our own choice.
-const HEAD: usize = 4096;
 
 // After how many seconds the connection of a client is closed that has not sent its request. Our own choice.
 const SECONDS: u64 = 5;
@@ -39,29 +38,50 @@ struct Watcher {
     is_answered: bool,
 }
 
-// Whether the head of a request has ended, by an empty line or by its length. A line ends with a line feed, with or without a carriage
-// return before it (RFC 9112, section 2.2). After the head comes the body.
-fn is_whole(head: &[u8]) -> bool {
-    head.len() >= HEAD
-        || head.windows(2).any(|end_| end_.starts_with(b"\n\n"))
-        || head.windows(3).any(|end_| end_.starts_with(b"\n\r\n"))
-}
-
 impl Watcher {
-    // Reads a piece of the request. Returns whether one came; `None`: the connection is over, or memory ran out.
-    fn read(&mut self, room: &mut [u8]) -> Option<bool> {
-        if room.is_empty() {
-            return None;
+    // Answers the request in one write. What the socket does not take at once is lost, so that nothing waits.
+    fn answer(&mut self, alloc: Global, server: &Server) -> Result<(), AllocError> {
+        let (clients, owed) = (server.clients(), server.owing() as u64);
+        let figures = figures_text(alloc, clients.counts(), clients.len() as u64, owed)?;
+        let is_ready = !server.is_stuck();
+        let text = page_text(alloc, self.head.as_slice(), is_ready, &figures)?;
+        self.is_answered = true;
+        if !text.is_empty() {
+            let _ = self.stream.write(text.as_bytes());
         }
-        match self.stream.read(room) {
-            Heard::Bytes(0) | Heard::Failed => None,
-            Heard::Bytes(_) if self.is_answered => Some(true),
-            Heard::Bytes(count) => {
-                self.head.append(&room[..count]).ok()?;
-                Some(true)
+        let _ = self.stream.shut();
+        Ok(())
+    }
+
+    // Takes a piece of the request, and answers it once it is whole.
+    fn take(&mut self, alloc: Global, server: &Server, piece: &[u8]) -> Result<(), AllocError> {
+        if self.is_answered {
+            return Ok(());
+        }
+        self.head.append(piece)?;
+        if is_whole(self.head.as_slice()) {
+            self.answer(alloc, server)?;
+        }
+        Ok(())
+    }
+
+    // Reads what came. Returns whether the connection stays open: not if it is over, or memory ran out.
+    fn hear(&mut self, alloc: Global, server: &Server, room: &mut [u8]) -> bool {
+        for _ in 0..READS {
+            if room.is_empty() {
+                return false;
             }
-            Heard::Quiet => Some(false),
+            match self.stream.read(room) {
+                Heard::Quiet => return true,
+                Heard::Bytes(0) | Heard::Failed => return false,
+                Heard::Bytes(count) => {
+                    if self.take(alloc, server, &room[..count]).is_err() {
+                        return false;
+                    }
+                }
+            }
         }
+        true
     }
 }
 
@@ -98,17 +118,14 @@ impl Monitor {
         server.watch_other(self.listener.as_raw_fd(), 0)
     }
 
-    // Whether a place is free.
-    fn is_free(&self, place: usize) -> bool {
-        self.seats.iter().all(|seat| seat.place != place)
-    }
-
     // Makes room for one more client, and returns a free place, counted from 1.
-    fn find_place(&mut self) -> Option<usize> {
+    fn find_place(&mut self) -> Option<usize>
+        ensures { IfSome result (λ place. (1 ≤ place) × (place ≤ 8)) }
+    {
         if self.seats.len() >= SEATS {
             let _ = self.seats.remove(0);
         }
-        (1..=SEATS).find(|place| self.is_free(*place))
+        (1..=SEATS).find(|place| self.seats.iter().all(|seat| seat.place != *place))
     }
 
     // Takes in a connection. If that fails, the connection is closed.
@@ -142,20 +159,6 @@ impl Monitor {
         }
     }
 
-    // Answers a request in one write. What the socket does not take at once is lost, so that nothing waits.
-    fn answer(&self, server: &Server, seat: &mut Watcher) -> Result<(), AllocError> {
-        let (clients, owed) = (server.clients(), server.owing() as u64);
-        let figures = figures_text(self.alloc, clients.counts(), clients.len() as u64, owed)?;
-        let is_ready = !server.is_stuck();
-        let text = page_text(self.alloc, seat.head.as_slice(), is_ready, &figures)?;
-        seat.is_answered = true;
-        if !text.is_empty() {
-            let _ = seat.stream.write(text.as_bytes());
-        }
-        let _ = seat.stream.shut();
-        Ok(())
-    }
-
     // Takes out the seat at a place.
     fn take_seat(&mut self, place: usize) -> Option<Watcher> {
         let index = self.seats.iter().position(|seat| seat.place == place)?;
@@ -166,26 +169,10 @@ impl Monitor {
         }
     }
 
-    // Reads a request, and answers it once it is whole. Returns whether the connection stays open.
-    fn hear(&self, server: &Server, seat: &mut Watcher, room: &mut [u8]) -> bool {
-        for _ in 0..READS {
-            match seat.read(room) {
-                Some(true) => {}
-                Some(false) => return true,
-                None => return false,
-            }
-            let is_due = !seat.is_answered && is_whole(seat.head.as_slice());
-            if is_due && self.answer(server, seat).is_err() {
-                return false;
-            }
-        }
-        true
-    }
-
     // Serves the client at a place.
     fn attend(&mut self, server: &Server, place: usize, room: &mut [u8]) {
         if let Some(mut seat) = self.take_seat(place)
-            && self.hear(server, &mut seat, room)
+            && seat.hear(self.alloc, server, room)
         {
             let _ = self.seats.push(seat);
         }

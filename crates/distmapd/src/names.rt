@@ -2,7 +2,7 @@
 
 use crate::answer::ask;
 use crate::fault::Fault;
-use crate::listing::print_answer;
+use crate::output::print_answer;
 use dist_program::{ANSWER_SECONDS, CONNECT_SECONDS, connect, talk_here, talk_over};
 use dist_stream::DeadlineStream;
 use std::alloc::Global;
@@ -10,25 +10,18 @@ use std::io::{self, ErrorKind, Write};
 use std::net::{Ipv6Addr, Net, SocketAddr, TcpListener, TcpStream};
 use std::time::Clock;
 
-// A connection to this port of the IPv6 loopback, with the limits of `talk_here`.
-fn talk_over_ipv6<'a, R: Net<Listener = TcpListener, Stream = TcpStream> + Clock>(
-    rt: &'a R,
-    port: u16,
-) -> io::Result<DeadlineStream<&'a R>> {
-    let address = SocketAddr::from((Ipv6Addr::LOCALHOST, port));
-    let stream = connect(rt, &address, CONNECT_SECONDS)?;
-    talk_over(rt, stream, ANSWER_SECONDS)
-}
-
-// A connection to this port of the loopback: over IPv4, or over IPv6 if nothing listens there.
+// A connection to this port of the loopback: over IPv4, or over IPv6 with the same limits if nothing listens there.
 fn talk_with<'a, R: Net<Listener = TcpListener, Stream = TcpStream> + Clock>(
     rt: &'a R,
     port: u16,
 ) -> io::Result<DeadlineStream<&'a R>> {
     match talk_here(rt, port) {
-        Err(error) if error.kind() == ErrorKind::ConnectionRefused => talk_over_ipv6(rt, port),
-        first => first,
+        Err(error) if error.kind() == ErrorKind::ConnectionRefused => {}
+        first => return first,
     }
+    let address = SocketAddr::from((Ipv6Addr::LOCALHOST, port));
+    let stream = connect(rt, &address, CONNECT_SECONDS)?;
+    talk_over(rt, stream, ANSWER_SECONDS)
 }
 
 /// Asks the port mapper at this port of the loopback, over IPv4 or else IPv6, and prints its own port and the names.

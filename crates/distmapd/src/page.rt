@@ -2,9 +2,12 @@
 
 ghost use Rattle.std.specs.Prelude.{◌≡◌, IfOk};
 ghost use Rattle.std.specs.String.{string_bytes};
-ghost use Rattle.distmapd.specs.Metrics.{asks_path, answer_text, head_text, page_at, page_text};
+ghost use Rattle.distmapd.specs.Metrics.{asks_path, answer_text, head_text, is_whole, page_at, page_text};
 
 use std::alloc::{AllocError, Global};
+
+// The most bytes of a request's head. Our own choice.
+const HEAD: usize = 4096;
 
 // A status and a body.
 type FigurePage<'a> = (&'a str, &'a str);
@@ -77,4 +80,19 @@ pub fn page_text(
     }
     let status = "405 Method Not Allowed\r\nAllow: GET, HEAD";
     answer_text(alloc, (status, "GET and HEAD alone are served\n"), true)
+}
+
+/// Whether the head of a request has ended, by an empty line or by its length. A line ends with a line feed, with or without a carriage
+/// return before it (RFC 9112, section 2.2). After the head comes the body.
+pub fn is_whole(head: &[u8]) -> bool
+    ensures { result ≡ is_whole head.now }
+{
+    let mut rest = head;
+    while let [_, after @ ..] = rest {
+        if rest.starts_with(b"\n\n") || rest.starts_with(b"\n\r\n") {
+            return true;
+        }
+        rest = after;
+    }
+    head.len() >= HEAD
 }

@@ -5,6 +5,7 @@ ghost use Rattle.distmapd.specs.Rates.{after_admit, after_admitting, after_missi
 ghost use Rattle.distmapd.specs.Rates.{new_rates, place_of, rate_of, with_none_left_out};
 
 use dist_epmd_clients::ClientEvent;
+use std::mem;
 
 /// The most lines of a kind in a second. Our own choice.
 const LINES: u32 = 100;
@@ -46,25 +47,20 @@ fn place_of(event: &ClientEvent) -> usize
 }
 
 impl Rate {
-    // Whether one more line is admitted in this second.
-    fn is_admitted(self, now: u64) -> bool
-        ensures { result ≡ is_admitted now self }
+    // Asks for one more line in this second.
+    fn admit(&mut self, now: u64) -> bool
+        ensures admitted { result ≡ is_admitted now self.old }
+        ensures after { self.new ≡ after_admit now self.old }
     {
-        now != self.second || self.lines < LINES
-    }
-
-    // The rate with one more line in this second, if it is admitted.
-    fn after_admit(self, now: u64) -> Rate
-        ensures { result ≡ after_admit now self }
-    {
-        if !self.is_admitted(now) {
-            return self;
+        if now != self.second {
+            (self.second, self.lines) = (now, 1);
+            return true;
         }
-        let before = if now == self.second { self.lines } else { 0 };
-        Rate {
-            second: now,
-            lines: before + 1,
+        if self.lines >= LINES {
+            return false;
         }
+        self.lines += 1;
+        true
     }
 }
 
@@ -90,10 +86,7 @@ impl Rates {
         ensures admitted { result ≡ is_admitted now (rate_of event.now self.old) }
         ensures after { self.new ≡ after_admitting event.now now self.old }
     {
-        let place = place_of(event);
-        let rate = self.kinds[place];
-        self.kinds[place] = rate.after_admit(now);
-        rate.is_admitted(now)
+        self.kinds[place_of(event)].admit(now)
     }
 
     /// Counts this many more lines as left out in this second.
@@ -123,8 +116,6 @@ impl Rates {
         if now == self.second {
             return 0;
         }
-        let count = self.left_out;
-        self.left_out = 0;
-        count
+        mem::replace(&mut self.left_out, 0)
     }
 }

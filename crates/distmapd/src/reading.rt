@@ -5,7 +5,7 @@
 ghost use Rattle.std.specs.Prelude.{◌≡◌, ◌<◌, ◌≤◌, IfSome, SomeIff};
 ghost use Rattle.std.specs.Str.Parse.{IsNumeral, digits_value};
 ghost use Rattle.distmapd.specs.Words.{after_key, after_value, after_word, all_keys, at_word, form_named, key_in};
-ghost use Rattle.distmapd.specs.Words.{number_of, reading_of, settings_of, usual_settings};
+ghost use Rattle.distmapd.specs.Words.{number_of, reading_of, settings_of};
 
 use crate::key::{AwaitedValue, KEYS, Key, key_in};
 use crate::refusal::{BadWord, WordError};
@@ -41,15 +41,12 @@ fn number_up_to(bytes: &[u8], most: u32) -> Option<u32>
     ensures { SomeIff result (IsNumeral 10 bytes.now × (0 < digits_value 10 bytes.now) × (digits_value 10 bytes.now ≤ most)) (digits_value 10 bytes.now) }
 {
     let number = number_32(bytes)?;
-    if number == 0 || number > most {
-        return None;
-    }
-    Some(number)
+    (1..=most).contains(&number).then_some(number)
 }
 
-// The number that a word writes, from 1 to `most`.
+/// The number that a word writes, from 1 to `most`.
 #[tactic(auto, using(crate::proofs::Numbers::number_read))]
-fn number_of(word: &str, most: u32) -> Option<u32>
+pub fn number_of(word: &str, most: u32) -> Option<u32>
     ensures number { result ≡ number_of most word.now }
     ensures bound { IfSome result (λ n. n ≤ most) }
 {
@@ -71,22 +68,6 @@ fn form_of(word: &str) -> Option<LogForm>
 }
 
 impl<'a> Settings<'a> {
-    // The settings without any words, at this port, with these addresses.
-    fn usual(port: u16, addresses: Option<&'a str>) -> Settings<'a>
-        ensures { result ≡ usual_settings port addresses.entry }
-    {
-        Settings {
-            task: Task::Serve,
-            port,
-            addresses,
-            seconds: SECONDS,
-            clients: CLIENTS,
-            systemd: false,
-            log: Some(LogForm::Text),
-            metrics: None,
-        }
-    }
-
     // Reads an option or a switch.
     fn after_key(mut self, word: &'a str) -> Result<ParsedWords<'a>, WordError>
         ensures { result ≡ after_key self.entry word.entry (key_in all_keys word.now) }
@@ -149,11 +130,20 @@ fn take_word<'a>(reading: ParsedWords<'a>, word: &'a str) -> Result<ParsedWords<
 pub fn settings_of<'a>(
     words: &[&'a str],
     port: u16,
-    address: Option<&'a str>,
+    addresses: Option<&'a str>,
 ) -> Result<Settings<'a>, BadWord<'a>>
-    ensures { result ≡ settings_of port address.entry words.now }
+    ensures { result ≡ settings_of port addresses.entry words.now }
 {
-    let settings = Settings::usual(port, address);
+    let settings = Settings {
+        task: Task::Serve,
+        port,
+        addresses,
+        seconds: SECONDS,
+        clients: CLIENTS,
+        systemd: false,
+        log: Some(LogForm::Text),
+        metrics: None,
+    };
     let awaits = None;
     let mut reading = ParsedWords { settings, awaits };
     for word in words {

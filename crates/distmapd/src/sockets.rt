@@ -1,10 +1,13 @@
 //! The sockets at which the program listens.
 
+ghost use Rattle.std.specs.Prelude.{◌≡◌, IfSome, None, Some};
+ghost use Rattle.distmapd.specs.Words.{handed_over};
+
 use crate::fault::Fault;
+use crate::reading::number_of;
 use crate::settings::Settings;
-use dist_names::{number_16, number_32};
-use libc::net::{POLLOUT, poll};
-use libc::types::pollfd;
+use crate::standard_error::ready_events;
+use dist_names::number_32;
 use mio::net::TcpListener;
 use os::FromRawFd;
 use std::alloc::Global;
@@ -12,7 +15,7 @@ use std::io::{self, ErrorKind};
 use std::net::{IpAddr, Ipv4Addr, Ipv6Addr, Net, SocketAddr};
 
 // The most sockets that may be handed over.
-const MOST_HANDED_OVER: u16 = 16;
+const MOST_HANDED_OVER: u32 = 16;
 
 // The first descriptor that is handed over. Source: systemd, sd_listen_fds(3).
 const HANDED_OVER: i32 = 3;
@@ -35,35 +38,21 @@ fn listen_at_all(net: &impl Net, port: u16) -> io::Result<TcpListener> {
     listen_at(net, ALL_6, port).or_else(|_| listen_at(net, ALL_4, port))
 }
 
-// Whether a descriptor may be a listening socket. Such a socket is never ready to be written; a UDP socket, a socket that does not
-// listen, and a file are. If the descriptor is closed, the system reports that.
-fn may_listen(fd: i32) -> bool {
-    let mut fds = [pollfd {
-        fd,
-        events: POLLOUT,
-        revents: 0,
-    }];
-    poll(&mut fds, 0) == 0
-}
-
-// A socket that the service manager handed over.
-fn inherited_socket(place: u16) -> io::Result<TcpListener> {
-    let fd = HANDED_OVER + i32::from(place);
-    if !may_listen(fd) {
-        return Err(io::Error::from(ErrorKind::InvalidInput));
-    }
-    let listener = unsafe { std::net::TcpListener::from_raw_fd(fd) };
-    listener.set_nonblocking(true)?;
-    let listener = TcpListener::from_std(listener);
-    let _address = listener.local_addr()?;
-    Ok(listener)
-}
-
-// This many of them.
+// The sockets that the service manager handed over, so many of them.
 fn inherited_sockets(alloc: Global, count: u16) -> io::Result<Vec<TcpListener>> {
     let mut found = Vec::new(alloc);
     for place in 0..count {
-        found.push(inherited_socket(place)?)?;
+        let fd = HANDED_OVER + i32::from(place);
+        // A listening socket is never ready to be written; a UDP socket, a socket that does not listen, and a file are. If the
+        // descriptor is closed, the system reports that.
+        if ready_events(fd) != Some(0) {
+            return Err(io::Error::from(ErrorKind::InvalidInput));
+        }
+        let listener = unsafe { std::net::TcpListener::from_raw_fd(fd) };
+        listener.set_nonblocking(true)?;
+        let listener = TcpListener::from_std(listener);
+        let _address = listener.local_addr()?;
+        found.push(listener)?;
     }
     Ok(found)
 }
@@ -73,9 +62,7 @@ fn addresses_in(alloc: Global, text: &str) -> Result<Vec<IpAddr>, Fault> {
     let mut addresses = Vec::new(alloc);
     for part in text.split([',', ' ']) {
         if !part.is_empty() {
-            let Ok(address) = part.parse::<IpAddr>() else {
-                return Err(Fault::BadAddress);
-            };
+            let address = part.parse().map_err(|_| Fault::BadAddress)?;
             addresses.push(address).map_err(|_| Fault::NoMemory)?;
         }
     }
@@ -100,12 +87,8 @@ fn listen_at_each(
         found.push(listen_at_all(net, port)?)?;
         return Ok(found);
     }
-    let first = if addresses.contains(&ALL_4) {
-        ALL_4
-    } else {
-        HERE_4
-    };
-    let mut taken = vec![in alloc; first]?;
+    let first = addresses.iter().find(|address| **address == ALL_4);
+    let mut taken = vec![in alloc; *first.unwrap_or(&HERE_4)]?;
     for address in addresses {
         if !is_within(*address, &taken) {
             taken.push(*address)?;
@@ -123,25 +106,21 @@ fn listen_at_each(
     Ok(found)
 }
 
-// Whether LISTEN_PID names this process, or is not set.
-fn is_for(own: i32, process: Option<&str>) -> bool {
-    match process {
-        Some(word) => number_32(word.as_bytes()).map(i64::from) == Some(i64::from(own)),
-        None => true,
-    }
-}
-
 /// How many sockets were handed over, by LISTEN_FDS: from 1 to 16, and one if it is not set. `None` for another number, or if
 /// LISTEN_PID names another process.
-pub fn handed_over(said: Option<&str>, process: Option<&str>, own: i32) -> Option<u16> {
-    if !is_for(own, process) {
+pub fn handed_over(said: Option<&str>, process: Option<&str>, own: i32) -> Option<u16>
+    ensures some { IfSome result (λ count. handed_over said.entry ≡ Some count) }
+    ensures unnamed { process.entry ≡ None → result ≡ handed_over said.entry }
+{
+    if let Some(word) = process
+        && number_32(word.as_bytes()).map(i64::from) != Some(i64::from(own))
+    {
         return None;
     }
-    let count = match said {
-        Some(word) => number_16(word.as_bytes())?,
-        None => 1,
+    let Some(word) = said else {
+        return Some(1);
     };
-    (1..=MOST_HANDED_OVER).contains(&count).then_some(count)
+    u16::try_from(number_of(word, MOST_HANDED_OVER)?).ok()
 }
 
 /// The listeners that the settings ask for, of which `handed_over` were handed over.
@@ -161,9 +140,6 @@ pub fn listeners(
 }
 
 /// The port of the first listener.
-pub fn port_of(listeners: &[TcpListener]) -> io::Result<u16> {
-    match listeners.first() {
-        Some(listener) => Ok(listener.local_addr()?.port()),
-        None => Err(io::Error::from(ErrorKind::InvalidInput)),
-    }
+pub fn port_of(listeners: &[TcpListener]) -> Option<u16> {
+    Some(listeners.first()?.local_addr().ok()?.port())
 }

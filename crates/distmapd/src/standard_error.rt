@@ -26,6 +26,16 @@ fn terminal() -> i32 {
     fd
 }
 
+/// What a descriptor is ready for, of writing alone, and what is wrong with it: no bit if it is neither. `None`: the system does not say.
+pub fn ready_events(fd: i32) -> Option<i16> {
+    let mut fds = [pollfd {
+        fd,
+        events: POLLOUT,
+        revents: 0,
+    }];
+    (poll(&mut fds, 0) >= 0).then_some(fds[0].revents)
+}
+
 impl StandardError {
     /// It takes no memory.
     pub fn open() -> StandardError {
@@ -39,12 +49,7 @@ impl StandardError {
 
     // Whether a write would not wait: a pipe or a socket that has room takes a line.
     fn has_room(&self) -> bool {
-        let mut fds = [pollfd {
-            fd: self.fd,
-            events: POLLOUT,
-            revents: 0,
-        }];
-        poll(&mut fds, 0) == 1 && fds[0].revents & POLLOUT != 0
+        ready_events(self.fd).is_some_and(|events| events & POLLOUT != 0)
     }
 
     // Ends a line of which only a part was written, so that the next begins a new one. Returns whether that is done.

@@ -8,7 +8,7 @@ use Rattle.dist_core.specs.Changing.{change}
 use Rattle.dist_core.specs.Node.{NodeState}
 use Rattle.dist_c_guest.specs.declared.guest.Guest.{Guest}
 use Rattle.dist_names.specs.NodeName.{name_of_bytes}
-use Rattle.dist_c_guest.specs.Forms.{form_of_text, has_form}
+use Rattle.dist_c_guest.specs.Forms.{form_of_text}
 use Rattle.dist_c_guest.specs.Planning.{lets_in, shuts_out, with_form, without_form}
 use Rattle.distnode_c.specs.Codes.{name_code, cookie_code, change_code}
 

@@ -35,6 +35,9 @@ pub const TOO_LONG: u32 = 8;
 /// An end is open.
 pub const OPEN_ENDS: u32 = 16;
 
+/// An end that is up has to be lost first.
+pub const SHOWN_END: u32 = 17;
+
 /// The flags of a setup are half.
 pub const HALF_FLAGS: u32 = 50;
 

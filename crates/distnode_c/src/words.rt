@@ -26,6 +26,7 @@ fn code_word(code: u32) -> &'static str
         14 => "Spent",
         15 => "Full",
         16 => "OpenEnds",
+        17 => "ShownEnd",
         20 => "NameTooShort",
         21 => "NameTooLong",
         22 => "NameBadByte",

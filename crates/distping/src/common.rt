@@ -1,5 +1,7 @@
 //! What the program works with, whatever it does.
 
+ghost use Rattle.std.specs.Prelude.{◌≡◌};
+
 use dist_names::NodeName;
 use dist_program::{Addresses, Resolving, lookup_host};
 use dist_secret::Cookie;
@@ -39,7 +41,12 @@ impl<'a, R: Resolving> Context<'a, R> {
         lines: LineSink<'d>,
         own: &'d NodeName,
         node: &'d NodeName,
-    ) -> Dial<'d> {
+    ) -> Dial<'d>
+        ensures lines { result.lines ≡ lines.entry }
+        ensures own { result.own.now ≡ own.now }
+        ensures node { result.node.now ≡ node.now }
+        ensures choices { result.choices ≡ self.now.wanted.now.choices }
+    {
         Dial {
             rt: self.rt,
             lines,

@@ -1,6 +1,6 @@
 //! Each pair of the nodes that were dialled is compared. Of more than two nodes, only the bad pairs are printed, and a summary.
 
-ghost use Rattle.std.specs.Prelude.{◌≡◌, ◌||◌, ◌<◌, ◌↔◌, IsTrue, length};
+ghost use Rattle.std.specs.Prelude.{◌≡◌, ◌≢◌, ◌||◌, IfOk};
 ghost use Rattle.dist_cluster.specs.Pairs.{is_bad};
 
 use dist_cluster::{Half, Pairing, Summary, first_of, pairing_of};
@@ -23,63 +23,31 @@ impl Pairs<'_> {
     {
         self.all || pairing.is_bad()
     }
-}
 
-// Prints what can be said of two nodes.
-fn put_pair(
-    lines: LineSink<'_>,
-    first: &Half<'_>,
-    second: &Half<'_>,
-    pairing: Pairing,
-) -> Result<(), Fault> {
-    if lines.quiet {
-        lines.write_made(pair_object(lines.alloc, first.node, second.node, pairing))
-    } else {
-        lines.put_pair(first.node, second.node, pairing)
+    // Prints what can be said of two nodes, if that is to be printed.
+    fn put(self, first: &Half<'_>, second: &Half<'_>, pairing: Pairing) -> Result<(), Fault> {
+        let lines = self.lines;
+        if !self.shows(pairing) {
+            Ok(())
+        } else if lines.quiet {
+            lines.write_made(pair_object(lines.alloc, first.node, second.node, pairing))
+        } else {
+            lines.put_pair(first.node, second.node, pairing)
+        }
     }
-}
-
-// Prints what can be said of two nodes, if that is to be printed, and returns its status.
-fn pair_one(pairs: Pairs<'_>, first: &Half<'_>, second: &Half<'_>) -> Result<u8, Fault> {
-    let pairing = pairing_of(first, second);
-    if pairs.shows(pairing) {
-        put_pair(pairs.lines, first, second, pairing)?;
-    }
-    Ok(pairing.status())
-}
-
-// Prints what can be said of one node with each of the others, and returns the first status that is not 0.
-fn pair_with(pairs: Pairs<'_>, first: &Half<'_>, others: &[Half<'_>]) -> Result<u8, Fault> {
-    let mut status = 0;
-    for second in others {
-        status = first_of(status, pair_one(pairs, first, second)?);
-    }
-    Ok(status)
 }
 
 // Prints what can be said of each pair of nodes, and returns the first status that is not 0.
 fn pair_all(pairs: Pairs<'_>, halves: &[Half<'_>]) -> Result<u8, Fault> {
     let mut status = 0;
-    let mut rest = halves;
-    for first in halves {
-        rest = behind_the_first(rest);
-        status = first_of(status, pair_with(pairs, first, rest)?);
+    for at in 0..halves.len() {
+        for second in &halves[at + 1..] {
+            let pairing = pairing_of(&halves[at], second);
+            pairs.put(&halves[at], second, pairing)?;
+            status = first_of(status, pairing.status());
+        }
     }
     Ok(status)
-}
-
-fn behind_the_first<'h, 'n>(halves: &'h [Half<'n>]) -> &'h [Half<'n>] {
-    match halves {
-        [_, rest @ ..] => rest,
-        [] => halves,
-    }
-}
-
-// Whether there are more than two nodes, so that a summary is printed, and only the bad pairs.
-fn are_many(halves: &[Half<'_>]) -> bool
-    ensures { IsTrue result ↔ (2 < length halves.now) }
-{
-    halves.len() > 2
 }
 
 // Prints how many nodes have which verdict, and how many pairs which word.
@@ -99,13 +67,13 @@ pub fn compare(
     all_pairs: bool,
     halves: &[Half<'_>],
     status: u8,
-) -> Result<u8, Fault> {
-    let pairs = Pairs {
-        lines,
-        all: all_pairs || !are_many(halves),
-    };
-    let status = first_of(status, pair_all(pairs, halves)?);
-    if are_many(halves) {
+) -> Result<u8, Fault>
+    ensures first { IfOk result (λ it. status ≢ 0 → it ≡ status) }
+{
+    let are_many = halves.len() > 2;
+    let all = all_pairs || !are_many;
+    let status = first_of(status, pair_all(Pairs { lines, all }, halves)?);
+    if are_many {
         put_summary(lines, halves, status)?;
     }
     Ok(status)

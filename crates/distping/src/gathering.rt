@@ -9,9 +9,10 @@ use crate::grouping::is_among;
 use crate::nodes::Nodes;
 use dist_cluster::{Group, Target, first_of, name_in_line};
 use dist_names::{NameError, NodeName};
+use dist_probe::ProbeVerdict;
 use dist_program::Resolving;
 use distping_json::{group_object, left_out_object, more_left_out_object};
-use distping_links::{Census, Names, ask_census, empty_host};
+use distping_links::{Names, ask_census, no_dial};
 use distping_report::{LeftOut, LineSink, MOST_SHOWN, ProbeOutcome};
 use distping_words::{Fault, Wanted};
 use std::net::SocketAddr;
@@ -24,144 +25,110 @@ fn is_named(targets: &[Target], node: &NodeName) -> bool {
     })
 }
 
-// A group, and what is needed to gather its nodes.
-#[derive(Clone, Copy)]
+// What the port mapper of a host names.
+#[derive(Drop)]
 struct Gathering<'a> {
     lines: LineSink<'a>,
     wanted: &'a Wanted<'a>,
     group: &'a Group,
-}
-
-// A count of the lines of a port mapper.
-#[derive(Clone, Copy)]
-struct Tally {
-    // How many name a node.
+    // How many lines name a node.
     named: u32,
-    // How many do not.
-    unnamed: u32,
-    // How many nodes exceed the number that is dialled.
-    surplus: u32,
+    // How many lines that name none were printed.
+    shown: u32,
+    // What was left out, and not printed.
+    left_out: LeftOut,
 }
 
-impl Tally {
-    // What was left out and not printed.
-    fn left_out(self, is_cut: bool) -> LeftOut {
-        LeftOut {
-            lines: self.unnamed.saturating_sub(MOST_SHOWN),
-            nodes: self.surplus,
-            is_cut,
+impl Gathering<'_> {
+    // Leaves out a line that names no node: prints it if it is one of the first, else counts it.
+    fn leave_out(&mut self, text: &[u8]) -> Result<(), Fault> {
+        let lines = self.lines;
+        if self.shown >= MOST_SHOWN {
+            self.left_out.lines = self.left_out.lines.saturating_add(1);
+            return Ok(());
+        }
+        self.shown += 1;
+        if lines.quiet {
+            lines.write_made(left_out_object(lines.alloc, self.group, text))
+        } else {
+            lines.put_left_out(text)
         }
     }
-}
 
-// Leaves out a line that names no node: prints it if it is one of the first, and counts it.
-fn leave_out(site: Gathering<'_>, text: &[u8], tally: &mut Tally) -> Result<(), Fault> {
-    let is_shown = tally.unnamed < MOST_SHOWN;
-    tally.unnamed = tally.unnamed.saturating_add(1);
-    let lines = site.lines;
-    if !is_shown {
-        Ok(())
-    } else if lines.quiet {
-        lines.write_made(left_out_object(lines.alloc, site.group, text))
-    } else {
-        lines.put_left_out(text)
+    // Adds a node, unless it is there already, or there are enough.
+    fn push_new(&mut self, nodes: &mut Nodes, node: NodeName) -> Result<(), Fault> {
+        self.named = self.named.saturating_add(1);
+        if is_among(&nodes.names, &node) || is_named(&self.wanted.targets, &node) {
+            return Ok(());
+        }
+        if nodes.is_full() {
+            self.left_out.nodes = self.left_out.nodes.saturating_add(1);
+            return Ok(());
+        }
+        Ok(nodes.push(node)?)
     }
-}
 
-// Adds a node of a group, unless it is there already, or there are enough.
-fn push_new(
-    site: Gathering<'_>,
-    nodes: &mut Nodes,
-    node: NodeName,
-    tally: &mut Tally,
-) -> Result<(), Fault> {
-    tally.named = tally.named.saturating_add(1);
-    if is_among(&nodes.names, &node) || is_named(&site.wanted.targets, &node) {
-        return Ok(());
+    // Takes the node that a line of the port mapper names, if it names one.
+    fn take_line(&mut self, nodes: &mut Nodes, line: &[u8]) -> Result<(), Fault> {
+        if line.is_empty() {
+            return Ok(());
+        }
+        let Some(short) = name_in_line(line) else {
+            return self.leave_out(line);
+        };
+        match self.group.member(self.lines.alloc, short) {
+            Ok(node) => self.push_new(nodes, node),
+            Err(NameError::NoMemory) => Err(Fault::NoMemory),
+            Err(_) => self.leave_out(short),
+        }
     }
-    if nodes.is_full() {
-        tally.surplus = tally.surplus.saturating_add(1);
-        return Ok(());
-    }
-    nodes.push(node)?;
-    Ok(())
-}
 
-// Takes the node that a line of a port mapper names, if it names one.
-fn take_line(
-    site: Gathering<'_>,
-    line: &[u8],
-    nodes: &mut Nodes,
-    tally: &mut Tally,
-) -> Result<(), Fault> {
-    if line.is_empty() {
-        return Ok(());
+    // Prints how much of what the port mapper sent was left out, if anything was.
+    fn put_more_left_out(&self) -> Result<(), Fault> {
+        let lines = self.lines;
+        if self.left_out.is_nothing() {
+            Ok(())
+        } else if lines.quiet {
+            lines.write_made(more_left_out_object(lines.alloc, self.group, self.left_out))
+        } else {
+            lines.put_more_left_out(self.left_out)
+        }
     }
-    let Some(short) = name_in_line(line) else {
-        return leave_out(site, line, tally);
-    };
-    match site.group.member(site.lines.alloc, short) {
-        Ok(node) => push_new(site, nodes, node, tally),
-        Err(NameError::NoMemory) => Err(Fault::NoMemory),
-        Err(_) => leave_out(site, short, tally),
-    }
-}
 
-// Takes the nodes that these lines of a port mapper name, and returns the count of the lines.
-fn take_lines(site: Gathering<'_>, text: &[u8], nodes: &mut Nodes) -> Result<Tally, Fault> {
-    let mut tally = Tally {
-        named: 0,
-        unnamed: 0,
-        surplus: 0,
-    };
-    for line in text.split(|byte| *byte == b'\n') {
-        take_line(site, line, nodes, &mut tally)?;
+    // Prints the verdict on the host, which gave no node, and returns its status.
+    fn put_nobody(&self, outcome: &ProbeOutcome) -> Result<u8, Fault>
+        ensures { IfOk result (λ status. status ≡ status_of outcome.now.verdict) }
+    {
+        let lines = self.lines;
+        if lines.quiet {
+            lines.write_made(group_object(lines.alloc, self.group, outcome))?;
+        } else {
+            lines.put_verdict(outcome.verdict)?;
+        }
+        Ok(outcome.verdict.status())
     }
-    Ok(tally)
-}
 
-// Prints how much of what a port mapper sent was left out, if anything was.
-fn put_more_left_out(site: Gathering<'_>, left_out: LeftOut) -> Result<(), Fault> {
-    let lines = site.lines;
-    if left_out.is_nothing() {
-        Ok(())
-    } else if lines.quiet {
-        lines.write_made(more_left_out_object(lines.alloc, site.group, left_out))
-    } else {
-        lines.put_more_left_out(left_out)
+    // Takes the nodes that the port mapper named, and returns the status: if it named none, that of a host without nodes.
+    fn take_names(
+        &mut self,
+        nodes: &mut Nodes,
+        address: SocketAddr,
+        names: &Names,
+    ) -> Result<u8, Fault> {
+        let lines = self.lines;
+        for line in names.text.as_slice().split(|byte| *byte == b'\n') {
+            self.take_line(nodes, line)?;
+        }
+        self.left_out.is_cut = names.is_cut;
+        self.put_more_left_out()?;
+        if self.named == 0 {
+            lines.put_names(b"")?;
+            let verdict = ProbeVerdict::NotRegistered;
+            return self.put_nobody(&no_dial(lines.alloc, Some(address), verdict));
+        }
+        lines.put_known(self.wanted.choices.mapper_port, self.named)?;
+        Ok(self.left_out.status())
     }
-}
-
-// Prints the verdict on a host that gave no node, and returns its status.
-fn put_nobody(site: Gathering<'_>, outcome: &ProbeOutcome) -> Result<u8, Fault>
-    ensures { IfOk result (λ status. status ≡ status_of outcome.now.verdict) }
-{
-    let lines = site.lines;
-    if lines.quiet {
-        lines.write_made(group_object(lines.alloc, site.group, outcome))?;
-    } else {
-        lines.put_verdict(outcome.verdict)?;
-    }
-    Ok(outcome.verdict.status())
-}
-
-// Takes the nodes that a port mapper named, and returns the status: if it named none, that of a host without nodes.
-fn take_names(
-    site: Gathering<'_>,
-    address: SocketAddr,
-    names: &Names,
-    nodes: &mut Nodes,
-) -> Result<u8, Fault> {
-    let lines = site.lines;
-    let tally = take_lines(site, names.text.as_slice(), nodes)?;
-    let left_out = tally.left_out(names.is_cut);
-    put_more_left_out(site, left_out)?;
-    if tally.named == 0 {
-        lines.put_names(b"")?;
-        return put_nobody(site, &empty_host(lines.alloc, address));
-    }
-    lines.put_known(site.wanted.choices.mapper_port, tally.named)?;
-    Ok(left_out.status())
 }
 
 // Asks the port mapper of a host for its nodes, and returns the status.
@@ -170,16 +137,23 @@ fn ask_group<'x, R: Resolving>(
     group: &'x Group,
     nodes: &mut Nodes,
 ) -> Result<u8, Fault> {
-    let site = Gathering {
+    let mut gathering = Gathering {
         lines: context.screen(),
         wanted: context.wanted,
         group,
+        named: 0,
+        shown: 0,
+        left_out: LeftOut {
+            lines: 0,
+            nodes: 0,
+            is_cut: false,
+        },
     };
-    site.lines.put_heading(group.word())?;
-    let dial = context.make_dial(site.lines, &group.own, &group.own);
+    gathering.lines.put_heading(group.word())?;
+    let dial = context.make_dial(gathering.lines, &group.own, &group.own);
     match ask_census(&dial, context.addresses(&group.own))? {
-        Census::Names(address, names) => take_names(site, address, &names, nodes),
-        Census::Nobody(outcome) => put_nobody(site, &outcome),
+        Ok((address, names)) => gathering.take_names(nodes, address, &names),
+        Err(outcome) => gathering.put_nobody(&outcome),
     }
 }
 
@@ -191,11 +165,10 @@ fn take_target<'x, R: Resolving>(
 ) -> Result<u8, Fault> {
     match target {
         Target::Node(name) => {
-            let node = name.try_clone(context.rt.alloc())?;
             if nodes.is_full() {
                 return Err(Fault::TooManyNodes);
             }
-            nodes.push(node)?;
+            nodes.push(name.try_clone(context.rt.alloc())?)?;
             Ok(0)
         }
         Target::Group(group) => ask_group(context, group, nodes),

@@ -21,7 +21,7 @@ use dist_names::NodeName;
 use dist_program::{HostError, Resolving, lookup_host, mapper_port, words_of};
 use distping_json::caller_object;
 use distping_links::{draw_challenge, setup_of, take_connection};
-use distping_report::{Caller, LineSink, Listed, Listen, Taken};
+use distping_report::{Caller, LineSink, Listed, Listen};
 use distping_words::{Fault, Instead, Refusal, Wanted, cookie_of, read_roster, wanted_of};
 use gathering::gather;
 use std::net::SocketAddr;
@@ -152,30 +152,21 @@ fn listen<R: Resolving>(context: &Context<'_, R>, port: u16, name: &NodeName) ->
         setup: &setup,
         port,
         place,
-        patience: choices.patience(),
+        patience: choices.patience,
         fresh,
         compares: context.cookie.is_some(),
         seconds: choices.seconds,
         turns: choices.turns(),
     };
     let mut caller = Caller::nobody();
-    let taken = take_connection(context.rt, &one, context.screen(), &mut caller)?;
-    put_taken(context.screen(), &one, &caller, taken)?;
-    Ok(taken.status())
-}
-
-// Prints the result of a connection.
-fn put_taken(
-    lines: LineSink<'_>,
-    one: &Listen<'_>,
-    caller: &Caller,
-    taken: Taken,
-) -> Result<(), Fault> {
+    let lines = context.screen();
+    let taken = take_connection(context.rt, &one, lines, &mut caller)?;
     if lines.quiet {
-        lines.write_made(caller_object(lines.alloc, one, caller, taken))
+        lines.write_made(caller_object(lines.alloc, &one, &caller, taken))?;
     } else {
-        lines.put_outcome(taken)
+        lines.put_outcome(taken)?;
     }
+    Ok(taken.status())
 }
 
 // Watches all nodes, or probes each once and prints what can be said of each pair.

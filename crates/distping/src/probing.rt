@@ -13,53 +13,37 @@ use distping_report::{Dial, Found, LineSink, ProbeOutcome};
 use distping_words::{Fault, Wanted, parse_name};
 use std::alloc::Global;
 
-// Our name: the given one, or one at the node's host, so that both names are long or both short.
+// Our name: the given one, or the usual one at the node's host, so that both names are long or both short.
 fn own_name(alloc: Global, wanted: &Wanted<'_>, node: &NodeName) -> Result<NodeName, Fault> {
-    match &wanted.name {
-        Some(name) => Ok(name.try_clone(alloc)?),
-        None => usual_name(alloc, node.host()),
+    if let Some(name) = &wanted.name {
+        return Ok(name.try_clone(alloc)?);
     }
-}
-
-// The usual name at this host.
-fn usual_name(alloc: Global, host: &[u8]) -> Result<NodeName, Fault> {
     let mut text = Vec::from_slice(alloc, USUAL)?;
     text.push(b'@')?;
-    match text.extend_from_slice(host) {
-        Ok(()) => parse_name(alloc, &text),
-        Err(_) => Err(Fault::NoMemory),
-    }
+    text.extend_from_slice(node.host())?;
+    parse_name(alloc, &text)
 }
 
-// Prints the result of a probe.
+// Prints the result of a probe; of several addresses also which got furthest; and if the node was found by `--address`, that nodes don't
+// use it.
 fn put_outcome(dial: &Dial<'_>, outcome: &ProbeOutcome) -> Result<(), Fault> {
     let lines = dial.lines;
     if lines.quiet {
-        lines.write_made(object_of(lines.alloc, dial, outcome))
-    } else {
-        put_furthest(lines, outcome)?;
-        put_other_way(dial, outcome.verdict)?;
-        lines.put_verdict(outcome.verdict)
+        return lines.write_made(object_of(lines.alloc, dial, outcome));
     }
-}
-
-// Prints that nodes don't use `--address`, if the node was found by it.
-fn put_other_way(dial: &Dial<'_>, verdict: ProbeVerdict) -> Result<(), Fault> {
-    match dial.choices.address {
-        Some(host) if verdict.status() == 0 && host.as_bytes() != dial.node.host() => {
-            dial.lines.put_other_way(dial.node)
-        }
-        _ => Ok(()),
-    }
-}
-
-// Prints which address got furthest, if several were tried.
-fn put_furthest(lines: LineSink<'_>, outcome: &ProbeOutcome) -> Result<(), Fault> {
     let count = u32::try_from(outcome.verdicts.len()).unwrap_or(u32::MAX);
-    match &outcome.found.address {
-        Some(address) if count > 1 => lines.put_furthest(address, count),
-        _ => Ok(()),
+    if let Some(address) = &outcome.found.address
+        && count > 1
+    {
+        lines.put_furthest(address, count)?;
     }
+    if let Some(host) = dial.choices.address
+        && outcome.verdict.status() == 0
+        && host.as_bytes() != dial.node.host()
+    {
+        lines.put_other_way(dial.node)?;
+    }
+    lines.put_verdict(outcome.verdict)
 }
 
 // What is kept of a probe. The flags of a node with another name are ignored.
@@ -78,12 +62,7 @@ fn half_of<'n>(node: &'n NodeName, found: &Found, verdict: ProbeVerdict) -> Half
     }
 }
 
-// Whether each node has a heading: all have one unless a single node is asked for.
-fn has_headings(targets: &[Target]) -> bool {
-    !matches!(targets, [Target::Node(_)])
-}
-
-/// Prints the heading of a node, if it has one, probes the node, prints the result, and returns what is kept of it.
+/// Prints the heading of a node (all have one unless a single node is asked for), probes the node, prints the result, and returns what is kept of it.
 pub fn print_probe<'n, R: Resolving>(
     context: &Context<'_, R>,
     lines: LineSink<'_>,
@@ -91,7 +70,7 @@ pub fn print_probe<'n, R: Resolving>(
 ) -> Result<Half<'n>, Fault>
     ensures { IfOk result (λ half. half.node.now ≡ node.now) }
 {
-    if has_headings(&context.wanted.targets) {
+    if !matches!(context.wanted.targets.as_slice(), [Target::Node(_)]) {
         lines.put_heading(node.bytes())?;
     }
     let own = own_name(context.rt.alloc(), context.wanted, node)?;

@@ -63,14 +63,6 @@ fn probe_group<'n, R: Resolving + Sync>(
     Ok(replies)
 }
 
-// Prints a text, unless it is empty.
-fn put_text(lines: LineSink<'_>, text: &str) -> Result<(), Fault> {
-    if text.is_empty() {
-        return Ok(());
-    }
-    lines.write(text)
-}
-
 // Prints the lines that a node still has, keeps its result, and returns its status.
 #[tactic(auto, using(crate::proofs::Firsts::first_status_push))]
 fn take_reply<'n>(
@@ -84,7 +76,9 @@ fn take_reply<'n>(
     ensures first { IfOk result (λ status. first_status halves.new.items ≡ first_of (first_status halves.old.items) status) }
 {
     let DialReply { text, half, .. } = reply;
-    put_text(lines, &text)?;
+    if !text.is_empty() {
+        lines.write(&text)?;
+    }
     let half = half?;
     halves.push(half)?;
     Ok(half.verdict.status())

@@ -1,5 +1,7 @@
 //! Probes all nodes again and again, several at once, and prints what changes, in their order.
 
+ghost use Rattle.std.specs.Prelude.{◌≡◌, ◌⊎◌, IfOk};
+
 use crate::common::Context;
 use crate::grouping::split_group;
 use crate::probing::verdict_upon;
@@ -12,7 +14,6 @@ use distping_json::{change_object, latency_object};
 use distping_report::{Answers, LineSink, Seen, now_seconds, utc_text, verdict_word_in};
 use distping_words::{Fault, Rhythm};
 use std::alloc::{AllocError, Global};
-use std::io;
 use std::thread::{self, map_indices};
 use std::time::Instant;
 
@@ -24,6 +25,7 @@ const CHANGED: u8 = 11;
 struct Course {
     watch: Watch,
     latencies: Vec<Latencies>,
+    // Whether something changed after the first round.
     has_changed: bool,
 }
 
@@ -48,22 +50,14 @@ fn new_course(alloc: Global, nodes: usize) -> Result<Course, AllocError> {
     })
 }
 
-// A time from the clock, or the fault that it gave none.
-fn or_no_time<T: Drop>(given: io::Result<T>) -> Result<T, Fault> {
-    match given {
-        Ok(it) => Ok(it),
-        Err(_) => Err(Fault::NoTime),
-    }
-}
-
 // Probes a node, with no step printed.
 fn look_at<'n, R: Resolving>(
     context: &Context<'_, R>,
     node: &'n NodeName,
 ) -> Result<Seen<'n>, Fault> {
-    let start = or_no_time(Instant::now(context.rt))?;
+    let start = Instant::now(context.rt).ok().ok_or(Fault::NoTime)?;
     let verdict = verdict_upon(context, node)?;
-    let spent = or_no_time(start.elapsed(context.rt))?;
+    let spent = start.elapsed(context.rt).ok().ok_or(Fault::NoTime)?;
     Ok(Seen {
         node,
         verdict,
@@ -72,42 +66,31 @@ fn look_at<'n, R: Resolving>(
     })
 }
 
-// The word of the verdict before, if there was one.
-fn word_before(change: &VerdictChange) -> &[u8] {
-    match &change.before {
-        Some(before) => verdict_word_in(before),
-        None => b"",
-    }
-}
-
 // Prints a change.
 fn put_change(lines: LineSink<'_>, seen: &Seen<'_>, change: &VerdictChange) -> Result<(), Fault> {
     let time = utc_text(lines.alloc, change.at)?;
     if lines.quiet {
-        lines.write_made(change_object(lines.alloc, &time, seen, change))
-    } else {
-        lines.put_change(&time, seen.node, seen.verdict, word_before(change))
+        return lines.write_made(change_object(lines.alloc, &time, seen, change));
     }
+    let before = match &change.before {
+        Some(before) => verdict_word_in(before),
+        None => b"",
+    };
+    lines.put_change(&time, seen.node, seen.verdict, before)
 }
 
 impl Course {
-    // Keeps the time that a node's answer took.
-    fn note_latency(&mut self, target: usize, latency: u64) -> Result<(), AllocError> {
-        match self.latencies.get_mut(target) {
-            Some(latencies) => latencies.note(latency),
-            None => Ok(()),
-        }
-    }
-
-    // Takes the result of a probe, and prints it if it is a change.
+    // Takes the result of a probe, and prints it if it is a change. Keeps the time that the answer took.
     fn take_in(
         &mut self,
         lines: LineSink<'_>,
         target: usize,
         seen: &Seen<'_>,
     ) -> Result<(), Fault> {
-        if seen.verdict.status() == 0 {
-            self.note_latency(target, seen.latency)?;
+        if seen.verdict.status() == 0
+            && let Some(latencies) = self.latencies.get_mut(target)
+        {
+            latencies.note(seen.latency)?;
         }
         let change = self.watch.observe(Observation {
             target,
@@ -119,11 +102,6 @@ impl Course {
         };
         self.has_changed = self.has_changed || change.before.is_some();
         put_change(lines, seen, &change)
-    }
-
-    // The exit status: whether something changed after the first round.
-    fn status(&self) -> u8 {
-        if self.has_changed { CHANGED } else { 0 }
     }
 }
 
@@ -141,22 +119,7 @@ fn look_at_group<'n, R: Resolving + Sync>(
     Ok(all)
 }
 
-// Takes the results of a group, in the order of its nodes. `front` is the place of the first among all nodes.
-fn take_group(
-    lines: LineSink<'_>,
-    front: usize,
-    all: Vec<Result<Seen<'_>, Fault>>,
-    course: &mut Course,
-) -> Result<(), Fault> {
-    let mut target = front;
-    for seen in all {
-        course.take_in(lines, target, &seen?)?;
-        target = target.saturating_add(1);
-    }
-    Ok(())
-}
-
-// Probes these nodes once, group by group. `front` is the place of the first among all nodes.
+// Probes these nodes once, group by group, and takes the results in their order. `front` is the place of the first among all nodes.
 fn play_round<R: Resolving + Sync>(
     context: &Context<'_, R>,
     front: usize,
@@ -167,43 +130,12 @@ fn play_round<R: Resolving + Sync>(
         return Ok(());
     }
     let (group, others) = split_group(nodes);
-    let all = look_at_group(context, group)?;
-    take_group(context.screen(), front, all, course)?;
-    play_round(context, front.saturating_add(group.len()), others, course)
-}
-
-// Waits until this time.
-fn wait_until(rt: &HostRuntime, until: Instant) {
-    let left = time_left(rt, until);
-    if !left.is_zero() {
-        thread::sleep(rt, left);
+    let mut target = front;
+    for seen in look_at_group(context, group)? {
+        course.take_in(context.screen(), target, &seen?)?;
+        target = target.saturating_add(1);
     }
-}
-
-// Probes all nodes again and again: a round begins `rhythm.seconds` after the one before, or once that one is over.
-fn play_rounds<R: Resolving + Sync>(
-    context: &Context<'_, R>,
-    nodes: &[NodeName],
-    rhythm: Rhythm,
-    course: &mut Course,
-) -> Result<(), Fault> {
-    let mut until = or_no_time(deadline_in(context.rt, rhythm.seconds))?;
-    play_round(context, 0, nodes, course)?;
-    for _ in 1..rhythm.rounds() {
-        wait_until(context.rt, until);
-        until = or_no_time(deadline_in(context.rt, rhythm.seconds))?;
-        play_round(context, 0, nodes, course)?;
-    }
-    Ok(())
-}
-
-// Prints the times that a node's answers took.
-fn put_answers(lines: LineSink<'_>, answers: &Answers<'_>) -> Result<(), Fault> {
-    if lines.quiet {
-        lines.write_made(latency_object(lines.alloc, answers))
-    } else {
-        lines.put_answers(answers)
-    }
+    play_round(context, target, others, course)
 }
 
 // Prints the times that each node's answers took.
@@ -215,27 +147,37 @@ fn put_all_answers(
 ) -> Result<(), Fault> {
     for (node, latencies) in nodes.iter().zip(course.latencies.iter()) {
         let summary = latencies.summary()?;
-        put_answers(
-            lines,
-            &Answers {
-                node,
-                rounds,
-                summary,
-            },
-        )?;
+        let answers = Answers {
+            node,
+            rounds,
+            summary,
+        };
+        if lines.quiet {
+            lines.write_made(latency_object(lines.alloc, &answers))?;
+        } else {
+            lines.put_answers(&answers)?;
+        }
     }
     Ok(())
 }
 
-/// Probes all nodes again and again, prints what changes, and at the end the times that their answers took. The status is 11 if
-/// something changed after the first round.
+/// Probes all nodes again and again, prints what changes, and at the end the times that their answers took. A round begins
+/// `rhythm.seconds` after the one before, or once that one is over. The status is 11 if something changed after the first round.
 pub fn watch_all<R: Resolving + Sync>(
     context: &Context<'_, R>,
     nodes: &[NodeName],
     rhythm: Rhythm,
-) -> Result<u8, Fault> {
-    let mut course = new_course(context.rt.alloc(), nodes.len())?;
-    play_rounds(context, nodes, rhythm, &mut course)?;
-    put_all_answers(context.screen(), nodes, rhythm.rounds(), &course)?;
-    Ok(course.status())
+) -> Result<u8, Fault>
+    ensures { IfOk result (λ status. (status ≡ 0) ⊎ (status ≡ 11)) }
+{
+    let rt = context.rt;
+    let mut course = new_course(rt.alloc(), nodes.len())?;
+    let mut until = Instant::now(rt).ok().ok_or(Fault::NoTime)?;
+    for _ in 0..rhythm.rounds {
+        thread::sleep(rt, time_left(rt, until));
+        until = deadline_in(rt, rhythm.seconds).ok().ok_or(Fault::NoTime)?;
+        play_round(context, 0, nodes, &mut course)?;
+    }
+    put_all_answers(context.screen(), nodes, rhythm.rounds, &course)?;
+    Ok(if course.has_changed { CHANGED } else { 0 })
 }

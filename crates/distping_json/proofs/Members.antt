@@ -1,5 +1,5 @@
 -- Members that come one behind the other, and the line of the object that they make.
-use Rattle.std.proofs.Common.{◌≡◌, ◌+◌, ◌<◌, ℕ, List, [], ◌∷◌, ◌++◌, Bool, cond, Result, Ok, Err, OnOk, filter, get_or, length, map, take, refl, sym, ap, ◌∙◌, append_assoc, append-nil}
+use Rattle.std.proofs.Common.{◌≡◌, ◌+◌, ◌<◌, ℕ, List, [], ◌∷◌, ◌++◌, Bool, cond, Result, Ok, Err, OnOk, filter, get_or, length, map, take, refl, sym, ap, ◌∙◌, subst, append_assoc, append-nil}
 use Rattle.std.proofs.lemmas.List.{map-append, take_more}
 use Rattle.std.proofs.lemmas.List.Elements.{filter_more}
 use Rattle.std.specs.Borrow.{Bor}
@@ -35,6 +35,10 @@ puts_both {l} {more} {a} {b} {c} p q = record {
   tokens = q.tokens ∙ ap (λ ts. ts ++ front more) p.tokens ∙ append_assoc a.tokens (front l) (front more) ∙ ap (λ ts. a.tokens ++ ts) (sym (front-and_then l more));
   before = q.before ∙ p.before;
 }
+
+-- the same members
+pub puts_same : {l m : Layout} {a b : Written} → l ≡ m → PutsMembers l a b → PutsMembers m a b
+puts_same {l} {m} {a} {b} e p = subst (λ k. PutsMembers k a b) e p
 
 -- a name and then its value
 pub puts_one : {s : Shape} {a b c : Written} (name : List ℕ) → b.tokens ≡ a.tokens ++ Token.key name ∷ [] → b.before ≡ a.before → PutsValue s b c → PutsMembers (member name s no_member) a c
@@ -122,17 +126,6 @@ writes_last more c (Ok x) p q = puts_both p q
 writes_last more c (Err e) p q = tt
 
 -- ---- lists of objects
-
-pub no_objects : (w : Written) → PutsObjects no_object w w
-no_objects w = record { tokens = sym (append-nil w.tokens); before = refl }
-
--- an object and then the others
-pub writes_objects : {E : Type 0} {l : Layout} {a b : Written} (ls : Layouts) (c : Written) (r : Result (Unit {0}) E) → PutsValue (object l) a b → OnOk r (PutsObjects ls b c) → OnOk r (PutsObjects (one_object l ls) a c)
-writes_objects {E} {l} {a} {b} ls c (Ok x) p q = record {
-  tokens = q.tokens ∙ ap (λ ts. ts ++ object_tokens ls) p.tokens ∙ append_assoc a.tokens (json_tokens (json_of (object l))) (object_tokens ls);
-  before = q.before ∙ p.before;
-}
-writes_objects ls c (Err e) p q = tt
 
 -- a name, and a list of objects from bracket to bracket
 pub writes_list : {E : Type 0} {ls : Layouts} (old named opened last new : Written) (name : List ℕ) (r : Result (Unit {0}) E) → named.tokens ≡ old.tokens ++ Token.key name ∷ [] → named.before ≡ old.before

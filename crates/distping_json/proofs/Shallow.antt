@@ -1,25 +1,21 @@
 -- How deep the members of a line nest.
 use Rattle.std.proofs.Common.{◌≡◌, ℕ, ◌<◌, ◌≤◌, List, [], ◌∷◌, Option, Some, None, refl, arith}
+use Rattle.std.specs.Borrow.{Bor}
 use Rattle.std.specs.declared.net.socket_addr.SocketAddr.{SocketAddr}
 use Rattle.json.specs.Json.{max_depth}
-use Rattle.dist_cluster.specs.declared.change.VerdictChange.{VerdictChange}
-use Rattle.dist_cluster.specs.declared.latencies.LatencySummary.{LatencySummary}
 use Rattle.dist_cluster.specs.declared.summary.Summary.{Summary}
 use Rattle.dist_cluster.specs.declared.summary.WordCount.{WordCount}
-use Rattle.dist_cluster.specs.declared.targets.Group.{Group}
 use Rattle.dist_probe.specs.declared.asking.Peer.{Peer}
 use Rattle.dist_probe.specs.declared.verdict.ProbeVerdict.{ProbeVerdict}
-use Rattle.distping_report.specs.declared.asked.Dial.{Dial}
 use Rattle.distping_report.specs.declared.asked.Listen.{Listen}
 use Rattle.distping_report.specs.declared.found.ProbeOutcome.{ProbeOutcome}
 use Rattle.distping_report.specs.declared.found.Registration.{Registration}
 use Rattle.distping_report.specs.declared.taken.Caller.{Caller}
 use Rattle.distping_report.specs.declared.taken.Taken.{Taken}
-use Rattle.distping_report.specs.declared.watched.Answers.{Answers}
-use Rattle.distping_report.specs.declared.watched.Seen.{Seen}
-use Rattle.distping_json.specs.Objects.{Shape, Layout, member, object, objects, layout_levels, levels, number_or_null, object_levels, text_or_null}
-use Rattle.distping_json.specs.Layouts.{answer_word, caller_layout, change_layout, counts_layout, group_layout, latency_layout, node_layout}
-use Rattle.distping_json.specs.Layouts.{peer_shape, registration_shape, summary_layout, times_layout, tries_in}
+use Rattle.distping_json.specs.Objects.{Shape, Layout, member, object, objects, layout_levels, layout_of, levels, number_or_null, object_levels, shape_of, text_or_null}
+use Rattle.distping_json.specs.Layouts.{answer_word, caller_layout, counts_layout, node_layout, peer_shape, registration_shape, summary_layout, tries_in}
+use Rattle.distping_json.specs.declared.member.Value.{Value}
+use Rattle.distping_json.specs.declared.member.Value.TheVariants as value
 
 pub record IsShallow (l : Layout) : Type 0 where
   pub less : layout_levels l < max_depth
@@ -67,37 +63,35 @@ counts_flat (c ∷ counts) = omega (arith, counts_flat counts)
 counts : (counts : List WordCount) → levels (object (counts_layout counts)) < max_depth
 counts cs = omega (arith, counts_flat cs)
 
-pub node_shallow : (dial : Dial) (outcome : ProbeOutcome) → IsShallow (node_layout dial outcome)
-node_shallow dial outcome =
-    deeper zero (deeper zero (deeper (text _)
+-- a value is at most a list
+value_flat : (v : Value) → levels (shape_of v) ≤ 1
+value_flat value.Null = omega arith
+value_flat (value.Bool b) = omega arith
+value_flat (value.Number n) = omega arith
+value_flat (value.Text s) = omega arith
+value_flat (value.Name bytes) = omega arith
+value_flat (value.Digits flags) = omega arith
+value_flat (value.Names flags) = omega arith
+value_flat (value.Host host) = omega arith
+
+values_flat : (members : List (Bor (List ℕ) × Value)) → layout_levels (layout_of members) ≤ 1
+values_flat [] = omega arith
+values_flat (m ∷ members) = omega (arith, value_flat m.1, values_flat members)
+
+pub values_shallow : (members : List (Bor (List ℕ) × Value)) → layout_levels (layout_of members) < max_depth
+values_shallow members = omega (arith, values_flat members)
+
+pub node_shallow : (node : List ℕ) (name : Value) (outcome : ProbeOutcome) → IsShallow (node_layout node (shape_of name) outcome)
+node_shallow node name outcome =
+    deeper zero (deeper (omega (arith, value_flat name)) (deeper (text _)
     (deeper (registration outcome.found.registration) (deeper (number outcome.found.port) (deeper (text _)
     (deeper (peer outcome.found.peer) (deeper one (deeper zero (deeper zero (deeper zero (deeper zero
-    (deeper (tries outcome.addresses.items outcome.verdicts.items) (record { less = zero })))))))))))))
-
-pub group_shallow : (group : Group) (outcome : ProbeOutcome) → IsShallow (group_layout group outcome)
-group_shallow group outcome =
-    deeper zero (deeper zero (deeper (text _)
-    (deeper zero (deeper (number outcome.found.port) (deeper (text _)
-    (deeper zero (deeper one (deeper zero (deeper zero (deeper zero (deeper zero
     (deeper (tries outcome.addresses.items outcome.verdicts.items) (record { less = zero })))))))))))))
 
 pub caller_shallow : (listen : Listen) (caller : Caller) (taken : Taken) → IsShallow (caller_layout listen caller taken)
 caller_shallow listen caller taken =
     deeper zero (deeper (text _) (deeper zero (deeper (peer caller.peer) (deeper one (deeper zero (deeper zero (deeper zero (record { less = zero }))))))))
 
-pub change_shallow : (time : List ℕ) (seen : Seen) (change : VerdictChange) → IsShallow (change_layout time seen change)
-change_shallow time seen change = deeper zero (deeper zero (deeper zero (deeper zero (deeper (text _) (deeper zero (record { less = zero }))))))
-
-times_shallow : (s : Option LatencySummary) → IsShallow (times_layout s)
-times_shallow None = record { less = zero }
-times_shallow (Some s) = record { less = zero }
-
-pub latency_shallow : (answers : Answers) → IsShallow (latency_layout answers)
-latency_shallow answers = deeper zero (deeper zero (times_shallow answers.summary))
-
 pub summary_shallow : (summary : Summary) (status : ℕ) → IsShallow (summary_layout summary status)
 summary_shallow summary status =
     deeper zero (deeper (counts summary.verdicts.items) (deeper zero (deeper (counts summary.pairings.items) (deeper zero (record { less = zero })))))
-
-pub flat_shallow : (l : Layout) → layout_levels l ≡ 0 → IsShallow l
-flat_shallow l e = record { less = omega (arith, e) }

@@ -29,14 +29,12 @@ use Rattle.dist_cluster.specs.declared.summary.WordCount.{WordCount}
 use Rattle.dist_cluster.specs.declared.targets.Group.{Group}
 use Rattle.distping_report.specs.TakenWords.{taken_cause, taken_status, taken_word}
 use Rattle.distping_report.specs.Watched.{word_in_verdict}
-use Rattle.distping_report.specs.declared.asked.Dial.{Dial}
 use Rattle.distping_report.specs.declared.asked.Listen.{Listen}
 use Rattle.distping_report.specs.declared.found.ProbeOutcome.{ProbeOutcome}
 use Rattle.distping_report.specs.declared.found.Registration.{Registration}
 use Rattle.distping_report.specs.declared.left_out.LeftOut.{LeftOut}
 use Rattle.distping_report.specs.declared.taken.Caller.{Caller}
 use Rattle.distping_report.specs.declared.taken.Taken.{Taken}
-use Rattle.distping_report.specs.declared.watched.Answers.{Answers}
 use Rattle.distping_report.specs.declared.watched.Seen.{Seen}
 use Rattle.distping_json.specs.Objects.{Shape, nothing, number, text, texts, truth, object, objects, Layout, no_member, member}
 use Rattle.distping_json.specs.Objects.{Layouts, no_object, one_object, flag_names, number_or_null, text_or_null}
@@ -121,35 +119,17 @@ verdict_layout lacking verdict =
     (member (codes "exit") (number (status_of verdict))
     no_member))))
 
--- A NODE THAT WAS DIALLED
-abbrev pub node_layout : Dial → ProbeOutcome → Layout
-node_layout dial outcome =
-    member (codes "node") (text (escapes_of dial.node.now))
-    (member (codes "name") (text (escapes_of dial.own.now))
+-- A NODE THAT WAS DIALLED, AND THE NAME under which it was; or a host that gave no node, with no such name
+abbrev pub node_layout : List ℕ → Shape → ProbeOutcome → Layout
+node_layout node name outcome =
+    member (codes "node") (text (escapes_of node))
+    (member (codes "name") name
     (member (codes "address") (text_or_null (option_map address_text outcome.found.address))
     (member (codes "epmd") (registration_shape outcome.found.registration)
     (member (codes "port") (number_or_null outcome.found.port)
     (member (codes "status") (text_or_null (option_map text_of outcome.found.status))
     (member (codes "peer") (peer_shape outcome.found.peer)
     (member (codes "lacking") (texts (flag_names (lacking_flags outcome.verdict outcome.found.peer)))
-    (member (codes "verdict") (text (verdict_word outcome.verdict))
-    (member (codes "cause") (text (cause_of outcome.verdict))
-    (member (codes "remedy") (text (remedy_of outcome.verdict))
-    (member (codes "exit") (number (status_of outcome.verdict))
-    (member (codes "addresses") (objects (tries_in outcome.addresses.items outcome.verdicts.items))
-    no_member))))))))))))
-
--- A HOST THAT GAVE NO NODE, with the same members
-abbrev pub group_layout : Group → ProbeOutcome → Layout
-group_layout group outcome =
-    member (codes "node") (text (escapes_of (group_word group)))
-    (member (codes "name") nothing
-    (member (codes "address") (text_or_null (option_map address_text outcome.found.address))
-    (member (codes "epmd") nothing
-    (member (codes "port") (number_or_null outcome.found.port)
-    (member (codes "status") (text_or_null (option_map text_of outcome.found.status))
-    (member (codes "peer") nothing
-    (member (codes "lacking") (texts [])
     (member (codes "verdict") (text (verdict_word outcome.verdict))
     (member (codes "cause") (text (cause_of outcome.verdict))
     (member (codes "remedy") (text (remedy_of outcome.verdict))
@@ -168,27 +148,24 @@ change_layout time seen change =
     (member (codes "latency") (number seen.latency)
     no_member)))))
 
--- how many answers there were, and the least, the median and the worst time that they took
-abbrev pub times_layout : Option LatencySummary → Layout
-times_layout None =
-    member (codes "answers") (number 0)
+-- HOW LONG THE ANSWERS TOOK of a watched node: in so many rounds, how many there were, and the least, the median and the worst time
+abbrev pub latency_layout : List ℕ → ℕ → Option LatencySummary → Layout
+latency_layout node rounds None =
+    member (codes "node") (text (escapes_of node))
+    (member (codes "rounds") (number rounds)
+    (member (codes "answers") (number 0)
     (member (codes "least") nothing
     (member (codes "median") nothing
     (member (codes "worst") nothing
-    no_member)))
-times_layout (Some s) =
-    member (codes "answers") (number s.count)
+    no_member)))))
+latency_layout node rounds (Some s) =
+    member (codes "node") (text (escapes_of node))
+    (member (codes "rounds") (number rounds)
+    (member (codes "answers") (number s.count)
     (member (codes "least") (number s.least)
     (member (codes "median") (number s.median)
     (member (codes "worst") (number s.worst)
-    no_member)))
-
--- HOW LONG THE ANSWERS TOOK, of a watched node
-abbrev pub latency_layout : Answers → Layout
-latency_layout answers =
-    member (codes "node") (text (escapes_of answers.node.now))
-    (member (codes "rounds") (number answers.rounds)
-    (times_layout answers.summary))
+    no_member)))))
 
 -- a listener's name, and where a connection came from and went to
 abbrev pub call_layout : Listen → Caller → Layout

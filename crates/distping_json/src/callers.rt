@@ -1,50 +1,38 @@
 //! What was found out about a connection that was taken, as one JSON object.
 
-ghost use Rattle.std.specs.Prelude.{IfOk, OnOk, string_bytes};
+ghost use Rattle.std.specs.Prelude.{◌≡◌, IfOk, OnOk, string_bytes};
 ghost use Rattle.distping_json.specs.Layouts.{call_layout, caller_layout, taken_layout};
-ghost use Rattle.distping_json.specs.Objects.{IsObjectLine, PutsMembers};
+ghost use Rattle.distping_json.specs.Objects.{IsObjectLine, PutsMembers, layout_of};
 
-use crate::member::{Value, begin_line, end_line, put_members};
-use crate::parts::{peer_lacks, put_peer_or_null};
+use crate::member::{Member, Value, begin_line, end_line, put_members};
+use crate::parts::{peer_lacks, put_peer};
 use crate::values::{address_or_null, small_number};
 use dist_names::Flags;
 use distping_report::{Caller, Listen, Taken};
 use json::Writer;
 use std::alloc::{AllocError, Global};
 
-// Writes the listener's name, and where the connection came from and went to.
-fn put_call(
-    alloc: Global,
-    out: &mut Writer,
-    listen: &Listen<'_>,
-    caller: &Caller,
-) -> Result<(), AllocError>
-    ensures { OnOk result (PutsMembers (call_layout listen.now caller.now) out.old out.new) }
+// The listener's name, and where the connection came from and went to.
+fn call_members<'x>(listen: &Listen<'x>, caller: &Caller) -> [Member<'x>; 3]
+    ensures { layout_of result ≡ call_layout listen.now caller.now }
 {
-    let members = [
+    [
         ("name", Value::Name(listen.setup.name.bytes())),
         ("address", address_or_null(caller.address)),
         ("port", small_number(listen.port)),
-    ];
-    put_members(alloc, out, &members)
+    ]
 }
 
-// Writes the result of a connection.
-fn put_taken(
-    alloc: Global,
-    out: &mut Writer,
-    lacking: Flags,
-    taken: Taken,
-) -> Result<(), AllocError>
-    ensures { OnOk result (PutsMembers (taken_layout lacking.0 taken) out.old out.new) }
+// The result of a connection.
+fn taken_members(lacking: Flags, taken: Taken) -> [Member<'static>; 4]
+    ensures { layout_of result ≡ taken_layout lacking.0 taken }
 {
-    let members = [
+    [
         ("lacking", Value::Names(lacking)),
         ("verdict", Value::Text(taken.name())),
         ("cause", Value::Text(taken.cause())),
         ("exit", small_number(u16::from(taken.status()))),
-    ];
-    put_members(alloc, out, &members)
+    ]
 }
 
 // Writes what was found out about a caller, and the result.
@@ -57,9 +45,9 @@ fn put_caller(
 ) -> Result<(), AllocError>
     ensures { OnOk result (PutsMembers (caller_layout listen.now caller.now taken) out.old out.new) }
 {
-    put_call(alloc, out, listen, caller)?;
-    put_peer_or_null(alloc, out, &caller.peer)?;
-    put_taken(alloc, out, peer_lacks(&caller.peer), taken)
+    put_members(alloc, out, &call_members(listen, caller))?;
+    put_peer(alloc, out, &caller.peer)?;
+    put_members(alloc, out, &taken_members(peer_lacks(&caller.peer), taken))
 }
 
 /// What was found out about a caller, and the result, as one line.

@@ -5,7 +5,7 @@ ghost use Rattle.std.specs.Prelude.{◌≡◌, IfOk, OnOk, string_bytes};
 ghost use Rattle.distping_json.specs.Layouts.{counts_layout, left_out_layout, more_left_out_layout, pair_layout, summary_layout};
 ghost use Rattle.distping_json.specs.Objects.{IsObjectLine, PutsMembers, layout_of, member, no_member, number, object};
 
-use crate::member::{Member, Value, begin_line, end_line, put_members, put_object};
+use crate::member::{Member, Value, begin_line, end_line, object_line, put_members, put_object};
 use crate::values::small_number;
 use dist_cluster::{Group, Pairing, Summary, WordCount};
 use dist_names::NodeName;
@@ -13,48 +13,20 @@ use distping_report::LeftOut;
 use json::Writer;
 use std::alloc::{AllocError, Global};
 
-// Writes a text that a port mapper has in place of a node's name, and its host.
-fn put_left_out<'x>(
+/// A text that the port mapper of a host has in place of a node's name, as one line.
+pub fn left_out_object<'x>(
     alloc: Global,
-    out: &mut Writer,
     group: &'x Group,
     text: &'x [u8],
-) -> Result<(), AllocError>
-    ensures { OnOk result (PutsMembers (left_out_layout group.now text.now) out.old out.new) }
+) -> Result<String, AllocError>
+    ensures { IfOk result
+        (λ line. IsObjectLine (left_out_layout group.now text.now) (string_bytes line)) }
 {
     let members = [
         ("host", Value::Name(group.word())),
         ("left_out", Value::Name(text)),
     ];
-    put_members(alloc, out, &members)
-}
-
-/// A text that the port mapper of a host has in place of a node's name, as one line.
-pub fn left_out_object(alloc: Global, group: &Group, text: &[u8]) -> Result<String, AllocError>
-    ensures { IfOk result
-        (λ line. IsObjectLine (left_out_layout group.now text.now) (string_bytes line)) }
-{
-    let mut out = begin_line(alloc)?;
-    put_left_out(alloc, &mut out, group, text)?;
-    end_line(out)
-}
-
-// Writes how much more of a port mapper's answer is left out, and its host.
-fn put_more_left_out(
-    alloc: Global,
-    out: &mut Writer,
-    group: &Group,
-    left_out: LeftOut,
-) -> Result<(), AllocError>
-    ensures { OnOk result (PutsMembers (more_left_out_layout group.now left_out) out.old out.new) }
-{
-    let members = [
-        ("host", Value::Name(group.word())),
-        ("more_lines", Value::Number(u64::from(left_out.lines))),
-        ("more_nodes", Value::Number(u64::from(left_out.nodes))),
-        ("cut", Value::Bool(left_out.is_cut)),
-    ];
-    put_members(alloc, out, &members)
+    object_line(alloc, &members)
 }
 
 /// How much more of the answer of a host's port mapper is left out, as one line.
@@ -65,20 +37,24 @@ pub fn more_left_out_object(
 ) -> Result<String, AllocError>
     ensures { IfOk result (λ line. IsObjectLine (more_left_out_layout group.now left_out) (string_bytes line)) }
 {
-    let mut out = begin_line(alloc)?;
-    put_more_left_out(alloc, &mut out, group, left_out)?;
-    end_line(out)
+    let members = [
+        ("host", Value::Name(group.word())),
+        ("more_lines", Value::Number(u64::from(left_out.lines))),
+        ("more_nodes", Value::Number(u64::from(left_out.nodes))),
+        ("cut", Value::Bool(left_out.is_cut)),
+    ];
+    object_line(alloc, &members)
 }
 
-// Writes what can be said of a pair.
-fn put_pair<'x>(
+/// What can be said of two nodes, as one line.
+pub fn pair_object<'x>(
     alloc: Global,
-    out: &mut Writer,
     first: &'x NodeName,
     second: &'x NodeName,
     pairing: Pairing,
-) -> Result<(), AllocError>
-    ensures { OnOk result (PutsMembers (pair_layout first.now second.now pairing) out.old out.new) }
+) -> Result<String, AllocError>
+    ensures { IfOk result
+        (λ line. IsObjectLine (pair_layout first.now second.now pairing) (string_bytes line)) }
 {
     let members = [
         ("first", Value::Name(first.bytes())),
@@ -87,22 +63,7 @@ fn put_pair<'x>(
         ("cause", Value::Text(pairing.cause())),
         ("exit", small_number(u16::from(pairing.status()))),
     ];
-    put_members(alloc, out, &members)
-}
-
-/// What can be said of two nodes, as one line.
-pub fn pair_object(
-    alloc: Global,
-    first: &NodeName,
-    second: &NodeName,
-    pairing: Pairing,
-) -> Result<String, AllocError>
-    ensures { IfOk result
-        (λ line. IsObjectLine (pair_layout first.now second.now pairing) (string_bytes line)) }
-{
-    let mut out = begin_line(alloc)?;
-    put_pair(alloc, &mut out, first, second, pairing)?;
-    end_line(out)
+    object_line(alloc, &members)
 }
 
 // Each word as a member, with how many have it.

@@ -4,7 +4,7 @@ ghost use Rattle.std.specs.Prelude.{◌≡◌, [], IfOk, OnOk, false, string_byt
 ghost use Rattle.std.specs.Fmt.{digits};
 ghost use Rattle.std.specs.Net.Text.{ip_text};
 ghost use Rattle.dist_names.specs.Escaped.{escapes_of};
-ghost use Rattle.distping_json.specs.Objects.{BeginsLine, EndsLine, PutsMembers, PutsValue};
+ghost use Rattle.distping_json.specs.Objects.{BeginsLine, EndsLine, IsObjectLine, PutsMembers, PutsValue};
 ghost use Rattle.distping_json.specs.Objects.{layout_of, member, names_among, no_member, object, shape_of, text, texts};
 
 use dist_flags::Dflag;
@@ -148,4 +148,13 @@ pub fn end_line(out: Writer) -> Result<String, AllocError>
     };
     line.push('\n')?;
     Ok(line)
+}
+
+/// An object with these members, as one line.
+pub fn object_line(alloc: Global, members: &[Member<'_>]) -> Result<String, AllocError>
+    ensures { IfOk result (λ line. IsObjectLine (layout_of members.now) (string_bytes line)) }
+{
+    let mut out = begin_line(alloc)?;
+    put_members(alloc, &mut out, members)?;
+    end_line(out)
 }

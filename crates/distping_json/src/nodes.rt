@@ -1,57 +1,66 @@
 //! The result for a node, or for a host that gave no node, as one JSON object.
 
-ghost use Rattle.std.specs.Prelude.{IfOk, OnOk, codes, option_map, string_bytes};
+ghost use Rattle.std.specs.Prelude.{◌≡◌, IfOk, OnOk, codes, option_map, string_bytes};
 ghost use Rattle.dist_names.specs.Escaped.{escapes_of};
 ghost use Rattle.dist_cluster.specs.Targets.{group_word};
-ghost use Rattle.distping_json.specs.Layouts.{address_text, group_layout, node_layout};
-ghost use Rattle.distping_json.specs.Objects.{IsObjectLine, PutsMembers, member, no_member, nothing, text, text_or_null};
+ghost use Rattle.distping_json.specs.Layouts.{address_text, node_layout};
+ghost use Rattle.distping_json.specs.Objects.{IsObjectLine, PutsMembers, layout_of, member, no_member, nothing, shape_of, text, text_or_null};
 
-use crate::member::{Value, begin_line, end_line, put_members};
+use crate::member::{Member, Value, begin_line, end_line, put_members};
 use crate::parts::{
-    lacking_flags, put_answer, put_peer_or_null, put_registration, put_tries, put_verdict,
+    answer_members, lacking_flags, put_peer, put_registration, put_tries, verdict_members,
 };
 use crate::values::address_or_null;
 use dist_cluster::Group;
-use dist_names::Flags;
 use distping_report::{Dial, Found, ProbeOutcome};
 use json::Writer;
 use std::alloc::{AllocError, Global};
 
-// Writes the names and the address.
-fn put_node_names(
-    alloc: Global,
-    out: &mut Writer,
-    dial: &Dial<'_>,
-    found: &Found,
-) -> Result<(), AllocError>
-    ensures { OnOk result (PutsMembers (member (codes "node") (text (escapes_of dial.now.node.now))
-        (member (codes "name") (text (escapes_of dial.now.own.now))
-        (member (codes "address") (text_or_null (option_map address_text found.now.address)) no_member))) out.old out.new) }
+// The names and the address.
+fn name_members<'x>(node: &'x [u8], name: Value<'x>, found: &Found) -> [Member<'x>; 3]
+    ensures { layout_of result ≡ member (codes "node") (text (escapes_of node.now))
+        (member (codes "name") (shape_of name.entry)
+        (member (codes "address") (text_or_null (option_map address_text found.now.address)) no_member)) }
 {
-    let members = [
-        ("node", Value::Name(dial.node.bytes())),
-        ("name", Value::Name(dial.own.bytes())),
+    [
+        ("node", Value::Name(node)),
+        ("name", name),
         ("address", address_or_null(found.address)),
-    ];
-    put_members(alloc, out, &members)
+    ]
 }
 
 // Writes what was found out about a node, and the verdict.
-fn put_node(
+fn put_node<'x>(
     alloc: Global,
     out: &mut Writer,
-    dial: &Dial<'_>,
+    node: &'x [u8],
+    name: Value<'x>,
     outcome: &ProbeOutcome,
 ) -> Result<(), AllocError>
-    ensures { OnOk result (PutsMembers (node_layout dial.now outcome.now) out.old out.new) }
+    ensures { OnOk result (PutsMembers (node_layout node.now (shape_of name.entry) outcome.now) out.old out.new) }
 {
     let (found, verdict) = (&outcome.found, outcome.verdict);
-    put_node_names(alloc, out, dial, found)?;
+    let lacking = lacking_flags(verdict, &found.peer);
+    put_members(alloc, out, &name_members(node, name, found))?;
     put_registration(alloc, out, found.registration)?;
-    put_answer(alloc, out, found)?;
-    put_peer_or_null(alloc, out, &found.peer)?;
-    put_verdict(alloc, out, lacking_flags(verdict, &found.peer), verdict)?;
+    put_members(alloc, out, &answer_members(found))?;
+    put_peer(alloc, out, &found.peer)?;
+    put_members(alloc, out, &verdict_members(lacking, verdict))?;
     put_tries(alloc, out, outcome)
+}
+
+// The same, as one line.
+fn node_line<'x>(
+    alloc: Global,
+    node: &'x [u8],
+    name: Value<'x>,
+    outcome: &ProbeOutcome,
+) -> Result<String, AllocError>
+    ensures { IfOk result (λ line. IsObjectLine (node_layout node.now (shape_of name.entry) outcome.now) (string_bytes line)) }
+{
+    let mut out = begin_line(alloc)?;
+    put_node(alloc, &mut out, node, name, outcome)?;
+    end_line(out)
 }
 
 /// What was found out about a node, and the verdict, as one line.
@@ -60,62 +69,24 @@ pub fn object_of(
     dial: &Dial<'_>,
     outcome: &ProbeOutcome,
 ) -> Result<String, AllocError>
-    ensures { IfOk result
-        (λ line. IsObjectLine (node_layout dial.now outcome.now) (string_bytes line)) }
+    ensures { IfOk result (λ line.
+        IsObjectLine (node_layout dial.now.node.now (text (escapes_of dial.now.own.now)) outcome.now) (string_bytes line)) }
 {
-    let mut out = begin_line(alloc)?;
-    put_node(alloc, &mut out, dial, outcome)?;
-    end_line(out)
+    node_line(
+        alloc,
+        dial.node.bytes(),
+        Value::Name(dial.own.bytes()),
+        outcome,
+    )
 }
 
-// Writes what a host that gave no node has in place of a node's names.
-fn put_group_names(
-    alloc: Global,
-    out: &mut Writer,
-    group: &Group,
-    found: &Found,
-) -> Result<(), AllocError>
-    ensures { OnOk result (PutsMembers (member (codes "node") (text (escapes_of (group_word group.now)))
-        (member (codes "name") nothing
-        (member (codes "address") (text_or_null (option_map address_text found.now.address))
-        (member (codes "epmd") nothing no_member)))) out.old out.new) }
-{
-    let members = [
-        ("node", Value::Name(group.word())),
-        ("name", Value::Null),
-        ("address", address_or_null(found.address)),
-        ("epmd", Value::Null),
-    ];
-    put_members(alloc, out, &members)
-}
-
-// Writes the result for a host that gave no node, with the members of a node.
-fn put_group(
-    alloc: Global,
-    out: &mut Writer,
-    group: &Group,
-    outcome: &ProbeOutcome,
-) -> Result<(), AllocError>
-    ensures { OnOk result (PutsMembers (group_layout group.now outcome.now) out.old out.new) }
-{
-    let (found, verdict) = (&outcome.found, outcome.verdict);
-    put_group_names(alloc, out, group, found)?;
-    put_answer(alloc, out, found)?;
-    put_peer_or_null(alloc, out, &None)?;
-    put_verdict(alloc, out, Flags(0), verdict)?;
-    put_tries(alloc, out, outcome)
-}
-
-/// The result for a host that gave no node, as one line.
+/// The result for a host that gave no node, with the members of a node, as one line.
 pub fn group_object(
     alloc: Global,
     group: &Group,
     outcome: &ProbeOutcome,
 ) -> Result<String, AllocError>
-    ensures { IfOk result
-        (λ line. IsObjectLine (group_layout group.now outcome.now) (string_bytes line)) }
+    ensures { IfOk result (λ line. IsObjectLine (node_layout (group_word group.now) nothing outcome.now) (string_bytes line)) }
 {
-    let mut out = begin_line(alloc)?;
-    put_group(alloc, &mut out, group, outcome)?;
-    end_line(out)
+    node_line(alloc, group.word(), Value::Null, outcome)
 }

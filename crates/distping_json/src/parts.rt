@@ -1,5 +1,4 @@
-//! Members that several kinds of objects share: what the port mapper knows of a node, what the node sent about itself, the verdict, and
-//! what each address gave.
+//! Parts of objects: what the port mapper knows of a node, what the node sent about itself, the verdict, and what each address gave.
 
 ghost use Rattle.std.specs.Prelude.{◌≡◌, OnOk, codes, option_map};
 ghost use Rattle.dist_messages.specs.Spelling.{text_of};
@@ -73,58 +72,39 @@ fn peer_members(peer: &Peer) -> [Member<'_>; 6]
     ]
 }
 
-// Writes what a node sent about itself.
-fn put_peer(alloc: Global, out: &mut Writer, peer: &Peer) -> Result<(), AllocError>
-    ensures { OnOk result (PutsMembers (member (codes "peer") (object (peer_layout peer.now)) no_member)
-        out.old out.new) }
-{
-    put_object(alloc, out, "peer", &peer_members(peer))
-}
-
 /// Writes what a node sent about itself, or null.
-pub fn put_peer_or_null(
-    alloc: Global,
-    out: &mut Writer,
-    peer: &Option<Peer>,
-) -> Result<(), AllocError>
+pub fn put_peer(alloc: Global, out: &mut Writer, peer: &Option<Peer>) -> Result<(), AllocError>
     ensures { OnOk result (PutsMembers (member (codes "peer") (peer_shape peer.now) no_member)
         out.old out.new) }
 {
     match peer {
-        Some(peer) => put_peer(alloc, out, peer),
+        Some(peer) => put_object(alloc, out, "peer", &peer_members(peer)),
         None => put_members(alloc, out, &[("peer", Value::Null)]),
     }
 }
 
-/// Writes the port that was dialled and the status that the node sent.
-pub fn put_answer(alloc: Global, out: &mut Writer, found: &Found) -> Result<(), AllocError>
-    ensures { OnOk result (PutsMembers (member (codes "port") (number_or_null found.now.port)
-        (member (codes "status") (text_or_null (option_map text_of found.now.status)) no_member)) out.old out.new) }
+/// The port that was dialled and the status that the node sent.
+pub fn answer_members(found: &Found) -> [Member<'static>; 2]
+    ensures { layout_of result ≡ member (codes "port") (number_or_null found.now.port)
+        (member (codes "status") (text_or_null (option_map text_of found.now.status)) no_member) }
 {
-    let members = [
+    [
         ("port", number_or_null(found.port)),
         ("status", status_or_null(found.status)),
-    ];
-    put_members(alloc, out, &members)
+    ]
 }
 
-/// Writes the verdict.
-pub fn put_verdict(
-    alloc: Global,
-    out: &mut Writer,
-    lacking: Flags,
-    verdict: ProbeVerdict,
-) -> Result<(), AllocError>
-    ensures { OnOk result (PutsMembers (verdict_layout lacking.0 verdict) out.old out.new) }
+/// The verdict.
+pub fn verdict_members(lacking: Flags, verdict: ProbeVerdict) -> [Member<'static>; 5]
+    ensures { layout_of result ≡ verdict_layout lacking.0 verdict }
 {
-    let members = [
+    [
         ("lacking", Value::Names(lacking)),
         ("verdict", Value::Text(verdict.name())),
         ("cause", Value::Text(verdict.cause())),
         ("remedy", Value::Text(verdict.remedy())),
         ("exit", small_number(u16::from(verdict.status()))),
-    ];
-    put_members(alloc, out, &members)
+    ]
 }
 
 // Writes what one address gave: the verdict, and how the connect ended if it made no connection.

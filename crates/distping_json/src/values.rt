@@ -2,15 +2,13 @@
 
 ghost use Rattle.std.specs.Prelude.{◌≡◌, option_map};
 ghost use Rattle.dist_messages.specs.Spelling.{text_of};
-ghost use Rattle.distping_json.specs.Layouts.{address_text, answer_word, release_word, times_layout};
-ghost use Rattle.distping_json.specs.Objects.{layout_of, number, number_or_null, shape_of, text_or_null};
+ghost use Rattle.distping_json.specs.Layouts.{address_text, answer_word, release_word};
+ghost use Rattle.distping_json.specs.Objects.{number, number_or_null, shape_of, text_or_null};
 
-use crate::member::{Member, Value};
-use dist_cluster::LatencySummary;
+use crate::member::Value;
 use dist_flags::Release;
 use dist_messages::Status;
 use dist_probe::{ProbeVerdict, Unreached};
-use distping_report::status_word;
 use std::net::SocketAddr;
 
 /// A number of 16 bits.
@@ -45,7 +43,7 @@ pub fn status_or_null(status: Option<Status>) -> Value<'static>
     ensures { shape_of result ≡ text_or_null (option_map text_of status) }
 {
     match status {
-        Some(status) => Value::Text(status_word(status)),
+        Some(status) => Value::Name(status.text()),
         None => Value::Null,
     }
 }
@@ -76,25 +74,5 @@ pub fn release_word(release: Release) -> &'static str
         Release::Otp25 => "25",
         Release::Otp28 => "28",
         Release::Otp29 => "29",
-    }
-}
-
-/// How many answers there were, and the least, the median and the worst time that they took, if there was one.
-pub fn times_of(summary: Option<LatencySummary>) -> [Member<'static>; 4]
-    ensures { layout_of result ≡ times_layout summary }
-{
-    match summary {
-        Some(it) => [
-            ("answers", Value::Number(it.count)),
-            ("least", Value::Number(it.least)),
-            ("median", Value::Number(it.median)),
-            ("worst", Value::Number(it.worst)),
-        ],
-        None => [
-            ("answers", Value::Number(0)),
-            ("least", Value::Null),
-            ("median", Value::Null),
-            ("worst", Value::Null),
-        ],
     }
 }

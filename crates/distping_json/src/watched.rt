@@ -1,16 +1,14 @@
 //! What is printed about a watched node, as JSON objects on a line each.
 
-ghost use Rattle.std.specs.Prelude.{◌≡◌, IfOk, OnOk, codes, option_map, string_bytes};
+ghost use Rattle.std.specs.Prelude.{◌≡◌, IfOk, option_map, string_bytes};
 ghost use Rattle.dist_names.specs.Escaped.{escapes_of};
 ghost use Rattle.distping_report.specs.Watched.{word_in_verdict};
-ghost use Rattle.distping_json.specs.Layouts.{change_layout, latency_layout, times_layout};
-ghost use Rattle.distping_json.specs.Objects.{IsObjectLine, PutsMembers, member, no_member, number, shape_of, text, text_or_null};
+ghost use Rattle.distping_json.specs.Layouts.{change_layout, latency_layout};
+ghost use Rattle.distping_json.specs.Objects.{IsObjectLine, shape_of, text_or_null};
 
-use crate::member::{Value, begin_line, end_line, put_members};
-use crate::values::times_of;
-use dist_cluster::VerdictChange;
+use crate::member::{Value, object_line};
+use dist_cluster::{LatencySummary, VerdictChange};
 use distping_report::{Answers, Seen, verdict_word_in};
-use json::Writer;
 use std::alloc::{AllocError, Global};
 
 // The word of the verdict before, or null.
@@ -23,15 +21,14 @@ fn before_or_null(change: &VerdictChange) -> Value<'_>
     }
 }
 
-// Writes a verdict on a watched node.
-fn put_change<'x>(
+// What `change_object` makes of values that all live as long.
+fn object_of_change<'x>(
     alloc: Global,
-    out: &mut Writer,
     time: &'x str,
     seen: &Seen<'x>,
     change: &'x VerdictChange,
-) -> Result<(), AllocError>
-    ensures { OnOk result (PutsMembers (change_layout time.now seen.now change.now) out.old out.new) }
+) -> Result<String, AllocError>
+    ensures { IfOk result (λ line. IsObjectLine (change_layout time.now seen.now change.now) (string_bytes line)) }
 {
     let members = [
         ("time", Value::Name(time.as_bytes())),
@@ -41,7 +38,7 @@ fn put_change<'x>(
         ("before", before_or_null(change)),
         ("latency", Value::Number(seen.latency)),
     ];
-    put_members(alloc, out, &members)
+    object_line(alloc, &members)
 }
 
 /// A verdict on a watched node, at this time, and the one before, as one line.
@@ -53,43 +50,49 @@ pub fn change_object(
 ) -> Result<String, AllocError>
     ensures { IfOk result (λ line. IsObjectLine (change_layout time.now seen.now change.now) (string_bytes line)) }
 {
-    let mut out = begin_line(alloc)?;
-    put_change(alloc, &mut out, time, seen, change)?;
-    end_line(out)
+    object_of_change(alloc, time, seen, change)
 }
 
-// Writes the name of a watched node, and how often it was probed.
-fn put_rounds(alloc: Global, out: &mut Writer, answers: &Answers<'_>) -> Result<(), AllocError>
-    ensures { OnOk result (PutsMembers (member (codes "node") (text (escapes_of answers.now.node.now))
-        (member (codes "rounds") (number answers.now.rounds) no_member)) out.old out.new) }
+// How long the answers of this node took in so many rounds, as one line.
+fn times_object(
+    alloc: Global,
+    node: &[u8],
+    rounds: u64,
+    summary: Option<LatencySummary>,
+) -> Result<String, AllocError>
+    ensures { IfOk result (λ line. IsObjectLine (latency_layout node.now rounds summary) (string_bytes line)) }
 {
-    let members = [
-        ("node", Value::Name(answers.node.bytes())),
-        ("rounds", Value::Number(answers.rounds)),
-    ];
-    put_members(alloc, out, &members)
-}
-
-// Writes how long its answers took.
-fn put_times(alloc: Global, out: &mut Writer, answers: &Answers<'_>) -> Result<(), AllocError>
-    ensures { OnOk result (PutsMembers (times_layout answers.now.summary) out.old out.new) }
-{
-    put_members(alloc, out, &times_of(answers.summary))
-}
-
-// Writes both.
-fn put_latency(alloc: Global, out: &mut Writer, answers: &Answers<'_>) -> Result<(), AllocError>
-    ensures { OnOk result (PutsMembers (latency_layout answers.now) out.old out.new) }
-{
-    put_rounds(alloc, out, answers)?;
-    put_times(alloc, out, answers)
+    let (node, rounds) = (Value::Name(node), Value::Number(rounds));
+    match summary {
+        Some(it) => {
+            let members = [
+                ("node", node),
+                ("rounds", rounds),
+                ("answers", Value::Number(it.count)),
+                ("least", Value::Number(it.least)),
+                ("median", Value::Number(it.median)),
+                ("worst", Value::Number(it.worst)),
+            ];
+            object_line(alloc, &members)
+        }
+        None => {
+            let members = [
+                ("node", node),
+                ("rounds", rounds),
+                ("answers", Value::Number(0)),
+                ("least", Value::Null),
+                ("median", Value::Null),
+                ("worst", Value::Null),
+            ];
+            object_line(alloc, &members)
+        }
+    }
 }
 
 /// How long a watched node's answers took, as one line.
 pub fn latency_object(alloc: Global, answers: &Answers<'_>) -> Result<String, AllocError>
-    ensures { IfOk result (λ line. IsObjectLine (latency_layout answers.now) (string_bytes line)) }
+    ensures { IfOk result
+        (λ line. IsObjectLine (latency_layout answers.now.node.now answers.now.rounds answers.now.summary) (string_bytes line)) }
 {
-    let mut out = begin_line(alloc)?;
-    put_latency(alloc, &mut out, answers)?;
-    end_line(out)
+    times_object(alloc, answers.node.bytes(), answers.rounds, answers.summary)
 }

@@ -6,8 +6,8 @@
 ghost use Rattle.std.specs.Prelude.{◌≡◌, IfOk, IfErr};
 ghost use Rattle.dist_messages.specs.Reading.{read};
 ghost use Rattle.dist_messages.specs.declared.message.Side.TheVariants.{Dialler};
-ghost use Rattle.distping_links.specs.Accepting.{AwaitsName, HandsOn, HearsBody, Shows, Takes, Talks, TalksOn, Writes, only, content_as, content_in};
-ghost use Rattle.distping_links.specs.Listening.{close_verdict, cut_verdict, end_verdict, fault_verdict, own_verdict, step_verdict, still_verdict};
+ghost use Rattle.distping_links.specs.Accepting.{AwaitsName, HearsBody, Shows, Takes, Talks, TalksOn, Writes, only, content_as, content_in};
+ghost use Rattle.distping_links.specs.Listening.{close_verdict, fault_verdict, own_verdict, step_verdict, written_verdict};
 
 use dist_core::{Awaited, Event, Node, StepError, Still, Why};
 use dist_core_setup::Setup;
@@ -70,24 +70,15 @@ fn content_in(message: Message) -> Content
 
 // ---- verdicts
 
-// The verdict if the connection ended, or broke, while this was awaited.
-fn end_verdict(awaited: Option<Awaited>) -> Taken
-    ensures { result ≡ end_verdict awaited }
-{
-    match awaited {
-        Some(Awaited::Name) => Taken::NoName,
-        Some(Awaited::Reply | Awaited::Nothing) => Taken::Left,
-        _ => Taken::Unexpected,
-    }
-}
-
-// The verdict if a read or a write failed, or the turns ran out, while this was awaited.
+// The verdict if a read or a write failed, the connection ended, or the turns ran out, while this was awaited.
 fn fault_verdict(awaited: Option<Awaited>, fault: TurnError) -> Taken
     ensures { result ≡ fault_verdict awaited fault }
 {
-    match fault {
-        TurnError::Limit => Taken::Silent,
-        TurnError::Ended | TurnError::ReadFailed | TurnError::WriteFailed => end_verdict(awaited),
+    match (fault, awaited) {
+        (TurnError::Limit, _) => Taken::Silent,
+        (_, Some(Awaited::Name)) => Taken::NoName,
+        (_, Some(Awaited::Reply | Awaited::Nothing)) => Taken::Left,
+        _ => Taken::Unexpected,
     }
 }
 
@@ -101,8 +92,8 @@ fn close_verdict(why: Why) -> Taken
     }
 }
 
-// The verdict if the node refused the body.
-fn step_verdict(error: StepError) -> Taken
+/// The verdict if the node refused the connection, or a body.
+pub fn step_verdict(error: StepError) -> Taken
     ensures { result ≡ step_verdict error }
 {
     match error {
@@ -111,25 +102,16 @@ fn step_verdict(error: StepError) -> Taken
     }
 }
 
-// The verdict on the end once all that the node sends was written. `None` if its handshake goes on.
-fn still_verdict(still: Still) -> Option<Taken>
-    ensures { result ≡ still_verdict still }
+// The verdict on the end once what the node sends was written, or cut off by this fault. `None` if its handshake goes on.
+fn written_verdict(stop: Option<TurnError>, still: Still, awaited: Option<Awaited>) -> Option<Taken>
+    ensures { result ≡ written_verdict stop still awaited }
 {
-    match still {
-        Still::Up => Some(Taken::Up),
-        Still::Gone(why) => Some(close_verdict(why)),
-        Still::Pending | Still::NoSuchEnd => None,
-    }
-}
-
-// The verdict on the end if this fault cut off what the node sends.
-fn cut_verdict(still: Still, awaited: Option<Awaited>, fault: TurnError) -> Taken
-    ensures { result ≡ cut_verdict still awaited fault }
-{
-    match still {
-        Still::Up => Taken::Left,
-        Still::Gone(why) => close_verdict(why),
-        Still::Pending | Still::NoSuchEnd => fault_verdict(awaited, fault),
+    match (still, stop) {
+        (Still::Up, None) => Some(Taken::Up),
+        (Still::Up, Some(_)) => Some(Taken::Left),
+        (Still::Gone(why), _) => Some(close_verdict(why)),
+        (_, Some(fault)) => Some(fault_verdict(awaited, fault)),
+        (_, None) => None,
     }
 }
 
@@ -139,13 +121,7 @@ fn own_verdict(compares: bool, awaited: Option<Awaited>, content: &Content) -> O
 {
     match (content, awaited) {
         (Content::OldName, _) => Some(Taken::Unexpected),
-        (Content::Reply, Some(Awaited::Reply)) => {
-            if compares {
-                None
-            } else {
-                Some(Taken::Answered)
-            }
-        }
+        (Content::Reply, Some(Awaited::Reply)) if !compares => Some(Taken::Answered),
         _ => None,
     }
 }
@@ -196,31 +172,14 @@ fn write_text<S: Stream>(limited: &mut Limited<'_, S>, node: &Node, text: &[u8])
         (S.meaning limited.old.stream.now) (S.meaning limited.new.stream.now) limited.old.left limited.new.left result }
     ensures loan { limited.new.stream.ghost_name ≡ limited.old.stream.ghost_name }
 {
+    let (still, awaited) = (node.still(END), node.awaits(END));
     match limited.write_all(text) {
-        Ok(()) => still_verdict(node.still(END)),
-        Err(fault) => Some(cut_verdict(node.still(END), node.awaits(END), fault)),
+        Ok(()) => written_verdict(None, still, awaited),
+        Err(fault) => written_verdict(Some(fault), still, awaited),
     }
 }
 
-// Gives a body to the node, and writes what the node sends. `None` if the node awaits more.
-fn hand_on<S: Stream>(
-    alloc: Global,
-    limited: &mut Limited<'_, S>,
-    node: &mut Node,
-    fresh: u32,
-    body: ByteString,
-) -> Option<Taken>
-    ensures hands { HandsOn fresh body node.old node.new
-        (S.meaning limited.old.stream.now) (S.meaning limited.new.stream.now) limited.old.left limited.new.left result }
-    ensures loan { limited.new.stream.ghost_name ≡ limited.old.stream.ghost_name }
-{
-    match node.step(alloc, &Event::Frame { end_: END, body }, fresh) {
-        Ok(reply) => write_text(limited, node, reply.say.as_slice()),
-        Err(error) => Some(step_verdict(error)),
-    }
-}
-
-// Judges a body, or gives it to the node. `None` if the node awaits more.
+// Judges a body, or gives it to the node, and writes what the node sends. `None` if the node awaits more.
 fn take<S: Stream>(
     alloc: Global,
     limited: &mut Limited<'_, S>,
@@ -233,9 +192,12 @@ fn take<S: Stream>(
         (S.meaning limited.old.stream.now) (S.meaning limited.new.stream.now) limited.old.left limited.new.left result }
     ensures loan { limited.new.stream.ghost_name ≡ limited.old.stream.ghost_name }
 {
-    match own_verdict(listen.compares, node.awaits(END), content) {
-        Some(taken) => Some(taken),
-        None => hand_on(alloc, limited, node, listen.fresh, body),
+    if let Some(taken) = own_verdict(listen.compares, node.awaits(END), content) {
+        return Some(taken);
+    }
+    match node.step(alloc, &Event::Frame { end_: END, body }, listen.fresh) {
+        Ok(reply) => write_text(limited, node, reply.say.as_slice()),
+        Err(error) => Some(step_verdict(error)),
     }
 }
 
@@ -251,13 +213,6 @@ pub fn open_node(alloc: Global, setup: &Setup) -> Result<Node, StepError>
     let mut node = Node::new(alloc, setup);
     node.step(alloc, &Event::Incoming { link: 0 }, 0)?;
     Ok(node)
-}
-
-/// The verdict if the node refused the connection.
-pub fn refusal_verdict(error: StepError) -> Taken
-    ensures { result ≡ step_verdict error }
-{
-    step_verdict(error)
 }
 
 // Receives one more body, after the challenge, and returns the verdict.

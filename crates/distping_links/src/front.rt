@@ -4,26 +4,26 @@ ghost use Rattle.std.specs.Prelude.{◌≡◌, ◌+◌, ◌<◌, ◌≤◌, [], 
 ghost use Rattle.dist_stream.specs.Stream.{Reads, heard_count};
 ghost use Rattle.distping_links.specs.Fronts.{front_meaning};
 
-use crate::dialling::ProbeStream;
-use dist_stream::{DeadlineStream, Heard, Stream, Took};
-use std::time::{Duration, Instant};
+use dist_stream::{Heard, Stream, Took};
 
 /// The most bytes that are read of a port mapper's answer: some 2,500 names of usual length. Our own choice.
 const MOST_OF_ANSWER: usize = 65_535;
 
 /// A connection to a port mapper whose reader gets at most this many bytes. No contract says which bytes are read and written.
 #[derive(Drop)]
-pub struct FrontStream {
-    stream: ProbeStream,
+pub struct FrontStream<S> {
+    /// The connection.
+    pub stream: S,
     // How many bytes may still be read.
     left: usize,
     // Whether more bytes arrived.
     is_cut: bool,
 }
 
-impl FrontStream {
+impl<S: Stream> FrontStream<S> {
     /// The first bytes that arrive on this connection.
-    pub fn new(stream: ProbeStream) -> FrontStream
+    pub fn new(stream: S) -> FrontStream<S>
+        ensures stream { result.stream ≡ stream }
         ensures most { result.left ≡ 65535 }
         ensures whole { result.is_cut ≡ false }
     {
@@ -32,16 +32,6 @@ impl FrontStream {
             left: MOST_OF_ANSWER,
             is_cut: false,
         }
-    }
-
-    /// When the connection falls quiet.
-    pub fn deadline(&self) -> Instant {
-        self.stream.deadline()
-    }
-
-    /// How long it is until then.
-    pub fn time_left(&self) -> Duration {
-        self.stream.time_left()
     }
 
     /// Whether more bytes arrived than are read.
@@ -56,8 +46,8 @@ impl FrontStream {
     fn read_front(&mut self, room: &mut [u8]) -> Heard
         requires some { 0 < length room.old }
         requires room { length room.old ≤ self.old.left }
-        ensures reads { Reads (front_meaning self.old.is_cut (⟦<DeadlineStream<HostRuntime> as Stream>⟧.meaning self.old.stream))
-            (front_meaning self.new.is_cut (⟦<DeadlineStream<HostRuntime> as Stream>⟧.meaning self.new.stream)) room.new result }
+        ensures reads { Reads (front_meaning self.old.is_cut (S.meaning self.old.stream))
+            (front_meaning self.new.is_cut (S.meaning self.new.stream)) room.new result }
         ensures counts { heard_count result + self.new.left ≡ self.old.left }
     {
         let heard = self.stream.read(room);
@@ -70,8 +60,8 @@ impl FrontStream {
     // Reads a byte beyond those that may be read. If one arrives, it is dropped, and counts as the end.
     #[tactic(auto, using(crate::proofs::Fronts::reads_front, crate::proofs::Fronts::reads_behind))]
     fn read_behind(&mut self) -> Heard
-        ensures reads { Reads (front_meaning self.old.is_cut (⟦<DeadlineStream<HostRuntime> as Stream>⟧.meaning self.old.stream))
-            (front_meaning self.new.is_cut (⟦<DeadlineStream<HostRuntime> as Stream>⟧.meaning self.new.stream)) [] result }
+        ensures reads { Reads (front_meaning self.old.is_cut (S.meaning self.old.stream))
+            (front_meaning self.new.is_cut (S.meaning self.new.stream)) [] result }
         ensures nothing { heard_count result ≡ 0 }
         ensures left { self.new.left ≡ self.old.left }
     {
@@ -88,8 +78,8 @@ impl FrontStream {
     }
 }
 
-impl Stream for FrontStream {
-    ghost meaning = { λ s. front_meaning s.is_cut (⟦<DeadlineStream<HostRuntime> as Stream>⟧.meaning s.stream) };
+impl<S: Stream> Stream for FrontStream<S> {
+    ghost meaning = { λ s. front_meaning s.is_cut (S.meaning s.stream) };
 
     #[tactic(auto, using(crate::proofs::Fronts::reads_wider))]
     fn read(&mut self, room: &mut [u8]) -> Heard {

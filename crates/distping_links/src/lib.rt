@@ -7,22 +7,19 @@
 #![tactic(auto)]
 
 mod accepting;
-mod announcing;
-mod census;
-mod dialling;
+mod attempt;
 mod front;
 mod listening;
 mod mapper;
 mod outcomes;
 mod own_setup;
 mod probing;
-mod stop;
 mod talking;
 mod tries;
 mod waiting;
 
-pub use census::{Census, ask_census, empty_host};
 pub use listening::take_connection;
 pub use mapper::Names;
+pub use outcomes::no_dial;
 pub use own_setup::{draw_challenge, setup_of};
-pub use probing::probe;
+pub use probing::{Census, ask_census, probe};

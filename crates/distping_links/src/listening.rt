@@ -6,9 +6,9 @@ ghost use Rattle.dist_messages.specs.declared.message.Side.TheVariants.{Dialler}
 ghost use Rattle.distping_links.specs.Accepting.{AwaitsName, content_as};
 ghost use Rattle.distping_links.specs.Listening.{behind_left, is_probe, wants_name};
 
-use crate::accepting::{Content, END, Inbound, hear, open_node, refusal_verdict, talk};
-use crate::dialling::ProbeStream;
-use crate::waiting::{IncomingStream, await_caller, bind_listener};
+use crate::accepting::{Content, END, Inbound, hear, open_node, step_verdict, talk};
+use crate::attempt::ProbeStream;
+use crate::waiting::{await_caller, bind_listener};
 use dist_core::Node;
 use dist_names::Flags;
 use dist_probe::Peer;
@@ -16,6 +16,7 @@ use dist_program::talk_over;
 use dist_stream::{Limited, SocketStream};
 use distping_report::{Caller, LineSink, Listen, Taken};
 use distping_words::Fault;
+use std::alloc::Global;
 use std::io;
 
 // A result of the system for the listener, or the fault that it failed.
@@ -27,21 +28,20 @@ fn or_fault<T: Drop>(given: io::Result<T>) -> Result<T, Fault> {
 }
 
 // Listens, and waits for one connection. `None` if no node dialled in time.
-fn accept(
-    rt: &HostRuntime,
+fn accept<'a>(
+    rt: &'a HostRuntime,
     listen: &Listen<'_>,
     lines: LineSink<'_>,
     caller: &mut Caller,
-) -> Result<Option<ProbeStream>, Fault> {
+) -> Result<Option<ProbeStream<'a>>, Fault> {
     let listener = or_fault(bind_listener(rt, listen.place, listen.port))?;
     lines.put_listening(listen.port, &listen.setup.name)?;
-    let Some(arrival) = or_fault(await_caller(rt, &listener, listen.patience))? else {
+    let Some((socket, from)) = or_fault(await_caller(rt, &listener, listen.patience))? else {
         return Ok(None);
     };
-    let IncomingStream { socket, from } = arrival;
     caller.address = Some(from);
     lines.put_taken(&from)?;
-    let stream = or_fault(talk_over(*rt, SocketStream::new(socket), listen.seconds))?;
+    let stream = or_fault(talk_over(rt, SocketStream::new(socket), listen.seconds))?;
     Ok(Some(stream))
 }
 
@@ -75,76 +75,53 @@ fn behind_left(taken: Taken, content: &Content) -> Taken
     }
 }
 
-// Prints what a node sent about itself, if it did.
-fn put_content(lines: LineSink<'_>, content: &Content) -> Result<(), Fault> {
-    match content {
-        Content::Name(peer) => lines.put_peer(peer),
-        _ => Ok(()),
-    }
-}
-
-// Prints what the first body says, and talks on. Returns the result, and what the node sent about itself.
+// Talks on after the first body. Returns the result, and what the node sent about itself.
 fn greet(
-    limited: &mut Limited<'_, ProbeStream>,
+    alloc: Global,
+    limited: &mut Limited<'_, ProbeStream<'_>>,
     node: &mut Node,
     listen: &Listen<'_>,
-    lines: LineSink<'_>,
     inbound: Inbound,
-) -> Result<(Taken, Option<Peer>), Fault>
+) -> (Taken, Option<Peer>)
     // `open_node` returned the node, and `hear` the body.
     requires opened { AwaitsName listen.now.setup.now node.old }
     requires content { inbound.content ≡ content_as (read Dialler inbound.body) }
 {
     let Inbound { body, content } = inbound;
-    put_content(lines, &content)?;
     let taken = if wants_name(&content) {
         Taken::WantsName
     } else {
-        let taken = talk(lines.alloc, limited, node, listen, body, &content);
-        behind_left(taken, &content)
+        behind_left(talk(alloc, limited, node, listen, body, &content), &content)
     };
     match content {
-        Content::Name(peer) => Ok((taken, Some(peer))),
-        _ => Ok((taken, None)),
+        Content::Name(peer) => (taken, Some(peer)),
+        _ => (taken, None),
     }
 }
 
-// Reads the first body, and talks on.
+// Talks with the node that dialled, prints what it sent about itself, and returns the result.
 fn attend(
-    limited: &mut Limited<'_, ProbeStream>,
-    node: &mut Node,
-    listen: &Listen<'_>,
-    lines: LineSink<'_>,
-    caller: &mut Caller,
-) -> Result<Taken, Fault>
-    // `open_node` returned the node.
-    requires { AwaitsName listen.now.setup.now node.old }
-{
-    match hear(lines.alloc, limited, node.awaits(END)) {
-        Ok(inbound) => {
-            let (taken, peer) = greet(limited, node, listen, lines, inbound)?;
-            caller.peer = peer;
-            Ok(taken)
-        }
-        Err(taken) => Ok(taken),
-    }
-}
-
-// Talks with the node that dialled, and returns the result.
-fn attend_caller(
-    stream: &mut ProbeStream,
+    stream: &mut ProbeStream<'_>,
     listen: &Listen<'_>,
     lines: LineSink<'_>,
     caller: &mut Caller,
 ) -> Result<Taken, Fault> {
-    let mut limited = Limited {
-        stream,
-        left: listen.turns,
+    let left = listen.turns;
+    let mut limited = Limited { stream, left };
+    let mut node = match open_node(lines.alloc, listen.setup) {
+        Ok(node) => node,
+        Err(error) => return Ok(step_verdict(error)),
     };
-    match open_node(lines.alloc, listen.setup) {
-        Ok(mut node) => attend(&mut limited, &mut node, listen, lines, caller),
-        Err(error) => Ok(refusal_verdict(error)),
+    let inbound = match hear(lines.alloc, &mut limited, node.awaits(END)) {
+        Ok(inbound) => inbound,
+        Err(taken) => return Ok(taken),
+    };
+    if let Content::Name(peer) = &inbound.content {
+        lines.put_peer(peer)?;
     }
+    let (taken, peer) = greet(lines.alloc, &mut limited, &mut node, listen, inbound);
+    caller.peer = peer;
+    Ok(taken)
 }
 
 /// Takes one connection, prints what the other side sends, and returns the result. `caller` gets what was found out.
@@ -155,7 +132,7 @@ pub fn take_connection(
     caller: &mut Caller,
 ) -> Result<Taken, Fault> {
     match accept(rt, listen, lines, caller)? {
-        Some(mut stream) => attend_caller(&mut stream, listen, lines, caller),
+        Some(mut stream) => attend(&mut stream, listen, lines, caller),
         None => Ok(Taken::NoCaller),
     }
 }

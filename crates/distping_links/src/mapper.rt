@@ -1,19 +1,17 @@
-//! Asks the port mapper of a node's host where the node listens, and prints each step.
+//! Asks the port mapper at an address where the node listens, or for all names, and prints each step.
 
-ghost use Rattle.std.specs.Prelude.{◌≡◌};
+ghost use Rattle.std.specs.Prelude.{◌≡◌, Ok, IfSome};
 ghost use Rattle.distping_links.specs.Places.{lookup_verdict};
 
-use crate::dialling::{connect_again, connect_to};
+use crate::attempt::{AddressAttempt, ProbeStream, Stop};
 use crate::front::FrontStream;
-use crate::stop::Stop;
-use dist_epmd::PortInfo;
 use dist_epmd_calls::{LookupError, ask_names, lookup};
 use dist_names::ByteString;
 use dist_probe::{ProbeVerdict, mapper_verdict};
-use dist_program::{Budget, TimedStep};
-use distping_report::{Dial, Found, Registration};
+use dist_program::{TimedStep, at_port};
+use dist_stream::connect_by;
+use distping_report::{Dial, Registration};
 use distping_words::Fault;
-use std::net::SocketAddr;
 use std::time::Instant;
 
 /// The names that a port mapper knows, on whole lines.
@@ -23,28 +21,6 @@ pub struct Names {
     pub text: ByteString,
     /// Whether the answer is longer than what is read.
     pub is_cut: bool,
-}
-
-/// A connection to the port mapper. If it is not reached, that is printed.
-pub fn connect_to_mapper(
-    dial: &Dial<'_>,
-    address: &SocketAddr,
-    budget: &mut Budget,
-) -> Result<FrontStream, Stop> {
-    let port = dial.choices.mapper_port;
-    match connect_to(
-        dial.rt,
-        address,
-        port,
-        (TimedStep::Mapper, TimedStep::Lookup),
-        budget,
-    ) {
-        Ok(stream) => Ok(FrontStream::new(stream)),
-        Err(place) => {
-            dial.lines.put_unreached("epmd     ", port, place)?;
-            Err(Stop::Verdict(mapper_verdict(place)))
-        }
-    }
 }
 
 /// The verdict for a lookup that failed.
@@ -66,103 +42,113 @@ fn whole_lines(text: &[u8]) -> &[u8] {
     }
 }
 
-/// Asks for all names on this connection. If the answer is cut, its whole lines are kept.
-pub fn ask_front(dial: &Dial<'_>, stream: &mut FrontStream) -> Result<Names, LookupError> {
+// Asks for all names on this connection. If the answer is cut, its whole lines are kept.
+fn ask_front(
+    dial: &Dial<'_>,
+    stream: &mut FrontStream<ProbeStream<'_>>,
+) -> Result<Names, LookupError> {
     let alloc = dial.lines.alloc;
     let (_port, text) = ask_names(alloc, stream, dial.choices.turns())?;
     let is_cut = stream.is_cut();
     if !is_cut {
         return Ok(Names { text, is_cut });
     }
-    match ByteString::from_slice(alloc, whole_lines(text.as_slice())) {
-        Ok(text) => Ok(Names { text, is_cut }),
-        Err(_) => Err(LookupError::NoMemory),
-    }
+    let text = ByteString::from_slice(alloc, whole_lines(text.as_slice()))?;
+    Ok(Names { text, is_cut })
 }
 
-// The names that the port mapper knows, if it answers by this time.
-fn names_by(dial: &Dial<'_>, address: &SocketAddr, until: Instant) -> Option<Names> {
-    let stream = connect_again(dial.rt, address, dial.choices.mapper_port, until)?;
-    ask_front(dial, &mut FrontStream::new(stream)).ok()
-}
-
-// Prints the names that are registered there, if the port mapper answers by this time, and they were not printed with another node.
-fn put_registered(dial: &Dial<'_>, address: &SocketAddr, until: Instant) -> Result<(), Fault> {
-    if !dial.listed.is_first(dial.node.host()) {
-        return dial.lines.put_listed();
-    }
-    let Some(names) = names_by(dial, address, until) else {
-        return Ok(());
-    };
-    dial.lines.put_names(names.text.as_slice())?;
-    if names.is_cut {
-        dial.lines.put_cut()?;
-    }
-    Ok(())
-}
-
-// Prints why there is no registration, and the names that are registered there. It asks for them only to print them: once for each host.
-fn put_unregistered(
-    dial: &Dial<'_>,
-    address: &SocketAddr,
-    error: LookupError,
-    until: Instant,
-) -> Result<(), Fault> {
-    dial.lines.put_no_answer(dial.choices.mapper_port, error)?;
-    match error {
-        LookupError::NotThere if !dial.lines.quiet => put_registered(dial, address, until),
-        _ => Ok(()),
-    }
-}
-
-// Asks the port mapper for the node. Returns the answer, and when the time of the lookup ends.
-fn ask_registration(
-    dial: &Dial<'_>,
-    address: &SocketAddr,
-    budget: &mut Budget,
-) -> Result<(Result<PortInfo, LookupError>, Instant), Stop> {
-    let mut stream = connect_to_mapper(dial, address, budget)?;
-    let (short, limit) = (dial.node.short(), dial.choices.turns());
-    let answer = lookup(dial.lines.alloc, &mut stream, short, limit);
-    budget.settle(TimedStep::Lookup, stream.time_left());
-    Ok((answer, stream.deadline()))
-}
-
-// What the port mapper knows of the node. It is printed.
-fn find_registration(
-    dial: &Dial<'_>,
-    address: &SocketAddr,
-    budget: &mut Budget,
-) -> Result<Registration, Stop> {
-    let (answer, until) = ask_registration(dial, address, budget)?;
-    match answer {
-        Ok(info) => {
-            dial.lines
-                .put_registration(dial.choices.mapper_port, &info)?;
-            Ok(Registration {
-                port: info.port,
-                highest: info.highest,
-                lowest: info.lowest,
-            })
-        }
-        Err(error) => {
-            put_unregistered(dial, address, error, until)?;
-            Err(Stop::Verdict(lookup_verdict(error)))
+impl<'a> AddressAttempt<'a> {
+    // A connection to the port mapper.
+    fn connect_to_mapper(&mut self) -> Result<FrontStream<ProbeStream<'a>>, Stop> {
+        let steps = (TimedStep::Mapper, TimedStep::Lookup);
+        let port = self.dial.choices.mapper_port;
+        match self.connect("epmd     ", port, steps)? {
+            Ok(stream) => Ok(FrontStream::new(stream)),
+            Err(place) => Err(Stop::Verdict(mapper_verdict(place))),
         }
     }
-}
 
-/// The node's port: the given one, or else that of its registration.
-pub fn port_of(
-    dial: &Dial<'_>,
-    address: &SocketAddr,
-    budget: &mut Budget,
-    found: &mut Found,
-) -> Result<u16, Stop> {
-    if let Some(port) = dial.choices.port {
-        return Ok(port);
+    /// All names that the port mapper knows.
+    pub(crate) fn ask_for_names(&mut self) -> Result<Names, Stop> {
+        let mut front = self.connect_to_mapper()?;
+        let answer = ask_front(&self.dial, &mut front);
+        self.budget
+            .settle(TimedStep::Lookup, front.stream.time_left());
+        match answer {
+            Ok(names) => Ok(names),
+            Err(error) => {
+                let lines = self.dial.lines;
+                lines.put_no_answer(self.dial.choices.mapper_port, error)?;
+                Err(Stop::Verdict(lookup_verdict(error)))
+            }
+        }
     }
-    let registration = find_registration(dial, address, budget)?;
-    found.registration = Some(registration);
-    Ok(registration.port)
+
+    // The names that the port mapper knows, if it answers by this time.
+    fn names_by(&self, until: Instant) -> Option<Names> {
+        let place = at_port(&self.address, self.dial.choices.mapper_port);
+        let stream = connect_by(self.dial.rt, &place, until).ok()?;
+        ask_front(&self.dial, &mut FrontStream::new(stream)).ok()
+    }
+
+    // Prints why there is no registration, and the names that are registered there, if the port mapper answers by this time. It asks for
+    // them only to print them: once for each host.
+    fn put_unregistered(&self, error: LookupError, until: Instant) -> Result<(), Fault> {
+        let lines = self.dial.lines;
+        lines.put_no_answer(self.dial.choices.mapper_port, error)?;
+        if error != LookupError::NotThere || lines.quiet {
+            return Ok(());
+        }
+        if !self.dial.listed.is_first(self.dial.node.host()) {
+            return lines.put_listed();
+        }
+        let Some(names) = self.names_by(until) else {
+            return Ok(());
+        };
+        lines.put_names(names.text.as_slice())?;
+        if names.is_cut {
+            lines.put_cut()?;
+        }
+        Ok(())
+    }
+
+    // Asks the port mapper for the node, and prints its registration. Returns its port, or why it has none, and when the time of the lookup
+    // ends.
+    fn ask_for_port(&mut self) -> Result<Result<u16, (LookupError, Instant)>, Stop> {
+        let dial = self.dial;
+        let mut front = self.connect_to_mapper()?;
+        let (short, limit) = (dial.node.short(), dial.choices.turns());
+        let answer = lookup(dial.lines.alloc, &mut front, short, limit);
+        self.budget
+            .settle(TimedStep::Lookup, front.stream.time_left());
+        match answer {
+            Ok(info) => {
+                dial.lines
+                    .put_registration(dial.choices.mapper_port, &info)?;
+                self.found.registration = Some(Registration {
+                    port: info.port,
+                    highest: info.highest,
+                    lowest: info.lowest,
+                });
+                Ok(Ok(info.port))
+            }
+            Err(error) => Ok(Err((error, front.stream.deadline()))),
+        }
+    }
+
+    /// The node's port: the given one, or else that of its registration.
+    pub fn find_port(&mut self) -> Result<u16, Stop>
+        ensures given { IfSome self.old.dial.choices.port (λ port. result ≡ Ok port) }
+    {
+        if let Some(port) = self.dial.choices.port {
+            return Ok(port);
+        }
+        match self.ask_for_port()? {
+            Ok(port) => Ok(port),
+            Err((error, until)) => {
+                self.put_unregistered(error, until)?;
+                Err(Stop::Verdict(lookup_verdict(error)))
+            }
+        }
+    }
 }

@@ -1,6 +1,6 @@
 //! The result of trying the addresses of a host.
 
-ghost use Rattle.std.specs.Prelude.{◌≡◌, ◌<◌, length, is_some};
+ghost use Rattle.std.specs.Prelude.{◌≡◌, ◌<◌, [], length, is_some};
 ghost use Rattle.distping_links.specs.Places.{host_verdict};
 ghost use Rattle.distping_links.specs.Trying.{IsFurthest};
 ghost use Rattle.dist_probe.specs.declared.verdict.Unresolved.TheVariants.{NoName};
@@ -13,6 +13,33 @@ use distping_report::{Found, ProbeOutcome};
 use distping_words::Choices;
 use std::alloc::Global;
 use std::net::SocketAddr;
+
+impl Tries {
+    /// The result: that of the first of the addresses that got furthest; `NoHost` if there are none.
+    pub fn into_outcome(self, addresses: Vec<SocketAddr>) -> ProbeOutcome
+        ensures some { 0 < length self.verdicts.items → IsFurthest self result }
+        ensures none { length self.verdicts.items ≡ 0 → result.verdict ≡ NoHost NoName }
+        ensures verdicts { result.verdicts ≡ self.verdicts }
+        ensures addresses { result.addresses ≡ addresses }
+    {
+        let (mut found, verdicts) = (self.found, self.verdicts);
+        if verdicts.is_empty() {
+            return ProbeOutcome {
+                verdict: ProbeVerdict::NoHost(Unresolved::NoName),
+                found: Found::nothing(None),
+                addresses,
+                verdicts,
+            };
+        }
+        let at = furthest(&verdicts);
+        ProbeOutcome {
+            verdict: verdicts[at],
+            found: found.swap_remove(at),
+            addresses,
+            verdicts,
+        }
+    }
+}
 
 // The verdict for a host without an address: that of `--address`, if it is given, or that of the node's name.
 fn host_verdict(has_address: bool, error: HostError) -> ProbeVerdict
@@ -28,49 +55,17 @@ fn host_verdict(has_address: bool, error: HostError) -> ProbeVerdict
     }
 }
 
-// The result with this verdict if nothing was tried.
-fn nothing_tried(
-    addresses: Vec<SocketAddr>,
-    verdicts: Vec<ProbeVerdict>,
-    verdict: ProbeVerdict,
-) -> ProbeOutcome
+/// The result with this verdict if no node was dialled. The port mapper was asked at this address, if at any.
+pub fn no_dial(alloc: Global, address: Option<SocketAddr>, verdict: ProbeVerdict) -> ProbeOutcome
     ensures verdict { result.verdict ≡ verdict }
-    ensures verdicts { result.verdicts ≡ verdicts }
-    ensures addresses { result.addresses ≡ addresses }
+    ensures verdicts { result.verdicts.items ≡ [] }
+    ensures addresses { result.addresses.items ≡ [] }
 {
     ProbeOutcome {
         verdict,
-        found: Found::nothing(None),
-        addresses,
-        verdicts,
-    }
-}
-
-/// The result of the addresses: that of the first of those that got furthest; `NoHost` if there are none.
-pub fn outcome_of(addresses: Vec<SocketAddr>, all: Tries) -> ProbeOutcome
-    ensures some { 0 < length all.verdicts.items → IsFurthest all result }
-    ensures none { length all.verdicts.items ≡ 0 → result.verdict ≡ NoHost NoName }
-    ensures verdicts { result.verdicts ≡ all.verdicts }
-    ensures addresses { result.addresses ≡ addresses }
-{
-    let Tries {
-        mut found,
-        verdicts,
-        ..
-    } = all;
-    if verdicts.is_empty() {
-        return nothing_tried(
-            addresses,
-            verdicts,
-            ProbeVerdict::NoHost(Unresolved::NoName),
-        );
-    }
-    let at = furthest(&verdicts);
-    ProbeOutcome {
-        verdict: verdicts[at],
-        found: found.swap_remove(at),
-        addresses,
-        verdicts,
+        found: Found::nothing(address),
+        addresses: Vec::new(alloc),
+        verdicts: Vec::new(alloc),
     }
 }
 
@@ -79,5 +74,5 @@ pub fn no_host(alloc: Global, choices: &Choices<'_>, error: HostError) -> ProbeO
     ensures { result.verdict ≡ host_verdict (is_some choices.now.address) error }
 {
     let verdict = host_verdict(choices.address.is_some(), error);
-    nothing_tried(Vec::new(alloc), Vec::new(alloc), verdict)
+    no_dial(alloc, None, verdict)
 }

@@ -23,22 +23,15 @@ counts_line front count counts = front ++ decimal count ++ counts_text (codes ":
 abbrev pub summary_lines : Summary → List ℕ
 summary_lines s = counts_line (codes "   nodes     ") s.nodes s.verdicts.items ++ counts_line (codes "   pairs     ") s.pairs s.pairings.items
 
--- this many milliseconds, after this text
-abbrev pub milliseconds_text : List ℕ → ℕ → List ℕ
-milliseconds_text before n = before ++ decimal n ++ codes " ms"
-
--- the shortest, the median and the longest time that answers took
+-- the least, the median and the worst time that answers took
 abbrev pub spread_text : LatencySummary → List ℕ
-spread_text s = milliseconds_text (codes ", least ") s.least ++ milliseconds_text (codes ", median ") s.median ++ milliseconds_text (codes ", worst ") s.worst
-
--- this many rounds
-abbrev pub rounds_text : ℕ → List ℕ
-rounds_text rounds = decimal rounds ++ codes " rounds"
+spread_text s =
+    codes ", least " ++ (decimal s.least ++ (codes " ms, median " ++ (decimal s.median ++ (codes " ms, worst " ++ (decimal s.worst ++ codes " ms")))))
 
 -- how long the answers took in this many rounds
 abbrev pub times_text : ℕ → Option LatencySummary → List ℕ
-times_text rounds None = codes "no answer in " ++ rounds_text rounds
-times_text rounds (Some s) = decimal s.count ++ codes " answers in " ++ rounds_text rounds ++ spread_text s
+times_text rounds None = codes "no answer in " ++ (decimal rounds ++ codes " rounds")
+times_text rounds (Some s) = (decimal s.count ++ (codes " answers in " ++ (decimal rounds ++ codes " rounds"))) ++ spread_text s
 
 -- THE LINE OF A WATCHED NODE'S ANSWERS
 abbrev pub answers_line : Answers → List ℕ

@@ -1,5 +1,5 @@
 -- What is printed: the pieces of a line, and the lines of a verdict.
-use Rattle.std.specs.Prelude.{◌≡◌, ◌==◌, false, ℕ, ◌++◌, List, [], ◌∷◌, codes, decimal, if◌then◌else◌}
+use Rattle.std.specs.Prelude.{◌==◌, false, ℕ, List, [], ◌∷◌, codes, decimal, if◌then◌else◌}
 use Rattle.std.specs.Fmt.{digits}
 use Rattle.std.specs.List.{concat, flat_map}
 use Rattle.std.specs.Net.Text.{ip_text}
@@ -26,14 +26,14 @@ verdict_lines v =
 abbrev pub flag_text : ℕ → Dflag → List ℕ
 flag_text flags flag = if has_all flags (flag_of flag) then 0x20 ∷ name_of flag else []
 
--- WHAT A PIECE APPENDS to a text. Bytes from another machine or the user are escaped; a name is also put between double quotes. Numbers
+-- THE TEXT OF A PIECE of a line. Bytes from another machine or the user are escaped; a name is also put between double quotes. Numbers
 -- are decimal, flags hexadecimal or by name. An address has its usual text, without a port.
-abbrev pub PutsPiece : LinePiece → List ℕ → List ℕ → Type 0
-PutsPiece (piece.Text own) old new = new ≡ old ++ own.now
-PutsPiece (piece.Name bytes) old new = new ≡ old ++ in_double_quotes bytes.now
-PutsPiece (piece.Foreign bytes) old new = new ≡ old ++ escapes_of bytes.now
-PutsPiece (piece.Escaped text) old new = new ≡ old ++ text.now
-PutsPiece (piece.Number number) old new = new ≡ old ++ decimal number
-PutsPiece (piece.Digits flags) old new = new ≡ old ++ digits 16 false flags.0
-PutsPiece (piece.Names flags) old new = new ≡ old ++ flat_map (flag_text flags.0) all_flags
-PutsPiece (piece.Host host) old new = new ≡ old ++ ip_text host
+abbrev pub piece_text : LinePiece → List ℕ
+piece_text (piece.Text own) = own.now
+piece_text (piece.Name bytes) = in_double_quotes bytes.now
+piece_text (piece.Foreign bytes) = escapes_of bytes.now
+piece_text (piece.Escaped text) = text.now
+piece_text (piece.Number number) = decimal number
+piece_text (piece.Digits flags) = digits 16 false flags.0
+piece_text (piece.Names flags) = flat_map (flag_text flags.0) all_flags
+piece_text (piece.Host host) = ip_text host

@@ -1,5 +1,7 @@
 //! What was found out about a node.
 
+ghost use Rattle.std.specs.Prelude.{◌≡◌, None};
+
 use dist_messages::Status;
 use dist_probe::{Peer, ProbeVerdict};
 use std::net::SocketAddr;
@@ -32,7 +34,10 @@ pub struct Found {
 
 impl Found {
     /// Nothing found yet, at this address.
-    pub fn nothing(address: Option<SocketAddr>) -> Found {
+    pub fn nothing(address: Option<SocketAddr>) -> Found
+        ensures address { result.address ≡ address }
+        ensures nothing { (result.registration ≡ None) × (result.port ≡ None) × (result.status ≡ None) × (result.peer ≡ None) }
+    {
         Found {
             address,
             registration: None,

@@ -3,9 +3,6 @@
 ghost use Rattle.std.specs.Prelude.{◌≡◌, ◌&&◌, ◌==◌, if◌then◌else◌, not};
 ghost use Rattle.distping_report.specs.Shown.{is_nothing};
 
-/// The status if a port mapper's answer is longer than what is read: it says to look at the port mapper.
-const MORE_THAN_TAKEN: u8 = 4;
-
 /// What was left out of a port mapper's answer, and not printed.
 #[derive(Clone, Copy)]
 pub struct LeftOut {
@@ -25,14 +22,14 @@ impl LeftOut {
         self.lines == 0 && self.nodes == 0 && !self.is_cut
     }
 
-    /// The exit status: 4, for the port mapper, if nodes may be left out.
+    /// The exit status: if nodes may be left out 4, which says to look at the port mapper.
     pub fn status(self) -> u8
         ensures { result ≡ (if (self.nodes == 0) && not self.is_cut then 0 else 4) }
     {
         if self.nodes == 0 && !self.is_cut {
             0
         } else {
-            MORE_THAN_TAKEN
+            4
         }
     }
 }

@@ -1,41 +1,27 @@
 //! The texts of the lines about several nodes.
 
 ghost use Rattle.std.specs.Prelude.{◌≡◌, ◌++◌, IfOk, None, OnOk, Some, codes, decimal, string_bytes};
-ghost use Rattle.distping_report.specs.ManyTexts.{answers_line, counts_line, counts_text, left_out_line, milliseconds_text};
-ghost use Rattle.distping_report.specs.ManyTexts.{rounds_text, spread_text, summary_lines, times_text};
+ghost use Rattle.distping_report.specs.ManyTexts.{answers_line, counts_line, counts_text, left_out_line, spread_text, summary_lines, times_text};
 
-use crate::piece::push_name;
 use crate::watched::Answers;
 use dist_cluster::{LatencySummary, Summary, WordCount};
-use itoa::Buffer;
+use dist_names::quote;
 use std::alloc::{AllocError, Global};
+use std::io::Write;
 
 /// The line of a text that a port mapper has in place of a node's name.
 pub fn left_out_line(alloc: Global, text: &[u8]) -> Result<String, AllocError>
     ensures { IfOk result (λ line. string_bytes line ≡ left_out_line text.now) }
 {
-    let mut line = String::from_str(alloc, "!  epmd      no node's name, and left out: ")?;
-    push_name(alloc, &mut line, text)?;
-    line.push_str("\n")?;
-    Ok(line)
-}
-
-// Appends a number to a text, with `before` in front of it.
-fn push_number(text: &mut String, before: &str, number: u64) -> Result<(), AllocError>
-    ensures { OnOk result (string_bytes text.new ≡ string_bytes text.old ++ before.now ++ decimal number) }
-{
-    let mut room = Buffer::new();
-    text.push_str(before)?;
-    text.push_str(room.format(number))
+    let quoted = quote(alloc, text)?;
+    format!(in alloc; "!  epmd      no node's name, and left out: {quoted}\n")
 }
 
 // Appends a word and how many have it to a text, with `before` in front of them.
 fn push_count(text: &mut String, before: &str, count: WordCount) -> Result<(), AllocError>
     ensures { OnOk result (string_bytes text.new ≡ string_bytes text.old ++ before.now ++ count.word.now ++ codes " " ++ decimal count.count) }
 {
-    text.push_str(before)?;
-    text.push_str(count.word)?;
-    push_number(text, " ", count.count)
+    write!(text, "{before}{} {}", count.word, count.count)
 }
 
 // Appends words and how many have each to a text, with `before` in front of the first, and a comma before each other one.
@@ -60,7 +46,7 @@ fn push_counts_line(
 ) -> Result<(), AllocError>
     ensures { OnOk result (string_bytes text.new ≡ string_bytes text.old ++ counts_line front.now count counts.now) }
 {
-    push_number(text, front, count)?;
+    write!(text, "{front}{count}")?;
     push_counts(text, ": ", counts)?;
     text.push_str("\n")
 }
@@ -75,45 +61,30 @@ pub fn summary_lines(alloc: Global, summary: &Summary) -> Result<String, AllocEr
     Ok(text)
 }
 
-// Appends a number of milliseconds to a text, with `before` in front of it.
-fn push_milliseconds(text: &mut String, before: &str, number: u64) -> Result<(), AllocError>
-    ensures { OnOk result (string_bytes text.new ≡ string_bytes text.old ++ milliseconds_text before.now number) }
+// Appends the least, the median and the worst time that answers took to a text.
+fn push_spread(text: &mut String, it: LatencySummary) -> Result<(), AllocError>
+    ensures { OnOk result (string_bytes text.new ≡ string_bytes text.old ++ spread_text it) }
 {
-    push_number(text, before, number)?;
-    text.push_str(" ms")
-}
-
-// Appends the shortest, the median and the longest time that answers took to a text.
-fn push_spread(text: &mut String, summary: LatencySummary) -> Result<(), AllocError>
-    ensures { OnOk result (string_bytes text.new ≡ string_bytes text.old ++ spread_text summary) }
-{
-    push_milliseconds(text, ", least ", summary.least)?;
-    push_milliseconds(text, ", median ", summary.median)?;
-    push_milliseconds(text, ", worst ", summary.worst)
-}
-
-// Appends a number of rounds to a text, with `before` in front of it.
-fn push_rounds(text: &mut String, before: &str, rounds: u64) -> Result<(), AllocError>
-    ensures { OnOk result (string_bytes text.new ≡ string_bytes text.old ++ (before.now ++ rounds_text rounds)) }
-{
-    push_number(text, before, rounds)?;
-    text.push_str(" rounds")
+    write!(
+        text,
+        ", least {} ms, median {} ms, worst {} ms",
+        it.least, it.median, it.worst
+    )
 }
 
 // Appends how long the answers took in this many rounds to a text.
-fn push_summary(text: &mut String, rounds: u64, summary: LatencySummary) -> Result<(), AllocError>
-    ensures { OnOk result (string_bytes text.new ≡ string_bytes text.old ++ times_text rounds (Some summary)) }
+fn push_summary(text: &mut String, rounds: u64, it: LatencySummary) -> Result<(), AllocError>
+    ensures { OnOk result (string_bytes text.new ≡ string_bytes text.old ++ times_text rounds (Some it)) }
 {
-    push_number(text, "", summary.count)?;
-    push_rounds(text, " answers in ", rounds)?;
-    push_spread(text, summary)
+    write!(text, "{} answers in {rounds} rounds", it.count)?;
+    push_spread(text, it)
 }
 
 // Appends to a text that this many rounds had no answer.
 fn push_silence(text: &mut String, rounds: u64) -> Result<(), AllocError>
     ensures { OnOk result (string_bytes text.new ≡ string_bytes text.old ++ times_text rounds None) }
 {
-    push_rounds(text, "no answer in ", rounds)
+    write!(text, "no answer in {rounds} rounds")
 }
 
 // Appends to a text how long the answers took in this many rounds, or that there were none.
@@ -125,7 +96,7 @@ fn push_times(
     ensures { OnOk result (string_bytes text.new ≡ string_bytes text.old ++ times_text rounds summary) }
 {
     match summary {
-        Some(summary) => push_summary(text, rounds, summary),
+        Some(it) => push_summary(text, rounds, it),
         None => push_silence(text, rounds),
     }
 }
@@ -134,10 +105,9 @@ fn push_times(
 pub fn answers_line(alloc: Global, answers: &Answers<'_>) -> Result<String, AllocError>
     ensures { IfOk result (λ line. string_bytes line ≡ answers_line answers.now) }
 {
-    let mut line = String::from_str(alloc, "   latency   ")?;
-    push_name(alloc, &mut line, answers.node.bytes())?;
-    line.push_str(": ")?;
+    let quoted = quote(alloc, answers.node.bytes())?;
+    let mut line = format!(in alloc; "   latency   {quoted}: ")?;
     push_times(&mut line, answers.rounds, answers.summary)?;
-    line.push_str("\n")?;
+    line.push('\n')?;
     Ok(line)
 }

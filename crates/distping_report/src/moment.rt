@@ -1,5 +1,7 @@
 //! The time of day, in UTC.
 
+ghost use Rattle.std.specs.Prelude.{◌≡◌, ◌≤◌, IfOk, decimal, string_bytes};
+
 use distping_words::Fault;
 use httpdate::HttpDate;
 use std::alloc::{AllocError, Global};
@@ -43,7 +45,9 @@ fn iso_text(alloc: Global, date: &[u8; 29]) -> Result<String, AllocError> {
 }
 
 /// The time this many seconds after 1970 began, in UTC, as `2026-11-26T15:04:05Z`. After the year 9999 it is the number of seconds.
-pub fn utc_text(alloc: Global, seconds: u64) -> Result<String, AllocError> {
+pub fn utc_text(alloc: Global, seconds: u64) -> Result<String, AllocError>
+    ensures late { 253_402_300_800 ≤ seconds → IfOk result (λ text. string_bytes text ≡ decimal seconds) }
+{
     match HttpDate::from_unix_secs(seconds) {
         Ok(date) => iso_text(alloc, &date.to_bytes()),
         Err(_) => format!(in alloc; "{seconds}"),

@@ -1,9 +1,8 @@
 //! The pieces of a line: the program's own text, and escaped text from outside.
 
-ghost use Rattle.std.specs.Prelude.{◌≡◌, ◌++◌, OnOk, string_bytes};
+ghost use Rattle.std.specs.Prelude.{◌≡◌, ◌++◌, ◌∷◌, [], IfOk, OnOk, string_bytes};
 ghost use Rattle.std.specs.List.{flat_map};
-ghost use Rattle.dist_names.specs.Escaped.{escapes_of, in_double_quotes};
-ghost use Rattle.distping_report.specs.Texts.{PutsPiece, flag_text};
+ghost use Rattle.distping_report.specs.Texts.{flag_text, piece_text};
 
 use dist_flags::Dflag;
 use dist_names::{Flags, escape, quote};
@@ -53,28 +52,14 @@ fn push_flags(text: &mut String, flags: Flags, all: &[Dflag]) -> Result<(), Allo
     Ok(())
 }
 
-/// Appends a name from outside to a text.
-pub fn push_name(alloc: Global, text: &mut String, name: &[u8]) -> Result<(), AllocError>
-    ensures { OnOk result (string_bytes text.new ≡ string_bytes text.old ++ in_double_quotes name.now) }
-{
-    text.push_str(&quote(alloc, name)?)
-}
-
-// Appends other bytes from outside to a text.
-fn push_foreign(alloc: Global, text: &mut String, bytes: &[u8]) -> Result<(), AllocError>
-    ensures { OnOk result (string_bytes text.new ≡ string_bytes text.old ++ escapes_of bytes.now) }
-{
-    text.push_str(&escape(alloc, bytes)?)
-}
-
 /// Appends a piece to a text.
 pub fn push_piece(alloc: Global, text: &mut String, piece: LinePiece<'_>) -> Result<(), AllocError>
-    ensures { OnOk result (PutsPiece piece.entry (string_bytes text.old) (string_bytes text.new)) }
+    ensures { OnOk result (string_bytes text.new ≡ string_bytes text.old ++ piece_text piece.entry) }
 {
     match piece {
         LinePiece::Text(part) => text.push_str(part),
-        LinePiece::Name(bytes) => push_name(alloc, text, bytes),
-        LinePiece::Foreign(bytes) => push_foreign(alloc, text, bytes),
+        LinePiece::Name(bytes) => text.push_str(&quote(alloc, bytes)?),
+        LinePiece::Foreign(bytes) => text.push_str(&escape(alloc, bytes)?),
         LinePiece::Escaped(part) => text.push_str(part),
         LinePiece::Number(number) => write!(text, "{number}"),
         LinePiece::Digits(flags) => write!(text, "{:x}", flags.0),
@@ -83,11 +68,14 @@ pub fn push_piece(alloc: Global, text: &mut String, piece: LinePiece<'_>) -> Res
     }
 }
 
-/// The pieces as one text.
-pub fn join_pieces(alloc: Global, pieces: &[LinePiece<'_>]) -> Result<String, AllocError> {
+/// A line of these pieces.
+pub fn line_of(alloc: Global, pieces: &[LinePiece<'_>]) -> Result<String, AllocError>
+    ensures { IfOk result (λ line. string_bytes line ≡ flat_map piece_text pieces.now ++ 10 ∷ []) }
+{
     let mut line = String::new(alloc);
     for piece in pieces {
         push_piece(alloc, &mut line, *piece)?;
     }
+    line.push('\n')?;
     Ok(line)
 }

@@ -1,6 +1,6 @@
 //! The result of a connection that was taken.
 
-ghost use Rattle.std.specs.Prelude.{◌≡◌};
+ghost use Rattle.std.specs.Prelude.{◌≡◌, None};
 ghost use Rattle.distping_report.specs.TakenWords.{taken_cause, taken_status, taken_word, what_dials};
 
 use dist_probe::{Peer, Service};
@@ -118,7 +118,9 @@ pub struct Caller {
 
 impl Caller {
     /// Nothing found yet.
-    pub fn nobody() -> Caller {
+    pub fn nobody() -> Caller
+        ensures { (result.address ≡ None) × (result.peer ≡ None) }
+    {
         Caller {
             address: None,
             peer: None,

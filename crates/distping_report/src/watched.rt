@@ -1,7 +1,7 @@
 //! What was observed of a watched node.
 
 ghost use Rattle.std.specs.Prelude.{◌≡◌};
-ghost use Rattle.std.specs.List.{before_first, position, position_or_len};
+ghost use Rattle.std.specs.List.{position, position_or_len};
 ghost use Rattle.distping_report.specs.Watched.{is_colon, word_in_verdict};
 
 use dist_cluster::LatencySummary;
@@ -46,16 +46,10 @@ fn colon_place(text: &[u8]) -> usize
     first_colon(text).unwrap_or(text.len())
 }
 
-// What comes before the first colon of a text.
-fn before_colon(text: &[u8]) -> &[u8]
-    ensures { result.now ≡ before_first is_colon text.now }
-{
-    &text[..colon_place(text)]
-}
-
 /// The word of a verdict's text.
 pub fn verdict_word_in(text: &ByteString) -> &[u8]
     ensures { result.now ≡ word_in_verdict text.now }
 {
-    before_colon(text.as_slice())
+    let text = text.as_slice();
+    &text[..colon_place(text)]
 }

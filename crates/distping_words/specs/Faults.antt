@@ -1,5 +1,7 @@
--- The exit status of a fault.
-use Rattle.std.specs.Prelude.{ℕ}
+-- The exit status of a fault, what bytes give, and what can be asked for.
+use Rattle.std.specs.Prelude.{◌≡◌, ◌<◌, ℕ, true, false, List, length, Result, Ok, Err, is_some}
+use Rattle.dist_names.specs.NodeName.{IsNodeName}
+use Rattle.distping_words.specs.declared.command.Wanted.{Wanted}
 use Rattle.distping_words.specs.declared.fault.Fault.{Fault}
 use Rattle.distping_words.specs.declared.fault.Fault.TheVariants as fault
 use Rattle.dist_program.specs.PortTexts.{port_error_status}
@@ -24,3 +26,16 @@ refusal_status (refusal.BadMapperPort error) = port_error_status error
 refusal_status (refusal.NotPrivate file) = 1
 refusal_status (refusal.BadWord sentence) = 2
 refusal_status (refusal.Fault fault) = fault_status fault
+
+-- WHAT BYTES GIVE: their name, exactly where they are one, unless memory runs out
+abbrev pub GivesName : List ℕ → Result (List ℕ) Fault → Type 0
+GivesName bytes (Ok name) = IsNodeName bytes × (name ≡ bytes)
+GivesName bytes (Err fault.BadName) = IsNodeName bytes → ⊥
+GivesName bytes (Err fault.NoMemory) = Unit {0}
+GivesName bytes (Err other) = ⊥
+
+-- what is asked for can be done: who listens has a name, and who dials has a target, or a file that may name some
+abbrev pub Fits : Wanted → Type 0
+Fits w =
+    (is_some w.choices.listen ≡ true → is_some w.name ≡ true)
+    × (is_some w.choices.listen ≡ false → is_some w.choices.roster ≡ false → 0 < length w.targets.items)

@@ -1,15 +1,20 @@
 //! What the command line asks for.
 
+ghost use Rattle.std.specs.Prelude.{◌≡◌, ◌+◌, ◌*◌, IfOk, IfSome, None};
+ghost use Rattle.std.specs.Str.{IsUtf8};
+ghost use Rattle.dist_names.specs.NodeName.{host_of};
+ghost use Rattle.std.specs.Duration.{as_nanos};
+ghost use Rattle.distping_words.specs.Faults.{Fits, GivesName};
+
 use crate::fault::Fault;
-use crate::refusal::Refusal;
-use crate::refusing::{bad_address, bad_flags, bad_group, bad_name, bad_number, bad_words};
+use crate::refusal::{Refusal, refuse};
 use crate::roster::push_target;
 use clap::error::ErrorKind;
 use clap::{Arg, ArgAction, ArgMatches, Command, Error};
-use dist_cluster::{Target, target_of};
+use dist_cluster::Target;
 use dist_flags::{Dflag, Release};
 use dist_names::{Flags, NameError, NodeName, number_16, number_in};
-use dist_program::CONNECT_SECONDS;
+use dist_program::{CONNECT_SECONDS, name_sentence, number_sentence, parser_sentence, with_word};
 use std::alloc::{AllocError, Global};
 use std::time::Duration;
 
@@ -31,12 +36,6 @@ pub enum Instead {
 impl From<Refusal> for Instead {
     fn from(refusal: Refusal) -> Instead {
         Instead::Refusal(refusal)
-    }
-}
-
-impl From<AllocError> for Instead {
-    fn from(_error: AllocError) -> Instead {
-        Instead::Refusal(Refusal::Fault(Fault::NoMemory))
     }
 }
 
@@ -77,8 +76,8 @@ pub struct Choices<'a> {
     pub address: Option<&'a str>,
     /// The most seconds that a connect, a lookup and a talk may each take, at least one.
     pub seconds: u16,
-    /// Whether the command line gives this limit; then it also limits the wait for a connection.
-    pub has_limit: bool,
+    /// The same, if the command line gives it; then it also limits the wait for a connection.
+    pub patience: Option<u16>,
     /// The port at which one connection is taken, instead of dialling.
     pub listen: Option<u16>,
     /// Whether a JSON object is printed for each node, instead of the lines.
@@ -98,91 +97,82 @@ pub struct Choices<'a> {
 pub struct Rhythm {
     /// The seconds from the beginning of a round to that of the next.
     pub seconds: u16,
-    /// The number of rounds, if the command line gives one.
-    pub count: Option<u16>,
+    /// The number of rounds; if the command line gives none, more than any run lasts.
+    pub rounds: u64,
 }
 
-impl Rhythm {
-    /// The number of rounds; if none is given, more than any run lasts.
-    pub fn rounds(self) -> u64 {
-        match self.count {
-            Some(count) => u64::from(count),
-            None => u64::MAX,
-        }
+// Bytes as text; none if they are no UTF-8.
+fn text_of(bytes: &[u8]) -> &str
+    ensures { IsUtf8 bytes.now → result.now ≡ bytes.now }
+{
+    match std::str::from_utf8(bytes) {
+        Ok(text) => text,
+        Err(_) => "",
     }
 }
 
 impl<'a> Choices<'a> {
     /// The host to connect to for a node.
-    pub fn host<'b>(&'b self, node: &'b NodeName) -> &'b str {
+    pub fn host<'b>(&'b self, node: &'b NodeName) -> &'b str
+        ensures given { IfSome self.now.address (λ host. result.now ≡ host.now) }
+        ensures own { self.now.address ≡ None → IsUtf8 (host_of node.now) → result.now ≡ host_of node.now }
+    {
         match self.address {
             Some(host) => host,
-            None => std::str::from_utf8(node.host()).unwrap_or(""),
+            None => text_of(node.host()),
         }
     }
 
     /// How long the resolver may take.
-    pub fn limit(&self) -> Duration {
+    pub fn limit(&self) -> Duration
+        ensures { as_nanos result ≡ self.now.seconds * 1_000_000_000 }
+    {
         Duration::from_secs(u64::from(self.seconds))
-    }
-
-    /// How many seconds to wait for a connection, if the command line gives a limit.
-    pub fn patience(&self) -> Option<u16> {
-        if self.has_limit {
-            Some(self.seconds)
-        } else {
-            None
-        }
     }
 
     /// The most reads and writes of a lookup or a talk. The clock ends it earlier: a quiet turn takes a second, and there are turns to
     /// spare for the others.
-    pub fn turns(&self) -> usize {
+    pub fn turns(&self) -> usize
+        ensures { result ≡ self.now.seconds + 4096 }
+    {
         self.seconds as usize + TURNS_IN_PLENTY
     }
 }
 
+// The program's name.
+const PROGRAM: &str = "distping";
+
 // The options that take no value.
 const SWITCHES: [&str; 4] = ["no-cookie", "json", "cookie-unsafe", "all-pairs"];
 
-// The options that take a value.
-const VALUES: [&str; 11] = [
-    "name",
-    "cookie",
-    "flags",
-    "epmd-port",
-    "port",
-    "address",
-    "seconds",
-    "listen",
-    "nodes",
-    "watch",
-    "count",
-];
+// The options that take a text.
+const VALUES: [&str; 5] = ["name", "cookie", "flags", "address", "nodes"];
 
-// The command line with just the names of the nodes.
-fn bare<'a>(alloc: Global) -> Result<Command<'a>, AllocError> {
-    let nodes = Arg::new(alloc, "node")
-        .num_args(1..)
-        .action(ArgAction::Append);
-    Command::new(alloc, "distping")
-        .no_binary_name(true)
-        .version("0")
-        .arg(nodes)
+// The options that take a number.
+const VALUES_IN_DIGITS: [&str; 6] = ["epmd-port", "port", "listen", "seconds", "watch", "count"];
+
+// The number from 1 to 65,535 of this option, if it is given.
+fn number_of(alloc: Global, matches: &ArgMatches<'_>, id: &str) -> Result<Option<u16>, Refusal> {
+    let Some(word) = matches.get_str(id) else {
+        return Ok(None);
+    };
+    match number_16(word.as_bytes()) {
+        Some(0) | None => Err(refuse(number_sentence(alloc, PROGRAM, id, word))),
+        number => Ok(number),
+    }
 }
 
-// The command line with one more option.
-fn with_word<'a>(
-    alloc: Global,
-    program: Command<'a>,
-    word: &'a str,
-    action: ArgAction,
-) -> Result<Command<'a>, AllocError> {
-    program.arg(Arg::new(alloc, word).long(word).action(action))
+// The numbers of all these options, each if it is given.
+fn numbers_in(alloc: Global, matches: &ArgMatches<'_>) -> Result<[Option<u16>; 6], Refusal> {
+    let mut numbers = [None; 6];
+    for at in 0..6 {
+        numbers[at] = number_of(alloc, matches, VALUES_IN_DIGITS[at])?;
+    }
+    Ok(numbers)
 }
 
 // The command line with more options, all made in this way.
-fn with_words<'a>(
+fn with_options<'a>(
     alloc: Global,
     bare: Command<'a>,
     words: &[&'a str],
@@ -190,14 +180,23 @@ fn with_words<'a>(
 ) -> Result<Command<'a>, AllocError> {
     let mut program = bare;
     for word in words {
-        program = with_word(alloc, program, word, action)?;
+        program = program.arg(Arg::new(alloc, word).long(word).action(action))?;
     }
     Ok(program)
 }
 
-fn program<'a>(alloc: Global) -> Result<Command<'a>, AllocError> {
-    let program = with_words(alloc, bare(alloc)?, &SWITCHES, ArgAction::SetTrue)?;
-    with_words(alloc, program, &VALUES, ArgAction::Set)
+// The command line: the names of the nodes, and the options.
+fn program<'a>(alloc: Global) -> Result<Command<'a>, Refusal> {
+    let nodes = Arg::new(alloc, "node")
+        .num_args(1..)
+        .action(ArgAction::Append);
+    let bare = Command::new(alloc, PROGRAM)
+        .no_binary_name(true)
+        .version("0")
+        .arg(nodes)?;
+    let program = with_options(alloc, bare, &SWITCHES, ArgAction::SetTrue)?;
+    let program = with_options(alloc, program, &VALUES, ArgAction::Set)?;
+    Ok(with_options(alloc, program, &VALUES_IN_DIGITS, ArgAction::Set)?)
 }
 
 // The flags that a text names, or writes in hexadecimal digits.
@@ -212,105 +211,64 @@ fn flags_of(text: &str) -> Option<Flags> {
     Some(flags)
 }
 
-// The flags that a text gives. `DFLAG_NAME_ME` is refused: the probe has a name.
-fn own_flags_of(alloc: Global, text: &str) -> Result<Flags, Refusal> {
+// The flags that the probe announces: those that OTP 23 to 29 accept, unless others are given. `DFLAG_NAME_ME` is refused: the probe
+// has a name.
+fn flags_in(alloc: Global, matches: &ArgMatches<'_>) -> Result<Flags, Refusal> {
+    let Some(text) = matches.get_str("flags") else {
+        return Ok(Release::Otp28.required());
+    };
     match flags_of(text) {
         Some(flags) if !flags.has(Flags::NAME_ME) => Ok(flags),
-        _ => Err(bad_flags(alloc, text)),
+        _ => {
+            let front =
+                "--flags takes names of flags, joined by commas, or hexadecimal digits, and no NAME_ME: ";
+            Err(refuse(with_word(alloc, front, text)))
+        }
     }
-}
-
-// The flags that the probe announces: those that OTP 23 to 29 accept, unless others are given.
-fn flags_in(alloc: Global, matches: &ArgMatches<'_>) -> Result<Flags, Refusal> {
-    match matches.get_str("flags") {
-        None => Ok(Release::Otp28.required()),
-        Some(text) => own_flags_of(alloc, text),
-    }
-}
-
-// The options whose value is a number.
-const NUMBERS: [&str; 6] = ["epmd-port", "port", "listen", "seconds", "watch", "count"];
-
-// A number from 1 to 65,535.
-fn number_named(word: &str) -> Option<u16> {
-    match number_16(word.as_bytes()) {
-        Some(0) | None => None,
-        number => number,
-    }
-}
-
-// The number from 1 to 65,535 of this option, if it is given.
-fn number_of(alloc: Global, matches: &ArgMatches<'_>, id: &str) -> Result<Option<u16>, Refusal> {
-    let Some(word) = matches.get_str(id) else {
-        return Ok(None);
-    };
-    match number_named(word) {
-        Some(number) => Ok(Some(number)),
-        None => Err(bad_number(alloc, id, word)),
-    }
-}
-
-// The numbers of all these options, each if it is given.
-fn numbers_in(alloc: Global, matches: &ArgMatches<'_>) -> Result<[Option<u16>; 6], Refusal> {
-    let mut numbers = [None; 6];
-    for at in 0..6 {
-        numbers[at] = number_of(alloc, matches, NUMBERS[at])?;
-    }
-    Ok(numbers)
 }
 
 /// The name that these bytes spell.
-pub fn parse_name(alloc: Global, bytes: &[u8]) -> Result<NodeName, Fault> {
+pub fn parse_name(alloc: Global, bytes: &[u8]) -> Result<NodeName, Fault>
+    ensures { GivesName bytes.now result }
+{
     match NodeName::new(alloc, bytes) {
         Ok(name) => Ok(name),
         Err(NameError::NoMemory) => Err(Fault::NoMemory),
-        Err(_) => Err(Fault::BadName),
+        Err(NameError::TooShort | NameError::TooLong | NameError::BadByte | NameError::BadAt) =>
+            Err(Fault::BadName),
     }
 }
 
-// The name that a word of the command line spells.
-fn name_in(alloc: Global, word: &str) -> Result<NodeName, Refusal> {
+// The probe's own name, if one is given.
+fn own_name_in(alloc: Global, matches: &ArgMatches<'_>) -> Result<Option<NodeName>, Refusal> {
+    let Some(word) = matches.get_str("name") else {
+        return Ok(None);
+    };
     match parse_name(alloc, word.as_bytes()) {
-        Ok(name) => Ok(name),
-        Err(Fault::BadName) => Err(bad_name(alloc, word)),
+        Ok(name) => Ok(Some(name)),
+        Err(Fault::BadName) => Err(refuse(name_sentence(alloc, word))),
         Err(fault) => Err(Refusal::Fault(fault)),
     }
 }
 
 // The refusal of a word that names no target.
 fn bad_target(alloc: Global, word: &str) -> Refusal {
-    if word.starts_with('@') {
-        bad_group(alloc, word)
-    } else {
-        bad_name(alloc, word)
+    if !word.starts_with('@') {
+        return refuse(name_sentence(alloc, word));
     }
-}
-
-// The target that a word of the command line names.
-fn target_in(alloc: Global, word: &str) -> Result<Target, Refusal> {
-    match target_of(alloc, word.as_bytes()) {
-        Ok(target) => Ok(target),
-        Err(NameError::NoMemory) => Err(Refusal::Fault(Fault::NoMemory)),
-        Err(_) => Err(bad_target(alloc, word)),
-    }
+    let front = "behind the @ of @HOST stands a host, of 1 to 246 bytes and without a further @: ";
+    refuse(with_word(alloc, front, word))
 }
 
 // The targets that the command line names.
 fn targets_in(alloc: Global, matches: &ArgMatches<'_>) -> Result<Vec<Target>, Refusal> {
     let mut targets = Vec::new(alloc);
     for word in matches.get_strs("node").unwrap_or(&[]) {
-        let target = target_in(alloc, word)?;
-        push_target(&mut targets, target)?;
+        if !push_target(alloc, &mut targets, word.as_bytes())? {
+            return Err(bad_target(alloc, word));
+        }
     }
     Ok(targets)
-}
-
-// The probe's own name, if one is given.
-fn own_name_in(alloc: Global, matches: &ArgMatches<'_>) -> Result<Option<NodeName>, Refusal> {
-    match matches.get_str("name") {
-        None => Ok(None),
-        Some(word) => Ok(Some(name_in(alloc, word)?)),
-    }
 }
 
 fn cookie_in<'a>(matches: &ArgMatches<'a>) -> Result<CookieSource<'a>, Fault> {
@@ -333,17 +291,24 @@ fn has_port(host: &str) -> bool {
 // The host to connect to, if one is given.
 fn address_in<'a>(alloc: Global, matches: &ArgMatches<'a>) -> Result<Option<&'a str>, Refusal> {
     match matches.get_str("address") {
-        Some(host) if has_port(host) => Err(bad_address(alloc, host)),
+        Some(host) if has_port(host) => {
+            let front = "--address takes a host, and no port behind it: ";
+            Err(refuse(with_word(alloc, front, host)))
+        }
         address => Ok(address),
     }
 }
 
 // How often nodes are probed, if they are watched.
 fn rhythm_in(watch: Option<u16>, count: Option<u16>) -> Result<Option<Rhythm>, Fault> {
-    match (watch, count) {
-        (Some(seconds), count) => Ok(Some(Rhythm { seconds, count })),
-        (None, None) => Ok(None),
-        (None, Some(_)) => Err(Fault::CountAlone),
+    let rounds = match count {
+        Some(count) => u64::from(count),
+        None => u64::MAX,
+    };
+    match watch {
+        Some(seconds) => Ok(Some(Rhythm { seconds, rounds })),
+        None if count.is_some() => Err(Fault::CountAlone),
+        None => Ok(None),
     }
 }
 
@@ -363,7 +328,7 @@ fn choices_in<'a>(
         port,
         address: address_in(alloc, matches)?,
         seconds: seconds.unwrap_or(CONNECT_SECONDS),
-        has_limit: seconds.is_some(),
+        patience: seconds,
         listen,
         json: matches.get_flag("json"),
         takes_any_file: matches.get_flag("cookie-unsafe"),
@@ -373,55 +338,28 @@ fn choices_in<'a>(
     })
 }
 
-// What the parser matched.
-fn read_in<'a>(
-    alloc: Global,
-    matches: &ArgMatches<'a>,
-    usual_port: u16,
-) -> Result<Wanted<'a>, Refusal> {
-    let choices = choices_in(alloc, matches, usual_port)?;
-    let name = own_name_in(alloc, matches)?;
-    Ok(Wanted {
-        targets: targets_in(alloc, matches)?,
-        name,
-        choices,
-    })
-}
-
-// Whether just one node is dialled.
-fn is_one_node(wanted: &Wanted<'_>) -> bool {
-    matches!(wanted.targets.as_slice(), [Target::Node(_)]) && wanted.choices.roster.is_none()
-}
-
-// What contradicts `--listen`.
-fn listening_fault(wanted: &Wanted<'_>) -> Option<Fault> {
-    let choices = &wanted.choices;
-    let is_alone = wanted.targets.is_empty() && choices.roster.is_none() && choices.watch.is_none();
-    if is_alone && wanted.name.is_some() {
-        None
-    } else {
-        Some(Fault::ListenAlone)
+impl Wanted<'_> {
+    // Whether just one node is dialled.
+    fn is_one_node(&self) -> bool {
+        matches!(self.targets.as_slice(), [Target::Node(_)]) && self.choices.roster.is_none()
     }
-}
 
-// What contradicts dialling.
-fn dialling_fault(wanted: &Wanted<'_>) -> Option<Fault> {
-    let choices = &wanted.choices;
-    if wanted.targets.is_empty() && choices.roster.is_none() {
-        Some(Fault::NoNode)
-    } else if !is_one_node(wanted) && (choices.port.is_some() || choices.address.is_some()) {
-        Some(Fault::OneNodeAlone)
-    } else {
+    // What contradicts the rest.
+    fn fault(&self) -> Option<Fault>
+        ensures { result ≡ None → Fits self.now }
+    {
+        let choices = &self.choices;
+        let has_targets = !self.targets.is_empty() || choices.roster.is_some();
+        if choices.listen.is_some() {
+            if has_targets || choices.watch.is_some() || self.name.is_none() {
+                return Some(Fault::ListenAlone);
+            }
+        } else if !has_targets {
+            return Some(Fault::NoNode);
+        } else if (choices.port.is_some() || choices.address.is_some()) && !self.is_one_node() {
+            return Some(Fault::OneNodeAlone);
+        }
         None
-    }
-}
-
-// What contradicts the rest.
-fn fault_in(wanted: &Wanted<'_>) -> Option<Fault> {
-    if wanted.choices.listen.is_some() {
-        listening_fault(wanted)
-    } else {
-        dialling_fault(wanted)
     }
 }
 
@@ -430,12 +368,27 @@ fn wanted_in<'a>(
     alloc: Global,
     matches: &ArgMatches<'a>,
     usual_port: u16,
-) -> Result<Wanted<'a>, Instead> {
-    let wanted = read_in(alloc, matches, usual_port)?;
-    match fault_in(&wanted) {
-        Some(fault) => Err(Instead::Refusal(Refusal::Fault(fault))),
+) -> Result<Wanted<'a>, Refusal>
+    ensures { IfOk result Fits }
+{
+    let choices = choices_in(alloc, matches, usual_port)?;
+    let name = own_name_in(alloc, matches)?;
+    let targets = targets_in(alloc, matches)?;
+    let wanted = Wanted {
+        targets,
+        name,
+        choices,
+    };
+    match wanted.fault() {
+        Some(fault) => Err(Refusal::Fault(fault)),
         None => Ok(wanted),
     }
+}
+
+// The parser's message, as a sentence.
+fn sentence_of(alloc: Global, error: &Error) -> Result<String, AllocError> {
+    let text = format!(in alloc; "{error}")?;
+    parser_sentence(alloc, PROGRAM, &text)
 }
 
 // What is done if the parser matched nothing.
@@ -444,7 +397,7 @@ fn instead_of(alloc: Global, error: &Error) -> Instead {
         ErrorKind::DisplayHelp => Instead::Help,
         ErrorKind::DisplayVersion => Instead::Version,
         ErrorKind::OutOfMemory => Instead::Refusal(Refusal::Fault(Fault::NoMemory)),
-        _ => Instead::Refusal(bad_words(alloc, error)),
+        _ => Instead::Refusal(refuse(sentence_of(alloc, error))),
     }
 }
 
@@ -453,9 +406,11 @@ pub fn wanted_of<'a>(
     alloc: Global,
     words: &'a [String],
     usual_port: u16,
-) -> Result<Wanted<'a>, Instead> {
+) -> Result<Wanted<'a>, Instead>
+    ensures { IfOk result Fits }
+{
     match program(alloc)?.try_get_matches_from(words) {
-        Ok(matches) => wanted_in(alloc, &matches, usual_port),
+        Ok(matches) => Ok(wanted_in(alloc, &matches, usual_port)?),
         Err(error) => Err(instead_of(alloc, &error)),
     }
 }

@@ -57,11 +57,31 @@ pub enum Fault {
 
 impl fmt::Display for Fault {
     fn fmt<W: fmt::Write>(&self, f: &mut fmt::Formatter<W>) -> fmt::Result {
-        match self {
-            Fault::NoCookie(error) => write!(f, "{}: {error}", error.name()),
-            Fault::ListenFailed(kind) => write!(f, "ListenFailed: {kind}"),
-            other => f.write_str(other.text()),
-        }
+        let text = match self {
+            Fault::NoCookie(error) => return write!(f, "{}: {error}", error.name()),
+            Fault::ListenFailed(kind) => return write!(f, "ListenFailed: {kind}"),
+            Fault::BadCommandLine => "bad command line: a word is no UTF-8 (distping --help)",
+            Fault::NoNode => "bad command line: no NODE is named (distping --help)",
+            Fault::TwoCookies =>
+                "bad command line: --cookie and --no-cookie exclude each other (distping --help)",
+            Fault::BadName =>
+                "a node's name has one @, something on both sides, and 3 to 255 bytes",
+            Fault::OneNodeAlone => "--port and --address go with one NODE alone",
+            Fault::CountAlone => "--count goes with --watch",
+            Fault::NoTime => "ReadFailed: the system's clock",
+            Fault::RosterClosed => "OpenFailed: the file of --nodes",
+            Fault::RosterUnread => "ReadFailed: the file of --nodes",
+            Fault::RosterTooLong => "TooLong: the file of --nodes has more than 1048576 bytes",
+            Fault::TooManyNodes => "more than 1024 nodes are named",
+            Fault::OpenFailed => "OpenFailed: the cookie's file",
+            Fault::NotStored => "OpenFailed: the cookie's file is a pipe, a socket or a device",
+            Fault::NoListenAddress => "ListenFailed: the host of --address has no address",
+            Fault::ListenAlone => "--listen goes with --name, and with no NODE",
+            Fault::WriteFailed => "WriteFailed",
+            Fault::NoRandomBytes => "ReadFailed: no random bytes",
+            Fault::NoMemory => "NoMemory",
+        };
+        f.write_str(text)
     }
 }
 
@@ -93,34 +113,6 @@ impl<T: Drop> From<AllocFailed<T>> for Fault {
 }
 
 impl Fault {
-    // The word or sentence that is printed.
-    fn text(self) -> &'static str {
-        match self {
-            Fault::BadCommandLine => "bad command line: a word is no UTF-8 (distping --help)",
-            Fault::NoNode => "bad command line: no NODE is named (distping --help)",
-            Fault::TwoCookies =>
-                "bad command line: --cookie and --no-cookie exclude each other (distping --help)",
-            Fault::BadName =>
-                "a node's name has one @, something on both sides, and 3 to 255 bytes",
-            Fault::OneNodeAlone => "--port and --address go with one NODE alone",
-            Fault::CountAlone => "--count goes with --watch",
-            Fault::NoTime => "ReadFailed: the system's clock",
-            Fault::RosterClosed => "OpenFailed: the file of --nodes",
-            Fault::RosterUnread => "ReadFailed: the file of --nodes",
-            Fault::RosterTooLong => "TooLong: the file of --nodes has more than 1048576 bytes",
-            Fault::TooManyNodes => "more than 1024 nodes are named",
-            Fault::OpenFailed => "OpenFailed: the cookie's file",
-            Fault::NotStored => "OpenFailed: the cookie's file is a pipe, a socket or a device",
-            Fault::NoCookie(error) => error.name(),
-            Fault::ListenFailed(_) => "ListenFailed",
-            Fault::NoListenAddress => "ListenFailed: the host of --address has no address",
-            Fault::ListenAlone => "--listen goes with --name, and with no NODE",
-            Fault::WriteFailed => "WriteFailed",
-            Fault::NoRandomBytes => "ReadFailed: no random bytes",
-            Fault::NoMemory => "NoMemory",
-        }
-    }
-
     /// The exit status: 2 if the command line is at fault, else 1.
     pub fn status(self) -> u8
         ensures { result ≡ fault_status self }

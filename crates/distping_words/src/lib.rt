@@ -8,7 +8,6 @@ mod command;
 mod cookie;
 mod fault;
 mod refusal;
-mod refusing;
 mod roster;
 
 pub use command::{Choices, CookieSource, Instead, Rhythm, Wanted, parse_name, wanted_of};

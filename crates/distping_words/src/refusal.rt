@@ -1,6 +1,6 @@
 //! What ends the program early; some of it quotes the user's words in its line.
 
-ghost use Rattle.std.specs.Prelude.{◌≡◌};
+ghost use Rattle.std.specs.Prelude.{◌≡◌, IfErr, IfOk};
 ghost use Rattle.distping_words.specs.Faults.{refusal_status};
 
 use crate::fault::Fault;
@@ -20,6 +20,18 @@ pub enum Refusal {
     BadWord(String),
     /// Another fault.
     Fault(Fault),
+}
+
+/// The refusal of a word by this sentence about it, if there was memory for the sentence. What it quotes is escaped, so that all of it is
+/// safe to print.
+pub fn refuse(sentence: Result<String, AllocError>) -> Refusal
+    ensures ok { IfOk sentence (λ sentence. result ≡ Refusal.BadWord sentence) }
+    ensures err { IfErr sentence (λ _. result ≡ Refusal.Fault Fault.NoMemory) }
+{
+    match sentence {
+        Ok(sentence) => Refusal::BadWord(sentence),
+        Err(AllocError) => Refusal::Fault(Fault::NoMemory),
+    }
 }
 
 impl fmt::Display for Refusal {

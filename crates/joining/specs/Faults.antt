@@ -10,7 +10,6 @@ fault_status fault.BadCommandLine = 2
 fault_status (fault.BadWord sentence) = 2
 fault_status fault.NamesNoNode = 2
 fault_status (fault.BadMapperPort error) = port_error_status error
-fault_status fault.BadName = 2
 fault_status (fault.NoHost error) = 3
 fault_status fault.NoMapper = 3
 fault_status (fault.NotFound error) = 3

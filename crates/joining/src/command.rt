@@ -61,17 +61,21 @@ fn option<'a>(alloc: Global, word: &'a str, action: ArgAction) -> Arg<'a> {
 
 // The command line.
 fn program<'a>(alloc: Global) -> Result<Command<'a>, AllocError> {
-    let cookie = option(alloc, COOKIE, ArgAction::Set).alias(COOKIE_FILE)?;
-    let mut program = Command::new(alloc, PROGRAM)
-        .no_binary_name(true)
-        .version("0")
-        .arg(Arg::new(alloc, "node").action(ArgAction::Set))?
-        .arg(cookie)?
-        .arg(option(alloc, UNSAFE, ArgAction::SetTrue))?;
-    for word in VALUES {
+    let mut program = bare(alloc)?;
+    program = program.arg(option(alloc, UNSAFE, ArgAction::SetTrue))?;
+    program = program.arg(option(alloc, COOKIE, ArgAction::Set).alias(COOKIE_FILE)?)?;
+    for word in &VALUES {
         program = program.arg(option(alloc, word, ArgAction::Set))?;
     }
     Ok(program)
+}
+
+// The command line with just the node.
+fn bare<'a>(alloc: Global) -> Result<Command<'a>, AllocError> {
+    Command::new(alloc, PROGRAM)
+        .no_binary_name(true)
+        .version("0")
+        .arg(Arg::new(alloc, "node").action(ArgAction::Set))
 }
 
 // The number from 1 to 65,535 of this option, or the usual one if it is not given.
@@ -85,7 +89,7 @@ fn number_of(alloc: Global, matches: &ArgMatches<'_>, id: &str, usual: u16) -> R
     }
 }
 
-// The name that a word of the command line spells.
+// The name that a word spells.
 fn name_in(alloc: Global, word: &str) -> Result<NodeName, Fault> {
     match NodeName::new(alloc, word.as_bytes()) {
         Ok(name) => Ok(name),
@@ -94,17 +98,8 @@ fn name_in(alloc: Global, word: &str) -> Result<NodeName, Fault> {
     }
 }
 
-// A name at the node's host, so that both names are long or both short.
-fn name_at(alloc: Global, host: &str) -> Result<NodeName, Fault> {
-    let text = format!(in alloc; "joining@{host}")?;
-    match NodeName::new(alloc, text.as_bytes()) {
-        Ok(name) => Ok(name),
-        Err(NameError::NoMemory) => Err(Fault::NoMemory),
-        Err(_) => Err(Fault::BadName),
-    }
-}
-
-// The node's name and ours, which is checked first if it is given, and the node's host.
+// The node's name and ours, which is checked first if it is given, and the node's host. If it is not given, it is one at that host, so
+// that both names are long or both short.
 fn names_in<'a>(
     alloc: Global,
     matches: &ArgMatches<'a>,
@@ -118,10 +113,11 @@ fn names_in<'a>(
     };
     let node = name_in(alloc, word)?;
     let (_, host) = word.split_once('@').unwrap_or(("", ""));
-    match given {
-        Some(name) => Ok((node, name, host)),
-        None => Ok((node, name_at(alloc, host)?, host)),
-    }
+    let name = match given {
+        Some(name) => name,
+        None => name_in(alloc, &format!(in alloc; "joining@{host}")?)?,
+    };
+    Ok((node, name, host))
 }
 
 // What the parser matched.
@@ -132,13 +128,15 @@ fn wanted_in<'a>(
 ) -> Result<JoinRequest<'a>, Fault> {
     let mapper_port = number_of(alloc, matches, "epmd-port", usual_port)?;
     let net_ticktime = number_of(alloc, matches, "net-ticktime", NET_TICKTIME)?;
+    let (address, cookie_file) = (matches.get_str("address"), matches.get_str(COOKIE));
+    let is_unsafe = matches.get_flag(UNSAFE);
     let (node, name, host) = names_in(alloc, matches)?;
     Ok(JoinRequest {
         node,
         name,
-        host: matches.get_str("address").unwrap_or(host),
-        cookie_file: matches.get_str(COOKIE),
-        is_unsafe: matches.get_flag(UNSAFE),
+        host: address.unwrap_or(host),
+        cookie_file,
+        is_unsafe,
         mapper_port,
         net_ticktime,
     })

@@ -15,17 +15,6 @@ fn sentence_of(alloc: Global, path: &str) -> Result<String, AllocError> {
     )
 }
 
-// The fault for a file without a cookie.
-fn fault_of(alloc: Global, fault: CookieFault) -> Result<Fault, AllocError> {
-    Ok(match fault {
-        CookieFault::OpenFailed => Fault::OpenFailed,
-        CookieFault::NotStored => Fault::NotStored,
-        CookieFault::NotPrivate(path) => Fault::NotPrivate(sentence_of(alloc, &path)?),
-        CookieFault::NoCookie(error) => Fault::NoCookie(error),
-        CookieFault::NoMemory => Fault::NoMemory,
-    })
-}
-
 /// The cookie of the named file, or of the home folder.
 pub fn cookie_of(rt: &HostRuntime, wanted: &JoinRequest<'_>) -> Result<Cookie, Fault> {
     let found = match wanted.cookie_file {
@@ -34,7 +23,13 @@ pub fn cookie_of(rt: &HostRuntime, wanted: &JoinRequest<'_>) -> Result<Cookie, F
     };
     match found {
         Ok(Some(cookie)) => Ok(cookie),
-        Ok(None) => Err(Fault::OpenFailed),
-        Err(fault) => Err(fault_of(rt.alloc(), fault)?),
+        Ok(None) | Err(CookieFault::OpenFailed) => Err(Fault::OpenFailed),
+        Err(CookieFault::NotStored) => Err(Fault::NotStored),
+        Err(CookieFault::NotPrivate(path)) => Err(Fault::NotPrivate(sentence_of(
+            rt.alloc(),
+            &path,
+        )?)),
+        Err(CookieFault::NoCookie(error)) => Err(Fault::NoCookie(error)),
+        Err(CookieFault::NoMemory) => Err(Fault::NoMemory),
     }
 }

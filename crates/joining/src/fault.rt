@@ -19,8 +19,6 @@ pub enum Fault {
     NamesNoNode,
     /// ERL_EPMD_PORT is not a port.
     BadMapperPort(PortError),
-    /// A text that should be a node's name is not one.
-    BadName,
     /// The cookie's file could not be opened.
     OpenFailed,
     /// The cookie's file is a pipe, a socket or a device.
@@ -54,9 +52,6 @@ pub enum Fault {
 /// How far a dial got that found the node: its name fits, and only the acknowledgement is missing. No further address is tried then.
 pub const FOUND: u8 = 8;
 
-// The same for a fault of this machine.
-const OWN: u8 = 9;
-
 impl Fault {
     // The first part of what is printed.
     fn text(&self) -> &str {
@@ -65,8 +60,6 @@ impl Fault {
             Fault::BadWord(sentence) | Fault::NotPrivate(sentence) => sentence.as_str(),
             Fault::NamesNoNode => "bad command line: no NODE is named (joining --help)",
             Fault::BadMapperPort(error) => error.text(),
-            Fault::BadName =>
-                "a node's name has one @, something on both sides, and 3 to 255 bytes",
             Fault::OpenFailed => "OpenFailed: the cookie's file",
             Fault::NotStored => "OpenFailed: the cookie's file is a pipe, a socket or a device",
             Fault::NoCookie(error) => error.name(),
@@ -109,7 +102,7 @@ impl Fault {
         ensures { result ≡ fault_status self.now }
     {
         match self {
-            Fault::BadCommandLine | Fault::BadWord(_) | Fault::NamesNoNode | Fault::BadName => 2,
+            Fault::BadCommandLine | Fault::BadWord(_) | Fault::NamesNoNode => 2,
             Fault::BadMapperPort(error) => error.status(),
             Fault::NoHost(_)
             | Fault::NoMapper
@@ -135,7 +128,7 @@ impl Fault {
             | Fault::NotUp(Why::WrongName | Why::WrongFlags, None) => 7,
             Fault::NotUp(Why::StatusRefused, None) => 6,
             Fault::NotUp(..) => 5,
-            _ => OWN,
+            _ => 9,
         }
     }
 }

@@ -2,7 +2,7 @@
 
 use crate::fault::Fault;
 use distribution::{
-    AMPLE_TURNS, Awaited, Draws, EndId, Event, MemoryDesk, Node, Outcome, Reached, Stream,
+    AMPLE_TURNS, Awaited, Draws, EndId, Event, MemoryDesk, Node, Outcome, Reached, Reply, Stream,
     UpRecord, Why, handshake,
 };
 use std::alloc::Global;
@@ -35,11 +35,30 @@ fn awaited_message(desk: &MemoryDesk, end_: EndId) -> Option<Awaited> {
 
 // The fault of a handshake with this outcome.
 fn fault_of(desk: &MemoryDesk, end_: EndId, outcome: Outcome) -> Fault {
-    match outcome {
-        Outcome::Closed(Why::NoMemory) => Fault::NoMemory,
-        Outcome::Closed(why) => Fault::NotUp(why, awaited_message(desk, end_)),
-        Outcome::Limit => Fault::NotUp(Why::GaveUp, awaited_message(desk, end_)),
-    }
+    let why = match outcome {
+        Outcome::Closed(Why::NoMemory) => return Fault::NoMemory,
+        Outcome::Closed(why) => why,
+        Outcome::Limit => Why::GaveUp,
+    };
+    Fault::NotUp(why, awaited_message(desk, end_))
+}
+
+/// A step of our node that sends no challenge: only a frame makes it send one.
+pub fn step(alloc: Global, node: &mut Node, event: &Event) -> Result<Reply, Fault> {
+    Ok(node.step(alloc, event, 0)?)
+}
+
+// Drives the end at this desk until it is up, or the stream falls quiet for good.
+fn drive_desk<S: Stream>(
+    alloc: Global,
+    stream: &mut S,
+    desk: &mut MemoryDesk,
+    end_: EndId,
+    first: &[u8],
+    challenge: u32,
+) -> Reached {
+    let mut draws = LinkChallenge(challenge);
+    handshake(alloc, stream, desk, &mut draws, end_, first, AMPLE_TURNS)
 }
 
 /// Performs the handshake of a dialled end whose connection is made, until the stream falls quiet for good. Returns what is known of
@@ -52,19 +71,10 @@ pub fn shake_hands<S: Stream>(
     challenge: u32,
 ) -> Result<(UpRecord, Vec<u8>), Fault> {
     let mut node = node;
-    let mut draws = LinkChallenge(challenge);
-    let first = node.step(alloc, &Event::Opened { end_, link: 0 }, 0)?.say;
+    let opened = step(alloc, &mut node, &Event::Opened { end_, link: 0 })?;
     let mut desk = MemoryDesk::new(alloc, node, end_)?;
-    let first = first.as_slice();
-    match handshake(
-        alloc,
-        stream,
-        &mut desk,
-        &mut draws,
-        end_,
-        first,
-        AMPLE_TURNS,
-    ) {
+    let first = opened.say.as_slice();
+    match drive_desk(alloc, stream, &mut desk, end_, first, challenge) {
         Reached::Up { record, rest } => Ok((record, rest)),
         Reached::Ended(outcome) => Err(fault_of(&desk, end_, outcome)),
     }

@@ -1,32 +1,30 @@
-//! The link, once it is up: prints what arrives, sends a tick if nothing was sent for a while, and gives up a silent peer.
+//! The link, once it is up: hands on what arrives, sends a tick if nothing was sent for a while, and gives up a silent peer.
 
 use crate::fault::Fault;
-use crate::printing::{hand_on, up_text};
-use crossbeam_channel::Sender;
-use dist_program::{Resolving, one_turn};
+use crossbeam_channel::{SendTimeoutError, Sender};
 use distribution::{Due, Limited, PacketError, Packets, SocketStream, Ticker, UpRecord, Why, tick};
-use std::alloc::Global;
+use std::sync::Wait;
 use std::sync::atomic::{AtomicBool, Ordering};
-use std::thread;
-use std::time::{Clock, Instant};
-
-// The most bytes of one read.
-const PIECE: usize = 4096;
-
-// The most writes of a tick.
-const TURNS_OF_A_TICK: usize = 10;
+use std::time::{Clock, Duration, Instant};
 
 /// What the link needs while it is kept.
-#[derive(Clone, Copy)]
-pub struct Keeping<'a, R: Resolving> {
+#[derive(Drop)]
+pub struct Keeping<'a, R> {
     /// The clock, and the runtime for calls that may wait.
     pub rt: &'a R,
-    /// Where memory for lines comes from.
-    pub alloc: Global,
-    /// Where lines are sent.
-    pub lines: &'a Sender<String>,
-    /// Whether the program should leave.
+    /// Since when the link is kept.
+    pub start: Instant,
+    /// Where the length of each packet is sent, for the thread that prints it.
+    pub lengths: &'a Sender<usize>,
+    /// Whether the program should leave. Whoever sets it wakes the link, by shutting its socket for reads.
     pub ended: &'a AtomicBool,
+}
+
+impl<'a, R: Clock> Keeping<'a, R> {
+    // How many milliseconds the link is kept.
+    fn now(&self) -> Result<u64, Fault> {
+        Ok(u64::try_from(self.start.elapsed(self.rt)?.as_millis()).unwrap_or(u64::MAX))
+    }
 }
 
 /// A link that is up.
@@ -38,101 +36,88 @@ pub struct Link {
     pub record: UpRecord,
     /// The packets that arrive on it.
     pub packets: Packets,
-    /// Whether there is no room for the line of the next packet. Until there is, nothing is read.
-    pub is_held_up: bool,
-}
-
-// How many milliseconds have passed since `start`.
-fn millis_since<R: Clock>(rt: &R, start: &Instant) -> Result<u64, Fault> {
-    Ok(u64::try_from(start.elapsed(rt)?.as_millis()).unwrap_or(u64::MAX))
+    /// When a tick is due, in milliseconds since the link is kept.
+    pub ticker: Ticker,
 }
 
 impl Link {
-    // Prints the whole packets but the ticks, as long as there is room for lines. A piece has fewer packets than bytes.
-    fn print_packets<R: Resolving>(&mut self, with: &Keeping<'_, R>) -> Result<(), Fault> {
-        for _ in 0..PIECE {
-            let len = match self.packets.front() {
-                Ok(Some(packet)) => packet.len(),
-                Ok(None) => break,
-                Err(PacketError::TooLong(_)) => return Err(Fault::LongPacket),
-                Err(PacketError::NoMemory) => return Err(Fault::NoMemory),
-            };
-            if 0 < len {
-                let line = format!(in with.alloc; "packet {len}\n")?;
-                self.is_held_up = !hand_on(with.rt, with.lines, line)?;
-            }
-            if self.is_held_up {
-                break;
-            }
-            self.packets.drop_front();
+    // The length of the next packet, once it is whole.
+    fn next_len(&self) -> Result<Option<usize>, Fault> {
+        match self.packets.front() {
+            Ok(Some(packet)) => Ok(Some(packet.len())),
+            Ok(None) => Ok(None),
+            Err(PacketError::TooLong(_)) => Err(Fault::LongPacket),
+            Err(PacketError::NoMemory) => Err(Fault::NoMemory),
         }
-        Ok(())
     }
 
-    // Reads what arrives within one turn, unless a packet is held up. While nothing is read, the peer does not count as silent.
-    fn listen<R: Resolving>(
+    // Hands on the length of the next packet, if there is room for it within this time. While nothing is read, the peer does not count
+    // as silent. (A bounded channel needs no memory, so any other error is that nobody prints.)
+    fn hand_on<R: Wait + Clock>(
         &mut self,
         with: &Keeping<'_, R>,
-        ticker: &mut Ticker,
-        now: u64,
-    ) -> Result<(), Fault> {
-        if self.is_held_up {
-            ticker.note_read(now);
-            thread::sleep(with.rt, one_turn());
-            return Ok(());
+        len: usize,
+        wait: Duration,
+    ) -> Result<bool, Fault> {
+        match with.lengths.send_timeout(with.rt, len, wait) {
+            Ok(()) => self.packets.drop_front(),
+            Err(SendTimeoutError::Timeout(_)) if !with.ended.load(Ordering::SeqCst) => {}
+            Err(_) => return Ok(false),
         }
-        let mut room = [0u8; PIECE];
+        self.ticker.note_read(with.now()?);
+        Ok(true)
+    }
+
+    // Reads what arrives within this time, a piece at most.
+    fn listen<R: Clock>(&mut self, with: &Keeping<'_, R>, wait: Duration) -> Result<bool, Fault> {
+        self.stream.get_ref().set_read_timeout(Some(wait))?;
+        let mut room = [0u8; 4096];
         let mut limited = Limited {
             stream: &mut self.stream,
             left: 1,
         };
-        let count = limited.read(&mut room)?;
+        let read = limited.read(&mut room);
+        if with.ended.load(Ordering::SeqCst) {
+            return Ok(false);
+        }
+        let count = read?;
         if 0 < count {
-            ticker.note_read(now);
+            self.ticker.note_read(with.now()?);
             self.packets.feed(&room[..count])?;
         }
-        Ok(())
+        Ok(true)
     }
 
-    // Sends a tick.
-    fn send_tick(&mut self, ticker: &mut Ticker, now: u64) -> Result<(), Fault> {
+    // Sends a tick, in ten writes at most.
+    fn send_tick<R: Clock>(&mut self, with: &Keeping<'_, R>) -> Result<bool, Fault> {
         let mut limited = Limited {
             stream: &mut self.stream,
-            left: TURNS_OF_A_TICK,
+            left: 10,
         };
         limited.write_all(&tick())?;
-        ticker.note_write(now);
-        Ok(())
+        self.ticker.note_write(with.now()?);
+        Ok(true)
     }
 
-    // Does what is due now. The ticker counts from `start`.
-    fn take_turn<R: Resolving>(
-        &mut self,
-        with: &Keeping<'_, R>,
-        start: &Instant,
-        ticker: &mut Ticker,
-    ) -> Result<(), Fault> {
-        let now = millis_since(with.rt, start)?;
-        match ticker.due(now) {
-            Due::Nothing { wait: _ } => self.listen(with, ticker, now),
-            Due::Tick => self.send_tick(ticker, now),
-            Due::GiveUp => Err(Fault::Lost(Why::GaveUp)),
+    // Does what is due now. Returns whether the link is kept on.
+    fn take_turn<R: Wait + Clock>(&mut self, with: &Keeping<'_, R>) -> Result<bool, Fault> {
+        let wait = match self.ticker.due(with.now()?) {
+            Due::Nothing { wait } => Duration::from_millis(wait),
+            Due::Tick => return self.send_tick(with),
+            Due::GiveUp => return Err(Fault::Lost(Why::GaveUp)),
+        };
+        match self.next_len()? {
+            Some(len) => self.hand_on(with, len, wait),
+            None => self.listen(with, wait),
         }
     }
 
-    /// Reports the peer, and keeps the link until `ended` is set, which ends it, or until it is lost. `quarter` is a quarter of the time
-    /// after which a silent peer is given up, in milliseconds.
-    pub fn stay<R: Resolving>(&mut self, with: &Keeping<'_, R>, quarter: u32) -> Result<(), Fault> {
-        let start = Instant::now(with.rt)?;
-        let mut ticker = Ticker::new(quarter, 0);
-        // (there is room, since no other line was sent)
-        hand_on(with.rt, with.lines, up_text(with.alloc, &self.record)?)?;
+    /// Keeps the link until the program should leave, or nobody prints, which ends it, or until it is lost.
+    pub fn keep<R: Wait + Clock>(&mut self, with: &Keeping<'_, R>) -> Result<(), Fault> {
         for _ in 0..u64::MAX {
-            self.print_packets(with)?;
-            if with.ended.load(Ordering::SeqCst) {
+            if !self.take_turn(with)? {
                 break;
             }
-            self.take_turn(with, &start, &mut ticker)?;
         }
         let _ = self.stream.shut();
         Ok(())

@@ -15,8 +15,7 @@ mod printing;
 
 use command::{Invocation, JoinRequest, request_of};
 use cookie::cookie_of;
-use crossbeam_channel::bounded;
-use dialling::{NodeToJoin, join_node};
+use dialling::join_node;
 use dist_program::{
     CONNECT_SECONDS, HostError, Resolving, TextError, draw, lookup_host, mapper_port, report,
     words_of,
@@ -24,12 +23,14 @@ use dist_program::{
 use distribution::{Cookies, Creation, Flags, Limits, Release, Setup, Version};
 use fault::Fault;
 use link::{Keeping, Link};
-use printing::{MOST_WAITING, print, write_lines};
+use printing::{print, start_printing};
+use std::io;
+use std::net::{Shutdown, TcpStream};
 use std::process::ExitCode;
 use std::sync::Arc;
 use std::sync::atomic::{AtomicBool, Ordering};
-use std::time::Duration;
-use std::{io, thread};
+use std::thread::{self, Threads};
+use std::time::{Duration, Instant};
 
 /// The help.
 const HELP: &str =
@@ -71,57 +72,12 @@ fn perform<R: Resolving + Copy + Send + 'static>(rt: HostRuntime, own: R) -> Res
     };
     let mapper_port = mapper_port(&rt).map_err(Fault::BadMapperPort)?;
     match request_of(rt.alloc(), &words, mapper_port)? {
-        Invocation::Prints(text) => print(&mut rt.stdout(), text),
+        Invocation::Prints(text) => print(&rt, text),
         Invocation::Joins(wanted) => {
             let mut link = join(&rt, &own, &wanted)?;
-            stay(rt, own, &mut link, u32::from(wanted.net_ticktime) * 250)
+            stay(rt, own, &mut link)
         }
     }
-}
-
-// Keeps the link, while one thread waits for the end of the input, and another one prints. Leaves at the end of the input.
-fn stay<R: Resolving + Copy + Send + 'static>(
-    rt: HostRuntime,
-    own: R,
-    link: &mut Link,
-    quarter: u32,
-) -> Result<(), Fault> {
-    let ended = mark_of_end(rt, &own)?;
-    let (lines, waiting) = bounded(rt.alloc(), MOST_WAITING)?;
-    let Ok(printer) = thread::spawn(&own, move || write_lines(&own, &waiting, &mut rt.stdout()))
-    else {
-        return Err(Fault::SystemFailed);
-    };
-    let with = Keeping {
-        rt: &own,
-        alloc: rt.alloc(),
-        lines: &lines,
-        ended: &ended,
-    };
-    let stayed = link.stay(&with, quarter);
-    drop(lines);
-    let printed = printer.join(&own);
-    stayed?;
-    printed?;
-    print(&mut rt.stdout(), "left\n")
-}
-
-// A mark that is set at the end of the input, by a thread that reads it.
-fn mark_of_end<R: Resolving>(rt: HostRuntime, own: &R) -> Result<Arc<AtomicBool>, Fault> {
-    let Ok(ended) = Arc::new(rt.alloc(), AtomicBool::new(false)) else {
-        return Err(Fault::NoMemory);
-    };
-    let theirs = Arc::try_clone(&ended)?;
-    match thread::spawn(own, move || watch(rt, &theirs)) {
-        Ok(_) => Ok(ended),
-        Err(_) => Err(Fault::SystemFailed),
-    }
-}
-
-// Reads the input to its end, and sets the mark. What is read is ignored.
-fn watch<R: Input + Drop>(rt: R, ended: &AtomicBool) {
-    let _ = io::copy(&mut rt.reader(), &mut io::sink());
-    ended.store(true, Ordering::SeqCst);
 }
 
 // The setup of this program's node: hidden, since its flags are without `DFLAG_PUBLISHED`.
@@ -148,16 +104,56 @@ fn join<R: Resolving>(
     wanted: &JoinRequest<'_>,
 ) -> Result<Link, Fault> {
     let setup = setup_of(rt, wanted)?;
-    let dial = NodeToJoin {
-        rt,
-        setup: &setup,
-        peer: &wanted.node,
-        mapper_port: wanted.mapper_port,
-    };
     let limit = Duration::from_secs(u64::from(CONNECT_SECONDS));
     match lookup_host(resolver, *rt, wanted.host, limit) {
-        Ok(addresses) => join_node(&dial, &addresses),
+        Ok(addresses) => join_node(rt, &setup, wanted, &addresses),
         Err(HostError::NoMemory) => Err(Fault::NoMemory),
         Err(error) => Err(Fault::NoHost(error)),
     }
+}
+
+// Keeps the link, while one thread waits for the end of the input, and another one prints. Leaves at the end of the input.
+fn stay<R: Resolving + Copy + Send + 'static>(
+    rt: HostRuntime,
+    own: R,
+    link: &mut Link,
+) -> Result<(), Fault> {
+    let start = Instant::now(&own)?;
+    let ended = mark_of_end(rt, &own, link)?;
+    let (lengths, printer) = start_printing(rt, own, &link.record)?;
+    let kept = link.keep(&Keeping {
+        rt: &own,
+        start,
+        lengths: &lengths,
+        ended: &ended,
+    });
+    drop(lengths);
+    let printed = printer.join(&own);
+    kept?;
+    printed?;
+    print(&rt, "left\n")
+}
+
+// A mark that is set at the end of the input, by a thread that reads it and then wakes the link.
+fn mark_of_end<R: Threads>(
+    rt: HostRuntime,
+    own: &R,
+    link: &Link,
+) -> Result<Arc<AtomicBool>, Fault> {
+    let socket = link.stream.get_ref().try_clone()?;
+    let Ok(ended) = Arc::new(rt.alloc(), AtomicBool::new(false)) else {
+        return Err(Fault::NoMemory);
+    };
+    let theirs = Arc::try_clone(&ended)?;
+    match thread::spawn(own, move || watch(rt, &theirs, &socket)) {
+        Ok(_) => Ok(ended),
+        Err(_) => Err(Fault::SystemFailed),
+    }
+}
+
+// Reads the input to its end, sets the mark, and shuts the socket for reads, so that one that waits returns. What is read is ignored.
+fn watch<R: Input + Drop>(rt: R, ended: &AtomicBool, socket: &TcpStream) {
+    let _ = io::copy(&mut rt.reader(), &mut io::sink());
+    ended.store(true, Ordering::SeqCst);
+    let _ = socket.shutdown(Shutdown::Read);
 }

@@ -1,55 +1,45 @@
-//! What is printed. A thread of its own writes it, so that an output that is not read delays no tick.
+//! What is printed. A thread of its own prints packets, so that an output that is not read delays no tick.
 
 use crate::fault::Fault;
-use crossbeam_channel::{Receiver, Sender, TrySendError};
+use crossbeam_channel::{Receiver, Sender, bounded};
+use dist_program::Resolving;
 use distribution::{Dflag, UpRecord};
 use std::alloc::{AllocError, Global};
 use std::io::{ErrorKind, Write};
 use std::sync::Wait;
+use std::thread::{self, JoinHandle};
 
-/// The most lines that wait for the thread that writes them. While that many wait, nothing is read from the link.
-pub const MOST_WAITING: usize = 65;
+/// The most packets whose lines wait to be printed. While that many wait, nothing is read from the link.
+const MOST_WAITING: usize = 64;
 
-/// Sends a text to the thread that writes it, if there is room. Returns whether there was.
-pub fn hand_on<R: Wait>(rt: &R, lines: &Sender<String>, text: String) -> Result<bool, Fault> {
-    match lines.try_send(rt, text) {
-        Ok(()) => Ok(true),
-        Err(TrySendError::Full(_)) => Ok(false),
-        Err(TrySendError::OutOfMemory(_)) => Err(Fault::NoMemory),
-        Err(TrySendError::Disconnected(_)) => Err(Fault::WriteFailed),
-    }
-}
-
-/// Writes a text.
-pub fn print<W: Write>(out: &mut W, text: &str) -> Result<(), Fault> {
-    let mut written = out.write_all(text.as_bytes());
-    if written.is_ok() {
-        written = out.flush();
-    }
-    match written {
+/// Prints a text.
+pub fn print(rt: &HostRuntime, text: &str) -> Result<(), Fault> {
+    match rt.stdout().write_all(text.as_bytes()) {
         Ok(()) => Ok(()),
         Err(error) if error.kind() == ErrorKind::OutOfMemory => Err(Fault::NoMemory),
         Err(_) => Err(Fault::WriteFailed),
     }
 }
 
-/// Writes each text that is sent, until no more can come or one can't be written.
-pub fn write_lines<R: Wait, W: Write>(
-    rt: &R,
-    lines: &Receiver<String>,
-    out: &mut W,
+// Prints a text, and then a line for each packet whose length arrives, until no more can come or a line can't be printed. A packet of
+// no bytes is a tick, and has no line.
+fn print_packets<R: Wait>(
+    rt: &HostRuntime,
+    own: &R,
+    first: &str,
+    lengths: &Receiver<usize>,
 ) -> Result<(), Fault> {
-    for _ in rt.forever() {
-        match lines.recv(rt) {
-            Ok(text) => print(out, &text)?,
-            Err(_) => return Ok(()),
+    print(rt, first)?;
+    for len in lengths.iter(own) {
+        if 0 < len {
+            print(rt, &format!(in rt.alloc(); "packet {len}\n")?)?;
         }
     }
-    unreachable!()
+    Ok(())
 }
 
-/// The lines for a peer that was joined: its name, and its creation if that is known; the flags that both announced.
-pub fn up_text(alloc: Global, record: &UpRecord) -> Result<String, AllocError> {
+// The lines for a peer that was joined: its name, and its creation if that is known; the flags that both announced.
+fn up_text(alloc: Global, record: &UpRecord) -> Result<String, AllocError> {
     let peer = std::str::from_utf8(record.peer.bytes()).unwrap_or("?");
     let mut text = match record.creation {
         Some(creation) => format!(in alloc; "up {peer} creation {}\nflags", creation.0)?,
@@ -63,4 +53,20 @@ pub fn up_text(alloc: Global, record: &UpRecord) -> Result<String, AllocError> {
     }
     text.push_str("\n")?;
     Ok(text)
+}
+
+/// Starts a thread that prints the lines for a peer, and a line for each packet. Returns where the length of each packet is sent, and
+/// the thread. `own` is the same runtime, for calls that may wait.
+pub fn start_printing<R: Resolving + Copy + Send + 'static>(
+    rt: HostRuntime,
+    own: R,
+    record: &UpRecord,
+) -> Result<(Sender<usize>, JoinHandle<Result<(), Fault>>), Fault> {
+    let alloc = rt.alloc();
+    let up = up_text(alloc, record)?;
+    let (lengths, waiting) = bounded(alloc, MOST_WAITING)?;
+    match thread::spawn(&own, move || print_packets(&rt, &own, &up, &waiting)) {
+        Ok(printer) => Ok((lengths, printer)),
+        Err(_) => Err(Fault::SystemFailed),
+    }
 }

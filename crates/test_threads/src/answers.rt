@@ -1,6 +1,7 @@
 //! What a node answers before a step, compared with the step itself; a node whose steps are used up; one that forgets why ends were
 //! closed; and the opening for a peer's version.
 
+use crate::rows::{TableKind, first_wrong};
 use crate::setting::{CHALLENGE, do_word, event, node_after, setup_of};
 use dist_core::{Node, Opening, Reply, StepError};
 use dist_drive::opening_for;
@@ -60,33 +61,25 @@ fn answer_before_step(rt: HostRuntime) {
     }
 }
 
-// How many of this many ticks a node accepts.
-fn ticks(alloc: Global, node: &mut Node, count: u32) -> Option<u32> {
+// Node b takes three steps and then ticks: how many it accepts, and how it answers one more, the loss of its end, and a connection.
+fn spend_steps(alloc: Global) -> Option<String> {
+    let mut node = node_after(alloc, "b incoming name reply")?;
     let tick = event(alloc, "tick")?;
     let mut taken = 0u32;
-    for _ in 0..count {
+    for _ in 0..1_048_573u32 {
         taken = taken.saturating_add(node.step(alloc, &tick, 0).is_ok() as u32);
     }
-    Some(taken)
-}
-
-// Node b takes three steps and then ticks. Returns how it answers one more tick, the loss of its end, and a connection.
-fn spend_steps(alloc: Global) -> Option<(Option<u32>, [Option<Result<(), StepError>>; 3])> {
-    let mut node = node_after(alloc, "b incoming name reply")?;
-    let taken = ticks(alloc, &mut node, 1_048_573);
-    let answers = [
-        do_word(alloc, &mut node, "tick"),
-        do_word(alloc, &mut node, "ended"),
-        do_word(alloc, &mut node, "incoming"),
-    ];
-    Some((taken, answers))
+    let next = do_word(alloc, &mut node, "tick")?;
+    let lost = do_word(alloc, &mut node, "ended")?;
+    let incoming = do_word(alloc, &mut node, "incoming")?;
+    format!(in alloc; "{taken} {next:?} {lost:?} {incoming:?}").ok()
 }
 
 #[test]
 fn steps_spent(rt: HostRuntime) {
-    let spent = Some(Err(StepError::Spent));
-    let wanted = (Some(1_048_573), [spent, Some(Ok(())), spent]);
-    assert_eq!(rt; spend_steps(rt.alloc()), Some(wanted));
+    let seen = spend_steps(rt.alloc());
+    let wanted = "1048573 Err(Spent) Ok(()) Err(Spent)";
+    assert_eq!(rt; seen.as_deref(), Some(wanted));
 }
 
 // A node and its words; how ends 0 and 1 then stand, and the oldest pending end. A number forgets the causes of the closed ends below
@@ -100,7 +93,8 @@ b incoming 9 => Pending NoSuchEnd Some(EndId(0))
 b incoming name reply incoming => Up Pending Some(EndId(1))
 b incoming name reply 9 => Up NoSuchEnd None";
 
-fn ends_after(alloc: Global, text: &str) -> Option<String> {
+/// How ends 0 and 1 of a node stand after its words, and its oldest pending end.
+pub fn ends_after(alloc: Global, text: &str) -> Option<String> {
     let mut node = node_after(alloc, text)?;
     let oldest = node.oldest_pending();
     let (first, second) = (node.still(EndId(0)), node.still(EndId(1)));
@@ -109,20 +103,21 @@ fn ends_after(alloc: Global, text: &str) -> Option<String> {
 
 #[test]
 fn causes_are_forgotten(rt: HostRuntime) {
-    for row in FORGOTTEN.lines() {
-        let (text, wanted) = row.split_once(" => ").unwrap_or((row, ""));
-        let ends = ends_after(rt.alloc(), text);
-        assert_eq!(rt; ends.as_deref(), Some(wanted), "{row}");
-    }
+    assert_eq!(rt;
+        first_wrong(&rt, rt.alloc(), TableKind::Ends, FORGOTTEN),
+        None
+    );
 }
 
+// A peer whose highest version is 5 is dialled as of old.
 #[test]
 fn opening_by_version(rt: HostRuntime) {
     let Ok(mut peer) = PortInfo::of_node(rt.alloc(), b"a", 9001, false) else {
         panic!(rt; "no memory");
     };
-    for (highest, wanted) in [(5u16, Opening::Old), (6, Opening::New), (7, Opening::New)] {
+    for highest in 5..8u16 {
         peer.highest = highest;
-        assert_eq!(rt; opening_for(&peer), wanted, "{highest}");
+        let is_old = opening_for(&peer) == Opening::Old;
+        assert_eq!(rt; is_old, highest == 5, "{highest}");
     }
 }

@@ -1,56 +1,46 @@
-//! Histories of two nodes under locks, and the result of their audit, unchanged and with one change; and whether they follow the dial
-//! order of a nodes file.
+//! Histories of two nodes under locks, and the result of their audit, unchanged and with one change.
 
-use crate::runs::A_PEER;
-use crate::seats::{SeatedNode, is_made, seated_node};
+use crate::rows::{TableKind, first_wrong};
+use crate::seats::{LETTERS, SeatedNode, play, sides_of};
 use crate::setting::{number, word};
 use dist_audit::audit;
 use dist_core::Event;
-use dist_locked::{Closed, Line, SharedLine, Tickets, close};
+use dist_locked::{Closed, Line, SharedLine, close};
 use dist_names::{ByteString, Creation, Flags};
-use dist_run_hosts::are_obeyed;
-use dist_run_plan::plan_of;
 use dist_world::Agreement;
 use std::alloc::Global;
-use std::sync::{Arc, Wait};
+use std::sync::Wait;
 use std::test::*;
 
-// One handshake: the node of each step, and its event. Tickets of a: 0 dial, 1 opened, 4, 5, 7 frames. Of b: 2 incoming, 3, 6 frames.
+// One handshake: which histories are audited, and the node of each step, with its event. Tickets of a: 0 dial, 1 opened, 4, 5, 7 frames.
+// Of b: 2 incoming, 3, 6 frames.
 const HANDSHAKE: &str =
-    "a dial, a opened, b incoming, b name, a ok, a challenge, b reply, a acknowledgement";
+    "ab: a dial, a opened, b incoming, b name, a ok, a challenge, b reply, a acknowledgement";
 
-// Adds nodes a and b, which draw their tickets from one counter.
-fn put_both(alloc: Global, sides: &mut Vec<SeatedNode>) -> Option<()> {
-    let tickets = Arc::new(alloc, Tickets::new()).ok()?;
-    for is_a in [true, false] {
-        sides.push(seated_node(alloc, &tickets, is_a)?).ok()?;
-    }
-    Some(())
-}
-
-fn play(rt: &impl Wait, alloc: Global, sides: &mut [SeatedNode], text: &str) -> Option<()> {
-    for step in text.split_terminator(", ") {
-        let side = sides.get_mut(usize::from(step.starts_with('b')))?;
-        if !is_made(rt, alloc, side, 0, word(step, 1))? {
-            return None;
-        }
-    }
-    Some(())
-}
+// No history; one node alone with a connection that no node dialled; a dial; and a second one after its end was lost.
+const SMALL: &str = "\
+none: b incoming => not agreed
+b: b incoming => Unpaired
+ab: a dial => not agreed
+ab: a dial, a ended, a dial => not agreed";
 
 fn put_closed(all: &mut Vec<Closed>, side: SeatedNode) -> Option<()> {
     let closed = close(side.node.into_book(), side.seats).ok()?;
     all.push(closed).ok()
 }
 
-// The closed nodes a and b, after the steps in this text. `None`: memory was refused, or the text is wrong.
-fn play_text(rt: &impl Wait, alloc: Global, text: &str) -> Option<Vec<Closed>> {
-    let mut sides = Vec::new(alloc);
-    put_both(alloc, &mut sides)?;
-    play(rt, alloc, &mut sides, text)?;
+// The closed nodes that a text names, after its steps. `None`: memory was refused, or the text is wrong.
+fn histories(rt: &impl Wait, alloc: Global, text: &str) -> Option<Vec<Closed>> {
+    let (letters, steps) = text.split_once(": ")?;
+    let mut sides = sides_of(alloc)?;
+    if play(rt, alloc, &mut sides, steps)? < steps.split(", ").count() {
+        return None;
+    }
     let mut all = Vec::new(alloc);
-    for side in sides {
-        put_closed(&mut all, side)?;
+    for (side, letter) in sides.into_iter().zip(LETTERS.chars()) {
+        if letters.contains(letter) {
+            put_closed(&mut all, side)?;
+        }
     }
     Some(all)
 }
@@ -140,7 +130,7 @@ const ALTERED: &str = "\
 
 #[test]
 fn audited_handshake(rt: HostRuntime) {
-    let Some(mut all) = play_text(&rt, rt.alloc(), HANDSHAKE) else {
+    let Some(mut all) = histories(&rt, rt.alloc(), HANDSHAKE) else {
         panic!(rt; "no history");
     };
     assert_eq!(rt;
@@ -149,44 +139,20 @@ fn audited_handshake(rt: HostRuntime) {
     );
 }
 
-// Steps, from which node on the histories are audited, the result, and whether both histories follow node a's one order to dial node
-// b: no history; one node alone with a connection that no node dialled; a dial; and a second one after its end was lost.
-const SMALL: [(&str, usize, &str, bool); 4] = [
-    ("", 2, "not agreed", false),
-    ("b incoming", 1, "Unpaired", false),
-    ("a dial", 0, "not agreed", true),
-    ("a dial, a ended, a dial", 0, "not agreed", false),
-];
+/// The result of the audit of the closed nodes that a text names, after its steps.
+pub fn audit_answer(rt: &impl Wait, alloc: Global, text: &str) -> Option<String> {
+    let all = histories(rt, alloc, text)?;
+    answer(alloc, &all).to_string(alloc).ok()
+}
 
 #[test]
 fn small_audits(rt: HostRuntime) {
-    for (text, first, wanted, _) in SMALL {
-        let Some(all) = play_text(&rt, rt.alloc(), text) else {
-            panic!(rt; "no history");
-        };
-        let some = all.get(first..).unwrap_or(&[]);
-        assert_eq!(rt; answer(rt.alloc(), some), wanted, "{text}");
-    }
-}
-
-fn are_followed(alloc: Global, all: &[Closed]) -> Option<bool> {
-    let plan = plan_of(alloc, A_PEER).ok()?;
-    Some(are_obeyed(&plan, &[], all))
-}
-
-#[test]
-fn an_order_is_followed_once(rt: HostRuntime) {
-    for (text, _, _, wanted) in SMALL {
-        let Some(all) = play_text(&rt, rt.alloc(), text) else {
-            panic!(rt; "no history");
-        };
-        assert_eq!(rt; are_followed(rt.alloc(), &all), Some(wanted), "{text}");
-    }
+    assert_eq!(rt; first_wrong(&rt, rt.alloc(), TableKind::Audit, SMALL), None);
 }
 
 // Whether an audit finds that both agree, or runs out of memory and then finds it on the next try.
 fn is_agreed(rt: &impl Wait, alloc: Global) -> Option<bool> {
-    let all = play_text(rt, alloc, HANDSHAKE)?;
+    let all = histories(rt, alloc, HANDSHAKE)?;
     let noted = answer(alloc, &all);
     Some(noted == "agreed" || noted == "NoMemory" && answer(alloc, &all) == "agreed")
 }
@@ -199,5 +165,5 @@ fn audit_memory_refused(rt: HostRuntime) {
         None => is_agreed(&rt, rt.alloc()),
         noted => noted,
     };
-    assert_eq!(rt; noted, Some(true));
+    assert!(rt; noted == Some(true));
 }

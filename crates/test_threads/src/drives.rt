@@ -1,5 +1,6 @@
 //! Calls that drive an end: their stream fails, ends, is cut or is quiet, their turns run out, or memory does.
 
+use crate::rows::{TableKind, first_wrong};
 use crate::setting::{CHALLENGE, Rising, bytes_of, node_after, number, word};
 use dist_drive::{Desk, FaultStream, MemoryDesk, Outcome, Reached, drive, handshake};
 use dist_peers::EndId;
@@ -40,27 +41,11 @@ pub fn desk_of(alloc: Global, side: &str) -> Option<MemoryDesk> {
     MemoryDesk::new(alloc, node_after(alloc, text)?, EndId(0)).ok()
 }
 
-// Drives the end of a row's desk. A dialled end has sent its name, and its challenge is the second number drawn; that of an accepted end
-// is the first.
-fn drive_row(
-    alloc: Global,
-    desk: &mut MemoryDesk,
-    stream: &mut FaultStream,
-    row: &str,
-) -> Option<Outcome> {
-    let (first, number_of_first) = match word(row, 0) {
-        "dialled" => (bytes_of(alloc, "name")?, CHALLENGE - 1),
-        _ => (Vec::new(alloc), CHALLENGE),
-    };
-    let mut draws = Rising(number_of_first);
-    let limit = number(word(row, 7), 0) as usize;
-    Some(drive(alloc, stream, desk, &mut draws, EndId(0), &first, limit))
-}
-
-// Reports how a call ended, which loss was reported, and how the end stands; and the numbers of frames given to the node, of bytes
-// written, of the node's entries; and of reads and writes.
+// Reports how a call of a row ended, which loss was reported, and how the end stands; the numbers of frames given to the node, of bytes
+// written, of the node's entries; and of reads and writes, 0 where the row has several calls.
 fn put_seen(
     printed: &mut String,
+    row: &str,
     outcome: Outcome,
     desk: &MemoryDesk,
     stream: &FaultStream,
@@ -72,116 +57,135 @@ fn put_seen(
     };
     let frames = steps.len().saturating_sub(usize::from(loss.is_some()));
     let still = desk.still(EndId(0));
-    let (written, entries, calls) = (stream.output().len(), desk.node().entries(), stream.calls());
+    let (written, entries) = (stream.output().len(), desk.node().entries());
+    let calls = if word(row, 9) == "1" {
+        stream.calls()
+    } else {
+        0
+    };
     write!(
         printed,
-        "{outcome:?} {loss:?} {still:?} {frames} {written} {entries}; {calls};"
+        "{outcome:?} {loss:?} {still:?} {frames} {written} {entries}; {calls}"
     )
     .ok()
 }
 
-// What is reported of the call of a row, played with this number.
+// What is reported of the call of a row, played with this number. A dialled end has sent its name, and its challenge is the second
+// number drawn; that of an accepted end is the first.
 fn play_row(alloc: Global, row: &str, at: u64) -> Option<String> {
+    let (first, drawn) = match word(row, 0) {
+        "dialled" => ("name", CHALLENGE - 1),
+        _ => ("-", CHALLENGE),
+    };
+    let first = bytes_of(alloc, first)?;
     let mut stream = stream_of(alloc, row, at)?;
     let mut desk = desk_of(alloc, word(row, 0))?;
-    let outcome = drive_row(alloc, &mut desk, &mut stream, row)?;
+    let mut draws = Rising(drawn);
+    let limit = number(word(row, 7), 0) as usize;
+    let outcome = drive(
+        alloc,
+        &mut stream,
+        &mut desk,
+        &mut draws,
+        EndId(0),
+        &first,
+        limit,
+    );
     let mut printed = String::new(alloc);
-    put_seen(&mut printed, outcome, &desk, &stream)?;
+    put_seen(&mut printed, row, outcome, &desk, &stream)?;
     Some(printed)
+}
+
+/// What is reported of the calls of a row, one for each of its numbers, where all report the same.
+pub fn play_calls(alloc: Global, row: &str) -> Option<String> {
+    let mut seen = String::new(alloc);
+    for at in number(word(row, 8), 0)..number(word(row, 9), 0) {
+        let next = play_row(alloc, row, at)?;
+        if !seen.is_empty() && seen != next {
+            return None;
+        }
+        seen = next;
+    }
+    Some(seen)
 }
 
 // The side; the frames that it receives, and how many bytes of them; the most bytes of each read and of each write in turn, 0 for a
 // quiet turn; which read and which write fails; the limit; the numbers with which the row is played, `at` in its words. Then what is
-// reported, with or without the number of reads and writes.
+// reported.
 //
 // Packets after a handshake are not given to the node; what the last turn read still is. The loss of the end that is gone was reported
 // to its node before the call. The loss of the unknown end can't be reported: its first frame is refused.
 const ROWS: &str = "\
 # drive_faults
-accepted name+reply 999 28,23 - 0 0 100 0 1 => Closed(Ended) Some(Ended) Gone(Ended) 2 56 0; 5;
-accepted name+reply 999 28,23 - 1 0 100 0 1 => Closed(ReadFailed) Some(ReadFailed) Gone(ReadFailed) 0 0 0; 1;
-accepted name+reply 999 28,23 - 0 1 100 0 1 => Closed(WriteFailed) Some(WriteFailed) Gone(WriteFailed) 1 0 0; 2;
-accepted name+reply 999 28,23 - 2 0 100 0 1 => Closed(ReadFailed) Some(ReadFailed) Gone(ReadFailed) 1 37 0; 3;
-accepted name+reply 999 28,23 - 0 2 100 0 1 => Closed(WriteFailed) Some(WriteFailed) Gone(WriteFailed) 2 37 0; 4;
-accepted name+reply 999 28,23 - 3 0 100 0 1 => Closed(ReadFailed) Some(ReadFailed) Gone(ReadFailed) 2 56 0; 5;
-dialled ok+challenge+acknowledgement 999 37,23 - 0 0 100 0 1 => Closed(Ended) Some(Ended) Gone(Ended) 3 51 0; 5;
-dialled ok+challenge+acknowledgement 999 37,23 - 0 1 100 0 1 => Closed(WriteFailed) Some(WriteFailed) Gone(WriteFailed) 0 0 0; 1;
-dialled ok+challenge+acknowledgement 999 37,23 - 1 0 100 0 1 => Closed(ReadFailed) Some(ReadFailed) Gone(ReadFailed) 0 28 0; 2;
-dialled ok+challenge+acknowledgement 999 37,23 - 0 2 100 0 1 => Closed(WriteFailed) Some(WriteFailed) Gone(WriteFailed) 2 28 0; 3;
-dialled ok+challenge+acknowledgement 999 37,23 - 2 0 100 0 1 => Closed(ReadFailed) Some(ReadFailed) Gone(ReadFailed) 2 51 0; 4;
-dialled ok+challenge+acknowledgement 999 37,23 - 3 0 100 0 1 => Closed(ReadFailed) Some(ReadFailed) Gone(ReadFailed) 3 51 0; 5;
+accepted name+reply 999 28,23 - 0 0 100 0 1 => Closed(Ended) Some(Ended) Gone(Ended) 2 56 0; 5
+accepted name+reply 999 28,23 - 1 0 100 0 1 => Closed(ReadFailed) Some(ReadFailed) Gone(ReadFailed) 0 0 0; 1
+accepted name+reply 999 28,23 - 0 1 100 0 1 => Closed(WriteFailed) Some(WriteFailed) Gone(WriteFailed) 1 0 0; 2
+accepted name+reply 999 28,23 - 2 0 100 0 1 => Closed(ReadFailed) Some(ReadFailed) Gone(ReadFailed) 1 37 0; 3
+accepted name+reply 999 28,23 - 0 2 100 0 1 => Closed(WriteFailed) Some(WriteFailed) Gone(WriteFailed) 2 37 0; 4
+accepted name+reply 999 28,23 - 3 0 100 0 1 => Closed(ReadFailed) Some(ReadFailed) Gone(ReadFailed) 2 56 0; 5
+dialled ok+challenge+acknowledgement 999 37,23 - 0 0 100 0 1 => Closed(Ended) Some(Ended) Gone(Ended) 3 51 0; 5
+dialled ok+challenge+acknowledgement 999 37,23 - 0 1 100 0 1 => Closed(WriteFailed) Some(WriteFailed) Gone(WriteFailed) 0 0 0; 1
+dialled ok+challenge+acknowledgement 999 37,23 - 1 0 100 0 1 => Closed(ReadFailed) Some(ReadFailed) Gone(ReadFailed) 0 28 0; 2
+dialled ok+challenge+acknowledgement 999 37,23 - 0 2 100 0 1 => Closed(WriteFailed) Some(WriteFailed) Gone(WriteFailed) 2 28 0; 3
+dialled ok+challenge+acknowledgement 999 37,23 - 2 0 100 0 1 => Closed(ReadFailed) Some(ReadFailed) Gone(ReadFailed) 2 51 0; 4
+dialled ok+challenge+acknowledgement 999 37,23 - 3 0 100 0 1 => Closed(ReadFailed) Some(ReadFailed) Gone(ReadFailed) 3 51 0; 5
 # write_fails_in_mid_handshake
-accepted name+reply+packets 999 28,23 37,3 0 3 100 0 1 => Closed(WriteFailed) Some(WriteFailed) Gone(WriteFailed) 2 40 0; 5;
-accepted name+reply+packets 999 28,23 37,3 0 3 0 0 1 => Limit None Pending 0 0 0; 0;
+accepted name+reply+packets 999 28,23 37,3 0 3 100 0 1 => Closed(WriteFailed) Some(WriteFailed) Gone(WriteFailed) 2 40 0; 5
+accepted name+reply+packets 999 28,23 37,3 0 3 0 0 1 => Limit None Pending 0 0 0; 0
 # quiet streams, and limits
-accepted name+reply+packets 999 0,0,0,0 - 0 0 40 0 1 => Limit None Pending 0 0 0; 40;
-accepted name+reply+packets 999 28,0,0,0 - 0 0 3 0 1 => Limit None Pending 1 37 1; 3;
-accepted name+reply+packets 999 28,0,0,0 - 0 0 1 0 1 => Limit None Pending 1 0 1; 1;
-accepted name+reply+packets 999 28,23,13,0 - 0 0 6 0 1 => Limit None Up 2 56 1; 6;
+accepted name+reply+packets 999 0,0,0,0 - 0 0 40 0 1 => Limit None Pending 0 0 0; 40
+accepted name+reply+packets 999 28,0,0,0 - 0 0 3 0 1 => Limit None Pending 1 37 1; 3
+accepted name+reply+packets 999 28,0,0,0 - 0 0 1 0 1 => Limit None Pending 1 0 1; 1
+accepted name+reply+packets 999 28,23,13,0 - 0 0 6 0 1 => Limit None Up 2 56 1; 6
 # drive_of_a_gone_end, and one that is unknown
-gone name+reply+packets 999 - - 0 0 100 0 1 => Closed(Replaced) None Gone(Replaced) 0 0 0; 0;
-unknown name+reply+packets 999 - - 0 0 100 0 1 => Closed(GaveUp) None NoSuchEnd 0 0 0; 1;
+gone name+reply+packets 999 - - 0 0 100 0 1 => Closed(Replaced) None Gone(Replaced) 0 0 0; 0
+unknown name+reply+packets 999 - - 0 0 100 0 1 => Closed(GaveUp) None NoSuchEnd 0 0 0; 1
 # a peer that knows version 5 alone
-accepted old_name+reply 999 20,23 - 0 0 100 0 1 => Closed(Ended) Some(Ended) Gone(Ended) 2 48 0; 5;
-accepted old_name+reply 999 20,23,0,0 - 0 0 6 0 1 => Limit None Up 2 48 1; 6;
+accepted old_name+reply 999 20,23 - 0 0 100 0 1 => Closed(Ended) Some(Ended) Gone(Ended) 2 48 0; 5
+accepted old_name+reply 999 20,23,0,0 - 0 0 6 0 1 => Limit None Up 2 48 1; 6
 # drive_refused_by_status
-dialled nok 999 - - 0 0 100 0 1 => Closed(StatusRefused) None Gone(StatusRefused) 1 28 0; 2;
+dialled nok 999 - - 0 0 100 0 1 => Closed(StatusRefused) None Gone(StatusRefused) 1 28 0; 2
 # drive_cut_input: cut after each byte, in single bytes and in one piece
-accepted name+reply+packets at 1 1 0 0 1000 0 28 => Closed(Ended) Some(Ended) Gone(Ended) 0 0 0;
-accepted name+reply+packets at 1 1 0 0 1000 28 51 => Closed(Ended) Some(Ended) Gone(Ended) 1 37 0;
-accepted name+reply+packets at 1 1 0 0 1000 51 65 => Closed(Ended) Some(Ended) Gone(Ended) 2 56 0;
-accepted name+reply+packets at 100 100 0 0 1000 0 28 => Closed(Ended) Some(Ended) Gone(Ended) 0 0 0;
-accepted name+reply+packets at 100 100 0 0 1000 28 51 => Closed(Ended) Some(Ended) Gone(Ended) 1 37 0;
-accepted name+reply+packets at 100 100 0 0 1000 51 65 => Closed(Ended) Some(Ended) Gone(Ended) 2 56 0;
+accepted name+reply+packets at 1 1 0 0 1000 0 28 => Closed(Ended) Some(Ended) Gone(Ended) 0 0 0; 0
+accepted name+reply+packets at 1 1 0 0 1000 28 51 => Closed(Ended) Some(Ended) Gone(Ended) 1 37 0; 0
+accepted name+reply+packets at 1 1 0 0 1000 51 65 => Closed(Ended) Some(Ended) Gone(Ended) 2 56 0; 0
+accepted name+reply+packets at 100 100 0 0 1000 0 28 => Closed(Ended) Some(Ended) Gone(Ended) 0 0 0; 0
+accepted name+reply+packets at 100 100 0 0 1000 28 51 => Closed(Ended) Some(Ended) Gone(Ended) 1 37 0; 0
+accepted name+reply+packets at 100 100 0 0 1000 51 65 => Closed(Ended) Some(Ended) Gone(Ended) 2 56 0; 0
 # packets_are_never_frames: a handshake and packets behind it in two pieces, cut after each byte
-accepted name+reply+packets 999 at,100 - 0 0 100 1 70 => Closed(Ended) Some(Ended) Gone(Ended) 2 56 0;
-dialled ok+challenge+acknowledgement+packets 999 at,100 - 0 0 100 1 70 => Closed(Ended) Some(Ended) Gone(Ended) 3 51 0;";
-
-// The first number with which a row gives another result.
-fn first_wrong(alloc: Global, row: &str) -> Option<u64> {
-    let (case, wanted) = row.split_once(" => ").unwrap_or((row, "-"));
-    for at in number(word(row, 8), 0)..number(word(row, 9), 0) {
-        let seen = play_row(alloc, case, at);
-        if !seen.as_deref().unwrap_or("").starts_with(wanted) {
-            return Some(at);
-        }
-    }
-    None
-}
+accepted name+reply+packets 999 at,100 - 0 0 100 1 70 => Closed(Ended) Some(Ended) Gone(Ended) 2 56 0; 0
+dialled ok+challenge+acknowledgement+packets 999 at,100 - 0 0 100 1 70 => Closed(Ended) Some(Ended) Gone(Ended) 3 51 0; 0";
 
 #[test]
 fn driven_calls_go_as_their_rows_say(rt: HostRuntime) {
-    for row in ROWS.lines() {
-        assert_eq!(rt; first_wrong(rt.alloc(), row), None, "{row}");
-    }
+    assert_eq!(rt; first_wrong(&rt, rt.alloc(), TableKind::Drive, ROWS), None);
 }
 
-// What a handshake leaves unread of a stream, in hexadecimal digits, if its first read gives this many bytes.
-fn rest_of(alloc: Global, read: usize) -> Option<String> {
+/// What a handshake leaves unread of a stream, in hexadecimal digits, if its first read gives this many bytes.
+pub fn rest_of(alloc: Global, read: &str) -> Option<String> {
     let mut desk = desk_of(alloc, "accepted")?;
     let mut stream = FaultStream::new(alloc, bytes_of(alloc, "name+reply+packets")?);
-    stream.read_sizes.push(read).ok()?;
+    put_sizes(&mut stream.read_sizes, read, 0)?;
     let mut draws = Rising(CHALLENGE);
     match handshake(alloc, &mut stream, &mut desk, &mut draws, EndId(0), b"", 9) {
-        Reached::Up { record: _, rest } => hex::encode(alloc, &rest).ok(),
+        Reached::Up { record: _, rest } => {
+            let digits = hex::encode(alloc, &rest).ok()?;
+            format!(in alloc; "0x{digits}").ok()
+        }
         Reached::Ended(_) => None,
     }
 }
 
 // The frames have 51 bytes: how many the first read gives, and what it leaves after the frames.
-const RESTS: [(usize, &str); 4] = [
-    (51, ""),
-    (52, "00"),
-    (59, "0000000000000005"),
-    (64, "00000000000000050102030405"),
-];
+const RESTS: &str = "\
+51 => 0x
+52 => 0x00
+59 => 0x0000000000000005
+64 => 0x00000000000000050102030405";
 
 #[test]
 fn a_handshake_leaves_what_came_behind_it(rt: HostRuntime) {
-    for (read, wanted) in RESTS {
-        let rest = rest_of(rt.alloc(), read);
-        assert_eq!(rt; rest.as_deref(), Some(wanted), "{read}");
-    }
+    assert_eq!(rt; first_wrong(&rt, rt.alloc(), TableKind::Rest, RESTS), None);
 }
 
 // A call that runs out of memory reports it like any fault, and the end is lost, which takes no memory. A request is refused in the

@@ -1,10 +1,8 @@
-//! Node b under a lock, with two seats that give it events in turn, and the queue of dial orders.
+//! Nodes under locks, each with two seats that give it events in turn, and the queue of dial orders.
 
-use crate::setting::{CHALLENGE, event, setup_of};
+use crate::setting::{CHALLENGE, event, setup_of, word};
 use dist_core::StepError;
-use dist_locked::{
-    CloseError, Closed, DialOrder, LAST_ORDER, LockedNode, Orders, Seat, Tickets, close, dispatch,
-};
+use dist_locked::{Closed, DialOrder, LockedNode, Orders, Seat, Tickets, close, dispatch};
 use std::alloc::Global;
 use std::sync::{Arc, Wait};
 use std::test::*;
@@ -20,74 +18,54 @@ pub struct SeatedNode {
     pub seats: Vec<Seat>,
 }
 
-/// Node a or node b, which draws its tickets here.
-pub fn seated_node(
-    alloc: Global,
-    tickets: &Arc<Tickets, Global>,
-    is_a: bool,
-) -> Option<SeatedNode> {
+/// The nodes by their letters, in the order of `sides_of`.
+pub const LETTERS: &str = "acb";
+
+fn seated_node(alloc: Global, tickets: &Arc<Tickets, Global>, is_a: bool) -> Option<SeatedNode> {
     let tickets = Arc::try_clone(tickets).ok()?;
     let (node, seats) = LockedNode::new(alloc, setup_of(alloc, is_a)?, tickets, 2).ok()?;
     Some(SeatedNode { node, seats })
 }
 
-/// Node b, which has tickets of its own.
-pub fn seated_b(alloc: Global) -> Option<SeatedNode> {
+/// Nodes a, c and b, which draw their tickets from one counter. Node c is set up as b is.
+pub fn sides_of(alloc: Global) -> Option<Vec<SeatedNode>> {
     let tickets = Arc::new(alloc, Tickets::new()).ok()?;
-    seated_node(alloc, &tickets, false)
-}
-
-/// Gives a node the event for a word, by the seat at this place. Returns whether the step is made; `false` if it runs out of memory.
-/// `None`: it is refused for another reason, or memory was refused before it.
-pub fn is_made<R: Wait>(
-    rt: &R,
-    alloc: Global,
-    side: &mut SeatedNode,
-    place: usize,
-    word: &str,
-) -> Option<bool> {
-    let event = event(alloc, word)?;
-    let seat = side.seats.get_mut(place)?;
-    match side.node.step(rt, seat, &event, CHALLENGE).err() {
-        None => Some(true),
-        Some(StepError::NoMemory) => Some(false),
-        Some(_) => None,
+    let mut sides = Vec::new(alloc);
+    for letter in LETTERS.chars() {
+        sides
+            .push(seated_node(alloc, &tickets, letter == 'a')?)
+            .ok()?;
     }
+    Some(sides)
 }
 
-// The events that the seats give in turn.
-const NOTED: [&str; 4] = ["incoming", "name", "reply", "incoming"];
-
-/// Makes this many steps, the seats in turn, until one runs out of memory. Returns how many were made; `None` if one was refused for
-/// another reason, or memory was refused before a step.
-pub fn make_steps<R: Wait>(
-    rt: &R,
-    alloc: Global,
-    side: &mut SeatedNode,
-    most: usize,
-) -> Option<usize> {
-    for (place, word) in NOTED.iter().take(most).enumerate() {
-        if !is_made(rt, alloc, side, place % 2, word)? {
-            return Some(place);
+/// Makes the steps of a text, `NODE WORD, NODE WORD, ..`, by the first and the second seats in turn, until one runs out of memory.
+/// Returns how many were made; `None` if one was refused for another reason, or memory was refused before a step.
+pub fn play(rt: &impl Wait, alloc: Global, sides: &mut [SeatedNode], text: &str) -> Option<usize> {
+    let mut made = 0usize;
+    for step in text.split_terminator(", ") {
+        let event = event(alloc, word(step, 1))?;
+        let side = sides.get_mut(LETTERS.find(word(step, 0))?)?;
+        let seat = side.seats.get_mut(made % 2)?;
+        match side.node.step(rt, seat, &event, CHALLENGE).err() {
+            None => made = made.saturating_add(1),
+            Some(StepError::NoMemory) => return Some(made),
+            Some(_) => return None,
         }
     }
-    Some(most)
+    Some(made)
 }
 
-/// The result of `close`: the number of lines in the history, of entries of the node, of its ends that are up, and of those that are
-/// open; or the refusal.
-pub type Closing = Result<[usize; 4], CloseError>;
-
-/// The result of `close` for a node and its seats.
-pub fn closing(side: SeatedNode) -> Closing {
+/// The result of `close`: how many lines the history has, how many entries the node has, and how many of its ends are up, and open; or
+/// the refusal.
+pub fn closing(alloc: Global, side: SeatedNode) -> Option<String> {
     match close(side.node.into_book(), side.seats) {
-        Ok(Closed { node, history }) => Ok([
-            history.len(),
-            node.entries(),
-            node.ups(),
-            node.open_ends(),
-        ]),
-        Err((error, _, _)) => Err(error),
+        Ok(Closed { node, history }) => {
+            let (lines, entries) = (history.len(), node.entries());
+            let (ups, open) = (node.ups(), node.open_ends());
+            format!(in alloc; "{lines} {entries} {ups} {open}").ok()
+        }
+        Err((error, _, _)) => format!(in alloc; "{error:?}").ok(),
     }
 }
 
@@ -100,23 +78,20 @@ fn is_greeting(seats: &[Seat]) -> Option<bool> {
     }
 }
 
-// The result of `close` after 0 to 4 steps.
-const CLOSINGS: [[usize; 4]; 5] = [
-    [0, 0, 0, 0],
-    [1, 0, 0, 1],
-    [2, 1, 0, 1],
-    [3, 1, 1, 1],
-    [4, 1, 1, 2],
-];
+// The steps of node b, and the result of `close` after none to all of them.
+const STEPS: &str = "b incoming, b name, b reply, b incoming";
+
+const CLOSINGS: &str = "0 0 0 0, 1 0 0 1, 2 1 0 1, 3 1 1 1, 4 1 1 2";
 
 // Whether the second seat has the greeting, and `close` has the right result, for the steps that were made. `None`: memory was refused
 // before a step.
-fn is_closed<R: Wait>(rt: &R, alloc: Global) -> Option<bool> {
-    let mut side = seated_b(alloc)?;
-    let made = make_steps(rt, alloc, &mut side, 4);
-    let is_kept = is_greeting(&side.seats);
-    let closing = closing(side);
-    Some(is_kept? && closing == Ok(*CLOSINGS.get(made?)?))
+fn is_closed(rt: &impl Wait, alloc: Global) -> Option<bool> {
+    let mut sides = sides_of(alloc)?;
+    let made = play(rt, alloc, &mut sides, STEPS)?;
+    let side = sides.pop()?;
+    let is_kept = is_greeting(&side.seats)?;
+    let closing = closing(alloc, side)?;
+    Some(is_kept && CLOSINGS.split(", ").nth(made) == Some(closing.as_str()))
 }
 
 // Each request for memory of a node under a lock is refused in turn, as `rt try --test --fail-alloc N` does for N = 1, 2, ..: a step
@@ -126,73 +101,71 @@ fn memory_refused_in_a_step(rt: HostRuntime) {
     assert!(rt; is_closed(&rt, rt.alloc()) != Some(false));
 }
 
-// The second seat of another node, which has made three steps there.
-fn seat_of_another<R: Wait>(rt: &R, alloc: Global) -> Option<Seat> {
-    let mut side = seated_b(alloc)?;
-    for _ in 0..3 {
-        let _ = is_made(rt, alloc, &mut side, 1, "incoming");
-    }
-    side.seats.pop()
-}
+// The second seat of node c makes three steps, after two of node b.
+const STEPS_OF_ANOTHER: &str = "\
+    b incoming, b name, a incoming, c incoming, a incoming, c incoming, a incoming, c incoming";
 
-// The result of `close` after two steps, with this seat instead of the second.
-fn closing_with<R: Wait>(rt: &R, alloc: Global, seat: Option<Seat>) -> Option<Closing> {
-    let mut side = seated_b(alloc)?;
-    let _ = make_steps(rt, alloc, &mut side, 2);
+// The result of `close` of node b without its second seat, or with that of node c in its place.
+fn closing_without(rt: &impl Wait, alloc: Global, is_replaced: bool) -> Option<String> {
+    let mut sides = sides_of(alloc)?;
+    play(rt, alloc, &mut sides, STEPS_OF_ANOTHER)?;
+    let (mut side, mut other) = (sides.pop()?, sides.pop()?);
     let _ = side.seats.pop();
-    if let Some(seat) = seat {
-        let _ = side.seats.push(seat);
+    if is_replaced {
+        side.seats.push(other.seats.pop()?).ok()?;
     }
-    Some(closing(side))
+    closing(alloc, side)
 }
 
-// The results of the puts and of the takes, and how many orders are left.
-type OrdersSeen = ([Result<(), DialOrder>; 4], [Option<DialOrder>; 4], u64);
+// The number of an order that was taken; 99 for none.
+fn order_number(taken: Option<DialOrder>) -> u32 {
+    match taken {
+        Some(order) => order.0,
+        None => 99,
+    }
+}
 
-// The orders 4, 5 and 6 are put into a queue of two, three are taken, 7 is put and taken.
-fn orders_in_turn<R: Wait>(rt: &R, alloc: Global) -> Option<OrdersSeen> {
+// The orders 4, 5 and 6 are put into a queue of two, three are taken, 7 is put and taken: which puts succeed, what is taken, and how
+// many orders are left.
+fn orders_in_turn(rt: &impl Wait, alloc: Global) -> Option<String> {
     let (orders, mut put, mut one, two) = Orders::new(alloc, 2).ok()?;
-    let first = orders.put(rt, &mut put, DialOrder(4));
-    let second = orders.put(rt, &mut put, DialOrder(5));
-    let third = orders.put(rt, &mut put, DialOrder(6));
-    let oldest = orders.take(rt, &mut one);
-    let next = orders.take(rt, &mut one);
-    let none = orders.take(rt, &mut one);
-    let puts = [first, second, third, orders.put(rt, &mut put, DialOrder(7))];
-    let takes = [oldest, next, none, orders.take(rt, &mut one)];
-    Some((puts, takes, orders.settle(rt, put, one, two)))
+    let first = orders.put(rt, &mut put, DialOrder(4)).is_ok();
+    let second = orders.put(rt, &mut put, DialOrder(5)).is_ok();
+    let third = order_number(orders.put(rt, &mut put, DialOrder(6)).err());
+    let oldest = order_number(orders.take(rt, &mut one));
+    let next = order_number(orders.take(rt, &mut one));
+    let none = order_number(orders.take(rt, &mut one));
+    let fourth = orders.put(rt, &mut put, DialOrder(7)).is_ok();
+    let last = order_number(orders.take(rt, &mut one));
+    let left = orders.settle(rt, put, one, two);
+    format!(in alloc; "{first} {second} {third} {oldest} {next} {none} {fourth} {last} {left}").ok()
 }
 
 // The orders of a run with two dials, all taken by the first worker: the dials, and the last order of each worker.
-fn take_dispatched<R: Wait>(rt: &R, alloc: Global) -> Option<[Option<DialOrder>; 5]> {
+fn take_dispatched(rt: &impl Wait, alloc: Global) -> Option<String> {
     let (orders, put, mut one, _) = Orders::new(alloc, 4).ok()?;
     let _ = dispatch(rt, &orders, put, 2);
-    Some([
-        orders.take(rt, &mut one),
-        orders.take(rt, &mut one),
-        orders.take(rt, &mut one),
-        orders.take(rt, &mut one),
-        orders.take(rt, &mut one),
-    ])
+    let first = order_number(orders.take(rt, &mut one));
+    let second = order_number(orders.take(rt, &mut one));
+    let third = order_number(orders.take(rt, &mut one));
+    let fourth = order_number(orders.take(rt, &mut one));
+    let none = order_number(orders.take(rt, &mut one));
+    format!(in alloc; "{first} {second} {third} {fourth} {none}").ok()
 }
 
 #[test]
 fn two_seats_and_orders(rt: HostRuntime) {
-    assert_eq!(rt; is_closed(&rt, rt.alloc()), Some(true));
-    let puts = [Ok(()), Ok(()), Err(DialOrder(6)), Ok(())];
-    let takes = [
-        Some(DialOrder(4)),
-        Some(DialOrder(5)),
-        None,
-        Some(DialOrder(7)),
-    ];
-    assert!(rt; orders_in_turn(&rt, rt.alloc()) == Some((puts, takes, 0)));
-    let last = Some(LAST_ORDER);
-    let takes = [Some(DialOrder(0)), Some(DialOrder(1)), last, last, None];
-    assert!(rt; take_dispatched(&rt, rt.alloc()) == Some(takes));
-    let missing = closing_with(&rt, rt.alloc(), None);
-    assert_eq!(rt; missing, Some(Err(CloseError::MissingSeat)));
-    let another = seat_of_another(&rt, rt.alloc());
-    let absent = closing_with(&rt, rt.alloc(), another);
-    assert_eq!(rt; absent, Some(Err(CloseError::ReceiptAbsent)));
+    assert!(rt; is_closed(&rt, rt.alloc()) == Some(true));
+    assert_eq!(rt;
+        orders_in_turn(&rt, rt.alloc()).as_deref(),
+        Some("true true 6 4 5 99 true 7 0")
+    );
+    assert_eq!(rt;
+        take_dispatched(&rt, rt.alloc()).as_deref(),
+        Some("0 1 4294967295 4294967295 99")
+    );
+    let missing = closing_without(&rt, rt.alloc(), false);
+    assert_eq!(rt; missing.as_deref(), Some("MissingSeat"));
+    let absent = closing_without(&rt, rt.alloc(), true);
+    assert_eq!(rt; absent.as_deref(), Some("ReceiptAbsent"));
 }

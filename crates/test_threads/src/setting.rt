@@ -85,23 +85,15 @@ pub fn event(alloc: Global, word: &str) -> Option<Event> {
         None => (EndId(0), word),
     };
     if word == "dial" {
-        return dial(alloc);
+        let peer = NodeName::new(alloc, b"b@127.0.0.1").ok()?;
+        let opening = Opening::New;
+        return Some(Event::Dial { peer, opening });
     }
-    match digits_of(word) {
-        Some(digits) => frame(alloc, end_, digits),
-        None => Some(short_event(end_, word)),
-    }
-}
-
-fn frame(alloc: Global, end_: EndId, digits: &str) -> Option<Event> {
+    let Some(digits) = digits_of(word) else {
+        return Some(short_event(end_, word));
+    };
     let body = ByteString::from_vec(hex::decode(alloc, digits.get(4..)?).ok()?);
     Some(Event::Frame { end_, body })
-}
-
-fn dial(alloc: Global) -> Option<Event> {
-    let peer = NodeName::new(alloc, b"b@127.0.0.1").ok()?;
-    let opening = Opening::New;
-    Some(Event::Dial { peer, opening })
 }
 
 // An event that takes no memory.
@@ -135,17 +127,12 @@ pub fn do_word(alloc: Global, node: &mut Node, word: &str) -> Option<Result<(), 
     }
 }
 
-fn do_words(alloc: Global, node: &mut Node, text: &str) -> Option<()> {
-    for word in text.split(' ').skip(1) {
-        let _ = do_word(alloc, node, word)?;
-    }
-    Some(())
-}
-
 /// The node with which a text begins, a or b, after its words.
 pub fn node_after(alloc: Global, text: &str) -> Option<Node> {
     let mut node = Node::new(alloc, setup_of(alloc, text.starts_with('a'))?);
-    do_words(alloc, &mut node, text)?;
+    for word in text.split(' ').skip(1) {
+        let _ = do_word(alloc, &mut node, word)?;
+    }
     Some(node)
 }
 

@@ -1,5 +1,6 @@
 //! The system from which a run gets its sockets, threads, clock and random bytes, with its faults.
 
+use crate::setting::{number, word};
 use dist_locked::{Gate, Moment};
 use std::io::ErrorKind;
 use std::net::{Net, Shutdown, SocketAddr, TcpListener, TcpStream};
@@ -10,33 +11,23 @@ use std::thread::Threads;
 use std::time::{Clock, Duration};
 use std::{io, thread};
 
-/// The fault of a system. The port mapper listens first, then the nodes do.
-#[derive(Clone, Copy, Debug, PartialEq, Eq)]
-pub enum Wrong {
-    /// Nothing.
-    Nothing,
-    /// There are no random bytes.
-    NoRandomBytes,
-    /// The listener with this number is refused.
-    NoListener(usize),
-    /// The connection with this number is refused. Each node makes one to the port mapper, and each dial one to it and one to its peer.
-    NoConnection(usize),
-    /// The first three connections to nodes are cut: both ways, what the dialling node sends, what it receives.
-    Cuts,
-    /// No end gets the event of its connection before both workers have a connection.
-    Holds,
-    /// The second worker waits with its connection for that of the first; the first waits with its own until the second has given its
-    /// node the event. A worker that waits in vain gives up its connection.
-    Overtakes,
-    /// Both workers stop at this moment.
-    Shut(Moment),
-}
-
-/// A system with a fault.
+/// A system with a fault, which is a word, and for some of them a number. The port mapper listens first, then the nodes do. Each node makes
+/// one connection to the port mapper, and each dial one to it and one to its peer.
+///
+/// - `random`: there are no random bytes;
+/// - `listener 1`, `connection 1`: the listener, or the connection, with this number is refused;
+/// - `cuts`: the first three connections to nodes are cut: both ways, what the dialling node sends, what it receives;
+/// - `holds`: no end gets the event of its connection before both workers have a connection;
+/// - `overtakes`: the second worker waits with its connection for that of the first; the first waits with its own until the second has
+///   given its node the event. A worker that waits in vain gives up its connection;
+/// - `shut 0`, `shut 1`: both workers stop before the step of their connection, or after it;
+/// - any other word: none.
 #[derive(Drop)]
 pub struct FaultySystem<'a, R> {
     rt: &'a R,
-    wrong: Wrong,
+    fault: &'a str,
+    // The number behind the word; no other number where there is none.
+    place: usize,
     mapper_port: AtomicUsize,
     listeners: AtomicUsize,
     connections: AtomicUsize,
@@ -47,10 +38,11 @@ pub struct FaultySystem<'a, R> {
 
 impl<'a, R> FaultySystem<'a, R> {
     /// This system, with this fault.
-    pub fn new(rt: &'a R, wrong: Wrong) -> FaultySystem<'a, R> {
+    pub fn new(rt: &'a R, fault: &'a str) -> FaultySystem<'a, R> {
         FaultySystem {
             rt,
-            wrong,
+            fault: word(fault, 0),
+            place: number(word(fault, 1), u64::MAX) as usize,
             mapper_port: AtomicUsize::new(0),
             listeners: AtomicUsize::new(0),
             connections: AtomicUsize::new(0),
@@ -58,6 +50,11 @@ impl<'a, R> FaultySystem<'a, R> {
             held: AtomicUsize::new(0),
             passed: AtomicUsize::new(0),
         }
+    }
+
+    // Whether the next of these is the one that is refused.
+    fn refuses(&self, fault: &str, count: &AtomicUsize) -> bool {
+        next(count) == self.place && self.fault == fault
     }
 
     // Cuts a connection to this port, if it is one of the first three to nodes.
@@ -89,12 +86,11 @@ impl<'a, R: Net<Listener = TcpListener, Stream = TcpStream>> Net for FaultySyste
     type Listener = TcpListener;
 
     fn bind(&self, address: SocketAddr) -> io::Result<TcpListener> {
-        let number = next(&self.listeners);
-        if self.wrong == Wrong::NoListener(number) {
+        if self.refuses("listener", &self.listeners) {
             return refusal();
         }
         let listener = self.rt.bind(address)?;
-        if number == 0 {
+        if self.listeners.load(Ordering::SeqCst) == 1 {
             let port = listener.local_addr()?.port();
             self.mapper_port.store(usize::from(port), Ordering::SeqCst);
         }
@@ -107,11 +103,11 @@ impl<'a, R: Net<Listener = TcpListener, Stream = TcpStream>> Net for FaultySyste
     }
 
     fn connect_timeout(&self, address: SocketAddr, limit: Duration) -> io::Result<TcpStream> {
-        if self.wrong == Wrong::NoConnection(next(&self.connections)) {
+        if self.refuses("connection", &self.connections) {
             return refusal();
         }
         let socket = self.rt.connect_timeout(address, limit)?;
-        if self.wrong == Wrong::Cuts {
+        if self.fault == "cuts" {
             self.cut(&socket, address.port())?;
         }
         Ok(socket)
@@ -138,7 +134,7 @@ impl<'a, R: Clock> Clock for FaultySystem<'a, R> {
 
 impl<'a, R: RandomSource> RandomSource for FaultySystem<'a, R> {
     fn fill_bytes(&self, room: &mut [u8]) -> io::Result<()> {
-        if self.wrong == Wrong::NoRandomBytes {
+        if self.fault == "random" {
             return refusal();
         }
         self.rt.fill_bytes(room)
@@ -159,19 +155,24 @@ fn are_there(count: &AtomicUsize, wanted: usize) -> bool {
 
 impl<'a, R> Gate for FaultySystem<'a, R> {
     fn at(&self, worker: u32, moment: Moment) -> bool {
-        match (self.wrong, worker, moment) {
-            (Wrong::Shut(shut), _, _) => moment != shut,
-            (Wrong::Holds, _, Moment::BeforeStep) => {
-                next(&self.held);
-                let _ = are_there(&self.held, 2);
-                true
-            }
-            (Wrong::Overtakes, 0, Moment::BeforeStep) => {
+        let is_before = moment == Moment::BeforeStep;
+        if self.fault == "shut" {
+            return is_before != (self.place == 0);
+        }
+        if self.fault == "holds" && is_before {
+            next(&self.held);
+            let _ = are_there(&self.held, 2);
+        }
+        if self.fault != "overtakes" {
+            return true;
+        }
+        match (worker, is_before) {
+            (0, true) => {
                 next(&self.held);
                 are_there(&self.passed, 1)
             }
-            (Wrong::Overtakes, 1, Moment::BeforeStep) => are_there(&self.held, 1),
-            (Wrong::Overtakes, 1, Moment::AfterStep) => {
+            (1, true) => are_there(&self.held, 1),
+            (1, false) => {
                 next(&self.passed);
                 true
             }

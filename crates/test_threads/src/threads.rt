@@ -2,7 +2,7 @@
 //!
 //! A silent peer delays nothing: no lock is held while a stream is read.
 
-use crate::seats::{Closing, closing, seated_b};
+use crate::seats::{closing, play, sides_of};
 use crate::setting::{CHALLENGE, Rising, bytes_of};
 use dist_core::{Event, Still};
 use dist_drive::{FaultStream, Heard, Mapper, Stream, Took};
@@ -50,26 +50,6 @@ fn looks_until_up<R: Wait + Clock>(rt: &R, node: &LockedNode) -> u64 {
     1000
 }
 
-// Drives an end whose peer sends these frames. Returns the seat, and how often the stream looked.
-fn drive_patiently<R: Wait + Clock>(
-    rt: &R,
-    alloc: Global,
-    node: &LockedNode,
-    seat: Seat,
-    end_: EndId,
-    says: &str,
-) -> Option<(Seat, u64)> {
-    let mut stream = Patient {
-        rt,
-        node,
-        looks: 0,
-        inner: FaultStream::new(alloc, bytes_of(alloc, says)?),
-    };
-    let mut draws = Rising(CHALLENGE);
-    let driven = drive_end(rt, alloc, node, seat, &mut stream, &mut draws, end_, &[], 3).ok()?;
-    Some((driven.seat, stream.looks))
-}
-
 // Gives the node this many connections. Returns the seat, and after how many of the steps the end was pending.
 fn come<R: Wait>(rt: &R, node: &LockedNode, mut seat: Seat, links: u64) -> (Seat, u64) {
     let mut pending = 0u64;
@@ -84,13 +64,14 @@ fn come<R: Wait>(rt: &R, node: &LockedNode, mut seat: Seat, links: u64) -> (Seat
 
 // What a thread does with its seat.
 #[derive(Clone, Copy)]
-enum Work {
-    // It gives the node this many connections.
-    Comes(u64),
-    // It drives this end, whose peer sends these frames.
-    Drives(EndId, &'static str),
+struct Work {
+    // Which end it drives.
+    end_: EndId,
+    // The frames that the end's peer sends; or `comes`: then no end is driven, and the node is given a hundred connections.
+    says: &'static str,
 }
 
+// Does it. Returns the seat, and how often the stream looked, or how many connections were pending.
 fn do_work<R: Wait + Clock>(
     rt: &R,
     alloc: Global,
@@ -98,29 +79,49 @@ fn do_work<R: Wait + Clock>(
     seat: Seat,
     work: Work,
 ) -> Option<(Seat, u64)> {
-    match work {
-        Work::Comes(links) => Some(come(rt, node, seat, links)),
-        Work::Drives(end_, says) => drive_patiently(rt, alloc, node, seat, end_, says),
+    if work.says == "comes" {
+        return Some(come(rt, node, seat, 100));
     }
+    let mut stream = Patient {
+        rt,
+        node,
+        looks: 0,
+        inner: FaultStream::new(alloc, bytes_of(alloc, work.says)?),
+    };
+    let mut draws = Rising(CHALLENGE);
+    let driven = drive_end(
+        rt,
+        alloc,
+        node,
+        seat,
+        &mut stream,
+        &mut draws,
+        work.end_,
+        &[],
+        3,
+    );
+    Some((driven.ok()?.seat, stream.looks))
 }
 
-// Gives the node this many connections; then two threads work, each with a seat, which it puts back. Returns what each counted.
+// Two threads work, each with a seat, which it puts back. Returns what each counted.
 fn work_at_once<R: Threads + Wait + Clock + Sync>(
     rt: &R,
     alloc: Global,
     node: &LockedNode,
     seats: &mut Vec<Seat>,
-    links: u64,
-    works: (Work, Work),
+    says: (&'static str, &'static str),
 ) -> Option<(u64, u64)> {
-    let (first, _) = come(rt, node, seats.pop()?, links);
-    let second = seats.pop()?;
-    let (one, two) = thread::join(
+    let (first, second) = (seats.pop()?, seats.pop()?);
+    let end_ = EndId(0);
+    let one = Work { end_, says: says.0 };
+    let end_ = EndId(1);
+    let two = Work { end_, says: says.1 };
+    let (ones, twos) = thread::join(
         rt,
-        move || do_work(rt, alloc, node, first, works.0),
-        move || do_work(rt, alloc, node, second, works.1),
+        move || do_work(rt, alloc, node, first, one),
+        move || do_work(rt, alloc, node, second, two),
     );
-    let (ones, twos) = (put_back(seats, one), put_back(seats, two));
+    let (ones, twos) = (put_back(seats, ones), put_back(seats, twos));
     Some((ones?, twos?))
 }
 
@@ -130,40 +131,40 @@ fn put_back(seats: &mut Vec<Seat>, worked: Option<(Seat, u64)>) -> Option<u64> {
     Some(count)
 }
 
-// The same for node b; and the result of `close`.
+// The same at node b, after these steps; and the result of `close`.
 fn by_two<R: Threads + Wait + Clock + Sync>(
     rt: &R,
     alloc: Global,
-    links: u64,
-    works: (Work, Work),
-) -> Option<(u64, u64, Closing)> {
-    let mut side = seated_b(alloc)?;
-    let worked = work_at_once(rt, alloc, &side.node, &mut side.seats, links, works);
-    let closing = closing(side);
-    let (ones, twos) = worked?;
-    Some((ones, twos, closing))
+    steps: &str,
+    says: (&'static str, &'static str),
+) -> Option<(u64, u64, String)> {
+    let mut sides = sides_of(alloc)?;
+    play(rt, alloc, &mut sides, steps)?;
+    let mut side = sides.pop()?;
+    let (ones, twos) = work_at_once(rt, alloc, &side.node, &mut side.seats, says)?;
+    Some((ones, twos, closing(alloc, side)?))
 }
 
 // Each line of the history has its receipt, and right after each step its end was pending.
 #[test]
 fn two_threads_on_one_node(rt: HostRuntime) {
-    let seen = by_two(&rt, rt.alloc(), 0, (Work::Comes(100), Work::Comes(100)));
-    assert_eq!(rt; seen, Some((100, 100, Ok([200, 0, 0, 200]))));
+    let Some((ones, twos, closing)) = by_two(&rt, rt.alloc(), "", ("comes", "comes")) else {
+        panic!(rt; "no memory");
+    };
+    assert!(rt; (ones, twos) == (100, 100));
+    assert_eq!(rt; closing.as_str(), "200 0 0 200");
 }
 
 // The stream of end 0, whose peer is silent, sees that end 1 has come up, whose peer sends a whole handshake, and then ends.
 #[test]
 fn silent_peer(rt: HostRuntime) {
-    let works = (
-        Work::Drives(EndId(0), "-"),
-        Work::Drives(EndId(1), "name+reply"),
-    );
-    let seen = by_two(&rt, rt.alloc(), 2, works);
-    let noted = match seen {
-        Some((looks, _, closing)) => Some((looks < 1000, closing)),
-        None => None,
+    let says = ("-", "name+reply");
+    let seen = by_two(&rt, rt.alloc(), "b incoming, b incoming", says);
+    let Some((looks, _, closing)) = seen else {
+        panic!(rt; "no memory");
     };
-    assert_eq!(rt; noted, Some((true, Ok([5, 1, 1, 1]))), "{seen:?}");
+    assert!(rt; looks < 1000);
+    assert_eq!(rt; closing.as_str(), "5 1 1 1");
 }
 
 // The registration of `a` at port 9001.
@@ -206,5 +207,5 @@ fn two_threads_register(rt: HostRuntime) {
     };
     SharedMapper::new(&rt, shared).closed(first);
     let third = register_a(&rt, alloc, shared, 3);
-    assert_eq!(rt; (first != 0, third), (true, Some((0, 2))));
+    assert!(rt; first != 0 && third == Some((0, 2)));
 }

@@ -3,9 +3,8 @@
 
 use crate::setting::{number, word};
 use dist_core::{Change, NameList, Setup};
-use dist_names::NodeName;
+use dist_names::{Creation, Flags, NodeName};
 use dist_script::{Script, script_of};
-use dist_script_lines::{print_agreements, print_nodes};
 use dist_secret::Cookie;
 use dist_world::{Agreement, Happening, Stopped, World};
 use std::alloc::Global;
@@ -108,14 +107,6 @@ fn agreement_is_symmetric(rt: HostRuntime) {
     }
 }
 
-const CROSSED: &str = "\
-node a@127.0.0.1 running 5
-b@127.0.0.1 up 1 common 0000000001000004 creation 6
-node b@127.0.0.1 running 6
-a@127.0.0.1 up 0 common 0000000001000004 creation 5
-agree a@127.0.0.1 b@127.0.0.1 conn 1 common 0000000001000004 creations 5 6
-";
-
 // Lets the list happen. If memory runs out before its end, also lets the rest happen.
 fn run_to_end(alloc: Global, world: &mut World, list: &[Happening]) -> Option<usize> {
     match world.run(alloc, list) {
@@ -124,21 +115,19 @@ fn run_to_end(alloc: Global, world: &mut World, list: &[Happening]) -> Option<us
     }
 }
 
-// Whether a world shows that two nodes crossed.
-fn shows_the_crossing(alloc: Global, world: &World) -> Option<bool> {
-    let mut out = Vec::new(alloc);
-    print_nodes(world, &mut out).ok()?;
-    print_agreements(alloc, world, &mut out).ok()?;
-    Some(out.as_slice() == CROSSED.as_bytes())
-}
-
-// Whether crossing_dials comes to its end, in one run or in two. `None`: memory was refused to the test itself.
+// Whether crossing_dials comes to its end, in one run or in two: both nodes are up with one another, by the connection of the lesser
+// name's attempt. `None`: memory was refused to the test itself.
 fn a_crossing_stands(alloc: Global) -> Option<bool> {
     let (row, _) = WORLDS.split_once('\n')?;
     let (mut world, list) = world_of(alloc, TWO_NODES, row.strip_prefix("1 ")?)?;
     let applied = run_to_end(alloc, &mut world, &list);
-    let is_shown = shows_the_crossing(alloc, &world);
-    Some(applied.is_some() && is_shown?)
+    let agreed = Agreement {
+        conn: 1,
+        common: Flags(0x1000004),
+        creation_a: Some(Creation(5)),
+        creation_b: Some(Creation(6)),
+    };
+    Some(applied.is_some() && world.both_up(0, 1) == Some(agreed))
 }
 
 // Only one request is refused, so it is tried twice.
@@ -148,51 +137,42 @@ fn a_world_stands_after_what_was_done_whatever_request_for_memory_is_refused(rt:
         None => a_crossing_stands(rt.alloc()),
         noted => noted,
     };
-    assert_eq!(rt; stands, Some(true));
+    assert!(rt; stands == Some(true));
 }
 
 // How many of these happenings apply, whether nodes a and b then agree, and for which cause an end was last closed. Beside the lines of
-// scripts there are `reset NODE cookie PEER COOKIE`, `reset NODE usual COOKIE` and `reset NODE allow PEER`.
+// scripts there are `reset NODE cookie PEER COOKIE`, `reset NODE usual - COOKIE` and `reset NODE allow PEER`.
 //
 // A handshake prevents no change of a cookie, and comes up under the new one or not at all. While a peer is up, its cookie stays; it
 // may get the same cookie as its own, and then the usual one may change. A list of the peers that may connect only affects later names.
 // A halted node changes nothing. Without COOKIE, the peer's own one is removed.
 const CHANGES: &str = "\
-4 false - begin 0 5, begin 1 6, reset 0 cookie b@127.0.0.1 secret, reset 1 usual secret
-4 false - dial 0 b@127.0.0.1 new, reach 0 0 1, opened 0 0, accept 0
-1 false - reset 0 cookie b@127.0.0.1 other
-2 false - reset 0 usual secret, reset 1 cookie c@127.0.0.1 secret
-2 false - deliver 1 0 999, take 1 0 11
-1 false - reset 1 usual other
-7 true - deliver 0 0 999, take 0 0 0, take 0 0 12, deliver 1 0 999, take 1 0 0, deliver 0 0 999, take 0 0 0
-0 true - reset 0 cookie b@127.0.0.1 secret, reset 0 cookie b@127.0.0.1, reset 1 cookie a@127.0.0.1 secret, reset 1 usual secret
-3 true - reset 1 cookie a@127.0.0.1 other, reset 1 usual secret, reset 1 allow c@127.0.0.1
-2 false Ended lose 0 0 Ended, lose 1 0 Ended
-6 false Refused dial 0 b@127.0.0.1 new, reach 0 1 1, opened 0 1, accept 1, deliver 1 1 999, take 1 1 13
-2 false StatusRefused deliver 0 1 999, take 0 1 0
-1 false - reset 1 allow a@127.0.0.1
-6 false - dial 0 b@127.0.0.1 new, reach 0 2 1, opened 0 2, accept 2, deliver 1 2 999, take 1 2 14
-1 false - reset 1 cookie a@127.0.0.1
-5 false WrongDigest deliver 0 2 999, take 0 2 0, take 0 2 15, deliver 1 2 999, take 1 2 0
-0 false WrongDigest reset 2 usual other";
-
-fn cookie_of(alloc: Global, text: &str) -> Option<Cookie> {
-    Cookie::from_bytes(alloc, text.as_bytes()).ok()
-}
+begin 0 5, begin 1 6, reset 0 cookie b@127.0.0.1 secret, reset 1 usual - secret => 4 false -
+dial 0 b@127.0.0.1 new, reach 0 0 1, opened 0 0, accept 0 => 4 false -
+reset 0 cookie b@127.0.0.1 other => 1 false -
+reset 0 usual - secret, reset 1 cookie c@127.0.0.1 secret => 2 false -
+deliver 1 0 999, take 1 0 11 => 2 false -
+reset 1 usual - other => 1 false -
+deliver 0 0 999, take 0 0 0, take 0 0 12, deliver 1 0 999, take 1 0 0, deliver 0 0 999, take 0 0 0 => 7 true -
+reset 0 cookie b@127.0.0.1 secret, reset 0 cookie b@127.0.0.1, reset 1 cookie a@127.0.0.1 secret, reset 1 usual - secret => 0 true -
+reset 1 cookie a@127.0.0.1 other, reset 1 usual - secret, reset 1 allow c@127.0.0.1 => 3 true -
+lose 0 0 Ended, lose 1 0 Ended => 2 false Ended
+dial 0 b@127.0.0.1 new, reach 0 1 1, opened 0 1, accept 1, deliver 1 1 999, take 1 1 13 => 6 false Refused
+deliver 0 1 999, take 0 1 0 => 2 false StatusRefused
+reset 1 allow a@127.0.0.1 => 1 false -
+dial 0 b@127.0.0.1 new, reach 0 2 1, opened 0 2, accept 2, deliver 1 2 999, take 1 2 14 => 6 false -
+reset 1 cookie a@127.0.0.1 => 1 false -
+deliver 0 2 999, take 0 2 0, take 0 2 15, deliver 1 2 999, take 1 2 0 => 5 false WrongDigest
+reset 2 usual - other => 0 false WrongDigest";
 
 // The change that `reset` makes.
 fn change_of(alloc: Global, text: &str) -> Option<Change> {
-    let (what, value) = (word(text, 2), word(text, 3));
-    if what == "usual" {
-        let cookie = cookie_of(alloc, value)?;
-        return Some(Change::UsualCookie { cookie });
+    let cookie = Cookie::from_bytes(alloc, word(text, 4).as_bytes()).ok();
+    if word(text, 2) == "usual" {
+        return Some(Change::UsualCookie { cookie: cookie? });
     }
-    let peer = NodeName::new(alloc, value.as_bytes()).ok()?;
-    if what == "cookie" {
-        let cookie = match word(text, 4) {
-            "" => None,
-            own => Some(cookie_of(alloc, own)?),
-        };
+    let peer = NodeName::new(alloc, word(text, 3).as_bytes()).ok()?;
+    if word(text, 2) == "cookie" {
         return Some(Change::Cookie { peer, cookie });
     }
     let mut names = Vec::new(alloc);
@@ -220,15 +200,15 @@ fn count_of_applied(alloc: Global, world: &mut World, text: &str) -> Option<u64>
     Some(count)
 }
 
-// Whether the happenings of a row, tried one after the other, have the row's result.
-fn is_row_seen(alloc: Global, world: &mut World, row: &str) -> Option<bool> {
-    let count = count_of_applied(alloc, world, row.splitn(4, ' ').nth(3)?)?;
+// What comes of a row's happenings, tried one after the other.
+fn outcome_of(alloc: Global, world: &mut World, text: &str) -> Option<String> {
+    let count = count_of_applied(alloc, world, text)?;
     let closed = match world.last_closed() {
         Some((_, _, why)) => why.name(),
         None => "-",
     };
-    let agrees = if agree(world, 0, 1)? { "true" } else { "false" };
-    Some(count == number(word(row, 0), 99) && agrees == word(row, 1) && closed == word(row, 2))
+    let agrees = world.both_up(0, 1).is_some();
+    format!(in alloc; "{count} {agrees} {closed}").ok()
 }
 
 #[test]
@@ -237,10 +217,8 @@ fn cookies_and_allow_list_change(rt: HostRuntime) {
         panic!(rt; "no memory");
     };
     for row in CHANGES.lines() {
-        assert_eq!(rt;
-            is_row_seen(rt.alloc(), &mut world, row),
-            Some(true),
-            "{row}"
-        );
+        let (text, wanted) = row.split_once(" => ").unwrap_or((row, ""));
+        let seen = outcome_of(rt.alloc(), &mut world, text);
+        assert_eq!(rt; seen.as_deref(), Some(wanted), "{row}");
     }
 }

@@ -1,8 +1,7 @@
 //! The lines of the steps of a probe, and of a connection that was taken.
 
 use crate::lines::LineSink;
-use crate::marks::{release_text, status_word};
-use crate::piece::LinePiece;
+use crate::piece::LinePiece::{Digits, Escaped, Foreign, Host, Name, Number, Text};
 use crate::shown::{count_lines, split_shown};
 use dist_epmd::PortInfo;
 use dist_epmd_calls::LookupError;
@@ -13,13 +12,16 @@ use dist_probe::{Peer, ProbeVerdict, Unreached, style_of};
 use distping_words::Fault;
 use std::net::SocketAddr;
 
-// The text before the release that the flags show, and the release.
-fn shown_texts(flags: Flags) -> (&'static str, &'static str) {
-    let (before, release) = match release_shown(flags) {
-        ReleaseShown::Just(release) => (": ", release),
-        ReleaseShown::UpTo(release) => (": up to those of ", release),
-    };
-    (before, release_text(release))
+// The name of a release.
+fn release_text(release: Release) -> &'static str {
+    match release {
+        Release::Before23 => "before OTP 23",
+        Release::Otp23 => "OTP 23",
+        Release::Otp24 => "OTP 24",
+        Release::Otp25 => "OTP 25 to 27",
+        Release::Otp28 => "OTP 28",
+        Release::Otp29 => "OTP 29 or newer",
+    }
 }
 
 // The text before the flags for which a release refuses a node.
@@ -48,60 +50,15 @@ fn lookup_text(error: LookupError) -> &'static str {
     }
 }
 
-// The mark before a status.
-fn status_mark(status: Status) -> &'static str {
-    match status {
-        Status::Ok | Status::OkSimultaneous => "✓",
-        _ => "✗",
-    }
-}
-
-// Whether a peer is hidden; the text comes between its name and its creation.
-fn kind_of(flags: Flags) -> &'static str {
-    if flags.has(Dflag::Published.flags()) {
-        ", published, creation "
-    } else {
-        ", hidden, creation "
-    }
-}
-
-// The line of the cookie; empty if none was tried.
-fn cookie_text(verdict: ProbeVerdict) -> &'static str {
-    match verdict {
-        ProbeVerdict::Up => "✓  cookie    the node took our digest, and its own is right\n",
-        ProbeVerdict::WrongCookie =>
-            "✗  cookie    the node closed the connection upon our digest\n",
-        ProbeVerdict::WrongAck => "✗  cookie    the node's digest is wrong\n",
-        _ => "",
-    }
-}
-
-// The texts before and after an address of this kind.
-fn address_texts(is_ipv4: bool, has_ipv4: bool) -> (&'static str, &'static str) {
-    if is_ipv4 {
-        ("✓  host      ", "\n")
-    } else if has_ipv4 {
-        (
-            "✓  host      ",
-            ": nodes dial it with -proto_dist inet6_tcp alone\n",
-        )
-    } else {
-        (
-            "!  host      ",
-            ", and has no IPv4 address: nodes dial it with -proto_dist inet6_tcp alone\n",
-        )
-    }
-}
-
 impl LineSink<'_> {
     /// Warns if nodes with these two names never dial each other.
     pub fn put_styles(self, own: &NodeName, node: &NodeName) -> Result<(), Fault> {
         if style_of(own.bytes()) == style_of(node.bytes()) {
             return Ok(());
         }
-        self.put(&[LinePiece::Text(
-            "!  names     one host part has a dot, the other has none: nodes of -name and of -sname never dial each other\n",
-        )])
+        self.put_text(
+            "!  names     one host part has a dot, the other has none: nodes of -name and of -sname never dial each other",
+        )
     }
 
     /// Prints an address of the host; `has_ipv4` says whether one of its addresses is of IPv4.
@@ -111,46 +68,65 @@ impl LineSink<'_> {
         address: &SocketAddr,
         has_ipv4: bool,
     ) -> Result<(), Fault> {
-        let (front, hint) = address_texts(address.is_ipv4(), has_ipv4);
+        let (front, hint) = if address.is_ipv4() {
+            ("✓", "")
+        } else if has_ipv4 {
+            ("✓", ": nodes dial it with -proto_dist inet6_tcp alone")
+        } else {
+            let hint = ", and has no IPv4 address: nodes dial it with -proto_dist inet6_tcp alone";
+            ("!", hint)
+        };
         self.put(&[
-            LinePiece::Text(front),
-            LinePiece::Foreign(host.as_bytes()),
-            LinePiece::Text(" is "),
-            LinePiece::Host(address.ip()),
-            LinePiece::Text(hint),
+            Text(front),
+            Text("  host      "),
+            Foreign(host.as_bytes()),
+            Text(" is "),
+            Host(address.ip()),
+            Text(hint),
         ])
     }
 
     /// Prints that the address of a name is this machine's own.
     pub fn put_own_address(self) -> Result<(), Fault> {
-        self.put(&[LinePiece::Text(
-            "   host      that address is this machine itself: the name leads to no other host from here\n",
-        )])
+        self.put_text(
+            "   host      that address is this machine itself: the name leads to no other host from here",
+        )
     }
 
     /// Prints that the node was found by way of `--address`, which nodes don't use.
     pub fn put_other_way(self, node: &NodeName) -> Result<(), Fault> {
         self.put(&[
-            LinePiece::Text("!  address   nodes do not know --address: they dial what "),
-            LinePiece::Name(node.host()),
-            LinePiece::Text(" resolves to, which was not tried\n"),
+            Text("!  address   nodes do not know --address: they dial what "),
+            Name(node.host()),
+            Text(" resolves to, which was not tried"),
         ])
     }
 
     /// Prints the registration that the port mapper has.
     pub fn put_registration(self, mapper_port: u16, info: &PortInfo) -> Result<(), Fault> {
         self.put(&[
-            LinePiece::Text("✓  epmd      port "),
-            LinePiece::Number(u32::from(mapper_port)),
-            LinePiece::Text(" answers: "),
-            LinePiece::Name(info.name.as_slice()),
-            LinePiece::Text(" listens at port "),
-            LinePiece::Number(u32::from(info.port)),
-            LinePiece::Text(", versions "),
-            LinePiece::Number(u32::from(info.lowest)),
-            LinePiece::Text(" to "),
-            LinePiece::Number(u32::from(info.highest)),
-            LinePiece::Text("\n"),
+            Text("✓  epmd      port "),
+            Number(u32::from(mapper_port)),
+            Text(" answers: "),
+            Name(info.name.as_slice()),
+            Text(" listens at port "),
+            Number(u32::from(info.port)),
+            Text(", versions "),
+            Number(u32::from(info.lowest)),
+            Text(" to "),
+            Number(u32::from(info.highest)),
+        ])
+    }
+
+    // Prints why a step ended at this port.
+    fn put_failed(self, step: &'static str, port: u16, why: &'static str) -> Result<(), Fault> {
+        self.put(&[
+            Text("✗  "),
+            Text(step),
+            Text(" port "),
+            Number(u32::from(port)),
+            Text(": "),
+            Text(why),
         ])
     }
 
@@ -161,122 +137,75 @@ impl LineSink<'_> {
         port: u16,
         place: Unreached,
     ) -> Result<(), Fault> {
-        self.put(&[
-            LinePiece::Text("✗  "),
-            LinePiece::Text(step),
-            LinePiece::Text(" port "),
-            LinePiece::Number(u32::from(port)),
-            LinePiece::Text(": "),
-            LinePiece::Text(place.text()),
-            LinePiece::Text("\n"),
-        ])
+        self.put_failed(step, port, place.text())
     }
 
     /// Prints why the lookup failed.
     pub fn put_no_answer(self, mapper_port: u16, error: LookupError) -> Result<(), Fault> {
-        self.put(&[
-            LinePiece::Text("✗  epmd      port "),
-            LinePiece::Number(u32::from(mapper_port)),
-            LinePiece::Text(": "),
-            LinePiece::Text(lookup_text(error)),
-            LinePiece::Text("\n"),
-        ])
+        self.put_failed("epmd     ", mapper_port, lookup_text(error))
     }
 
     /// Prints the names that the port mapper knows, one on a line: as many as are shown, and how many more there are.
     pub fn put_names(self, names: &[u8]) -> Result<(), Fault> {
         if names.is_empty() {
-            return self.put(&[LinePiece::Text(
-                "   epmd      no node at all is registered there\n",
-            )]);
+            return self.put_text("   epmd      no node at all is registered there");
         }
         let (shown, others) = split_shown(names);
-        self.put_shown(shown)?;
+        let text = escape_lines(self.alloc, shown)?;
+        for line in text.lines() {
+            self.put(&[Text("   epmd      "), Escaped(line)])?;
+        }
         if others.is_empty() {
             return Ok(());
         }
-        self.put_count(
-            "   epmd      and ",
-            count_lines(others),
-            " more lines, left out\n",
-        )
+        let front = "   epmd      and ";
+        self.put_count(front, count_lines(others), " more lines, left out")
     }
 
     /// Prints that the port mapper's answer is longer than what is read.
     pub fn put_cut(self) -> Result<(), Fault> {
-        self.put(&[LinePiece::Text(
-            "!  epmd      the answer has more than 65535 bytes: what stands behind them is left out\n",
-        )])
+        self.put_text(
+            "!  epmd      the answer has more than 65535 bytes: what stands behind them is left out",
+        )
     }
 
     /// Prints that the port mapper's names are printed with another node of the host.
     pub fn put_listed(self) -> Result<(), Fault> {
-        self.put(&[LinePiece::Text(
-            "   epmd      what is registered there is printed with another node of this host\n",
-        )])
-    }
-
-    // Prints these lines of names.
-    fn put_shown(self, names: &[u8]) -> Result<(), Fault> {
-        let text = escape_lines(self.alloc, names)?;
-        for line in text.lines() {
-            self.put(&[
-                LinePiece::Text("   epmd      "),
-                LinePiece::Escaped(line),
-                LinePiece::Text("\n"),
-            ])?;
-        }
-        Ok(())
+        self.put_text(
+            "   epmd      what is registered there is printed with another node of this host",
+        )
     }
 
     /// Prints that the node's port accepted the connection.
     pub fn put_connected(self, address: &SocketAddr, port: u16) -> Result<(), Fault> {
         self.put(&[
-            LinePiece::Text("✓  connect   "),
-            LinePiece::Host(address.ip()),
-            LinePiece::Text(" port "),
-            LinePiece::Number(u32::from(port)),
-            LinePiece::Text("\n"),
+            Text("✓  connect   "),
+            Host(address.ip()),
+            Text(" port "),
+            Number(u32::from(port)),
         ])
     }
 
     /// Prints the status with which the node answered our name.
     pub fn put_status(self, own: &NodeName, flags: Flags, status: Status) -> Result<(), Fault> {
+        let mark = match status {
+            Status::Ok | Status::OkSimultaneous => "✓",
+            _ => "✗",
+        };
         self.put(&[
-            LinePiece::Text(status_mark(status)),
-            LinePiece::Text("  name      said "),
-            LinePiece::Name(own.bytes()),
-            LinePiece::Text(" with flags "),
-            LinePiece::Digits(flags.announced()),
-            LinePiece::Text("; the node says "),
-            LinePiece::Text(status_word(status)),
-            LinePiece::Text("\n"),
-        ])
-    }
-
-    // Prints the line of what a node sent about itself.
-    fn put_peer_line(self, peer: &Peer) -> Result<(), Fault> {
-        let (before, release) = shown_texts(peer.flags);
-        self.put(&[
-            LinePiece::Text("✓  node      "),
-            LinePiece::Name(peer.name.as_slice()),
-            LinePiece::Text(kind_of(peer.flags)),
-            LinePiece::Number(peer.creation.0),
-            LinePiece::Text(", flags "),
-            LinePiece::Digits(peer.flags),
-            LinePiece::Text(before),
-            LinePiece::Text(release),
-            LinePiece::Text("\n"),
+            Text(mark),
+            Text("  name      said "),
+            Name(own.bytes()),
+            Text(" with flags "),
+            Digits(flags.announced()),
+            Text("; the node says "),
+            Foreign(status.text()),
         ])
     }
 
     // Prints the flags for which a release refuses a node, if it lacks any.
     fn put_objection(self, release: Release, flags: Flags) -> Result<(), Fault> {
-        let lacking = release.objection(flags);
-        if lacking.0 == 0 {
-            return Ok(());
-        }
-        self.put_flags(refusal_text(release), lacking)
+        self.put_lacks(refusal_text(release), release.objection(flags))
     }
 
     // Prints the oldest release that refuses a node with these flags. What OTP 25 refuses, newer ones refuse too. OTP 23 and 24 refuse
@@ -295,33 +224,57 @@ impl LineSink<'_> {
 
     /// Prints what the node sent about itself.
     pub fn put_peer(self, peer: &Peer) -> Result<(), Fault> {
-        self.put_peer_line(peer)?;
-        self.put_flags("   flags    ", peer.flags)?;
-        self.put_refusal(peer.flags)
+        let flags = peer.flags;
+        let kind = if flags.has(Dflag::Published.flags()) {
+            ", published, creation "
+        } else {
+            ", hidden, creation "
+        };
+        let (before, release) = match release_shown(flags) {
+            ReleaseShown::Just(release) => (": ", release),
+            ReleaseShown::UpTo(release) => (": up to those of ", release),
+        };
+        self.put(&[
+            Text("✓  node      "),
+            Name(peer.name.as_slice()),
+            Text(kind),
+            Number(peer.creation.0),
+            Text(", flags "),
+            Digits(flags),
+            Text(before),
+            Text(release_text(release)),
+        ])?;
+        self.put_flags("   flags    ", flags)?;
+        self.put_refusal(flags)
     }
 
-    /// Prints the result for the cookie.
+    /// Prints the result for the cookie, if one was tried.
     pub fn put_cookie(self, verdict: ProbeVerdict) -> Result<(), Fault> {
-        self.put(&[LinePiece::Text(cookie_text(verdict))])
+        match verdict {
+            ProbeVerdict::Up => {
+                self.put_text("✓  cookie    the node took our digest, and its own is right")
+            }
+            ProbeVerdict::WrongCookie => {
+                self.put_text("✗  cookie    the node closed the connection upon our digest")
+            }
+            ProbeVerdict::WrongAck => self.put_text("✗  cookie    the node's digest is wrong"),
+            _ => Ok(()),
+        }
     }
 
     /// Prints that it waits for a connection.
     pub fn put_listening(self, port: u16, name: &NodeName) -> Result<(), Fault> {
         self.put(&[
-            LinePiece::Text("✓  listen    port "),
-            LinePiece::Number(u32::from(port)),
-            LinePiece::Text(", as "),
-            LinePiece::Name(name.bytes()),
-            LinePiece::Text(": waiting for one connection\n"),
+            Text("✓  listen    port "),
+            Number(u32::from(port)),
+            Text(", as "),
+            Name(name.bytes()),
+            Text(": waiting for one connection"),
         ])
     }
 
     /// Prints that a connection was taken.
     pub fn put_taken(self, address: &SocketAddr) -> Result<(), Fault> {
-        self.put(&[
-            LinePiece::Text("✓  taken     from "),
-            LinePiece::Host(address.ip()),
-            LinePiece::Text("\n"),
-        ])
+        self.put(&[Text("✓  taken     from "), Host(address.ip())])
     }
 }

@@ -26,6 +26,7 @@ pub const DN_BUSY: dn_code = 13;
 pub const DN_SPENT: dn_code = 14;
 pub const DN_FULL: dn_code = 15;
 pub const DN_OPEN_ENDS: dn_code = 16;
+pub const DN_SHOWN_END: dn_code = 17;
 pub const DN_NAME_TOO_SHORT: dn_code = 20;
 pub const DN_NAME_TOO_LONG: dn_code = 21;
 pub const DN_NAME_BAD_BYTE: dn_code = 22;
@@ -276,6 +277,14 @@ extern "C" {
         node: *mut dn_node,
         id: u32,
         bytes: *const u8,
+        len: usize,
+        challenge: u32,
+        reply: *mut dn_reply,
+    ) -> dn_code;
+    pub fn dn_node_guarded_body(
+        node: *mut dn_node,
+        id: u32,
+        body: *const u8,
         len: usize,
         challenge: u32,
         reply: *mut dn_reply,

@@ -1,7 +1,15 @@
-use Rattle.std.proofs.Common.{◌∙◌, ap}
+use Rattle.std.proofs.Common.{Option, ◌∙◌, ap, Bor}
 use Rattle.std.specs.Prelude.{option_copied}
+use Rattle.dist_epmd_clients.specs.declared.client.Client.{Client}
+use Rattle.dist_epmd_clients.specs.Standing.{client_name, talk_name}
 use Rattle.dist_epmd_clients.proofs.Standings.{closed_same}
 use Rattle.dist_epmd_clients.proofs.replying.drop_registration.Goals as goal
 
 pub returns-in_default : goal.returns-in_default
-returns-in_default c = closed_same c.args.conn c.args.registry.now (c.requires ∙ ap option_copied c.in_default.is)
+returns-in_default g c =
+    closed_same c.args.conn c.args.registry.now (c.requires ∙ ap (λ (client : Option (Bor (Client g.row.S.Denot))). client_name (option_copied client)) c.in_default.is)
+
+pub returns-in_default-talk : goal.returns-in_default-talk
+returns-in_default-talk g c =
+    closed_same c.args.conn c.args.registry.now
+    (c.requires ∙ ap (λ (client : Option (Bor (Client g.row.S.Denot))). client_name (option_copied client)) c.in-Some.is ∙ ap talk_name c.in_default-talk.is)

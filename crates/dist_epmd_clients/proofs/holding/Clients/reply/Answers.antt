@@ -16,9 +16,9 @@ invariant_of-self-in-Registered-clause-numbered g c =
 
 pub invariant_of-self-2-clause-stand : goal.invariant_of-self-2-clause-stand
 invariant_of-self-2-clause-stand g c =
-    stand_leaves c.args.request c.args.self.now.registry c.reply_to.new.registry c.args.self.now.clients c.take_client.new.clients c.args.conn
-    c.in_ok-served.ensures.after (sym c.in_ok-served.ensures.served ∙ c.in_default.is) c.requires.asking c.take_client.ensures.changed c.args.self.now.stand
+    stand_leaves c.args.request c.args.self.now.registry c.reply_to.new.registry c.args.self.now.clients c.remove.new.self c.args.conn
+    c.in_ok-served.ensures.after (sym c.in_ok-served.ensures.served ∙ c.in_default.is) c.requires.asking c.remove.ensures.updates c.args.self.now.stand
 
 pub invariant_of-self-2-clause-numbered : goal.invariant_of-self-2-clause-numbered
 invariant_of-self-2-clause-numbered g c =
-    numbered_with c.args.self.now.next c.args.self.now.clients c.take_client.new.clients c.args.conn None c.take_client.ensures.changed (λ h. cc) c.args.self.now.numbered
+    numbered_with c.args.self.now.next c.args.self.now.clients c.remove.new.self c.args.conn None c.remove.ensures.updates (λ h. cc) c.args.self.now.numbered

@@ -1,0 +1,4 @@
+pub mod Clusters
+pub mod Held
+pub mod Shown
+pub mod UpStays
