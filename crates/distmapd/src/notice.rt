@@ -1,6 +1,6 @@
 //! Notifies the service manager that the program listens (systemd, sd_notify(3)).
 
-ghost use Rattle.std.specs.Prelude.{◌≤◌, IfSome};
+ghost use Rattle.std.specs.Prelude.{◌≡◌, ◌≤◌, ◌<◌, ◌+◌, ◌⊎◌, length, None, IfSome};
 
 use libc::net::{AF_UNIX, MSG_DONTWAIT, MSG_NOSIGNAL, SOCK_CLOEXEC, SOCK_DGRAM, sendto, socket};
 
@@ -17,7 +17,9 @@ const MOST: usize = 107;
 
 // Writes the address of a socket with this name, and returns its length. A name that begins with `@` is not a file's: a 0 replaces the `@`.
 fn write_address(address: &mut [u8; ADDRESS], name: &[u8]) -> Option<u32>
-    ensures { IfSome result (λ length. length ≤ 128) }
+    ensures some { IfSome result (λ count. (count ≡ 2 + length name.now) × (count ≤ 128)) }
+    ensures none { result ≡ None → (length name.now ≡ 0) ⊎ (107 < length name.now) }
+    ensures fits { IfSome result (λ _. (0 < length name.now) × (length name.now ≤ 107)) }
 {
     if name.is_empty() || name.len() > MOST {
         return None;

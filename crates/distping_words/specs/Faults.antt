@@ -5,6 +5,8 @@ use Rattle.distping_words.specs.declared.command.Wanted.{Wanted}
 use Rattle.distping_words.specs.declared.fault.Fault.{Fault}
 use Rattle.distping_words.specs.declared.fault.Fault.TheVariants as fault
 use Rattle.dist_program.specs.PortTexts.{port_error_status}
+use Rattle.dist_program.specs.declared.text_error.TextError.{TextError}
+use Rattle.dist_program.specs.declared.text_error.TextError.TheVariants as text
 use Rattle.distping_words.specs.declared.refusal.Refusal.{Refusal}
 use Rattle.distping_words.specs.declared.refusal.Refusal.TheVariants as refusal
 
@@ -26,6 +28,11 @@ refusal_status (refusal.BadMapperPort error) = port_error_status error
 refusal_status (refusal.NotPrivate file) = 1
 refusal_status (refusal.BadWord sentence) = 2
 refusal_status (refusal.Fault fault) = fault_status fault
+
+-- why a text is none, as a fault of the program
+abbrev pub fault_of_text : TextError → Fault
+fault_of_text text.NoText = fault.BadCommandLine
+fault_of_text text.NoMemory = fault.NoMemory
 
 -- WHAT BYTES GIVE: their name, exactly where they are one, unless memory runs out
 abbrev pub GivesName : List ℕ → Result (List ℕ) Fault → Type 0

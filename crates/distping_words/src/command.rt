@@ -5,6 +5,7 @@ ghost use Rattle.std.specs.Str.{IsUtf8};
 ghost use Rattle.dist_names.specs.NodeName.{host_of};
 ghost use Rattle.std.specs.Duration.{as_nanos};
 ghost use Rattle.distping_words.specs.Faults.{Fits, GivesName};
+ghost use Rattle.distping_words.specs.declared.command.Instead.TheVariants as instead;
 
 use crate::fault::Fault;
 use crate::refusal::{Refusal, refuse};
@@ -34,6 +35,8 @@ pub enum Instead {
 }
 
 impl From<Refusal> for Instead {
+    ghost from_gives = { λ refusal made. made ≡ instead.Refusal refusal };
+
     fn from(refusal: Refusal) -> Instead {
         Instead::Refusal(refusal)
     }

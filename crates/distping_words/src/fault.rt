@@ -1,7 +1,8 @@
 //! What stops the program before a verdict, and how that is reported.
 
-ghost use Rattle.std.specs.Prelude.{◌≡◌};
+ghost use Rattle.std.specs.Prelude.{◌≡◌, ◌⊎◌};
 ghost use Rattle.distping_words.specs.Faults.{fault_status};
+ghost use Rattle.distping_words.specs.declared.fault.Fault.TheVariants.{NoMemory, WriteFailed};
 
 use dist_cluster::WatchError;
 use dist_secret::CookieError;
@@ -86,6 +87,8 @@ impl fmt::Display for Fault {
 }
 
 impl From<io::Error> for Fault {
+    ghost from_gives = { λ _ fault. (fault ≡ NoMemory) ⊎ (fault ≡ WriteFailed) };
+
     fn from(error: io::Error) -> Fault {
         match error.kind() {
             ErrorKind::OutOfMemory => Fault::NoMemory,
@@ -95,18 +98,24 @@ impl From<io::Error> for Fault {
 }
 
 impl From<AllocError> for Fault {
+    ghost from_gives = { λ _ fault. fault ≡ NoMemory };
+
     fn from(_error: AllocError) -> Fault {
         Fault::NoMemory
     }
 }
 
 impl From<WatchError> for Fault {
+    ghost from_gives = { λ _ fault. fault ≡ NoMemory };
+
     fn from(_error: WatchError) -> Fault {
         Fault::NoMemory
     }
 }
 
 impl<T: Drop> From<AllocFailed<T>> for Fault {
+    ghost from_gives = { λ _ fault. fault ≡ NoMemory };
+
     fn from(_error: AllocFailed<T>) -> Fault {
         Fault::NoMemory
     }

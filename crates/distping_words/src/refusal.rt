@@ -1,7 +1,9 @@
 //! What ends the program early; some of it quotes the user's words in its line.
 
 ghost use Rattle.std.specs.Prelude.{◌≡◌, IfErr, IfOk};
-ghost use Rattle.distping_words.specs.Faults.{refusal_status};
+ghost use Rattle.distping_words.specs.Faults.{fault_of_text, refusal_status};
+ghost use Rattle.distping_words.specs.declared.fault.Fault.TheVariants as fault;
+ghost use Rattle.distping_words.specs.declared.refusal.Refusal.TheVariants as refusal;
 
 use crate::fault::Fault;
 use dist_program::{PortError, TextError, report};
@@ -70,18 +72,24 @@ impl Refusal {
 }
 
 impl From<Fault> for Refusal {
+    ghost from_gives = { λ it made. made ≡ refusal.Fault it };
+
     fn from(fault: Fault) -> Refusal {
         Refusal::Fault(fault)
     }
 }
 
 impl From<PortError> for Refusal {
+    ghost from_gives = { λ error made. made ≡ refusal.BadMapperPort error };
+
     fn from(error: PortError) -> Refusal {
         Refusal::BadMapperPort(error)
     }
 }
 
 impl From<TextError> for Refusal {
+    ghost from_gives = { λ error made. made ≡ refusal.Fault (fault_of_text error) };
+
     fn from(error: TextError) -> Refusal {
         Refusal::Fault(match error {
             TextError::NoText => Fault::BadCommandLine,
@@ -91,6 +99,8 @@ impl From<TextError> for Refusal {
 }
 
 impl From<AllocError> for Refusal {
+    ghost from_gives = { λ _ made. made ≡ refusal.Fault fault.NoMemory };
+
     fn from(_error: AllocError) -> Refusal {
         Refusal::Fault(Fault::NoMemory)
     }
