@@ -21,6 +21,7 @@ const (
 	Spent      Code = C.DN_SPENT       // the node has made its steps, or given out its ends
 	Full       Code = C.DN_FULL        // the ends that may be open are up, or no entry or no cookie is left
 	OpenEnds   Code = C.DN_OPEN_ENDS   // an end is open, and the node does not begin anew
+	ShownEnd   Code = C.DN_SHOWN_END   // an end that is up would be closed, and has to be lost first
 	HalfFlags  Code = C.DN_HALF_FLAGS  // a setup announces DFLAG_MANDATORY_25_DIGEST without the flags that it stands for
 )
 
